@@ -1,0 +1,31 @@
+-- Lists that are asked by a text, and lists in order.
+use Rattle.std.specs.Prelude.{ℕ, Bool, not, List, [], ◌∷◌, filter, bytes_eq, if◌then◌else◌}
+use Rattle.std.specs.declared.cmp.Ordering.{Ordering}
+use Rattle.std.specs.Ordering.{nat_cmp}
+use Rattle.std.specs.Cmp.Lexicographic.{slice_cmp}
+
+-- the order of texts, upwards by bytes
+abbrev pub text_cmp : List ℕ → List ℕ → Ordering
+text_cmp = slice_cmp nat_cmp
+
+-- the elements, each key once, in the order of first appearance
+abbrev pub once_by : {X : Type 0} → (X → List ℕ) → List X → List X
+once_by key [] = []
+once_by key (x ∷ xs) = x ∷ filter (λ y. not (bytes_eq (key y) (key x))) (once_by key xs)
+
+-- a list in order with one more element, before the first that doesn't come before it
+abbrev pub placed : {X : Type 0} → (X → X → Bool) → X → List X → List X
+placed before x [] = x ∷ []
+placed before x (y ∷ ys) = if before y x then y ∷ placed before x ys else x ∷ y ∷ ys
+
+-- the list in order, of equal elements the earlier first
+abbrev pub sorted : {X : Type 0} → (X → X → Bool) → List X → List X
+sorted before [] = []
+sorted before (x ∷ xs) = placed before x (sorted before xs)
+
+-- the same elements, in whatever order
+pub data Reordered {X : Type 0} : List X → List X → Type 0 where
+  nothing : Reordered [] []
+  head : (x : X) {xs ys : List X} → Reordered xs ys → Reordered (x ∷ xs) (x ∷ ys)
+  swapped : (x y : X) (xs : List X) → Reordered (x ∷ y ∷ xs) (y ∷ x ∷ xs)
+  chain : {xs ys zs : List X} → Reordered xs ys → Reordered ys zs → Reordered xs zs

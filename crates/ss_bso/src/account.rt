@@ -1,0 +1,105 @@
+//! An account as plain data.
+
+ghost use Rattle.std.specs.Prelude.{◌≡◌};
+
+use crate::parts::Parts;
+use crate::rows::Rows;
+use ss_text::{Name, Stamp};
+use std::marker::Model;
+
+/// The collections, each with the time of its last write.
+#[derive(Drop, Debug)]
+pub struct Times {
+    times: Vec<(Name, Stamp)>,
+}
+
+impl Model for Times {
+    ghost use Rattle.std.specs.Prelude.{List, ℕ};
+
+    ghost Value = { List (List ℕ × ℕ) };
+
+    ghost view = { λ t. t.times.items };
+}
+
+impl Times {
+    /// The times of a vector, which are moved.
+    pub fn new(times: Vec<(Name, Stamp)>) -> Times
+        ensures { result ≡ times.items }
+    {
+        Times { times }
+    }
+
+    pub fn as_slice(&self) -> &[(Name, Stamp)]
+        ensures { result.now ≡ self.now }
+    {
+        self.times.as_slice()
+    }
+
+    /// The times as a vector, which are moved.
+    pub fn into_vec(self) -> Vec<(Name, Stamp)>
+        ensures { result.items ≡ self }
+    {
+        self.times
+    }
+}
+
+/// A batch that isn't committed yet.
+#[derive(Drop, Debug)]
+pub struct Staged {
+    pub number: u64,
+    pub collection: Name,
+
+    /// The account's moment when it began.
+    pub begun: Stamp,
+    pub parts: Parts,
+}
+
+/// A list of batches.
+#[derive(Drop, Debug)]
+pub struct Batches {
+    batches: Vec<Staged>,
+}
+
+impl Model for Batches {
+    ghost use Rattle.std.specs.Prelude.{List};
+    ghost use Rattle.ss_bso.specs.declared.account.Staged.{Staged};
+
+    ghost Value = { List Staged };
+
+    ghost view = { λ b. b.batches.items };
+}
+
+impl Batches {
+    /// The batches of a vector, which are moved.
+    pub fn new(batches: Vec<Staged>) -> Batches
+        ensures { result ≡ batches.items }
+    {
+        Batches { batches }
+    }
+
+    pub fn as_slice(&self) -> &[Staged]
+        ensures { result.now ≡ self.now }
+    {
+        self.batches.as_slice()
+    }
+}
+
+/// An account as plain data.
+#[derive(Drop, Debug)]
+pub struct Plain {
+    pub rows: Rows,
+    pub collections: Times,
+
+    /// The time of the last write to the store.
+    pub store: Stamp,
+
+    /// The time of the last deletion of the store or of a collection.
+    pub last_delete: Stamp,
+
+    /// Account time: the latest reading of the clock, or the last write, whichever is later.
+    pub moment: Stamp,
+
+    /// How many batches were begun.
+    pub counter: u64,
+    pub batches: Batches,
+}

@@ -1,0 +1,160 @@
+//! What a request says of records.
+
+ghost use Rattle.std.specs.Prelude.{◌≡◌, IfOk};
+
+use ss_text::{Id, Word};
+use std::alloc::{AllocError, Global};
+use std::marker::Model;
+
+/// What a request says of one field of a record (SyncStorage API 1.5).
+#[derive(Drop, Debug)]
+pub enum Field<T> {
+    /// Nothing: the old value stays.
+    Keep,
+
+    /// `null`: the field has its default again.
+    Clear,
+    Set(T),
+}
+
+/// What a request says of a record.
+#[derive(Drop, Debug)]
+pub struct Fields {
+    pub payload: Field<Word>,
+    pub sortindex: Field<i32>,
+
+    /// How long the record lives, in seconds from the write on.
+    pub ttl: Field<u32>,
+}
+
+/// A record of a request.
+#[derive(Drop, Debug)]
+pub struct Part {
+    pub id: Id,
+    pub fields: Fields,
+}
+
+fn copy_payload(alloc: Global, payload: &Field<Word>) -> Result<Field<Word>, AllocError>
+    ensures { IfOk result (λ copied. copied ≡ payload.now) }
+{
+    Ok(match payload {
+        Field::Keep => Field::Keep,
+        Field::Clear => Field::Clear,
+        Field::Set(text) => Field::Set(text.copy(alloc)?),
+    })
+}
+
+fn copy_number<T: Copy>(number: &Field<T>) -> Field<T>
+    ensures { result ≡ number.now }
+{
+    match number {
+        Field::Keep => Field::Keep,
+        Field::Clear => Field::Clear,
+        Field::Set(value) => Field::Set(*value),
+    }
+}
+
+impl Part {
+    pub fn copy(&self, alloc: Global) -> Result<Part, AllocError>
+        ensures { IfOk result (λ copied. copied ≡ self.now) }
+    {
+        Ok(Part {
+            id: self.id.copy(alloc)?,
+            fields: Fields {
+                payload: copy_payload(alloc, &self.fields.payload)?,
+                sortindex: copy_number(&self.fields.sortindex),
+                ttl: copy_number(&self.fields.ttl),
+            },
+        })
+    }
+}
+
+/// A list of parts.
+#[derive(Drop, Debug)]
+pub struct Parts {
+    parts: Vec<Part>,
+}
+
+impl Model for Parts {
+    ghost use Rattle.std.specs.Prelude.{List};
+    ghost use Rattle.ss_bso.specs.declared.parts.Part.{Part};
+
+    ghost Value = { List Part };
+
+    ghost view = { λ p. p.parts.items };
+}
+
+impl Parts {
+    /// The parts of a vector, which are moved.
+    pub fn new(parts: Vec<Part>) -> Parts
+        ensures { result ≡ parts.items }
+    {
+        Parts { parts }
+    }
+
+    pub fn as_slice(&self) -> &[Part]
+        ensures { result.now ≡ self.now }
+    {
+        self.parts.as_slice()
+    }
+
+    /// The parts as a vector, which are moved.
+    pub fn into_vec(self) -> Vec<Part>
+        ensures { result.items ≡ self }
+    {
+        self.parts
+    }
+}
+
+/// Why a record of a POST failed.
+#[derive(Clone, Copy, Debug, PartialEq, Eq)]
+pub enum Reason {
+    /// Its payload is no string.
+    Payload,
+
+    /// Its payload is over 2,097,152 bytes.
+    TooLarge,
+
+    /// Its sortindex is no whole number from -999,999,999 to 999,999,999.
+    Sortindex,
+
+    /// Its ttl is no whole number from 0 to 999,999,999.
+    Ttl,
+}
+
+/// The ids of records that failed, each with the reason.
+#[derive(Drop, Debug)]
+pub struct Failures {
+    failures: Vec<(Id, Reason)>,
+}
+
+impl Model for Failures {
+    ghost use Rattle.std.specs.Prelude.{List, ℕ};
+    ghost use Rattle.ss_bso.specs.declared.parts.Reason.{Reason};
+
+    ghost Value = { List (List ℕ × Reason) };
+
+    ghost view = { λ f. f.failures.items };
+}
+
+impl Failures {
+    /// The failures of a vector, which are moved.
+    pub fn new(failures: Vec<(Id, Reason)>) -> Failures
+        ensures { result ≡ failures.items }
+    {
+        Failures { failures }
+    }
+
+    pub fn as_slice(&self) -> &[(Id, Reason)]
+        ensures { result.now ≡ self.now }
+    {
+        self.failures.as_slice()
+    }
+}
+
+/// The records of a POST: those that can be put, in the order of the body, and those that failed.
+#[derive(Drop, Debug)]
+pub struct Records {
+    pub parts: Parts,
+    pub failed: Failures,
+}

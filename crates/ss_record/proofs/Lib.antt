@@ -1,0 +1,10 @@
+pub mod Ids
+pub mod Plain
+pub mod Read
+pub mod Texts
+pub mod Sorted
+pub mod Unmarked
+pub mod Digits
+pub mod Exact
+pub mod Fit
+pub mod Literals

@@ -1,0 +1,5 @@
+pub mod Ids
+pub mod Kinds
+pub mod Payloads
+pub mod Items
+pub mod Records

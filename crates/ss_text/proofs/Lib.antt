@@ -1,1 +1,7 @@
 pub mod NameLemmas
+pub mod NoFloat
+pub mod Pieces
+pub mod Rewrapped
+pub mod Whole
+pub mod WholeTokens
+pub mod WholeTrees

@@ -1,3 +1,4 @@
+pub mod Decimals
 pub mod Names
 pub mod Texts
 pub mod Time

@@ -9,7 +9,8 @@ use Rattle.serde_json.specs.Data.{Data}
 use Rattle.serde_json.specs.Read.{read, max_depth, of_json}
 use Rattle.serde_json.specs.Written.{has_float}
 use Rattle.ss_text.specs.Decimals.{wrapped}
-use Rattle.ss_text.proofs.WholeTrees.{AreWhole, whole_tree}
+use Rattle.ss_text.specs.Tokens.{AreWhole}
+use Rattle.ss_text.proofs.WholeTrees.{whole_tree}
 use Rattle.ss_text.proofs.WholeTokens.{tokens_are_whole}
 use Rattle.ss_text.proofs.Rewrapped.{kept_wrapped}
 

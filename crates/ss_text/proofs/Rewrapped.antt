@@ -45,7 +45,7 @@ no_front [] h e = refl
 no_front (run r ∷ ps) h e = absurd (true≢false e)
 no_front (byte b ∷ ps) h e = ap (λ t. cond t (1 + prefix_len is_number_byte (flat ps)) 0) h.0
 
-run_there : (r rest : List ℕ) → list_all is_number_byte r ≡ true → 0 < length r → prefix_len is_number_byte rest ≡ 0 → pieces Outside (r ++ rest) ≡ run r ∷ pieces Outside rest
+pub run_there : (r rest : List ℕ) → list_all is_number_byte r ≡ true → 0 < length r → prefix_len is_number_byte rest ≡ 0 → pieces Outside (r ++ rest) ≡ run r ∷ pieces Outside rest
 run_there r rest h some none =
     let n = front_count r rest h none in
     at_run (r ++ rest) (omega arith) ∙ ap (λ k. run (take k (r ++ rest)) ∷ pieces Outside (drop k (r ++ rest))) n

@@ -1,5 +1,5 @@
 -- The tokens of a text whose runs are not to be wrapped have no number that is.
-use Rattle.std.proofs.Common.{◌≡◌, ℕ, zero, suc, ◌+◌, ◌-◌, ◌<◌, ◌≤◌, List, [], ◌∷◌, ◌++◌, length, take, drop, Bool, true, false, cond, ◌&&◌, ◌||◌, ◌==◌, Option, Some, None, is_some, option_and_then, refl, sym, ap, ap₂, ◌∙◌, subst, arith, lit<, ◌⊎◌, ⊎_elim, append_assoc, length-append}
+use Rattle.std.proofs.Common.{◌≡◌, ℕ, zero, suc, ◌+◌, ◌-◌, ◌<◌, ◌≤◌, List, [], ◌∷◌, ◌++◌, length, take, drop, Bool, true, false, cond, ◌&&◌, ◌||◌, ◌==◌, Option, Some, None, is_some, option_and_then, refl, sym, ap, ap₂, ◌∙◌, subst, arith, lit<, ◌⊎◌, ⊎_elim, append_assoc, append-nil, length-append}
 use Rattle.std.proofs.lemmas.Bool.{true≢false, false≢true, and_parts, or_cases, eqb-true}
 use Rattle.std.proofs.lemmas.List.{take_at, drop_at}
 use Rattle.std.specs.List.{prefix_len, list_all, starts_with}
@@ -15,7 +15,7 @@ use Rattle.json.proofs.Printed.Numbers.{number_alone, lex-number, in_word-ended}
 use Rattle.ss_text.specs.Decimals.{is_number_byte, Piece, run, byte, pieces, is_decimal}
 use Rattle.ss_text.specs.declared.decimals.Place.TheVariants as at
 use Rattle.ss_text.proofs.Pieces.{at_run}
-use Rattle.ss_text.proofs.WholeTrees.{IsWhole, AreWhole}
+use Rattle.ss_text.specs.Tokens.{IsWhole, AreWhole}
 
 -- no run is to be wrapped
 abbrev pub Kept : List Piece → Type 0
@@ -276,7 +276,11 @@ number_there s rest number_is ended bytes some l kept =
     let cut : Kept (run s ∷ pieces at.Outside rest) = subst Kept (run_front s rest bytes some ended) kept in
     subst Good (sym (lex-number s rest number_is ended)) (good_token (number s) (lex between rest) (number_is, cut.0) (l.outside cut.1))
 
-some_front : (s : List ℕ) → IsNumber s → 0 < length s
+-- a number is a run
+pub number_bytes : (s : List ℕ) → IsNumber s → list_all is_number_byte s ≡ true
+number_bytes s h = let e : Eats s [] = subst (EatsIf s) h (if_number s) in ap (list_all is_number_byte) (e.is ∙ append-nil e.front) ∙ e.bytes
+
+pub some_front : (s : List ℕ) → IsNumber s → 0 < length s
 unfolding after_number
 some_front [] h = absurd (false≢true (ap is_some h))
 some_front (x ∷ s) h = omega arith

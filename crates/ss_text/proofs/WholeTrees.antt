@@ -1,5 +1,5 @@
 -- A value whose numbers are not to be wrapped has no float.
-use Rattle.std.proofs.Common.{◌≡◌, ℕ, List, [], ◌∷◌, ◌++◌, Bool, true, false, ◌||◌, Option, Some, None, option_map, option_and_then, refl, sym, ap, ap₂, ◌∙◌, subst, append_assoc}
+use Rattle.std.proofs.Common.{◌≡◌, ℕ, List, ◌++◌, Bool, true, false, ◌||◌, Option, Some, None, option_map, option_and_then, refl, sym, ap, ap₂, ◌∙◌, subst, append_assoc}
 use Rattle.std.specs.Ordering.{nat_cmp, match_ordering}
 use Rattle.std.specs.Cmp.Lexicographic.{slice_cmp}
 use Rattle.std.specs.declared.cmp.Ordering.{Ordering}
@@ -12,23 +12,8 @@ use Rattle.serde_json.specs.Data.{Num, Data, number, array, object, Items, item,
 use Rattle.serde_json.specs.Read.{number_of, of_json, of_items, of_members}
 use Rattle.serde_json.specs.Written.{has_float, items_have_float, members_have_float}
 use Rattle.ss_text.specs.Decimals.{is_decimal}
+use Rattle.ss_text.specs.Tokens.{AreWhole}
 use Rattle.ss_text.proofs.Whole.{number_is_whole, some_same}
-
-abbrev pub IsWhole : Token → Type 0
-IsWhole Token.begin_object = Unit {0}
-IsWhole Token.end_object = Unit {0}
-IsWhole Token.begin_array = Unit {0}
-IsWhole Token.end_array = Unit {0}
-IsWhole (Token.key s) = Unit {0}
-IsWhole (Token.string s) = Unit {0}
-IsWhole (Token.number s) = IsNumber s × (is_decimal s ≡ false)
-IsWhole (Token.boolean b) = Unit {0}
-IsWhole Token.null = Unit {0}
-IsWhole Token.bad = Unit {0}
-
-abbrev pub AreWhole : List Token → Type 0
-AreWhole [] = Unit {0}
-AreWhole (t ∷ ts) = IsWhole t × AreWhole ts
 
 abbrev mutual
   JsonWhole : json.Json → Type 0

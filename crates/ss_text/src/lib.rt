@@ -10,7 +10,7 @@ mod stamps;
 mod texts;
 
 pub use decimals::{Wrapped, wrap_decimals};
-pub use laws::wrapped_is_whole;
+pub use laws::{unwrapped_is_same, wrapped_is_whole};
 pub use names::{Id, Ids, Name};
 pub use stamps::{Stamp, push_stamp};
 pub use texts::{Bytes, Word};

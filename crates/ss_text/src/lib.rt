@@ -1,12 +1,16 @@
 //! Texts and times: small types that contracts see as lists of bytes, and stamps.
-//! It reads and prints the texts that every other crate speaks of, and stands on std alone.
+//! It reads and prints the texts that every other crate speaks of.
 //! Its contracts: a text has exactly the form that its type names, and what is printed is the definition's text.
 #![tactic(auto)]
 
+mod decimals;
+mod laws;
 mod names;
 mod stamps;
 mod texts;
 
+pub use decimals::{Wrapped, wrap_decimals};
+pub use laws::{unwrapped_is_same, wrapped_is_whole};
 pub use names::{Id, Ids, Name};
 pub use stamps::{Stamp, push_stamp};
 pub use texts::{Bytes, Word};

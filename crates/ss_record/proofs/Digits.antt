@@ -15,14 +15,10 @@ use Rattle.std.specs.Float.Numeral.{Parts, scan_numeral, numeral_digits}
 use Rattle.std.proofs.lemmas.Float.Parse.{scan_numeral-text_of}
 use Rattle.serde_json.specs.Data.{Num, unsigned, negative}
 use Rattle.serde_json.specs.Read.{number_of, number_from, is_integer}
-use Rattle.ss_record.specs.Kinds.{kind_name, kind_of}
-use Rattle.ss_record.specs.Payloads.{without, lacks, strings, is_string, is_true, is_mark, is_marked, is_marked_token, has_marked, payload_members}
-use Rattle.ss_record.specs.Items.{names_of, are_content, has_content, is_fit}
-use Rattle.ss_record.specs.Records.{parentid_of, children_of, item_of, members_reading, reading, string_items, record_members, record_of, ReadsBack, IsFit}
-use Rattle.ss_record.proofs.Plain.{is_plain_number, is_plain, items_plain, members_plain}
+use Rattle.ss_record.proofs.Plain.{is_marked, is_plain_number}
 
 point : ℕ → Bool
-point c = (c == 46) || (c == 69) || (c == 101)
+point c = (c == 46) || (c == 101) || (c == 69)
 
 -- ---- no point and no exponent: the text is the whole part
 
@@ -39,10 +35,10 @@ head_point (x ∷ t) h = (or_parts (point x) (list_any point t) h).0
 no_tail : (u : List ℕ) → list_any point u ≡ false → option_and_then after_exponent (after_fraction u) ≡ Some u
 unfolding point
 no_tail u h =
-    let p = or_parts ((head u == 46) || (head u == 69)) (head u == 101) (head_point u h) in
-    let q = or_parts (head u == 46) (head u == 69) p.0 in
+    let p = or_parts ((head u == 46) || (head u == 101)) (head u == 69) (head_point u h) in
+    let q = or_parts (head u == 46) (head u == 101) p.0 in
     ap (λ b. option_and_then after_exponent (cond b (after_digits (drop 1 u)) (Some u))) q.0
-    ∙ ap (λ b. cond b (after_digits (Rattle.json.specs.Word.after_sign (drop 1 u))) (Some u)) (ap₂ (λ a b. a || b) p.1 q.1)
+    ∙ ap (λ b. cond b (after_digits (Rattle.json.specs.Word.after_sign (drop 1 u))) (Some u)) (ap₂ (λ a b. a || b) q.1 p.1)
 
 whole_alone : (t : List ℕ) → list_any point t ≡ false → option_and_then after_exponent (option_and_then after_fraction (after_whole t)) ≡ Some [] → after_whole t ≡ Some []
 whole_alone t h e = go (head t == 48) (prefix_len is_ascii_digit t == 0) e

@@ -1,44 +1,28 @@
 -- An item passes the test exactly where it is fit.
-use Rattle.std.proofs.Common.{◌≡◌, ◌≢◌, ℕ, suc, ◌^◌, ◌<◌, ◌≤◌, pos, negsuc, List, [], ◌∷◌, ◌++◌, length, get_or, Bool, true, false, not, cond, ◌&&◌, ◌||◌, ◌==◌, inr, nat_lt, nat_le, refl, sym, ap, ap₂, ◌∙◌, arith, Option, Some, None, option_map, option_and_then, unwrap_or, bytes_eq, decimal, Ordering, Less, Equal, Greater, nat_cmp, count_by, codes, ◌↔◌, inl, subst, append_assoc}
-use Rattle.std.specs.List.{list_any}
-use Rattle.std.specs.Char.{is_ascii_digit}
-use Rattle.std.specs.Ordering.{match_ordering, is_eq}
-use Rattle.std.specs.Cmp.Lexicographic.{slice_cmp, nat_list_cmp_total}
-use Rattle.std.proofs.lemmas.Bool.{and_parts, and_from, false≢true, ne_eqb, le-ltb, le-leb, leb-true, not-true, or_parts}
-use Rattle.std.proofs.lemmas.Fmt.{length-decimal-le, decimal_is_IsNumeral, first_decimal}
-use Rattle.std.proofs.lemmas.Str.Parse.{digit_at}
-use Rattle.std.proofs.lemmas.List.Sums.{count_by-le-length}
-use Rattle.std.proofs.lemmas.Map.Text.{is_eq-slice_cmp}
-use Rattle.json.specs.Token as token
-use Rattle.json.specs.Lex.{tokens}
-use Rattle.json.specs.Tree as tree
-use Rattle.serde_json.specs.Data.{Num, unsigned, negative, float, Data, null, boolean, number, string, array, object, Items, no_items, item, Members, no_members, member, put, depth, items_depth, members_depth}
-use Rattle.serde_json.specs.Read.{read, max_depth, number_of, of_json, of_items, of_members}
-use Rattle.serde_json.specs.Find.{get_member, as_object, as_str}
-use Rattle.serde_json.specs.Written.{outline, items_outline, members_outline, compact_text, number_text}
+use Rattle.std.proofs.Common.{◌≡◌, ◌≢◌, ℕ, ◌≤◌, List, [], ◌∷◌, Bool, true, false, not, cond, ◌&&◌, ◌||◌, inr, refl, sym, ap, ◌∙◌, arith, Option, Some, None, option_map, option_and_then, unwrap_or, bytes_eq, codes, ◌↔◌, inl}
+use Rattle.std.proofs.lemmas.Bool.{and_parts, and_from, false≢true, not-true}
+use Rattle.serde_json.specs.Data.{string, array, object, Members, no_members, put, depth, items_depth, members_depth}
+use Rattle.serde_json.specs.Read.{read}
+use Rattle.serde_json.specs.Find.{get_member, as_object}
+use Rattle.serde_json.specs.Written.{compact_text, members_have_float}
 use Rattle.serde_json.proofs.Views.{get_member-put, get_member-put_other}
 use Rattle.ss_record.specs.declared.kinds.Kind.{Kind}
-use Rattle.ss_record.specs.Items.{ItemView, names_of, are_content, has_content, is_fit}
-use Rattle.ss_record.specs.declared.readings.Reading.TheVariants.{Item, Skipped, Tombstone}
+use Rattle.ss_record.specs.Items.{empty_folder, ItemView, names_of, are_content, has_content, is_fit}
+use Rattle.ss_record.specs.declared.readings.Reading.TheVariants.{Item, Skipped}
+use Rattle.std.specs.Fmt.{digits}
+use Rattle.serde_json.proofs.OnLiterals.{serde_json_on_literals}
+use Rattle.ss_text.specs.Decimals.{pieces, is_decimal}
 use Rattle.ss_record.specs.Ids.{has, places, roots}
-use Rattle.ss_record.specs.Kinds.{is_folder, kind_name, kind_of}
-use Rattle.ss_record.specs.Payloads.{without, lacks, strings, is_string, is_true, is_mark, is_marked, is_marked_token, has_marked, payload_members}
-use Rattle.ss_record.specs.Records.{parentid_of, children_of, item_of, members_reading, reading, string_items, record_members, record_of, ReadsBack, IsFit}
-use Rattle.ss_record.proofs.Plain.{is_plain_number, is_plain, items_plain, members_plain}
-use Rattle.ss_record.proofs.Ids.{same_id, bytes_eq-refl, bytes_eq-same, bytes_eq-apart}
-use Rattle.ss_record.proofs.Read.{kind_of-name}
-use Rattle.ss_record.proofs.Texts.{tokens_compact, read_compact}
-use Rattle.ss_record.proofs.Sorted.{IsSorted, MembersSorted, Sorted-put, Sorted-read, plain_below, HasNumbers-outline, depth-outline, of_json-outline, map_some, Below}
-use Rattle.json.specs.Json as json
-use Rattle.json.specs.Print.{ArePrintableOrBad}
-use Rattle.json.proofs.Numbered.{ArePrintableOrBad-tokens}
-use Rattle.json.proofs.Unique.Spelling.{value-json_tokens_back}
+use Rattle.ss_record.specs.Kinds.{is_folder, kind_name}
+use Rattle.ss_record.specs.Payloads.{without, lacks, is_true, payload_members}
+use Rattle.ss_record.specs.Records.{children_of, item_of, members_reading, reading, string_items, record_members, record_of, ReadsBack, IsFit}
+use Rattle.ss_record.proofs.Plain.{members_plain}
+use Rattle.ss_record.proofs.IdLists.{same_id, bytes_eq-refl, bytes_eq-same, bytes_eq-apart}
+use Rattle.ss_record.proofs.OfId.{kind_of-name}
+use Rattle.ss_record.proofs.Sorted.{IsSorted, MembersSorted, Sorted-put, Sorted-read}
 use Rattle.ss_record.specs.declared.kinds.Kind.TheVariants.{Bookmark, Query, Folder, Livemark, Separator}
-use Rattle.ss_record.specs.declared.readings.Reading.{Reading}
-use Rattle.ss_record.proofs.Read.{and_then_some}
-use Rattle.ss_record.proofs.Exact.{plain_read, payload_parts, item_parts, members_parts, reading_parts, without_lacks, without_plain, without_depth, without_sorted, get-without, deleted_kept}
+use Rattle.ss_record.proofs.Exact.{float_members, payload_plain, plain_read, payload_parts, item_parts, members_parts, reading_parts, without_lacks, without_plain, without_depth, without_sorted, get-without, deleted_kept}
 use Rattle.ss_record.proofs.Unmarked.{lacks-without, without-put, plain-put, depth-put, plain_strings, flat_strings, strings_back, payload_back}
-use Rattle.ss_record.proofs.Digits.{unmarked_plain}
 
 -- ---- the record of an item with such a content
 
@@ -198,29 +182,41 @@ fit_from_test i ne h = go (payload_members i.content) refl h
 -- ---- what is fit passes the test
 
 -- the content of an item that was read from a payload passes the test
-pub read_is_fit : (id text : List ℕ) (ms : Members) (i : ItemView) (p : Option (List ℕ)) (cs : List (List ℕ)) → payload_members text ≡ Some ms → is_true (get_member (codes "deleted") ms) ≡ false → i.id ≡ id → item_of id ms ≡ Some (Item i p cs) → has_content i ≡ true
+pub read_is_content : (text : List ℕ) (ms : Members) (i : ItemView) → payload_members text ≡ Some ms → is_true (get_member (codes "deleted") ms) ≡ false
+    → compact_text (object (without (names_of i.kind) ms)) ≡ i.content → (not (has i.id roots) || is_folder i.kind) ≡ true → has_content i ≡ true
 unfolding has_content are_content
-read_is_fit id text ms i p cs r l same e =
-    let t = item_parts id ms i p cs e in
+read_is_content text ms i r l content root =
     let q = payload_parts text ms r in
     let names : List (List ℕ) = names_of i.kind in
     let kept : Members = without names ms in
-    let plain : members_plain kept ≡ true = without_plain names ms (plain_read text (object ms) q.0 q.1) in
+    let plain : members_plain kept ≡ true = without_plain names ms (payload_plain text ms r) in
     let sorted : MembersSorted kept = without_sorted names ms (Sorted-read text (object ms) q.1) in
     let shallow : members_depth kept ≤ 125 = without_depth names ms 125 (let d : depth (object ms) ≤ 126 = q.2 in omega arith) in
-    let value : payload_members i.content ≡ Some kept = ap payload_members (sym t.0) ∙ payload_back kept sorted plain (omega arith) in
+    let value : payload_members i.content ≡ Some kept = ap payload_members (sym content) ∙ payload_back kept sorted plain (omega arith) in
     let live : is_true (get_member (codes "deleted") kept) ≡ false = ap is_true (get-without names (codes "deleted") ms (deleted_kept i.kind)) ∙ l in
     ap (λ o. unwrap_or (option_map (are_content i) o) false) value
-    ∙ and_from _ _ (bytes_eq-same (compact_text (object kept)) i.content t.0)
+    ∙ and_from _ _ (bytes_eq-same (compact_text (object kept)) i.content content)
     (and_from _ _ (without_lacks names ms)
-    (and_from _ _ (ap not live) (ap (λ w. not (has w roots) || is_folder i.kind) same ∙ t.1)))
+    (and_from _ _ (ap not live) root))
+
+pub read_is_fit : (text : List ℕ) (ms : Members) (i : ItemView) → payload_members text ≡ Some ms → is_true (get_member (codes "deleted") ms) ≡ false
+    → compact_text (object (without (names_of i.kind) ms)) ≡ i.content → (has i.id roots && not (is_folder i.kind)) ≡ false → bytes_eq i.id places ≡ false → is_fit i ≡ true
+unfolding is_fit
+read_is_fit text ms i r l content root place =
+    ap (λ b. cond b (is_folder i.kind && bytes_eq i.content (codes "{}")) (has_content i)) place ∙ read_is_content text ms i r l content (turned (has i.id roots) (is_folder i.kind) root)
+  where
+    turned : (a b : Bool) → (a && not b) ≡ false → (not a || b) ≡ true
+    turned true true h = refl
+    turned true false h = absurd (false≢true (sym h))
+    turned false b h = refl
 
 pub test_from_fit : (i : ItemView) → i.id ≢ places → IsFit i → has_content i ≡ true
 test_from_fit i ne (inl e) = absurd (ne (ap (λ w. w.id) e))
 test_from_fit i ne (inr h) =
     let r = reading_parts i.id (record_of i [] []) i (Some []) (cond (is_folder i.kind) [] []) (h [] []) in
     let m = members_parts i.id r.0 i (Some []) (cond (is_folder i.kind) [] []) r.2 in
-    read_is_fit i.id (record_of i [] []) r.0 i (Some []) (cond (is_folder i.kind) [] []) r.1 m.0 refl m.1
+    let a = item_parts i.id r.0 i (Some []) (cond (is_folder i.kind) [] []) m.1 in
+    read_is_content (record_of i [] []) r.0 i r.1 m.0 a.0 a.1
 
 folder_kind : (k : Kind) → is_folder k ≡ true → k ≡ Folder
 folder_kind Bookmark e = absurd (false≢true e)
@@ -229,15 +225,15 @@ folder_kind Folder e = refl
 folder_kind Livemark e = absurd (false≢true e)
 folder_kind Separator e = absurd (false≢true e)
 
-empty_folder : List ℕ → Kind → List ℕ → ItemView
-empty_folder x k c = record { id = x; kind = k; content = c }
+folder_at : List ℕ → Kind → List ℕ → ItemView
+folder_at x k c = record { id = x; kind = k; content = c }
 
 skipped_places : (x text : List ℕ) → x ≡ places → reading x text ≡ Skipped
 unfolding reading
 skipped_places x text e = ap (λ b. cond b Skipped (unwrap_or (option_map (members_reading x) (payload_members text)) Skipped)) (bytes_eq-same x places e)
 
 pub fit_is : (i : ItemView) → (is_fit i ≡ true) ↔ IsFit i
-unfolding is_fit empty_folder
+unfolding is_fit folder_at
 fit_is i = go (bytes_eq i.id places) refl
   where
     go : (b : Bool) → bytes_eq i.id places ≡ b → (cond (bytes_eq i.id places) (is_folder i.kind && bytes_eq i.content (codes "{}")) (has_content i) ≡ true) ↔ IsFit i
@@ -249,7 +245,7 @@ fit_is i = go (bytes_eq i.id places) refl
         down : cond (bytes_eq i.id places) (is_folder i.kind && bytes_eq i.content (codes "{}")) (has_content i) ≡ true → IsFit i
         down h =
             let p = and_parts (is_folder i.kind) (bytes_eq i.content (codes "{}")) (sym (ap (λ b. cond b (is_folder i.kind && bytes_eq i.content (codes "{}")) (has_content i)) q) ∙ h) in
-            inl (ap (λ x. empty_folder x i.kind i.content) top ∙ (ap (λ k. empty_folder places k i.content) (folder_kind i.kind p.0) ∙ ap (empty_folder places Folder) (same_id i.content (codes "{}") p.1)))
+            inl (ap (λ x. folder_at x i.kind i.content) top ∙ (ap (λ k. folder_at places k i.content) (folder_kind i.kind p.0) ∙ ap (folder_at places Folder) (same_id i.content (codes "{}") p.1)))
 
         up : IsFit i → cond (bytes_eq i.id places) (is_folder i.kind && bytes_eq i.content (codes "{}")) (has_content i) ≡ true
         up (inl e) = ap (λ b. cond b (is_folder i.kind && bytes_eq i.content (codes "{}")) (has_content i)) q ∙ and_from _ _ (ap (λ w. is_folder w.kind) e) (bytes_eq-same i.content (codes "{}") (ap (λ w. w.content) e))
@@ -264,3 +260,57 @@ fit_is i = go (bytes_eq i.id places) refl
 
         open_test : cond (bytes_eq i.id places) (is_folder i.kind && bytes_eq i.content (codes "{}")) (has_content i) ≡ has_content i
         open_test = ap (λ b. cond b (is_folder i.kind && bytes_eq i.content (codes "{}")) (has_content i)) q
+
+-- ---- what the record of a fit item is made of
+
+empty_members : payload_members (codes "{}") ≡ Some no_members
+unfolding payload_members pieces is_decimal digits serde_json_on_literals
+empty_members = refl
+
+pub empty_fit : (x : List ℕ) → is_fit (empty_folder x) ≡ true
+unfolding is_fit has_content are_content
+empty_fit x = go (bytes_eq x places)
+  where
+    content : unwrap_or (option_map (are_content (empty_folder x)) (payload_members (codes "{}"))) false ≡ true
+    content = ap (λ o. unwrap_or (option_map (are_content (empty_folder x)) o) false) empty_members ∙ last (has x roots)
+      where
+        last : (b : Bool) → (not b || true) ≡ true
+        last true = refl
+        last false = refl
+
+    go : (b : Bool) → cond b true (unwrap_or (option_map (are_content (empty_folder x)) (payload_members (codes "{}"))) false) ≡ true
+    go true = refl
+    go false = content
+
+pub fit_members : (i : ItemView) → is_fit i ≡ true → (ms : Members) × (payload_members i.content ≡ Some ms)
+unfolding is_fit has_content
+fit_members i h = go (bytes_eq i.id places) h
+  where
+    found : (o : Option Members) → payload_members i.content ≡ o → unwrap_or (option_map (are_content i) o) false ≡ true → (ms : Members) × (payload_members i.content ≡ Some ms)
+    found None q k = absurd (false≢true k)
+    found (Some ms) q k = (ms, q)
+
+    go : (b : Bool) → cond b (is_folder i.kind && bytes_eq i.content (codes "{}")) (unwrap_or (option_map (are_content i) (payload_members i.content)) false) ≡ true → (ms : Members) × (payload_members i.content ≡ Some ms)
+    go true k = (no_members, ap payload_members (same_id i.content (codes "{}") (and_parts (is_folder i.kind) (bytes_eq i.content (codes "{}")) k).1) ∙ empty_members)
+    go false k = found (payload_members i.content) refl k
+
+-- a fit item has members
+pub not_without : (i : ItemView) → is_fit i ≡ true → payload_members i.content ≡ None → ⊥
+not_without i h e = let m = fit_members i h in never (sym e ∙ m.1)
+  where
+    never : {ms : Members} → None ≡ Some ms → ⊥
+    never f = cc
+
+pub record_text_is : (i : ItemView) (ms : Members) (p : List ℕ) (cs : List (List ℕ)) → payload_members i.content ≡ Some ms → compact_text (object (record_members i.id i.kind ms p cs)) ≡ record_of i p cs
+unfolding record_of
+record_text_is i ms p cs e = sym (ap (λ o. unwrap_or (option_map (λ m. compact_text (object (record_members i.id i.kind m p cs))) (option_and_then as_object o)) []) (payload_parts i.content ms e).1)
+
+pub no_float_record : (i : ItemView) (ms : Members) (p : List ℕ) (cs : List (List ℕ)) → payload_members i.content ≡ Some ms → members_have_float (record_members i.id i.kind ms p cs) ≡ false
+no_float_record i ms p cs e = float_members (record_members i.id i.kind ms p cs) (record_plain i.id i.kind ms p cs (payload_plain i.content ms e))
+
+pub fit_reads_back : (i : ItemView) → is_fit i ≡ true → i.id ≢ places → (p : List ℕ) (cs : List (List ℕ)) → ReadsBack i p cs
+fit_reads_back i h ne p cs = go ((fit_is i).0 h)
+  where
+    go : IsFit i → ReadsBack i p cs
+    go (inl e) = absurd (ne (ap (λ w. w.id) e))
+    go (inr f) = f p cs

@@ -1,6 +1,6 @@
-pub mod Ids
+pub mod IdLists
 pub mod Plain
-pub mod Read
+pub mod OfId
 pub mod Texts
 pub mod Sorted
 pub mod Unmarked

@@ -13,12 +13,8 @@ use Rattle.serde_json.specs.Data.{Num, unsigned, negative, float, Data, null, bo
 use Rattle.serde_json.specs.Read.{read, number_of, of_json, of_items, of_members, max_depth}
 use Rattle.serde_json.specs.Written.{outline, items_outline, members_outline, number_text}
 use Rattle.serde_json.proofs.Numbers.{number_of-decimal, number_of-negative}
-use Rattle.ss_record.specs.Kinds.{kind_name, kind_of}
-use Rattle.ss_record.specs.Payloads.{without, lacks, strings, is_string, is_true, is_mark, is_marked, is_marked_token, has_marked, payload_members}
-use Rattle.ss_record.specs.Items.{names_of, are_content, has_content, is_fit}
-use Rattle.ss_record.specs.Records.{parentid_of, children_of, item_of, members_reading, reading, string_items, record_members, record_of, ReadsBack, IsFit}
 use Rattle.ss_record.proofs.Plain.{is_plain_number, is_plain, items_plain, members_plain}
-use Rattle.ss_record.proofs.Read.{and_then_some}
+use Rattle.ss_record.proofs.OfId.{and_then_some}
 
 abbrev cmp : List ℕ → List ℕ → Ordering
 cmp = slice_cmp nat_cmp

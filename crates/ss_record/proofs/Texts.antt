@@ -1,6 +1,5 @@
 -- The text of a value is read back.
 use Rattle.std.proofs.Common.{◌≡◌, ◌≢◌, ℕ, ◌≤◌, List, [], ◌∷◌, true, false, sym, ap, ◌∙◌, arith, Some, option_and_then, append-nil}
-use Rattle.std.specs.List.{list_any}
 use Rattle.json.specs.Json as json
 use Rattle.json.specs.Lex.{tokens}
 use Rattle.json.specs.Tree as tree
@@ -10,14 +9,13 @@ use Rattle.serde_json.specs.Data.{Data, boolean, string, object, no_members, mem
 use Rattle.serde_json.specs.Read.{read, of_json, max_depth}
 use Rattle.serde_json.specs.Written.{outline, compact_text}
 use Rattle.serde_json.proofs.Texts.{print-outline}
+use Rattle.ss_text.specs.Decimals.{count_of}
+use Rattle.ss_text.proofs.Printed.{printed_stays}
 use Rattle.ss_record.specs.declared.readings.Reading.TheVariants.{Tombstone}
 use Rattle.ss_record.specs.Ids.{has, places, roots}
-use Rattle.ss_record.specs.Kinds.{kind_name, kind_of}
-use Rattle.ss_record.specs.Payloads.{without, lacks, strings, is_string, is_true, is_mark, is_marked, is_marked_token, has_marked, payload_members}
-use Rattle.ss_record.specs.Items.{names_of, are_content, has_content, is_fit}
-use Rattle.ss_record.specs.Records.{parentid_of, children_of, item_of, members_reading, reading, string_items, record_members, record_of, tombstone_of, ReadsBack, IsFit}
-use Rattle.ss_record.proofs.Plain.{is_plain_number, is_plain, items_plain, members_plain}
-use Rattle.ss_record.proofs.Ids.{bytes_eq-refl, bytes_eq-apart}
+use Rattle.ss_record.specs.Payloads.{payload_members}
+use Rattle.ss_record.specs.Records.{members_reading, reading, tombstone_members, tombstone_of}
+use Rattle.ss_record.proofs.IdLists.{bytes_eq-refl, bytes_eq-apart}
 
 pub tokens_compact : (d : Data) → tree.HasNumbers (outline d) → tokens (compact_text d) ≡ tree.json_tokens (outline d)
 tokens_compact d h = ap tokens (sym (print-outline d)) ∙ tokens-print (tree.json_tokens (outline d)) (ArePrintable-json_tokens (outline d) h)
@@ -31,11 +29,11 @@ tomb : List ℕ → Data
 tomb id = object (member (100 ∷ 101 ∷ 108 ∷ 101 ∷ 116 ∷ 101 ∷ 100 ∷ []) (boolean true) (member (105 ∷ 100 ∷ []) (string id) no_members))
 
 tomb_members : (id : List ℕ) → payload_members (tombstone_of id) ≡ Some (member (100 ∷ 101 ∷ 108 ∷ 101 ∷ 116 ∷ 101 ∷ 100 ∷ []) (boolean true) (member (105 ∷ 100 ∷ []) (string id) no_members))
-unfolding payload_members has_marked tombstone_of tomb
+unfolding payload_members tombstone_of tombstone_members tomb
 tomb_members id =
-    let marks : list_any is_marked_token (tokens (compact_text (tomb id))) ≡ false = ap (list_any is_marked_token) (tokens_compact (tomb id) (tt, (tt, tt))) in
+    let none : count_of (compact_text (tomb id)) ≡ 0 = ap count_of (sym (print-outline (tomb id))) ∙ printed_stays (tree.json_tokens (outline (tomb id))) (ArePrintable-json_tokens (outline (tomb id)) (tt, (tt, tt))) (tt, (tt, (tt, (tt, (tt, (tt, tt)))))) in
     let value : read (compact_text (tomb id)) ≡ Some (tomb id) = read_compact (tomb id) (tt, (tt, tt)) (omega arith) in
-    rw (marks, value)
+    rw (none, value)
 
 pub tombstone_reads : (id : List ℕ) → id ≢ places → has id roots ≡ false → reading id (tombstone_of id) ≡ Tombstone
 unfolding reading members_reading

@@ -1,35 +1,34 @@
 -- No number of a plain value is marked, and a plain object is read back.
-use Rattle.std.proofs.Common.{◌≡◌, ◌≢◌, ℕ, suc, ◌^◌, ◌<◌, ◌≤◌, pos, negsuc, List, [], ◌∷◌, ◌++◌, length, get_or, Bool, true, false, not, cond, ◌&&◌, ◌||◌, ◌==◌, inr, nat_lt, nat_le, refl, sym, ap, ap₂, ◌∙◌, arith, Option, Some, None, option_map, option_and_then, unwrap_or, bytes_eq, decimal, Ordering, Less, Equal, Greater, nat_cmp, count_by, codes}
+use Rattle.std.proofs.Common.{◌≡◌, ◌≢◌, ℕ, suc, ◌^◌, ◌<◌, ◌≤◌, pos, negsuc, List, [], ◌∷◌, ◌++◌, length, get_or, Bool, true, false, not, cond, ◌&&◌, ◌||◌, ◌==◌, nat_lt, nat_le, refl, sym, ap, ap₂, ◌∙◌, arith, Some, None, option_map, option_and_then, bytes_eq, decimal, Ordering, Less, Equal, Greater, nat_cmp, count_by}
 use Rattle.std.specs.List.{list_any}
 use Rattle.std.specs.Char.{is_ascii_digit}
 use Rattle.std.specs.Ordering.{match_ordering, is_eq}
 use Rattle.std.specs.Cmp.Lexicographic.{slice_cmp}
-use Rattle.std.proofs.lemmas.Bool.{and_parts, and_from, false≢true, ne_eqb, le-ltb, le-leb, leb-true, not-true}
+use Rattle.std.proofs.lemmas.Bool.{and_parts, and_from, false≢true, ne_eqb, le-ltb, le-leb, not-true}
 use Rattle.std.proofs.lemmas.Fmt.{length-decimal-le, decimal_is_IsNumeral, first_decimal}
 use Rattle.std.proofs.lemmas.Str.Parse.{digit_at}
 use Rattle.std.proofs.lemmas.List.Sums.{count_by-le-length}
 use Rattle.std.proofs.lemmas.Map.Text.{is_eq-slice_cmp}
 use Rattle.json.specs.Token as token
-use Rattle.json.specs.Lex.{tokens}
+use Rattle.json.specs.Word.{after_number}
+use Rattle.json.specs.Print.{IsNumber}
+use Rattle.json.proofs.Printed.Trees.{ArePrintable-json_tokens}
+use Rattle.serde_json.proofs.Texts.{print-outline}
+use Rattle.ss_text.specs.Decimals.{is_decimal, is_all, count_of}
+use Rattle.ss_text.specs.Tokens.{IsWhole, AreWhole}
+use Rattle.ss_text.proofs.Printed.{printed_stays}
 use Rattle.json.specs.Tree as tree
 use Rattle.serde_json.specs.Data.{Num, unsigned, negative, float, Data, null, boolean, number, string, array, object, Items, no_items, item, Members, no_members, member, put, depth, items_depth, members_depth}
 use Rattle.serde_json.specs.Read.{read, max_depth}
-use Rattle.serde_json.specs.Find.{get_member, as_object}
+use Rattle.serde_json.specs.Find.{as_object}
 use Rattle.serde_json.specs.Written.{outline, items_outline, members_outline, compact_text, number_text}
-use Rattle.serde_json.proofs.Views.{get_member-put, get_member-put_other}
-use Rattle.ss_record.specs.declared.kinds.Kind.{Kind}
-use Rattle.ss_record.specs.Items.{ItemView, names_of, are_content, has_content, is_fit}
-use Rattle.ss_record.specs.declared.readings.Reading.TheVariants.{Item, Skipped}
-use Rattle.ss_record.specs.Ids.{has, places, roots}
-use Rattle.ss_record.specs.Kinds.{is_folder, kind_name, kind_of}
-use Rattle.ss_record.specs.Payloads.{without, lacks, strings, is_string, is_true, is_mark, is_marked, is_marked_token, has_marked, payload_members}
-use Rattle.ss_record.specs.Records.{parentid_of, children_of, item_of, members_reading, reading, string_items, record_members, record_of, ReadsBack, IsFit}
-use Rattle.ss_record.proofs.Plain.{is_plain_number, is_plain, items_plain, members_plain}
-use Rattle.ss_record.proofs.Ids.{same_id, bytes_eq-refl, bytes_eq-same, bytes_eq-apart}
-use Rattle.ss_record.proofs.Read.{kind_of-name}
-use Rattle.ss_record.proofs.Texts.{tokens_compact, read_compact}
-use Rattle.ss_record.proofs.Sorted.{IsSorted, MembersSorted, Sorted-put, Sorted-read, plain_below, HasNumbers-outline, depth-outline, of_json-outline}
-
+use Rattle.ss_record.specs.Ids.{has}
+use Rattle.ss_record.specs.Payloads.{without, lacks, strings, payload_members}
+use Rattle.ss_record.specs.Records.{string_items}
+use Rattle.ss_record.proofs.Plain.{is_marked, is_plain_number, is_plain, items_plain, members_plain}
+use Rattle.ss_record.proofs.IdLists.{same_id}
+use Rattle.ss_record.proofs.Texts.{read_compact}
+use Rattle.ss_record.proofs.Sorted.{MembersSorted, plain_below, HasNumbers-outline, depth-outline, of_json-outline}
 
 none_of : (p : ℕ → Bool) (xs : List ℕ) → ((i : ℕ) → i < length xs → p (get_or xs i 0) ≡ false) → list_any p xs ≡ false
 none_of p [] h = refl
@@ -38,8 +37,8 @@ none_of p (x ∷ xs) h = ap₂ (λ a b. a || b) (h 0 (omega arith)) (none_of p x
 digits_of_decimal : (n : ℕ) → n < 2 ^ 64 → (i : ℕ) → i < length (decimal n) → (48 ≤ get_or (decimal n) i 0) × (get_or (decimal n) i 0 ≤ 57)
 digits_of_decimal n h i l = digit_at _ i (decimal_is_IsNumeral n h).0.1 l
 
-no_point : (c : ℕ) → 48 ≤ c → c ≤ 57 → ((c == 46) || (c == 69) || (c == 101)) ≡ false
-no_point c low high = rw (ne_eqb c 46 (λ e. omega arith), ne_eqb c 69 (λ e. omega arith), ne_eqb c 101 (λ e. omega arith))
+no_point : (c : ℕ) → 48 ≤ c → c ≤ 57 → ((c == 46) || (c == 101) || (c == 69)) ≡ false
+no_point c low high = rw (ne_eqb c 46 (λ e. omega arith), ne_eqb c 101 (λ e. omega arith), ne_eqb c 69 (λ e. omega arith))
 
 few_digits : (n : ℕ) → n < 10 ^ 18 → nat_lt 18 (count_by is_ascii_digit (decimal n)) ≡ false
 few_digits n h =
@@ -56,7 +55,7 @@ unfolding is_marked
 unmarked_decimal n h =
     let ds = digits_of_decimal n (omega arith) in
     ap₂ (λ a b. a || b)
-    (ap₂ (λ a b. a || b) (none_of (λ c. (c == 46) || (c == 69) || (c == 101)) (decimal n) (λ i l. no_point (get_or (decimal n) i 0) (ds i l).0 (ds i l).1)) (few_digits n h))
+    (ap₂ (λ a b. a || b) (none_of (λ c. (c == 46) || (c == 101) || (c == 69)) (decimal n) (λ i l. no_point (get_or (decimal n) i 0) (ds i l).0 (ds i l).1)) (few_digits n h))
     (other_first 45 (decimal n) (48 ∷ []) (λ i l e. let d : 48 ≤ get_or (decimal n) i 0 = (ds i l).0 in omega arith))
 
 unmarked_negative : (n : ℕ) → 0 < n → n < 10 ^ 18 → is_marked (45 ∷ decimal n) ≡ false
@@ -64,7 +63,7 @@ unfolding is_marked
 unmarked_negative n some h =
     let ds = digits_of_decimal n (omega arith) in
     ap₂ (λ a b. a || b)
-    (ap₂ (λ a b. a || b) (none_of (λ c. (c == 46) || (c == 69) || (c == 101)) (decimal n) (λ i l. no_point (get_or (decimal n) i 0) (ds i l).0 (ds i l).1)) (few_digits n h))
+    (ap₂ (λ a b. a || b) (none_of (λ c. (c == 46) || (c == 101) || (c == 69)) (decimal n) (λ i l. no_point (get_or (decimal n) i 0) (ds i l).0 (ds i l).1)) (few_digits n h))
     (first (decimal n) (first_decimal n some (omega arith)))
   where
     first : (xs : List ℕ) → 48 < get_or xs 0 0 → bytes_eq xs (48 ∷ []) ≡ false
@@ -77,42 +76,48 @@ unmarked_number (negative (pos n)) h = absurd (false≢true h)
 unmarked_number (negative (negsuc n)) h = unmarked_negative (suc n) (omega arith) (plain_below (suc n) h)
 unmarked_number (float x) h = absurd (false≢true h)
 
-any-append : (p : token.Token → Bool) (xs ys : List token.Token) → list_any p xs ≡ false → list_any p ys ≡ false → list_any p (xs ++ ys) ≡ false
-any-append p [] ys h k = k
-any-append p (x ∷ xs) ys h k = go (p x) h (any-append p xs ys)
-  where
-    go : (b : Bool) → (b || list_any p xs) ≡ false → (list_any p xs ≡ false → list_any p ys ≡ false → list_any p (xs ++ ys) ≡ false) → (b || list_any p (xs ++ ys)) ≡ false
-    go true e ih = e
-    go false e ih = ih e k
+whole_number : (s : List ℕ) → IsNumber s → is_marked s ≡ false → IsWhole (token.number s)
+unfolding is_marked is_decimal
+whole_number s n m = (n, ap (λ b. b && is_all (after_number s)) m)
+
+whole-append : (xs ys : List token.Token) → AreWhole xs → AreWhole ys → AreWhole (xs ++ ys)
+whole-append [] ys h k = k
+whole-append (x ∷ xs) ys h k = (h.0, whole-append xs ys h.1 k)
 
 mutual
-  unmarked : (d : Data) → is_plain d ≡ true → list_any is_marked_token (tree.json_tokens (outline d)) ≡ false
-  unmarked null h = refl
-  unmarked (boolean b) h = refl
-  unmarked (number n) h = ap (λ b. b || false) (unmarked_number n h)
-  unmarked (string s) h = refl
-  unmarked (array ds) h = unmarked_items ds h
-  unmarked (object ms) h = unmarked_members ms h
+  whole : (d : Data) → is_plain d ≡ true → tree.HasNumbers (outline d) → AreWhole (tree.json_tokens (outline d))
+  whole null h n = (tt, tt)
+  whole (boolean b) h n = (tt, tt)
+  whole (number x) h n = (whole_number (number_text x) n (unmarked_number x h), tt)
+  whole (string s) h n = (tt, tt)
+  whole (array ds) h n = (tt, whole_items ds h n)
+  whole (object ms) h n = (tt, whole_members ms h n)
 
-  unmarked_items : (ds : Items) → items_plain ds ≡ true → list_any is_marked_token (tree.items_tokens (items_outline ds)) ≡ false
-  unmarked_items no_items h = refl
-  unmarked_items (item d ds) h = let p = and_parts (is_plain d) (items_plain ds) h in any-append is_marked_token (tree.json_tokens (outline d)) (tree.items_tokens (items_outline ds)) (unmarked d p.0) (unmarked_items ds p.1)
+  whole_items : (ds : Items) → items_plain ds ≡ true → tree.ItemsHaveNumbers (items_outline ds) → AreWhole (tree.items_tokens (items_outline ds))
+  whole_items no_items h n = (tt, tt)
+  whole_items (item d ds) h n = let p = and_parts (is_plain d) (items_plain ds) h in whole-append (tree.json_tokens (outline d)) (tree.items_tokens (items_outline ds)) (whole d p.0 n.0) (whole_items ds p.1 n.1)
 
-  unmarked_members : (ms : Members) → members_plain ms ≡ true → list_any is_marked_token (tree.members_tokens (members_outline ms)) ≡ false
-  unmarked_members no_members h = refl
-  unmarked_members (member k d ms) h = let p = and_parts (is_plain d) (members_plain ms) h in any-append is_marked_token (tree.json_tokens (outline d)) (tree.members_tokens (members_outline ms)) (unmarked d p.0) (unmarked_members ms p.1)
+  whole_members : (ms : Members) → members_plain ms ≡ true → tree.MembersHaveNumbers (members_outline ms) → AreWhole (tree.members_tokens (members_outline ms))
+  whole_members no_members h n = (tt, tt)
+  whole_members (member k d ms) h n = let p = and_parts (is_plain d) (members_plain ms) h in (tt, whole-append (tree.json_tokens (outline d)) (tree.members_tokens (members_outline ms)) (whole d p.0 n.0) (whole_members ms p.1 n.1))
+
+-- nothing of the text of a plain value is wrapped
+pub count-compact : (d : Data) → is_plain d ≡ true → count_of (compact_text d) ≡ 0
+count-compact d h =
+    let numbers = HasNumbers-outline d h in
+    ap count_of (sym (print-outline d)) ∙ printed_stays (tree.json_tokens (outline d)) (ArePrintable-json_tokens (outline d) numbers) (whole d h numbers)
 
 -- ---- a plain object in order is read back
 
 pub payload_back : (ms : Members) → MembersSorted ms → members_plain ms ≡ true → depth (object ms) ≤ 126 → payload_members (compact_text (object ms)) ≡ Some ms
-unfolding payload_members has_marked
+unfolding payload_members
 payload_back ms s h shallow =
     let numbers = HasNumbers-outline (object ms) h in
-    let marks : list_any is_marked_token (tokens (compact_text (object ms))) ≡ false = ap (list_any is_marked_token) (tokens_compact (object ms) numbers) ∙ unmarked (object ms) h in
+    let none : (count_of (compact_text (object ms)) == 0) ≡ true = ap (λ n. n == 0) (count-compact (object ms) h) in
     let low : tree.depth (outline (object ms)) ≤ max_depth = let e : tree.depth (outline (object ms)) ≡ depth (object ms) = depth-outline (object ms) in omega arith in
     let value : read (compact_text (object ms)) ≡ Some (object ms) = read_compact (object ms) numbers low ∙ of_json-outline (object ms) s h in
     let few : nat_le (depth (object ms)) 126 ≡ true = le-leb (depth (object ms)) 126 shallow in
-    ap (λ b. cond b None (option_and_then (λ d. cond (nat_le (depth d) 126) (as_object d) None) (read (compact_text (object ms))))) marks
+    ap (λ b. cond b (option_and_then (λ d. cond (nat_le (depth d) 126) (as_object d) None) (read (compact_text (object ms)))) None) none
     ∙ (ap (option_and_then (λ d. cond (nat_le (depth d) 126) (as_object d) None)) value
     ∙ ap (λ b. cond b (Some ms) None) few)
 
@@ -167,4 +172,3 @@ flat_strings (s ∷ ss) = let e : items_depth (string_items ss) ≡ 0 = flat_str
 pub strings_back : (ss : List (List ℕ)) → strings (string_items ss) ≡ Some ss
 strings_back [] = refl
 strings_back (s ∷ ss) = ap (option_map (λ r. s ∷ r)) (strings_back ss)
-

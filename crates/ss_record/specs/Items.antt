@@ -4,6 +4,7 @@ use Rattle.serde_json.specs.Data.{object, Members}
 use Rattle.serde_json.specs.Find.{get_member}
 use Rattle.serde_json.specs.Written.{compact_text}
 use Rattle.ss_record.specs.declared.kinds.Kind.{Kind}
+use Rattle.ss_record.specs.declared.kinds.Kind.TheVariants.{Folder}
 use Rattle.ss_record.specs.Ids.{has, places, roots}
 use Rattle.ss_record.specs.Kinds.{is_folder}
 use Rattle.ss_record.specs.Payloads.{payload_members, lacks, is_true}
@@ -13,6 +14,10 @@ pub record ItemView : Type 0 where
   pub id : List ℕ
   pub kind : Kind
   pub content : List ℕ
+
+-- a folder with no content
+abbrev pub empty_folder : List ℕ → ItemView
+empty_folder x = record { id = x; kind = Folder; content = codes "{}" }
 
 -- the names of the members that tell an item's place and are no content
 unfoldable pub names_of : Kind → List (List ℕ)

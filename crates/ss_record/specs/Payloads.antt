@@ -1,43 +1,17 @@
 -- Payloads as JSON: which are read, and what stands in their members.
-use Rattle.std.specs.Prelude.{◌&&◌, ◌||◌, ◌==◌, nat_le, nat_lt, ℕ, List, [], ◌∷◌, Bool, true, false, not, if◌then◌else◌, Option, Some, None, option_map, option_and_then, unwrap_or, codes, bytes_eq, count_by}
-use Rattle.std.specs.List.{list_any}
-use Rattle.std.specs.Char.{is_ascii_digit}
-use Rattle.json.specs.Token as token
-use Rattle.json.specs.Lex.{tokens}
+use Rattle.std.specs.Prelude.{◌&&◌, ◌==◌, nat_le, ℕ, List, [], ◌∷◌, Bool, true, false, not, if◌then◌else◌, Option, Some, None, option_map, option_and_then, unwrap_or, bytes_eq}
 use Rattle.serde_json.specs.Data.{Data, null, boolean, number, string, array, object, Items, no_items, item, Members, no_members, member, depth}
 use Rattle.serde_json.specs.Read.{read}
 use Rattle.serde_json.specs.Find.{as_object, as_str}
+use Rattle.ss_text.specs.Decimals.{count_of}
 use Rattle.ss_record.specs.Ids.{has}
 
--- a point, or the letter of an exponent
-abbrev pub is_mark : ℕ → Bool
-is_mark c = (c == 0x2e) || (c == 0x45) || (c == 0x65)
-
--- a number with a point, an exponent or more than 18 digits, or `-0`
-unfoldable pub is_marked : List ℕ → Bool
-is_marked s = list_any is_mark s || nat_lt 18 (count_by is_ascii_digit s) || bytes_eq s (codes "-0")
-
-abbrev pub is_marked_token : token.Token → Bool
-is_marked_token token.begin_object = false
-is_marked_token token.end_object = false
-is_marked_token token.begin_array = false
-is_marked_token token.end_array = false
-is_marked_token (token.key s) = false
-is_marked_token (token.string s) = false
-is_marked_token (token.number s) = is_marked s
-is_marked_token (token.boolean b) = false
-is_marked_token token.null = false
-is_marked_token token.bad = false
-
--- some number of the text is such a one, also in a member that a later one of the same name replaces
-unfoldable pub has_marked : List ℕ → Bool
-has_marked text = list_any is_marked_token (tokens text)
-
--- the members of a text that is a JSON object of at most 126 levels, with none of these numbers
+-- the members of a text that is a JSON object of at most 126 levels, and in which no number is a decimal: has a point,
+-- an exponent or more than 18 digits, or is `-0`
 unfoldable pub payload_members : List ℕ → Option Members
 payload_members text =
-    if has_marked text then None
-    else option_and_then (λ d. if nat_le (depth d) 126 then as_object d else None) (read text)
+    if count_of text == 0 then option_and_then (λ d. if nat_le (depth d) 126 then as_object d else None) (read text)
+    else None
 
 -- ---- members
 

@@ -1,7 +1,8 @@
 -- What a record says of the id of its row, and the record of an item.
-use Rattle.std.specs.Prelude.{◌≡◌, ◌⊎◌, ◌&&◌, ℕ, List, [], ◌∷◌, Bool, true, false, not, if◌then◌else◌, Option, Some, None, option_map, option_and_then, unwrap_or, codes, bytes_eq}
-use Rattle.serde_json.specs.Data.{Data, boolean, string, array, object, Items, no_items, item, Members, no_members, member, put}
+use Rattle.std.specs.Prelude.{◌≡◌, ◌⊎◌, ◌&&◌, ℕ, List, [], Bool, true, false, not, if◌then◌else◌, Option, Some, None, map, option_map, option_and_then, unwrap_or, codes, bytes_eq}
+use Rattle.serde_json.specs.Data.{Data, boolean, string, array, object, Items, Members, no_members, member, put}
 use Rattle.serde_json.specs.Read.{read}
+use Rattle.serde_json.specs.View.{items_of}
 use Rattle.serde_json.specs.Find.{get_member, as_object, as_str}
 use Rattle.serde_json.specs.Written.{compact_text}
 use Rattle.ss_record.specs.declared.kinds.Kind.{Kind}
@@ -14,6 +15,10 @@ use Rattle.ss_record.specs.Payloads.{payload_members, without, string_list, is_s
 use Rattle.ss_record.specs.Items.{ItemView, names_of}
 
 -- ---- reading
+
+-- the kind that `type` names
+abbrev pub kind_in : Members → Option Kind
+kind_in ms = option_and_then kind_of (option_and_then as_str (get_member (codes "type") ms))
 
 -- absent, or a string
 abbrev pub parentid_of : Option Data → Option (Option (List ℕ))
@@ -36,7 +41,7 @@ item_of id ms =
     else Some (Item (record { id = id; kind = kind; content = compact_text (object (without (names_of kind) ms)) }) parentid children))
     (children_of (is_folder kind) (get_member (codes "children") ms)))
     (parentid_of (get_member (codes "parentid") ms)))
-    (option_and_then kind_of (option_and_then as_str (get_member (codes "type") ms)))
+    (kind_in ms)
 
 -- what an object says of the id of its row
 unfoldable pub members_reading : List ℕ → Members → Reading
@@ -53,9 +58,9 @@ reading id payload =
 
 -- ---- writing
 
+-- a list of strings
 abbrev pub string_items : List (List ℕ) → Items
-string_items [] = no_items
-string_items (s ∷ ss) = item (string s) (string_items ss)
+string_items ss = items_of (map string ss)
 
 -- the members of an item's record, over those of its content
 unfoldable pub record_members : List ℕ → Kind → Members → List ℕ → List (List ℕ) → Members
@@ -68,9 +73,13 @@ unfoldable pub record_of : ItemView → List ℕ → List (List ℕ) → List �
 record_of i parent children =
     unwrap_or (option_map (λ ms. compact_text (object (record_members i.id i.kind ms parent children))) (option_and_then as_object (read i.content))) []
 
+-- the members of a deleted item's record
+unfoldable pub tombstone_members : List ℕ → Members
+tombstone_members id = member (codes "deleted") (boolean true) (member (codes "id") (string id) no_members)
+
 -- the record of a deleted item
 unfoldable pub tombstone_of : List ℕ → List ℕ
-tombstone_of id = compact_text (object (member (codes "deleted") (boolean true) (member (codes "id") (string id) no_members)))
+tombstone_of id = compact_text (object (tombstone_members id))
 
 -- ---- fitness
 

@@ -3,10 +3,21 @@
 //! Its contracts: exactly the payloads in form are items, an item's record reads back as it, and each item is fit.
 #![tactic(auto)]
 
+mod ids;
 mod items;
 mod kinds;
+mod laws;
+mod payloads;
+mod read;
 mod readings;
+#[cfg(test)]
+mod tests;
+mod write;
 
+pub use ids::{is_places, is_root};
 pub use items::{Item, ItemFault};
 pub use kinds::Kind;
+pub use laws::fitness_is_reading_back;
+pub use read::read_record;
 pub use readings::{Reading, Sheet, Words};
+pub use write::{write_record, write_tombstone};

@@ -6,15 +6,14 @@ use Rattle.serde_json.specs.Find.{get_member, as_str}
 use Rattle.serde_json.specs.Written.{compact_text}
 use Rattle.ss_record.specs.declared.kinds.Kind.{Kind}
 use Rattle.ss_record.specs.declared.kinds.Kind.TheVariants.{Bookmark, Query, Folder, Livemark, Separator}
-use Rattle.ss_record.specs.Items.{ItemView, names_of, are_content, has_content, is_fit}
+use Rattle.ss_record.specs.Items.{ItemView, names_of}
 use Rattle.ss_record.specs.declared.readings.Reading.{Reading}
 use Rattle.ss_record.specs.declared.readings.Reading.TheVariants.{Item, Tombstone, Skipped}
 use Rattle.ss_record.specs.Ids.{has, places, roots}
 use Rattle.ss_record.specs.Kinds.{is_folder, kind_name, kind_of}
-use Rattle.ss_record.specs.Payloads.{without, lacks, strings, is_string, is_true, is_mark, is_marked, is_marked_token, has_marked, payload_members}
-use Rattle.ss_record.specs.Records.{parentid_of, children_of, item_of, members_reading, reading, string_items, record_members, record_of, ReadsBack, IsFit}
-use Rattle.ss_record.proofs.Plain.{is_plain_number, is_plain, items_plain, members_plain}
-use Rattle.ss_record.proofs.Ids.{bytes_eq-same}
+use Rattle.ss_record.specs.Payloads.{without, is_string, is_true, payload_members}
+use Rattle.ss_record.specs.Records.{parentid_of, children_of, item_of, members_reading, reading}
+use Rattle.ss_record.proofs.IdLists.{bytes_eq-same}
 
 pub and_then_some : {A B : Type 0} (f : A → Option B) (o : Option A) (b : B) → option_and_then f o ≡ Some b → (a : A) × (o ≡ Some a) × (f a ≡ Some b)
 and_then_some f None b e = cc

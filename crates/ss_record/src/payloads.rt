@@ -1,0 +1,142 @@
+//! Payloads as JSON: the members of an object, and what stands in them.
+
+ghost use Rattle.std.specs.Prelude.{◌≡◌, ◌≤◌, nat_le, IfOk, option_map};
+ghost use Rattle.serde_json.specs.Data.{depth, items_depth, members_depth};
+ghost use Rattle.serde_json.specs.Find.{get_member, as_object};
+ghost use Rattle.serde_json.specs.Read.{read};
+ghost use Rattle.serde_json.specs.View.{view, items_view, members_view};
+ghost use Rattle.ss_record.specs.Payloads.{payload_members, strings, string_list, is_string, is_true};
+
+use serde_json::{Map, Value};
+use ss_text::{Word, wrap_decimals};
+use std::alloc::{AllocError, Global};
+
+/// How many levels a payload may have; its line in a device's file has one more.
+const LEVELS: usize = 126;
+
+/// Whether arrays and objects nest at most that deep.
+#[cycle(fits)]
+fn fits(value: &Value, levels: usize) -> bool
+    ensures { result ≡ nat_le (depth (view value.now)) levels }
+{
+    match value {
+        Value::Array(items) => levels > 0 && items_fit(items, levels - 1),
+        Value::Object(members) => levels > 0 && members_fit(members, levels - 1),
+        _ => true,
+    }
+}
+
+#[cycle(fits)]
+fn items_fit(items: &Vec<Value>, levels: usize) -> bool
+    ensures { result ≡ nat_le (items_depth (items_view items.now.items)) levels }
+{
+    for item in items {
+        if !fits(item, levels) {
+            return false;
+        }
+    }
+    true
+}
+
+#[cycle(fits)]
+fn members_fit(members: &Map<String, Value>, levels: usize) -> bool
+    ensures { result ≡ nat_le (members_depth (members_view members.now.entries)) levels }
+{
+    for (_, member) in members.iter() {
+        if !fits(member, levels) {
+            return false;
+        }
+    }
+    true
+}
+
+/// The value that a text is as JSON.
+fn read(alloc: Global, text: &str) -> Result<Option<Value>, AllocError>
+    ensures { IfOk result (λ found. option_map view found ≡ read text.now) }
+{
+    match Value::from_str(alloc, text) {
+        Ok(value) => Ok(Some(value)),
+        Err(error) => {
+            if error.is_memory() {
+                Err(AllocError)
+            } else {
+                Ok(None)
+            }
+        }
+    }
+}
+
+/// The members of an object.
+fn into_members(value: Value) -> Option<Map<String, Value>>
+    ensures { option_map (λ m. members_view m.entries) result ≡ as_object (view value) }
+{
+    match value {
+        Value::Object(members) => Some(members),
+        _ => None,
+    }
+}
+
+/// The members of a text that is in form as a payload; None exactly where it isn't.
+#[tactic(auto, unfolding(crate::specs::Payloads::payload_members))]
+pub(crate) fn members_of(
+    alloc: Global,
+    text: &str,
+) -> Result<Option<Map<String, Value>>, AllocError>
+    ensures { IfOk result (λ found. option_map (λ m. members_view m.entries) found ≡ payload_members text.now) }
+{
+    if wrap_decimals(alloc, text.as_bytes())?.count > 0 {
+        return Ok(None);
+    }
+    match read(alloc, text)? {
+        Some(value) if fits(&value, LEVELS) => Ok(into_members(value)),
+        _ => Ok(None),
+    }
+}
+
+/// The member of a name.
+pub(crate) fn member<'a>(members: &'a Map<String, Value>, name: &str) -> Option<&'a Value>
+    ensures { option_map (λ v. view v.now) result ≡ get_member name.now (members_view members.now.entries) }
+{
+    members.get(name)
+}
+
+/// Whether a member is this string.
+pub(crate) fn is_string(text: &str, member: Option<&Value>) -> bool
+    ensures { result ≡ is_string text.now (option_map (λ v. view v.now) member.entry) }
+{
+    match member {
+        Some(Value::String(string)) => text == string.as_str(),
+        _ => false,
+    }
+}
+
+/// Whether a member is `true`.
+pub(crate) fn is_true(member: Option<&Value>) -> bool
+    ensures { result ≡ is_true (option_map (λ v. view v.now) member.entry) }
+{
+    matches!(member, Some(Value::Bool(true)))
+}
+
+/// The strings of a list of strings.
+fn strings(alloc: Global, items: &Vec<Value>) -> Result<Option<Vec<Word>>, AllocError>
+    ensures { IfOk result (λ found. option_map (λ v. v.items) found ≡ strings (items_view items.now.items)) }
+{
+    let mut words = Vec::with_capacity(alloc, items.len())?;
+    for item in items {
+        match item {
+            Value::String(text) => words.push(Word::new(text.clone()?))?,
+            _ => return Ok(None),
+        }
+    }
+    Ok(Some(words))
+}
+
+/// The list of strings that a value is.
+pub(crate) fn string_list(alloc: Global, value: &Value) -> Result<Option<Vec<Word>>, AllocError>
+    ensures { IfOk result (λ found. option_map (λ v. v.items) found ≡ string_list (view value.now)) }
+{
+    match value {
+        Value::Array(items) => strings(alloc, items),
+        _ => Ok(None),
+    }
+}

@@ -4,9 +4,11 @@
 #![tactic(auto)]
 
 mod names;
+mod numbers;
 mod stamps;
 mod texts;
 
 pub use names::{Id, Ids, Name};
+pub use numbers::read_number;
 pub use stamps::{Stamp, push_stamp};
 pub use texts::{Bytes, Word};

@@ -4,13 +4,17 @@
 #![tactic(auto)]
 
 mod decimals;
+mod json_texts;
 mod laws;
+mod lines;
 mod names;
 mod stamps;
 mod texts;
 
 pub use decimals::{Wrapped, wrap_decimals};
+pub use json_texts::push_json_text;
 pub use laws::{unwrapped_is_same, wrapped_is_whole};
+pub use lines::{cut_lines, lines_in};
 pub use names::{Id, Ids, Name};
-pub use stamps::{Stamp, push_stamp};
+pub use stamps::{Cond, Stamp, push_stamp, read_stamp};
 pub use texts::{Bytes, Word};

@@ -1,2 +1,10 @@
 pub mod Digits
 pub mod NameLemmas
+pub mod NoFloat
+pub mod Pieces
+pub mod Points
+pub mod Printed
+pub mod Rewrapped
+pub mod Whole
+pub mod WholeTokens
+pub mod WholeTrees

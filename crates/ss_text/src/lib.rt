@@ -1,14 +1,22 @@
 //! Texts and times: small types that contracts see as lists of bytes, and stamps.
-//! It reads and prints the texts that every other crate speaks of, and stands on std alone.
+//! It reads and prints the texts that every other crate speaks of.
 //! Its contracts: a text has exactly the form that its type names, and what is printed is the definition's text.
 #![tactic(auto)]
 
+mod decimals;
+mod json_texts;
+mod laws;
+mod lines;
 mod names;
 mod numbers;
 mod stamps;
 mod texts;
 
+pub use decimals::{Wrapped, wrap_decimals};
+pub use json_texts::push_json_text;
+pub use laws::{unwrapped_is_same, wrapped_is_whole};
+pub use lines::{cut_lines, lines_in};
 pub use names::{Id, Ids, Name};
 pub use numbers::read_number;
-pub use stamps::{Stamp, push_stamp};
+pub use stamps::{Cond, Stamp, push_stamp, read_stamp};
 pub use texts::{Bytes, Word};

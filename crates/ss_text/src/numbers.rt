@@ -6,14 +6,15 @@ ghost use Rattle.std.specs.List.{list_all};
 ghost use Rattle.std.specs.Str.Parse.{digits_value};
 ghost use Rattle.ss_text.specs.Numbers.{number_of};
 
-fn are_digits(text: &[u8]) -> bool
+/// Whether every byte is a decimal digit.
+pub(crate) fn are_digits(text: &[u8]) -> bool
     ensures { result ≡ list_all is_ascii_digit text.now }
 {
     text.iter().all(|digit| digit.is_ascii_digit())
 }
 
 /// The number that at most 18 digits write.
-fn value_of(text: &[u8]) -> u64
+pub(crate) fn value_of(text: &[u8]) -> u64
     requires digits { list_all is_ascii_digit text.now ≡ true }
     requires few { length text.now ≤ 18 }
     ensures value { result ≡ digits_value 10 text.now }

@@ -1,0 +1,1 @@
+//! Requests of one item, and the messages that make them.

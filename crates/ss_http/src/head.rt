@@ -58,11 +58,7 @@ pub fn body_length(fields: &[(Bytes, Bytes)]) -> Option<u64>
     }
 }
 
-fn fields_at(
-    alloc: Global,
-    buf: &[u8],
-    headers: &[HeaderSpan],
-) -> Result<FieldLines, AllocError>
+fn fields_at(alloc: Global, buf: &[u8], headers: &[HeaderSpan]) -> Result<FieldLines, AllocError>
     requires { All (IsHeaderWithin (length buf.now)) headers.now }
     ensures { IfOk result (λ fields. fields ≡ map (header_bytes buf.now) headers.now) }
 {

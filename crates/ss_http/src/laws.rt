@@ -7,5 +7,4 @@ ghost use Rattle.ss_http.specs.declared.message.Message.{Message};
 /// An input is in at most one way a list of messages and a rest that begins with none.
 pub fn one_way()
     ensures { (input : List ℕ) (ms ns : List Message) (r q : List ℕ) → Splits input ms r → Splits input ns q → (ms ≡ ns) × (r ≡ q) }
-{
-}
+{}

@@ -78,11 +78,7 @@ fn begin_line(out: &mut Vec<u8>, name: &str) -> Result<(), AllocError>
 }
 
 #[tactic(auto, unfolding(crate::specs::Responses::lines))]
-fn push_stamp_line(
-    out: &mut Vec<u8>,
-    name: &str,
-    stamp: Option<Stamp>,
-) -> Result<(), AllocError>
+fn push_stamp_line(out: &mut Vec<u8>, name: &str, stamp: Option<Stamp>) -> Result<(), AllocError>
     ensures { OnOk result (out.new.items ≡ out.old.items ++ lines (field_if name.now (option_map stamp_text stamp))) }
 {
     match stamp {
@@ -96,11 +92,7 @@ fn push_stamp_line(
 }
 
 #[tactic(auto, unfolding(crate::specs::Responses::lines))]
-fn push_number_line(
-    out: &mut Vec<u8>,
-    name: &str,
-    number: Option<u64>,
-) -> Result<(), AllocError>
+fn push_number_line(out: &mut Vec<u8>, name: &str, number: Option<u64>) -> Result<(), AllocError>
     ensures { OnOk result (out.new.items ≡ out.old.items ++ lines (field_if name.now (option_map decimal number))) }
 {
     match number {
@@ -147,11 +139,7 @@ fn type_text(newlines: bool) -> &'static str
 }
 
 #[tactic(auto, unfolding(crate::specs::Responses::lines))]
-fn push_body_fields(
-    out: &mut Vec<u8>,
-    head: &ResponseHead,
-    size: usize,
-) -> Result<(), AllocError>
+fn push_body_fields(out: &mut Vec<u8>, head: &ResponseHead, size: usize) -> Result<(), AllocError>
     ensures { OnOk result (out.new.items ≡ out.old.items ++ lines (body_fields head.now size)) }
 {
     if head.status == 304 {
@@ -173,11 +161,7 @@ fn push_connection(out: &mut Vec<u8>, last: bool) -> Result<(), AllocError>
     }
 }
 
-fn push_fields(
-    out: &mut Vec<u8>,
-    head: &ResponseHead,
-    size: usize,
-) -> Result<(), AllocError>
+fn push_fields(out: &mut Vec<u8>, head: &ResponseHead, size: usize) -> Result<(), AllocError>
     ensures { OnOk result (out.new.items ≡ out.old.items ++ lines (fields head.now size)) }
 {
     push_stamp_line(out, "X-Weave-Timestamp", Some(head.moment))?;
@@ -202,11 +186,7 @@ fn push_status_line(out: &mut Vec<u8>, status: u16) -> Result<(), AllocError>
 
 /// The lines before a body of this size.
 #[tactic(auto, unfolding(crate::specs::Responses::head_text))]
-fn head_lines(
-    alloc: Global,
-    head: &ResponseHead,
-    size: usize,
-) -> Result<Vec<u8>, AllocError>
+fn head_lines(alloc: Global, head: &ResponseHead, size: usize) -> Result<Vec<u8>, AllocError>
     ensures { IfOk result (λ lines. lines.items ≡ head_text head.now size) }
 {
     let mut out = Vec::with_capacity(alloc, 256)?;

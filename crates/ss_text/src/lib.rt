@@ -18,5 +18,5 @@ pub use laws::{unwrapped_is_same, wrapped_is_whole};
 pub use lines::{cut_lines, lines_in};
 pub use names::{Id, Ids, Name};
 pub use numbers::read_number;
-pub use stamps::{Cond, Stamp, push_stamp, read_stamp};
+pub use stamps::{Cond, LAST, Stamp, push_stamp, read_stamp};
 pub use texts::{Bytes, Word};

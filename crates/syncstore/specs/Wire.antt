@@ -31,7 +31,7 @@ head_of status moment modified last =
     record { status = status; moment = moment; modified = modified; count = None; next = None; allow = None; newlines = false; last = last }
 
 -- a string in JSON
-abbrev pub json_text : List ℕ → List ℕ
+unfoldable pub json_text : List ℕ → List ℕ
 json_text text = compact_text (string text)
 
 -- the members of an object, piece by piece: id and time, payload, and the sortindex where there is one

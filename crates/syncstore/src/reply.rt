@@ -2,7 +2,7 @@
 
 ghost use Rattle.std.specs.Prelude.{◌≡◌, ◌++◌, Some, None, codes, OnOk, OnErr, IfOk};
 ghost use Rattle.ss_text.specs.Time.{stamp_text};
-ghost use Rattle.syncstore.specs.Wire.{status_of, modified_of, head_of, json_text, first_members, payload_member, sortindex_text, object_text, body_of, wire, memory_wire};
+ghost use Rattle.syncstore.specs.Wire.{status_of, modified_of, head_of, json_text, first_members, payload_member, sortindex_member, sortindex_text, object_text, body_of, wire, memory_wire};
 
 use itoa::Buffer;
 use ss_bso::Row;
@@ -40,14 +40,22 @@ fn push_text(out: &mut Vec<u8>, text: &str) -> Result<(), AllocError>
     out.extend_from_slice(text.as_bytes())
 }
 
+#[tactic(auto, unfolding(crate::specs::Wire::json_text))]
+fn push_json(out: &mut Vec<u8>, text: &str) -> Result<(), AllocError>
+    ensures { OnOk result (out.new.items ≡ out.old.items ++ json_text text.now) }
+{
+    push_json_text(out, text)
+}
+
 #[tactic(auto, unfolding(crate::specs::Wire::first_members))]
 fn push_first_members(out: &mut Vec<u8>, row: &Row) -> Result<(), AllocError>
     ensures { OnOk result (out.new.items ≡ out.old.items ++ first_members row.now) }
 {
     push_text(out, "{\"id\":")?;
-    push_json_text(out, row.id.as_str())?;
+    push_json(out, row.id.as_str())?;
     push_text(out, ",\"modified\":")?;
-    push_stamp(out, row.modified)
+    push_stamp(out, row.modified)?;
+    Ok(())
 }
 
 #[tactic(auto, unfolding(crate::specs::Wire::payload_member))]
@@ -55,7 +63,7 @@ fn push_payload_member(out: &mut Vec<u8>, payload: &str) -> Result<(), AllocErro
     ensures { OnOk result (out.new.items ≡ out.old.items ++ payload_member payload.now) }
 {
     push_text(out, ",\"payload\":")?;
-    push_json_text(out, payload)
+    push_json(out, payload)
 }
 
 #[tactic(auto, unfolding(crate::specs::Wire::sortindex_member))]
@@ -64,7 +72,8 @@ fn push_sortindex_member(out: &mut Vec<u8>, index: i32) -> Result<(), AllocError
 {
     let mut buffer = Buffer::new();
     push_text(out, ",\"sortindex\":")?;
-    push_text(out, buffer.format(index))
+    push_text(out, buffer.format(index))?;
+    Ok(())
 }
 
 fn push_sortindex(out: &mut Vec<u8>, index: Option<i32>) -> Result<(), AllocError>

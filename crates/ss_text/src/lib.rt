@@ -9,6 +9,8 @@ mod laws;
 mod lines;
 mod names;
 mod stamps;
+#[cfg(test)]
+mod tests;
 mod texts;
 
 pub use decimals::{Wrapped, wrap_decimals};

@@ -13,19 +13,30 @@ use crate::message::Message;
 use ss_outside::Source;
 use ss_text::Bytes;
 use std::alloc::Global;
+use thiserror::Error;
 
 /// Why no message was read.
-#[derive(Clone, Copy, Debug, Drop)]
+#[derive(Clone, Copy, Debug, PartialEq, Eq, Error)]
 pub enum MsgFault {
     /// The input ended between messages.
+    #[error("the input ended")]
     End,
+
     /// The input ended inside a message.
+    #[error("the input ended inside a message")]
     Cut,
-    /// The bytes begin no message of the first path, however they go on.
+
+    /// The bytes begin no message of the form that is read, however they go on: a head of HTTP/1.1 with no field or
+    /// with `Content-Length` alone, within its limits.
+    #[error("the input goes on with no message that is answered")]
     Unbuilt,
+
     /// The source failed.
+    #[error("reading the input failed")]
     ReadFault,
+
     /// No memory was found for the message.
+    #[error("no memory was found")]
     Memory,
 }
 

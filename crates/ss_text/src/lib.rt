@@ -10,6 +10,8 @@ mod lines;
 mod names;
 mod numbers;
 mod stamps;
+#[cfg(test)]
+mod tests;
 mod texts;
 
 pub use decimals::{Wrapped, wrap_decimals};

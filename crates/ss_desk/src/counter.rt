@@ -1,4 +1,4 @@
-// A counter with a journal: the smallest value for a desk.
+// A counter with a journal: the smallest value for a desk, and an example of how one is written.
 ghost use Rattle.std.specs.Prelude.{◌≡◌, ◌*◌, ◌≤◌, [], vec_len, vec_capacity, sum_by, IfOk};
 
 use crate::journaled::{Full, Journaled};

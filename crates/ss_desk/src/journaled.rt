@@ -22,8 +22,10 @@ pub trait Journaled {
     /// What a call leaves in the journal.
     type Entry;
 
+    /// What a call is asked to do.
     type Ask;
 
+    /// What a call answers.
     type Reply;
 
     ghost fixed: { Self → Self.Fixed };
@@ -45,7 +47,7 @@ pub trait Journaled {
     // The reply to the last call of this journal.
     ghost replies: { Self.Fixed → List Self.Entry → Self.Reply → Type 0 };
 
-    // The numbers of a journal that has no room for a call.
+    // Whether this journal has no room for a call, and the two numbers that say so.
     ghost full: { Self.Fixed → List Self.Entry → Option Full };
 
     /// Makes one call and enters it, or leaves the value where the journal is full. The desk knows that the journal is

@@ -185,7 +185,7 @@ ended_reading uid at input input' input2 output output' kept kept' account count
   asked = p.asked;
   answered = p.answered;
   cause = (let P : ℕ → Type 0 = λ n. Rose n input2.read_faults in subst P p.read_faults rises);
-  faults = tt;
+  faults = p.write_faults;
   fewer = fewer_turns p.turns count p.count_is more;
 }
 ended_reading uid at input input' input2 output output' kept kept' account count faults.Memory got p more read fault ends rises = record {
@@ -234,7 +234,7 @@ ended_turning uid at input input' input2 output output' output2 kept kept' accou
             ∙ ap (λ z. p.sent ++ z) cut.cut ∙ sym (append_assoc p.sent cut.sent cut.rest),
       );
       cause = subst P p.write_faults cut.rose;
-      faults = tt;
+      faults = same ∙ p.read_faults;
       fewer = tt;
     }
 ended_turning uid at input input' input2 output output' output2 kept kept' account account' count m endings.Unbuilt got p more read reads same none =

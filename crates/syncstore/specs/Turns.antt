@@ -21,12 +21,13 @@ use Rattle.syncstore.specs.Words.{status_of}
 pub data Mark : Type 0 where
   done unsent refused : Mark
 
--- the account after a request, and the response
+-- the account after a request
 abbrev pub left_by : Mark → Plain → ℕ → Request → Plain
 left_by done account now request = (api account now request).0
 left_by unsent account now request = (api account now request).0
 left_by refused account now request = tick account now
 
+-- the response to a request at a reading of the clock; `last` closes the connection
 abbrev pub response_to : Mark → Plain → ℕ → Bool → Request → List ℕ
 response_to done account now last request = wire (api account now request).1 last
 response_to unsent account now last request = memory_wire (api account now request).0.moment last
@@ -83,10 +84,10 @@ Sends endings.Input sent whole = sent ≡ whole
 Sends endings.Output sent whole = (rest : List ℕ) × (whole ≡ sent ++ rest)
 Sends endings.Memory sent whole = sent ≡ whole
 
--- the counts of faults stand where they stood, where the ending is no fault
+-- the counts of faults stand where they stood, but for the one that the ending tells of
 abbrev pub Unfaulted : Ending → Meanings → Meanings → Meanings → Meanings → Type 0
-Unfaulted endings.Input input input' output output' = ⊤
-Unfaulted endings.Output input input' output output' = ⊤
+Unfaulted endings.Input input input' output output' = output'.write_faults ≡ output.write_faults
+Unfaulted endings.Output input input' output output' = input'.read_faults ≡ input.read_faults
 Unfaulted _ input input' output output' = (input'.read_faults ≡ input.read_faults) × (output'.write_faults ≡ output.write_faults)
 
 -- only the ending by the count, and a failed write of the last response, come with as many turns as may be
@@ -118,13 +119,14 @@ pub record IsTurn (prefix : List ℕ) (now : ℕ) (last : Bool) (old new : Plain
   pub left : new ≡ left_by mark old now request
   pub sent : response ≡ response_to mark old now last request
 
--- how a turn ends
+-- a turn whose response was written whole
 pub record WasSent (prefix : List ℕ) (now : ℕ) (last : Bool) (old new : Plain) (m : Message) (output output' : Meanings) : Type 0 where
   pub response : List ℕ
   pub turn : IsTurn prefix now last old new m response
   pub write : HasWritten response output output'
   pub faults : output'.write_faults ≡ output.write_faults
 
+-- a turn of whose response only a front was written
 pub record WasCut (prefix : List ℕ) (now : ℕ) (last : Bool) (old new : Plain) (m : Message) (output output' : Meanings) : Type 0 where
   pub response : List ℕ
   pub turn : IsTurn prefix now last old new m response
@@ -134,13 +136,14 @@ pub record WasCut (prefix : List ℕ) (now : ℕ) (last : Bool) (old new : Plain
   pub write : HasWritten sent output output'
   pub rose : Rose output.write_faults output'.write_faults
 
+-- what a turn does that ends the run: nothing is written for a message that isn't answered, and where no memory is found
 abbrev pub EndsTurn : Ending → List ℕ → ℕ → Bool → Plain → Plain → Message → Meanings → Meanings → Type 0
 EndsTurn endings.Output prefix now last old new m output output' = WasCut prefix now last old new m output output'
 EndsTurn endings.Unbuilt prefix now last old new m output output' = (asked_at prefix m ≡ None) × (output' ≡ output)
 EndsTurn endings.Memory prefix now last old new m output output' = output' ≡ output
 EndsTurn _ prefix now last old new m output output' = ⊥
 
--- what stands after some turns
+-- what stands after some turns, while the run goes on
 pub record Progress (uid at : ℕ) (input input' output output' : Meanings) (kept : Kept) (account : Plain) (count : ℕ) : Type 0 where
   pub taken : List ℕ
   pub sent : List ℕ

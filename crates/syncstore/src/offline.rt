@@ -1,6 +1,6 @@
 //! The commands that wait for nobody.
 
-ghost use Rattle.std.specs.Prelude.{map, string_bytes};
+ghost use Rattle.std.specs.Prelude.{◌≡◌, map, string_bytes};
 ghost use Rattle.syncstore.specs.Turns.{Runs};
 ghost use Rattle.syncstore.specs.Words.{asks};
 
@@ -19,8 +19,9 @@ pub fn run_offline<S: Source, T: Sink, C: Clock>(
     output: &mut T,
     _clock: &mut C,
 ) -> u8
-    ensures { Runs (asks (map (λ word. string_bytes word) words.now)) result
+    ensures runs { Runs (asks (map (λ word. string_bytes word) words.now)) result
         (S.Told.told input.old) (S.Told.told input.new) (T.Told.told output.old) (T.Told.told output.new) }
+    ensures clock_unread { _clock.new ≡ _clock.old }
 {
     match asked(words) {
         None => 1,

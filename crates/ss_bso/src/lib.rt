@@ -1,14 +1,20 @@
 //! Stored records: rows, what a request says of them, and an account as plain data.
-//! It says what a put makes of a row, and stands on texts and times.
-//! Its contracts: `put` is the definition's row for every field and every old row.
+//! It reads the bodies of PUT and POST, and says what a put makes of a row.
+//! Its contracts: the readers give exactly what a body says or its first fault, and `put` is the definition's row.
 #![tactic(auto)]
 
 mod account;
+mod bodies;
+mod members;
 mod parts;
 mod puts;
 mod rows;
+#[cfg(test)]
+mod tests;
 
 pub use account::{Batches, Plain, Staged, Times};
+pub use bodies::{BodyFault, read_parts};
+pub use members::{FieldsFault, read_fields};
 pub use parts::{Failures, Field, Fields, Part, Parts, Reason, Records};
 pub use puts::put;
 pub use rows::{Row, Rows};

@@ -1,6 +1,8 @@
+pub mod Digits
 pub mod NameLemmas
 pub mod NoFloat
 pub mod Pieces
+pub mod Points
 pub mod Printed
 pub mod Rewrapped
 pub mod Whole

@@ -1,5 +1,6 @@
 -- Lists that are asked by a text, and lists in order.
-use Rattle.std.specs.Prelude.{ℕ, Bool, not, List, [], ◌∷◌, filter, bytes_eq, if◌then◌else◌}
+use Rattle.std.specs.Prelude.{ℕ, Bool, not, List, [], ◌∷◌, filter, length, ◌==◌, bytes_eq, if◌then◌else◌}
+use Rattle.std.specs.List.{slice_split}
 use Rattle.std.specs.declared.cmp.Ordering.{Ordering}
 use Rattle.std.specs.Ordering.{nat_cmp}
 use Rattle.std.specs.Cmp.Lexicographic.{slice_cmp}
@@ -29,3 +30,7 @@ pub data Reordered {X : Type 0} : List X → List X → Type 0 where
   head : (x : X) {xs ys : List X} → Reordered xs ys → Reordered (x ∷ xs) (x ∷ ys)
   swapped : (x y : X) (xs : List X) → Reordered (x ∷ y ∷ xs) (y ∷ x ∷ xs)
   chain : {xs ys zs : List X} → Reordered xs ys → Reordered ys zs → Reordered xs zs
+
+-- the lines of a text: the pieces between newlines, empty ones dropped
+abbrev pub lines_of : List ℕ → List (List ℕ)
+lines_of text = filter (λ line. not (length line == 0)) (slice_split (λ b. b == 0x0a) text)

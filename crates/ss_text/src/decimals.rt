@@ -134,7 +134,7 @@ pub fn wrap_decimals(alloc: Global, text: &[u8]) -> Result<Wrapped, AllocError>
     ensures bytes { IfOk result (λ w. w.bytes.items ≡ wrapped text.now) }
     ensures count { IfOk result (λ w. w.count ≡ count_of text.now) }
 {
-    let mut bytes = Vec::new(alloc);
+    let mut bytes = Vec::with_capacity(alloc, text.len())?;
     let mut count = 0u64;
     let mut place = Place::Outside;
     let mut at = 0;

@@ -4,13 +4,21 @@
 #![tactic(auto)]
 
 mod decimals;
+mod json_texts;
 mod laws;
+mod lines;
 mod names;
+mod numbers;
 mod stamps;
+#[cfg(test)]
+mod tests;
 mod texts;
 
 pub use decimals::{Wrapped, wrap_decimals};
+pub use json_texts::push_json_text;
 pub use laws::{unwrapped_is_same, wrapped_is_whole};
+pub use lines::{cut_lines, lines_in};
 pub use names::{Id, Ids, Name};
-pub use stamps::{Stamp, push_stamp};
+pub use numbers::read_number;
+pub use stamps::{Cond, LAST, Stamp, push_stamp, read_stamp};
 pub use texts::{Bytes, Word};

@@ -1,8 +1,12 @@
-//! Times in hundredths of a second.
+//! Times in hundredths of a second, and conditions on them.
 
-ghost use Rattle.std.specs.Prelude.{◌≡◌, ◌≤◌, ◌++◌, min, IfOk, OnOk, OnErr, SomeIff};
-ghost use Rattle.ss_text.specs.Time.{last_stamp, stamp_text};
+ghost use Rattle.std.specs.Prelude.{◌≡◌, ◌≤◌, ◌<◌, ◌^◌, ◌++◌, true, length, min, option_map, IfOk, OnOk, OnErr, SomeIff};
+ghost use Rattle.std.specs.Char.{is_ascii_digit};
+ghost use Rattle.std.specs.List.{list_all};
+ghost use Rattle.std.specs.Str.Parse.{digits_value};
+ghost use Rattle.ss_text.specs.Time.{last_stamp, stamp_text, split_point, is_seconds, hundredths, with_fraction, stamp_of, stops};
 
+use crate::numbers::{are_digits, value_of};
 use itoa::Buffer;
 use std::alloc::AllocError;
 use std::marker::Model;
@@ -73,4 +77,118 @@ pub fn push_stamp(out: &mut Vec<u8>, stamp: Stamp) -> Result<(), AllocError>
     out.push_reserved(b'0' + hundredths / 10);
     out.push_reserved(b'0' + hundredths % 10);
     Ok(())
+}
+
+/// The place of the first point, or the length where there is none.
+fn point_at(text: &[u8]) -> usize
+    ensures { result ≡ length (split_point text.now).0 }
+{
+    let mut at = 0;
+    while at < text.len() && text[at] != b'.' {
+        at += 1;
+    }
+    at
+}
+
+/// The bytes before the first point, and those after it.
+fn cut_at_point(text: &[u8]) -> (&[u8], Option<&[u8]>)
+    ensures front { result.0.now ≡ (split_point text.now).0 }
+    ensures rest { option_map (λ rest. rest.now) result.1 ≡ (split_point text.now).1 }
+{
+    let at = point_at(text);
+    if at < text.len() {
+        (&text[..at], Some(&text[at + 1..]))
+    } else {
+        (text, None)
+    }
+}
+
+fn are_seconds(text: &[u8]) -> bool
+    ensures { result ≡ is_seconds text.now }
+{
+    1 <= text.len() && text.len() <= 10 && are_digits(text)
+}
+
+/// The hundredths that the digits behind a point say.
+fn hundredths_in(digits: &[u8]) -> u64
+    requires { list_all is_ascii_digit digits.now ≡ true }
+    ensures value { result ≡ hundredths digits.now }
+    ensures small { result < 100 }
+{
+    if digits.is_empty() {
+        return 0;
+    }
+    let tenths = u64::from(digits[0] - b'0');
+    if digits.len() == 1 {
+        10 * tenths
+    } else {
+        10 * tenths + u64::from(digits[1] - b'0')
+    }
+}
+
+fn with_hundredths(seconds: u64, fraction: Option<&[u8]>) -> Option<Stamp>
+    requires { seconds < 10 ^ 10 }
+    ensures { result ≡ with_fraction seconds (option_map (λ digits. digits.now) fraction.entry) }
+{
+    match fraction {
+        None => Some(Stamp {
+            hundredths: 100 * seconds,
+        }),
+        Some(digits) => if 1 <= digits.len() && are_digits(digits) {
+            Some(Stamp {
+                hundredths: 100 * seconds + hundredths_in(digits),
+            })
+        } else {
+            None
+        },
+    }
+}
+
+/// The stamp of a text: 1 to 10 digits of seconds, and perhaps a point and at least one digit, of which those after
+/// the second are dropped (SyncStorage API 1.5). None exactly where the text is no stamp.
+#[tactic(auto, unfolding(crate::specs::Time::stamp_of))]
+pub fn read_stamp(text: &[u8]) -> Option<Stamp>
+    ensures { result ≡ stamp_of text.now }
+{
+    let (seconds, fraction) = cut_at_point(text);
+    if are_seconds(seconds) {
+        with_hundredths(value_of(seconds), fraction)
+    } else {
+        None
+    }
+}
+
+/// A condition on the time of a request's target (SyncStorage API 1.5).
+#[derive(Clone, Copy, Debug)]
+pub enum Cond {
+    /// None.
+    Free,
+
+    /// `X-If-Modified-Since`: the target has changed since.
+    IfModified(Stamp),
+
+    /// `X-If-Unmodified-Since`: the target hasn't changed since.
+    IfUnmodified(Stamp),
+}
+
+impl Cond {
+    /// The status with which the condition stops a request whose target has this time: 304 where the target hasn't
+    /// changed since, 412 where it has.
+    pub fn stops(self, time: Stamp) -> Option<u16>
+        ensures { result ≡ stops self time }
+    {
+        match self {
+            Cond::Free => None,
+            Cond::IfModified(since) => if time.get() <= since.get() {
+                Some(304)
+            } else {
+                None
+            },
+            Cond::IfUnmodified(since) => if since.get() < time.get() {
+                Some(412)
+            } else {
+                None
+            },
+        }
+    }
 }

@@ -1,0 +1,152 @@
+//! The fields that a JSON object gives a record.
+
+ghost use Rattle.std.specs.Prelude.{◌≡◌, IfOk, option_map};
+ghost use Rattle.serde_json.specs.View.{view};
+ghost use Rattle.ss_bso.specs.Members.{parsed, payload_of, sortindex_of, ttl_of, fields_of, fields_of_text, GivesFields};
+ghost use Rattle.ss_bso.specs.declared.members.FieldsFault.TheVariants.{Memory};
+
+use crate::parts::{Field, Fields, Reason};
+use serde_json::Value;
+use ss_text::{Word, wrap_decimals};
+use std::alloc::{AllocError, Global};
+
+/// The most bytes of one payload.
+const MOST_PAYLOAD: usize = 2_097_152;
+
+/// Why the body of a PUT gives no fields.
+#[derive(Clone, Copy, Debug, PartialEq, Eq)]
+pub enum FieldsFault {
+    /// It is no JSON of at most 127 levels.
+    NotJson,
+
+    /// It is JSON, but no object.
+    NotObject,
+
+    /// The first of its members that is out of form.
+    Bad(Reason),
+    Memory,
+}
+
+impl From<AllocError> for FieldsFault {
+    ghost from_gives = { λ _ fault. fault ≡ Memory };
+
+    fn from(_error: AllocError) -> FieldsFault {
+        FieldsFault::Memory
+    }
+}
+
+/// The JSON value of a text, its decimals wrapped first; None exactly where it is no JSON.
+#[tactic(auto, unfolding(crate::specs::Members::parsed))]
+pub(crate) fn parse(alloc: Global, text: &[u8]) -> Result<Option<Value>, AllocError>
+    ensures { IfOk result (λ value. option_map view value ≡ parsed text.now) }
+{
+    let wrapped = wrap_decimals(alloc, text)?;
+    match Value::from_slice(alloc, wrapped.bytes.as_slice()) {
+        Ok(value) => Ok(Some(value)),
+        Err(error) if error.is_memory() => Err(AllocError),
+        Err(_) => Ok(None),
+    }
+}
+
+#[tactic(auto, unfolding(crate::specs::Members::payload_of))]
+fn payload_in(
+    alloc: Global,
+    member: Option<&Value>,
+) -> Result<Result<Field<Word>, Reason>, AllocError>
+    ensures { IfOk result (λ field. field ≡ payload_of (option_map (λ value. view value.now) member.entry)) }
+{
+    let value = match member {
+        None => return Ok(Ok(Field::Keep)),
+        Some(value) => value,
+    };
+    if value.is_null() {
+        return Ok(Ok(Field::Clear));
+    }
+    match value.as_str() {
+        None => Ok(Err(Reason::Payload)),
+        Some(text) => if text.len() > MOST_PAYLOAD {
+            Ok(Err(Reason::TooLarge))
+        } else {
+            Ok(Ok(Field::Set(Word::new(String::from_str(alloc, text)?))))
+        },
+    }
+}
+
+#[tactic(auto, unfolding(crate::specs::Members::sortindex_of))]
+fn sortindex_in(member: Option<&Value>) -> Result<Field<i32>, Reason>
+    ensures { result ≡ sortindex_of (option_map (λ value. view value.now) member.entry) }
+{
+    let value = match member {
+        None => return Ok(Field::Keep),
+        Some(value) => value,
+    };
+    if value.is_null() {
+        return Ok(Field::Clear);
+    }
+    match value.as_i64() {
+        None => Err(Reason::Sortindex),
+        Some(index) => if -999_999_999 <= index && index <= 999_999_999 {
+            Ok(Field::Set(index as i32))
+        } else {
+            Err(Reason::Sortindex)
+        },
+    }
+}
+
+#[tactic(auto, unfolding(crate::specs::Members::ttl_of))]
+fn ttl_in(member: Option<&Value>) -> Result<Field<u32>, Reason>
+    ensures { result ≡ ttl_of (option_map (λ value. view value.now) member.entry) }
+{
+    let value = match member {
+        None => return Ok(Field::Keep),
+        Some(value) => value,
+    };
+    if value.is_null() {
+        return Ok(Field::Clear);
+    }
+    match value.as_u64() {
+        None => Err(Reason::Ttl),
+        Some(seconds) => if seconds <= 999_999_999 {
+            Ok(Field::Set(seconds as u32))
+        } else {
+            Err(Reason::Ttl)
+        },
+    }
+}
+
+/// The fields that an object's members give, or the first reason against them.
+#[tactic(auto, unfolding(crate::specs::Members::fields_of))]
+pub(crate) fn fields_in(alloc: Global, value: &Value) -> Result<Result<Fields, Reason>, AllocError>
+    ensures { IfOk result (λ fields. fields ≡ fields_of (view value.now)) }
+{
+    let payload = match payload_in(alloc, value.get("payload"))? {
+        Ok(field) => field,
+        Err(reason) => return Ok(Err(reason)),
+    };
+    let sortindex = match sortindex_in(value.get("sortindex")) {
+        Ok(field) => field,
+        Err(reason) => return Ok(Err(reason)),
+    };
+    match ttl_in(value.get("ttl")) {
+        Ok(ttl) => Ok(Ok(Fields {
+            payload,
+            sortindex,
+            ttl,
+        })),
+        Err(reason) => Ok(Err(reason)),
+    }
+}
+
+/// The fields that the body of a PUT gives: a JSON object, its decimals wrapped first, of equal members the last.
+/// An absent member is `Keep`, `null` is `Clear`; payload, sortindex and ttl are tested in this order, and no other
+/// member is looked at (SyncStorage API 1.5). Each fault but want of memory comes exactly by its rule.
+#[tactic(auto, unfolding(crate::specs::Members::fields_of_text))]
+pub fn read_fields(alloc: Global, body: &[u8]) -> Result<Fields, FieldsFault>
+    ensures { GivesFields result (fields_of_text body.now) }
+{
+    let value = parse(alloc, body)?.ok_or(FieldsFault::NotJson)?;
+    if !value.is_object() {
+        return Err(FieldsFault::NotObject);
+    }
+    fields_in(alloc, &value)?.map_err(FieldsFault::Bad)
+}

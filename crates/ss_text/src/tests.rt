@@ -1,0 +1,88 @@
+//! Texts whose reading is settled by worked values, and each call that allocates, once, with ample memory.
+
+use crate::decimals::wrap_decimals;
+use crate::json_texts::push_json_text;
+use crate::lines::cut_lines;
+use crate::names::{Id, Ids, Name};
+use crate::stamps::{Stamp, push_stamp, read_stamp};
+use crate::texts::{Bytes, Word};
+use std::test::Fail;
+
+#[test]
+fn decimals_become_lists_of_one_string(rt: HostRuntime) -> Result<(), Fail> {
+    let text = br#"[1.5,"1.5",-0,123456789012345678,1234567890123456789]"#;
+    let wrapped = wrap_decimals(rt.alloc(), text)?;
+    let want = br#"[["1.5"],"1.5",["-0"],123456789012345678,["1234567890123456789"]]"#;
+    assert_eq!(rt; wrapped.bytes.as_slice(), want.as_slice());
+    assert_eq!(rt; wrapped.count, 3);
+    Ok(())
+}
+
+#[test]
+fn stamps_are_read_and_printed(rt: HostRuntime) -> Result<(), Fail> {
+    let readings = [
+        ("0", Some(0)),
+        ("10.5", Some(1050)),
+        ("10.509", Some(1050)),
+        ("0010.05", Some(1005)),
+        ("9999999999.99", Some(999_999_999_999)),
+        ("12345678901", None),
+        ("00000000010", None),
+        ("", None),
+        (".5", None),
+        ("5.", None),
+        ("1.2.3", None),
+        ("+1", None),
+        ("-1", None),
+        ("1e3", None),
+        (" 1", None),
+    ];
+    for (text, want) in readings {
+        assert_eq!(rt; read_stamp(text.as_bytes()).map(Stamp::get), want, "{text}");
+    }
+    for (hundredths, want) in [(0, "0.00"), (1005, "10.05"), (u64::MAX, "9999999999.99")] {
+        let mut out = Vec::new(rt.alloc());
+        push_stamp(&mut out, Stamp::clamp(hundredths))?;
+        assert_eq!(rt; out.as_slice(), want.as_bytes());
+    }
+    Ok(())
+}
+
+#[test]
+fn strings_are_escaped_and_lines_are_cut(rt: HostRuntime) -> Result<(), Fail> {
+    let mut out = Vec::new(rt.alloc());
+    out.push(b':')?;
+    push_json_text(&mut out, "a\"\\\n\u{1}\u{7f}/\u{e9}")?;
+    assert_eq!(rt;
+        out.as_slice(),
+        ":\"a\\\"\\\\\\n\\u0001\u{7f}/\u{e9}\"".as_bytes()
+    );
+
+    let lines = cut_lines(rt.alloc(), b"a\n\n \r\nb")?;
+    assert_eq!(rt; lines.len(), 3);
+    assert_eq!(rt; lines[0].as_slice(), b"a".as_slice());
+    assert_eq!(rt; lines[1].as_slice(), b" \r".as_slice());
+    assert_eq!(rt; lines[2].as_slice(), b"b".as_slice());
+    Ok(())
+}
+
+#[test]
+fn ids_and_names_have_their_form(rt: HostRuntime) -> Result<(), Fail> {
+    let alloc = rt.alloc();
+    let id = Id::new(alloc, b"a b,~")?.ok_or("an id")?;
+    let name = Name::new(alloc, b"A_z-0.9")?.ok_or("a name")?;
+    assert!(rt; id.copy(alloc)? == id);
+    assert!(rt; name.copy(alloc)? == name);
+    assert!(rt; Id::new(alloc, b"")?.is_none());
+    assert!(rt; Id::new(alloc, b"\x7f")?.is_none());
+    assert!(rt; Name::new(alloc, b"a b")?.is_none());
+    assert!(rt; Name::new(alloc, [b'a'; 33].as_slice())?.is_none());
+
+    let mut ids = Vec::new(alloc);
+    ids.push(id)?;
+    assert_eq!(rt; Ids::new(ids).copy(alloc)?.as_slice().len(), 1);
+    let word = Word::new(String::from_str(alloc, "w")?);
+    assert!(rt; word.copy(alloc)? == word);
+    assert!(rt; Bytes::from_slice(alloc, b"w")?.copy(alloc)?.as_slice() == b"w".as_slice());
+    Ok(())
+}

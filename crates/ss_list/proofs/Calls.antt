@@ -36,23 +36,23 @@ length_from_times (suc n) ps all =
     let one = rw (test) at (all n) in
     let halves = cut n ps (omega (arith, one)) in
     let rest = length_from_times n (halves.0 ++ halves.1) (λ p.
-      let here : times p (halves.0 ++ n ∷ halves.1) ≡ cond (ltb p (suc n)) 1 0 = subst (λ qs. times p qs ≡ cond (ltb p (suc n)) 1 0) halves.2 (all p) in
-      elim (at_head p n halves.1) [
-        | inl same ↦
+    let here : times p (halves.0 ++ n ∷ halves.1) ≡ cond (ltb p (suc n)) 1 0 = subst (λ qs. times p qs ≡ cond (ltb p (suc n)) 1 0) halves.2 (all p) in
+    elim (at_head p n halves.1) [
+      | inl same ↦
           let above = le-ltb p n (omega arith) in
           let below = lt-ltb p (suc n) (omega arith) in
           let single = rw (below) at here in
           rw (above) (omega (arith, single, times-append p halves.0 (n ∷ halves.1), times-append p halves.0 halves.1))
-        | inr other ↦
+      | inr other ↦
           elim (cases_lt p n) [
             | inl less ↦
-              let single = rw (lt-ltb p (suc n) (omega arith)) at here in
-              rw (lt-ltb p n less) (omega (arith, single, times-append p halves.0 (n ∷ halves.1), times-append p halves.0 halves.1))
+                let single = rw (lt-ltb p (suc n) (omega arith)) at here in
+                rw (lt-ltb p n less) (omega (arith, single, times-append p halves.0 (n ∷ halves.1), times-append p halves.0 halves.1))
             | inr more ↦
-              let single = rw (le-ltb p (suc n) (omega arith)) at here in
-              rw (le-ltb p n more) (omega (arith, single, times-append p halves.0 (n ∷ halves.1), times-append p halves.0 halves.1))
+                let single = rw (le-ltb p (suc n) (omega arith)) at here in
+                rw (le-ltb p n more) (omega (arith, single, times-append p halves.0 (n ∷ halves.1), times-append p halves.0 halves.1))
           ]
-      ]) in
+    ]) in
     rw halves.2 (omega (arith, rest, length-append halves.0 (n ∷ halves.1), length-append halves.0 halves.1))
 
 -- the first of what one runs through, or the end
@@ -126,7 +126,7 @@ module _ {T : Type 0} where
     pub whole_seen : IsWhole (chain_of nodes ends free len spare)
     whole_seen p =
         let count : length (nodes_of (value_at nodes) (walk (next_of nodes ends) len ends.front)) + length (walk (next_of nodes ends) spare free) ≡ length nodes =
-          rw (← len_seen, ← spare_seen) (total lies) in
+        rw (← len_seen, ← spare_seen) (total lies) in
         rw (count, places_seen, unused_walked lies) (let here = lies.holds.others p in omega arith)
 
     pub value_there : (p : ℕ) → 0 < times p ps → value_of (chain_of nodes ends free len spare) p ≡ value_at nodes p
@@ -173,8 +173,8 @@ module _ {T : Type 0} where
         elim (at_head p END ps) [
           | inl same ↦ rw (eq-eqb p END same.0) tt
           | inr other ↦
-            let inside : 0 < times p ps = omega arith in
-            rw (ne_eqb p END other.0) (rw (value_there p inside) (lies.holds.filled p inside))
+              let inside : 0 < times p ps = omega arith in
+              rw (ne_eqb p END other.0) (rw (value_there p inside) (lies.holds.filled p inside))
         ]
 
     pub back_live : IfSome (link_of ends.back) (IsLive (chain_of nodes ends free len spare))
@@ -447,6 +447,10 @@ module _ {T : Type 0} where
     pub pushed_fresh : value_of (chain_of nodes ends free len spare) free ≡ None
     pushed_fresh = value_absent lies_pushed free (free_absent p.sound p.some_free)
 
+    pub pushed_value : value_of (chain_of new new_ends next (len + 1) (spare - 1)) free ≡ Some value
+    pushed_value =
+        value_there new_pushed free (omega (arith, times-append free p.sound.places (free ∷ []), times-here free free [] refl)) ∙ value_put
+
     pub pushed_others : (q : ℕ) → q ≢ free → value_of (chain_of new new_ends next (len + 1) (spare - 1)) q ≡ value_of (chain_of nodes ends free len spare) q
     pushed_others q other =
         same_value lies_pushed new_pushed q (omega (arith, times-append q p.sound.places (free ∷ []), times-apart q free [] other)) (value_kept q other)
@@ -517,14 +521,14 @@ module _ {T : Type 0} where
             hanging = runs_kept f (next_of new ends) free sound.unused END (λ p _. next p) lies.holds.hanging;
             others = λ p. rw length-set (lies.holds.others p);
             filled = λ p here.
-              elim (eqb_tells p x) [
-                | inl same ↦ let equal : value_at new x ≡ Some w = ap (λ n. n.value) set_here in rw (same.1, equal) refl
-                | inr other ↦ let equal = ap (λ n. n.value) (set_other p other.1) in rw (equal) (lies.holds.filled p here)
-              ];
+                elim (eqb_tells p x) [
+                  | inl same ↦ let equal : value_at new x ≡ Some w = ap (λ n. n.value) set_here in rw (same.1, equal) refl
+                  | inr other ↦ let equal = ap (λ n. n.value) (set_other p other.1) in rw (equal) (lies.holds.filled p here)
+                ];
             blank = λ p here.
-              let most = once nodes ends free sound.places sound.unused [] lies.holds p in
-              let other : p ≢ x = λ same. let at_x : 0 < times p sound.places = subst (λ q. 0 < times q sound.places) (sym same) there in omega arith in
-              ap (λ n. n.value) (set_other p other) ∙ lies.holds.blank p here;
+                let most = once nodes ends free sound.places sound.unused [] lies.holds p in
+                let other : p ≢ x = λ same. let at_x : 0 < times p sound.places = subst (λ q. 0 < times q sound.places) (sym same) there in omega arith in
+                ap (λ n. n.value) (set_other p other) ∙ lies.holds.blank p here;
             room = rw length-set lies.holds.room;
           };
           len_counts = lies.len_counts;

@@ -30,10 +30,10 @@ one_longer p n =
     elim (at_head p n []) [
       | inl same ↦ rw (le-ltb p n (omega arith), lt-ltb p (n + 1) (omega arith)) (omega arith)
       | inr other ↦
-        elim (cases_lt p n) [
-          | inl below ↦ rw (lt-ltb p n below, lt-ltb p (n + 1) (omega arith)) (omega arith)
-          | inr above ↦ rw (le-ltb p n above, le-ltb p (n + 1) (omega arith)) (omega arith)
-        ]
+          elim (cases_lt p n) [
+            | inl below ↦ rw (lt-ltb p n below, lt-ltb p (n + 1) (omega arith)) (omega arith)
+            | inr above ↦ rw (le-ltb p n above, le-ltb p (n + 1) (omega arith)) (omega arith)
+          ]
     ]
 
 module _ {T : Type 0} where
@@ -98,12 +98,12 @@ module _ {T : Type 0} where
       let halves = path_split f g END xs x ys END holds.path in
       let last = last_there f g END xs x halves.0 in
       let off_last : (p : ℕ) → 0 < times p unused → p ≢ g x = λ p there same.
-        let most = once nodes ends free (xs ++ x ∷ ys) unused [] holds p in
-        let here : 0 < times p (END ∷ xs) = subst (λ q. 0 < times q (END ∷ xs)) (sym same) last in
-        elim (at_head p END xs) [
-          | inl at_end ↦ not_end nodes ends free (xs ++ x ∷ ys) unused [] holds p (omega arith) at_end.0
-          | inr inside ↦ omega (arith, times-append p xs (x ∷ ys))
-        ] in
+      let most = once nodes ends free (xs ++ x ∷ ys) unused [] holds p in
+      let here : 0 < times p (END ∷ xs) = subst (λ q. 0 < times q (END ∷ xs)) (sym same) last in
+      elim (at_head p END xs) [
+        | inl at_end ↦ not_end nodes ends free (xs ++ x ∷ ys) unused [] holds p (omega arith) at_end.0
+        | inr inside ↦ omega (arith, times-append p xs (x ∷ ys))
+      ] in
       record {
         path = path_without f g (next_of new new_ends) (prev_of new new_ends) END xs x ys single (omega arith) joins.next joins.prev holds.path;
         hanging = runs_kept f (next_of new new_ends) free unused END (λ p there. becomes_other f (next_of new new_ends) (g x) (f x) p joins.next (off_last p there)) holds.hanging;
@@ -126,34 +126,34 @@ module _ {T : Type 0} where
       let x_once = once nodes ends free places unused (x ∷ []) holds x in
       let x_here = times-here x x [] refl in
       let single : (p : ℕ) → times p (END ∷ places) ≤ 1 = λ p.
-        let most = once nodes ends free places unused (x ∷ []) holds p in
-        elim (at_head p END places) [
-          | inl same ↦ let none : times p places ≡ 0 = rw same.0 (omega arith) in omega arith
-          | inr other ↦ omega arith
-        ] in
+      let most = once nodes ends free places unused (x ∷ []) holds p in
+      elim (at_head p END places) [
+        | inl same ↦ let none : times p places ≡ 0 = rw same.0 (omega arith) in omega arith
+        | inr other ↦ omega arith
+      ] in
       let x_not_end = not_end nodes ends free places unused (x ∷ []) holds x (omega arith) in
       let no_x : times x (END ∷ places) ≡ 0 = omega (arith, times-apart x END places x_not_end) in
       let last = last_there f g END places END holds.path in
       let off : (p : ℕ) → 0 < times p unused → f2 p ≡ f p = λ p there.
-        let most = once nodes ends free places unused (x ∷ []) holds p in
-        let not_x : p ≢ x = λ same. omega (arith, times-here p x [] same) in
-        let not_last : p ≢ g END = λ same.
-          let here : 0 < times p (END ∷ places) = subst (λ q. 0 < times q (END ∷ places)) (sym same) last in
-          elim (at_head p END places) [
-            | inl at_end ↦ not_end nodes ends free places unused (x ∷ []) holds p (omega arith) at_end.0
-            | inr inside ↦ omega arith
-          ] in
-        becomes_other f1 f2 x END p appends.at_end.next not_x ∙ becomes_other f f1 (g END) x p appends.after_last.next not_last in
+      let most = once nodes ends free places unused (x ∷ []) holds p in
+      let not_x : p ≢ x = λ same. omega (arith, times-here p x [] same) in
+      let not_last : p ≢ g END = λ same.
+      let here : 0 < times p (END ∷ places) = subst (λ q. 0 < times q (END ∷ places)) (sym same) last in
+      elim (at_head p END places) [
+        | inl at_end ↦ not_end nodes ends free places unused (x ∷ []) holds p (omega arith) at_end.0
+        | inr inside ↦ omega arith
+      ] in
+      becomes_other f1 f2 x END p appends.at_end.next not_x ∙ becomes_other f f1 (g END) x p appends.after_last.next not_last in
       let value : (p : ℕ) → value_at new p ≡ value_at nodes p = λ p. appends.at_end.value p ∙ appends.after_last.value p in
       record {
         path = path_push f g f1 g1 f2 g2 END places x single no_x appends.after_last.next appends.after_last.prev appends.at_end.next appends.at_end.prev holds.path;
         hanging = runs_kept f f2 free unused END off holds.hanging;
         others = λ p. rw same_length (let here = holds.others p in omega (arith, times-append p places (x ∷ [])));
         filled = λ p there.
-          rw (value p) (elim (at_head p x []) [
-            | inl same ↦ rw same.0 has_value
-            | inr other ↦ holds.filled p (omega (arith, times-append p places (x ∷ [])))
-          ]);
+            rw (value p) (elim (at_head p x []) [
+              | inl same ↦ rw same.0 has_value
+              | inr other ↦ holds.filled p (omega (arith, times-append p places (x ∷ [])))
+            ]);
         blank = λ p there. value p ∙ holds.blank p there;
         room = rw same_length holds.room;
       }
@@ -187,10 +187,10 @@ module _ {T : Type 0} where
         others = λ p. let here = holds.others p in omega (arith, times-append p (x ∷ []) unused);
         filled = holds.filled;
         blank = λ p there.
-          elim (at_head p x unused) [
-            | inl same ↦ rw same.0 no_value
-            | inr other ↦ holds.blank p (omega arith)
-          ];
+            elim (at_head p x unused) [
+              | inl same ↦ rw same.0 no_value
+              | inr other ↦ holds.blank p (omega arith)
+            ];
         room = holds.room;
       }
 

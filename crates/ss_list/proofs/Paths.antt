@@ -135,10 +135,10 @@ path_push f g f1 g1 f2 g2 u ps x once no_x next1 prev1 next2 prev2 path =
     let u_not_x : u ≢ x = apart u x (u ∷ ps) u_there no_x in
     let turned = path_turned f g f1 g1 u ps u x once (omega (arith, below-head x u ps)) next1 prev1 path in
     let kept = path_kept f1 g1 f2 g2 u ps x
-      (becomes_other f1 f2 x u u next2 u_not_x)
-      (λ p there. becomes_other f1 f2 x u p next2 (apart p x (u ∷ ps) (omega (arith, below-head p u ps)) no_x))
-      (λ p there. becomes_other g1 g2 u x p prev2 (apart p u ps there no_u))
-      (becomes_other g1 g2 u x x prev2 (λ same. u_not_x (sym same)))
-      turned in
+    (becomes_other f1 f2 x u u next2 u_not_x)
+    (λ p there. becomes_other f1 f2 x u p next2 (apart p x (u ∷ ps) (omega (arith, below-head p u ps)) no_x))
+    (λ p there. becomes_other g1 g2 u x p prev2 (apart p u ps there no_u))
+    (becomes_other g1 g2 u x x prev2 (λ same. u_not_x (sym same)))
+    turned in
     path_joined f2 g2 u ps x [] u kept
     (becomes_here f1 f2 x u x next2 refl, becomes_here g1 g2 u x u prev2 refl)

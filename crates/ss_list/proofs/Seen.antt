@@ -82,8 +82,8 @@ module _ {T : Type 0} (value : ℕ → Option T) where
       elim (at_head x q qs) [
         | inl same ↦ absurd (omega arith)
         | inr other ↦
-          rw (nodes_of-cons q v.0 (qs ++ x ∷ ys) v.1, nodes_of-cons q v.0 (qs ++ ys) v.1, ne_eqb x q other.0)
-          (ap (λ rest. (q, v.0) ∷ rest) (remove_entry-nodes_of qs x ys (rest_filled q (qs ++ x ∷ ys) filled) (omega arith)))
+            rw (nodes_of-cons q v.0 (qs ++ x ∷ ys) v.1, nodes_of-cons q v.0 (qs ++ ys) v.1, ne_eqb x q other.0)
+            (ap (λ rest. (q, v.0) ∷ rest) (remove_entry-nodes_of qs x ys (rest_filled q (qs ++ x ∷ ys) filled) (omega arith)))
       ]
 
   pub lookup_entry-nodes_of : (v : T) (xs : List ℕ) (x : ℕ) (ys : List ℕ) → AreFilled (xs ++ x ∷ ys) → times x xs ≡ 0 → value x ≡ Some v → lookup_entry (eqb x) (nodes_of value (xs ++ x ∷ ys)) ≡ Some (x, v)
@@ -94,8 +94,8 @@ module _ {T : Type 0} (value : ℕ → Option T) where
       elim (at_head x q qs) [
         | inl same ↦ absurd (omega arith)
         | inr other ↦
-          rw (nodes_of-cons q first.0 (qs ++ x ∷ ys) first.1, ne_eqb x q other.0)
-          (lookup_entry-nodes_of v qs x ys (rest_filled q (qs ++ x ∷ ys) filled) (omega arith) found)
+            rw (nodes_of-cons q first.0 (qs ++ x ∷ ys) first.1, ne_eqb x q other.0)
+            (lookup_entry-nodes_of v qs x ys (rest_filled q (qs ++ x ∷ ys) filled) (omega arith) found)
       ]
 
 -- ---- the same places with other values
@@ -117,13 +117,13 @@ module _ {T : Type 0} (value new : ℕ → Option T) where
       let single = once x in
       elim (at_head x q qs) [
         | inl same ↦
-          let at_q : new q ≡ Some w = subst (λ p. new p ≡ Some w) same.0 here in
-          rw (nodes_of-cons value q v.0 qs v.1, nodes_of-cons new q w qs at_q, eq-eqb x q same.0)
-          (ap (λ rs. (q, w) ∷ rs) (nodes_of-same qs rest (λ p there. others p (apart p x qs there (omega arith)))))
+            let at_q : new q ≡ Some w = subst (λ p. new p ≡ Some w) same.0 here in
+            rw (nodes_of-cons value q v.0 qs v.1, nodes_of-cons new q w qs at_q, eq-eqb x q same.0)
+            (ap (λ rs. (q, w) ∷ rs) (nodes_of-same qs rest (λ p there. others p (apart p x qs there (omega arith)))))
         | inr other ↦
-          let at_q = others q (λ same. other.0 (sym same)) ∙ v.1 in
-          rw (nodes_of-cons value q v.0 qs v.1, nodes_of-cons new q v.0 qs at_q, ne_eqb x q other.0)
-          (ap (λ rs. (q, v.0) ∷ rs) (set_value-nodes_of x w qs rest (λ p. let most = once p in omega (arith, below-head p q qs)) here others))
+            let at_q = others q (λ same. other.0 (sym same)) ∙ v.1 in
+            rw (nodes_of-cons value q v.0 qs v.1, nodes_of-cons new q v.0 qs at_q, ne_eqb x q other.0)
+            (ap (λ rs. (q, v.0) ∷ rs) (set_value-nodes_of x w qs rest (λ p. let most = once p in omega (arith, below-head p q qs)) here others))
       ]
 
 -- ---- the ends

@@ -31,7 +31,11 @@ impl At {
     pub(crate) fn of_link(link: u32) -> Option<At>
         ensures { result ≡ (if link == END then None else Some link) }
     {
-        if link == END { None } else { Some(At::new(link)) }
+        if link == END {
+            None
+        } else {
+            Some(At::new(link))
+        }
     }
 
     pub(crate) fn place(self) -> u32

@@ -112,6 +112,7 @@ impl<T> Chain<T> {
         ensures nodes { self.new.nodes ≡ self.old.nodes ++ (result, value) ∷ [] }
         ensures free { self.old.free ≡ result ∷ self.new.free }
         ensures fresh { value_of self.old result ≡ None }
+        ensures value { value_of self.new result ≡ Some value }
         ensures others { (p : ℕ) → p ≢ result → value_of self.new p ≡ value_of self.old p }
     {
         let place = self.free;

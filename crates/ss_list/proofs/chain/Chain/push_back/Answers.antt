@@ -1,5 +1,5 @@
 use Rattle.std.proofs.Common.{◌<◌, arith}
-use Rattle.ss_list.proofs.Calls.{Pushes, lies_from_sound, spare_seen, total, back_is_place, free_node, free_blank, pushed_sound, pushed_nodes, pushed_free, pushed_fresh, pushed_others, whole_slice}
+use Rattle.ss_list.proofs.Calls.{Pushes, lies_from_sound, spare_seen, total, back_is_place, free_node, free_blank, pushed_sound, pushed_nodes, pushed_free, pushed_fresh, pushed_value, pushed_others, whole_slice}
 use Rattle.ss_list.proofs.chain.Chain.push_back.Goals as goal
 
 pub occupy-self-inside-requires-clause-node : goal.occupy-self-inside-requires-clause-node
@@ -70,5 +70,6 @@ returns g c =
       nodes = rw (whole, ← c.self.view_is, c.new.ensures) (pushed_nodes p);
       free = rw (whole, ← c.self.view_is, c.new.ensures) (pushed_free p);
       fresh = rw (← c.self.view_is, c.new.ensures) (pushed_fresh p);
+      value = rw (whole, c.new.ensures) (pushed_value p);
       others = rw (whole, ← c.self.view_is, c.new.ensures) (pushed_others p);
     }

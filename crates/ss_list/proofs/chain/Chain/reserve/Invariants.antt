@@ -9,5 +9,5 @@ invariant-loop g l = record {
   nodes : (chain_of l.self-inside.nodes.items l.self-inside.ends l.self-inside.free l.self-inside.len l.self-inside.spare).nodes ≡ l.fn.self.nodes;
   spare : l.self-inside.spare ≡ l.initial.self-inside.spare + l.counter;
   capacity : vec_len l.self-inside.nodes + (l.missing - l.counter) ≤ vec_capacity l.self-inside.nodes;
-  room : length l.self-inside.nodes.items + (l.missing - l.counter) < END
+  room : length l.self-inside.nodes.items + (l.missing - l.counter) < END;
 }

@@ -481,6 +481,10 @@ module _ {T : Type 0} where
         rw (walked new_grown, walked lies)
         (nodes_of-same (value_at nodes) (value_at (nodes ++ node ∷ [])) sound.places sound.filled (λ p there. ap (λ n. n.value) (get_or_append_left nodes (node ∷ []) _ p (node_there lies p there))))
 
+    pub grown_free : (chain_of (nodes ++ record { prev = prev; next = free; value = None } ∷ []) ends (length nodes) len (spare + 1)).free ≡ length nodes ∷ (chain_of nodes ends free len spare).free
+    grown_free =
+        rw (unused_walked new_grown, unused_walked (lies_from_sound nodes ends free len spare sound)) refl
+
   -- ---- another value at a place
 
   module _ {nodes : List (Node T)} {ends : Ends} {free len spare : ℕ} (sound : IsSound nodes ends free len spare) (x : ℕ) (live : IsLive (chain_of nodes ends free len spare) x) (node : Node T) (is_there : node ≡ node_at nodes x) (w : T) where

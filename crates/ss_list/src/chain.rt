@@ -1,6 +1,6 @@
 //! The chain and its calls.
 ghost use Rattle.std.specs.Borrow.{sem};
-ghost use Rattle.std.specs.Prelude.{ℕ, ◌≢◌, ◌==◌, ◌≡◌, ◌+◌, ◌<◌, ◌≤◌, [], ◌∷◌, ◌++◌, length, max, None, Some, OnOk, OnErr, IsOk, IfSome, nat_eq};
+ghost use Rattle.std.specs.Prelude.{ℕ, List, ◌^◌, ◌-◌, ◌≢◌, ◌==◌, ◌≡◌, ◌+◌, ◌<◌, ◌≤◌, [], ◌∷◌, ◌++◌, length, max, None, Some, OnOk, OnErr, IsOk, IfSome, nat_eq};
 
 use crate::at::At;
 use crate::ends::Ends;
@@ -83,11 +83,13 @@ impl<T> Chain<T> {
         self.len == 0
     }
 
-    /// Makes free nodes, so that `spare` is at least `n`. After an error the chain is as it was.
+    /// Makes free nodes, so that `spare` is at least `n`. Those that were free stay so, after the new.
+    /// It alone takes memory. After an error the chain is as it was.
     pub fn reserve(&mut self, n: u32) -> Result<(), AllocError>
-        requires { length self.old.nodes + n < END }
+        requires { length self.old.nodes + n < 2 ^ 32 - 1 }
         ensures nodes { self.new.nodes ≡ self.old.nodes }
         ensures spare { OnOk result (length self.new.free ≡ max (length self.old.free) n) }
+        ensures kept { (made : List ℕ) × (self.new.free ≡ made ++ self.old.free) }
         ensures err { OnErr result (self.new ≡ self.old) }
         ensures succeeds { n ≤ length self.old.free → IsOk result }
     {
@@ -150,10 +152,10 @@ impl<T> Chain<T> {
         ensures free { self.new.free ≡ self.old.free }
         ensures values { (p : ℕ) → value_of self.new p ≡ value_of self.old p }
     {
-        let place = at.place();
+        let moved = at.place();
         let nodes = self.nodes.as_mut_slice();
-        self.ends.unlink(nodes, place);
-        self.ends.append(nodes, place);
+        self.ends.unlink(nodes, moved);
+        self.ends.append(nodes, moved);
     }
 
     /// The value of a node.

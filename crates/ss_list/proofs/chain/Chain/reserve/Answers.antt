@@ -1,5 +1,5 @@
-use Rattle.std.proofs.Common.{◌≡◌, ◌+◌, ◌<◌, ◌≤◌, [], ◌∷◌, length, None, sym, ◌∙◌, arith, length-append}
-use Rattle.ss_list.proofs.Calls.{lies_from_sound, len_seen, spare_seen, total, grown_sound, grown_nodes}
+use Rattle.std.proofs.Common.{◌≡◌, ◌+◌, ◌<◌, ◌≤◌, [], ◌∷◌, length, None, sym, ap, ◌∙◌, arith, length-append}
+use Rattle.ss_list.proofs.Calls.{lies_from_sound, len_seen, spare_seen, total, grown_sound, grown_nodes, grown_free}
 use Rattle.ss_list.specs.declared.node.TheConstants.{END}
 use Rattle.ss_list.proofs.chain.Chain.reserve.Goals as goal
 
@@ -19,6 +19,7 @@ loop-init g c =
     record {
       sound = rw c.reserve.ensures.items c.self.invariant;
       nodes = rw (c.reserve.ensures.items, ← c.self.view_is);
+      kept = ([], rw (c.reserve.ensures.items, ← c.self.view_is));
       spare = omega arith;
       capacity = omega (arith, enough);
       room = rw c.reserve.ensures.items (omega (arith, asked, all, len_seen lies, c.self.invariant.room, c.saturating_sub-missing.ensures));
@@ -32,6 +33,7 @@ loop-preserved g c =
     record {
       sound = rw (c.push_reserved.ensures.items, ← place) (grown_sound before.sound END grown_room);
       nodes = rw c.push_reserved.ensures.items (grown_nodes before.sound END grown_room ∙ before.nodes);
+      kept = (c.len-place.result ∷ before.kept.0, rw (c.push_reserved.ensures.items, ← place) (grown_free before.sound END grown_room ∙ ap (λ rest. length c.loop.self-inside.nodes.items ∷ rest) before.kept.1));
       spare = omega (arith, before.spare);
       capacity = omega (arith, before.capacity);
       room = rw c.push_reserved.ensures.items (omega (arith, before.room, length-append c.loop.self-inside.nodes.items (record { prev = END; next = c.loop.self-inside.free; value = None } ∷ [])));

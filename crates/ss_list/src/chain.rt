@@ -96,13 +96,13 @@ impl<T> Chain<T> {
         let missing = n.saturating_sub(self.spare);
         self.nodes.reserve(missing as usize)?;
         for _ in 0..missing {
-            let place = self.nodes.len() as u32;
+            let made = self.nodes.len() as u32;
             self.nodes.push_reserved(Node {
                 prev: END,
                 next: self.free,
                 value: None,
             });
-            self.free = place;
+            self.free = made;
             self.spare += 1;
         }
         Ok(())

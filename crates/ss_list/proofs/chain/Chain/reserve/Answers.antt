@@ -28,12 +28,12 @@ loop-init g c =
 pub loop-preserved : goal.loop-preserved
 loop-preserved g c =
     let before = c.loop.invariant in
-    let place : length c.loop.self-inside.nodes.items ≡ c.len-place.result = omega (arith, c.len-place.ensures) in
+    let place : length c.loop.self-inside.nodes.items ≡ c.len-made.result = omega (arith, c.len-made.ensures) in
     let grown_room : length c.loop.self-inside.nodes.items + 1 < END = omega (arith, before.room) in
     record {
       sound = rw (c.push_reserved.ensures.items, ← place) (grown_sound before.sound END grown_room);
       nodes = rw c.push_reserved.ensures.items (grown_nodes before.sound END grown_room ∙ before.nodes);
-      kept = (c.len-place.result ∷ before.kept.0, rw (c.push_reserved.ensures.items, ← place) (grown_free before.sound END grown_room ∙ ap (λ rest. length c.loop.self-inside.nodes.items ∷ rest) before.kept.1));
+      kept = (c.len-made.result ∷ before.kept.0, rw (c.push_reserved.ensures.items, ← place) (grown_free before.sound END grown_room ∙ ap (λ rest. length c.loop.self-inside.nodes.items ∷ rest) before.kept.1));
       spare = omega (arith, before.spare);
       capacity = omega (arith, before.capacity);
       room = rw c.push_reserved.ensures.items (omega (arith, before.room, length-append c.loop.self-inside.nodes.items (record { prev = END; next = c.loop.self-inside.free; value = None } ∷ [])));

@@ -1,14 +1,14 @@
 -- What each call makes of nodes that lie soundly.
-use Rattle.std.proofs.Common.{◌≡◌, ◌≢◌, ◌⊎◌, ℕ, zero, suc, ◌+◌, ◌-◌, ◌<◌, ◌≤◌, List, [], ◌∷◌, ◌++◌, length, reverse, take, drop, get_or, set, Bool, true, false, cond, eqb, ltb, Option, Some, None, IsSome, IfSome, refl, sym, ap, subst, ◌∙◌, inl, inr, arith, length-append, append-nil, append_assoc}
+use Rattle.std.proofs.Common.{◌≡◌, ◌≢◌, ℕ, zero, suc, ◌+◌, ◌-◌, ◌<◌, ◌≤◌, List, [], ◌∷◌, ◌++◌, length, reverse, take, drop, get_or, set, cond, eqb, ltb, Option, Some, None, IsSome, IfSome, refl, sym, ap, subst, ◌∙◌, inl, inr, arith, length-append, append-nil}
 use Rattle.std.proofs.lemmas.Bool.{cases_lt, lt-ltb, le-ltb, eq-eqb, ne_eqb}
 use Rattle.std.proofs.lemmas.Bool.Decides.{eqb_tells}
 use Rattle.std.proofs.lemmas.List.{get_or_read, get_or_push, get_or_append_left, get_or-set_same, get_or-set_other, length-set}
 use Rattle.std.proofs.Math.Seq.{take-length, drop-length}
-use Rattle.std.specs.Map.{keys_of, lookup, lookup_entry, remove_entry, set_value}
+use Rattle.std.specs.Map.{lookup_entry, remove_entry}
 use Rattle.ss_list.specs.declared.node.Node.{Node}
 use Rattle.ss_list.specs.declared.node.TheConstants.{END}
 use Rattle.ss_list.specs.declared.ends.Ends.{Ends}
-use Rattle.ss_list.specs.Chain.{Chain, times, places, value_of, IsLive, IsWhole, without, moved_back, first_of, last_of, IsAfter, IsBefore, with_value}
+use Rattle.ss_list.specs.Chain.{times, places, value_of, IsLive, IsWhole, without, moved_back, first_of, last_of, IsAfter, IsBefore, with_value}
 use Rattle.ss_list.specs.Nodes.{node_at, value_at, SameElsewhere}
 use Rattle.ss_list.specs.Nodes.{with_value as node_with}
 use Rattle.ss_list.specs.Links.{Runs, walk, nodes_of, next_of, prev_of, IsPlace, Joins, Appends, IsSound, chain_of}

@@ -1,5 +1,5 @@
 -- What a contract sees of nodes that lie soundly.
-use Rattle.std.proofs.Common.{◌≡◌, ◌≢◌, ◌⊎◌, ℕ, zero, suc, ◌+◌, ◌-◌, ◌<◌, ◌≤◌, List, [], ◌∷◌, ◌++◌, length, reverse, get_or, set, Bool, true, false, cond, eqb, slice_get, Option, Some, None, IsSome, refl, sym, ap, subst, ◌∙◌, inl, inr, arith, length-append}
+use Rattle.std.proofs.Common.{◌≡◌, ◌≢◌, ℕ, suc, ◌+◌, ◌-◌, ◌<◌, ◌≤◌, List, [], ◌∷◌, ◌++◌, length, reverse, get_or, cond, eqb, Option, Some, None, IsSome, refl, sym, ap, subst, ◌∙◌, inl, inr, arith}
 use Rattle.std.proofs.lemmas.Bool.{cases_lt, eq-eqb, ne_eqb}
 use Rattle.std.proofs.lemmas.List.{get_or-reverse, length-reverse}
 use Rattle.std.proofs.lemmas.Option.{slice_get-get_or}
@@ -7,7 +7,7 @@ use Rattle.std.specs.Map.{keys_of, lookup, lookup_entry, remove_entry, set_value
 use Rattle.ss_list.specs.Chain.{times, first_of, last_of}
 use Rattle.ss_list.specs.Links.{Runs, nodes_of}
 use Rattle.ss_list.specs.declared.node.TheConstants.{END}
-use Rattle.ss_list.proofs.Times.{times-here, times-append, at_head, below-head, apart}
+use Rattle.ss_list.proofs.Times.{times-here, at_head, below-head, apart}
 
 pub value_in : {T : Type 0} (o : Option T) → IsSome o → (v : T) × (o ≡ Some v)
 value_in None some = absurd (cc)

@@ -1,4 +1,4 @@
-use Rattle.std.proofs.Common.{◌≡◌, ◌+◌, ◌<◌, ◌≤◌, [], ◌∷◌, length, None, sym, ap, ◌∙◌, arith, length-append}
+use Rattle.std.proofs.Common.{◌≡◌, ◌+◌, ◌<◌, [], ◌∷◌, length, None, sym, ap, ◌∙◌, arith, length-append}
 use Rattle.ss_list.proofs.Calls.{lies_from_sound, len_seen, spare_seen, total, grown_sound, grown_nodes, grown_free}
 use Rattle.ss_list.specs.declared.node.TheConstants.{END}
 use Rattle.ss_list.proofs.chain.Chain.reserve.Goals as goal

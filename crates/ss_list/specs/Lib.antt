@@ -1,0 +1,4 @@
+pub mod Chain
+pub mod Lends
+pub mod Links
+pub mod Nodes

@@ -1,5 +1,5 @@
 -- The steps of an answer, put together.
-use Rattle.std.proofs.Common.{◌≡◌, ℕ, List, length, map, filter, drop, take, Option, Some, None, refl, sym, ap, ap₂, ◌∙◌}
+use Rattle.std.proofs.Common.{◌≡◌, ℕ, List, length, map, filter, drop, Option, Some, None, refl, sym, ap, ap₂, ◌∙◌}
 use Rattle.std.proofs.lemmas.List.{take-map, drop-map, length-map}
 use Rattle.ss_text.specs.Texts.{sorted}
 use Rattle.ss_bso.specs.declared.rows.Row.{Row}

@@ -1,5 +1,5 @@
 -- A text of at most 9 digits is read as its number.
-use Rattle.std.proofs.Common.{◌≡◌, ℕ, ◌+◌, ◌*◌, ◌^◌, ◌<◌, ◌≤◌, List, [], ◌∷◌, length, Bool, true, ◌&&◌, leb, Result, Ok, Err, Option, Some, refl, sym, ap, ◌∙◌, subst, arith, lit<, ne_eqb, drop, cond}
+use Rattle.std.proofs.Common.{◌≡◌, ℕ, ◌^◌, ◌<◌, ◌≤◌, List, [], ◌∷◌, length, true, ◌&&◌, leb, Result, Ok, Err, Some, sym, ap, ◌∙◌, subst, arith, lit<, ne_eqb, drop, cond}
 use Rattle.std.proofs.lemmas.Bool.{and_parts, leb-true}
 use Rattle.std.proofs.lemmas.Str.{digit_value_digit}
 use Rattle.std.proofs.lemmas.Int.Digits.{digits_value-lt}

@@ -1,6 +1,5 @@
 -- The order of a query's answer is total.
-use Rattle.std.specs.Prelude.{List, unwrap_or, pos}
-use Rattle.std.specs.Ordering.{ordering_then}
+use Rattle.std.specs.Prelude.{unwrap_or, pos}
 use Rattle.std.specs.Cmp.{IsTotalOrder, nat_cmp_total, int_cmp_total, then_total, on_total, back_total}
 use Rattle.std.specs.Cmp.Lexicographic.{nat_list_cmp_total}
 use Rattle.ss_bso.specs.declared.rows.Row.{Row}

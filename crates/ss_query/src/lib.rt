@@ -7,6 +7,8 @@ mod answers;
 mod queries;
 mod replies;
 mod requests;
+#[cfg(test)]
+mod tests;
 
 pub use answers::answer_query;
 pub use queries::{QueryFault, read_ids, read_parameter, read_query};

@@ -1,4 +1,4 @@
-use Rattle.std.proofs.Common.{◌≡◌, ◌∙◌, sym, ap, length, drop}
+use Rattle.std.proofs.Common.{◌∙◌, sym, ap, length, drop}
 use Rattle.ss_query.specs.Answer.{limited, next_offset}
 use Rattle.ss_query.proofs.Answered.{answered}
 use Rattle.ss_query.proofs.answers.answer_query.Goals as goal

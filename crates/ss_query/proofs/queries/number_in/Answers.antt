@@ -1,4 +1,4 @@
-use Rattle.std.proofs.Common.{◌∙◌, ap, cond, Some, None, Option, ℕ, subst, true, ◌≡◌}
+use Rattle.std.proofs.Common.{◌∙◌, ap, cond, Some, None, true, ◌≡◌}
 use Rattle.std.specs.Str.Parse.{digits_value}
 use Rattle.ss_query.specs.Parameters.{is_number}
 use Rattle.ss_query.proofs.Digits.{parsed_number}

@@ -1,5 +1,6 @@
 pub mod Decimals
 pub mod Names
+pub mod Numbers
 pub mod Texts
 pub mod Time
 pub mod Tokens

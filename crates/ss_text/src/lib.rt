@@ -8,6 +8,7 @@ mod json_texts;
 mod laws;
 mod lines;
 mod names;
+mod numbers;
 mod stamps;
 #[cfg(test)]
 mod tests;
@@ -18,5 +19,6 @@ pub use json_texts::push_json_text;
 pub use laws::{unwrapped_is_same, wrapped_is_whole};
 pub use lines::{cut_lines, lines_in};
 pub use names::{Id, Ids, Name};
-pub use stamps::{Cond, Stamp, push_stamp, read_stamp};
+pub use numbers::read_number;
+pub use stamps::{Cond, LAST, Stamp, push_stamp, read_stamp};
 pub use texts::{Bytes, Word};

@@ -6,6 +6,7 @@ ghost use Rattle.std.specs.List.{list_all};
 ghost use Rattle.std.specs.Str.Parse.{digits_value};
 ghost use Rattle.ss_text.specs.Time.{last_stamp, stamp_text, split_point, is_seconds, hundredths, with_fraction, stamp_of, stops};
 
+use crate::numbers::{are_digits, value_of};
 use itoa::Buffer;
 use std::alloc::AllocError;
 use std::marker::Model;
@@ -76,26 +77,6 @@ pub fn push_stamp(out: &mut Vec<u8>, stamp: Stamp) -> Result<(), AllocError>
     out.push_reserved(b'0' + hundredths / 10);
     out.push_reserved(b'0' + hundredths % 10);
     Ok(())
-}
-
-fn are_digits(text: &[u8]) -> bool
-    ensures { result ≡ list_all is_ascii_digit text.now }
-{
-    text.iter().all(|c| c.is_ascii_digit())
-}
-
-/// The number that at most 18 digits write.
-fn number(digits: &[u8]) -> u64
-    requires digits { list_all is_ascii_digit digits.now ≡ true }
-    requires few { length digits.now ≤ 18 }
-    ensures value { result ≡ digits_value 10 digits.now }
-    ensures small { result < 10 ^ length digits.now }
-{
-    let mut number = 0u64;
-    for digit in digits {
-        number = number * 10 + u64::from(*digit - b'0');
-    }
-    number
 }
 
 /// The place of the first point, or the length where there is none.
@@ -171,7 +152,7 @@ pub fn read_stamp(text: &[u8]) -> Option<Stamp>
 {
     let (seconds, fraction) = cut_at_point(text);
     if are_seconds(seconds) {
-        with_hundredths(number(seconds), fraction)
+        with_hundredths(value_of(seconds), fraction)
     } else {
         None
     }

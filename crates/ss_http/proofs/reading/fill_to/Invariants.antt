@@ -1,0 +1,13 @@
+use Rattle.std.proofs.Common.{◌≡◌, ◌-◌, length}
+use Rattle.ss_http.specs.Buffers.{Brings}
+use Rattle.ss_http.proofs.reading.fill_to.Given as goal
+
+abbrev pub invariant-bodies : goal.invariant-bodies
+invariant-bodies g l = record {
+  stop : l.buffer.stop ≡ l.fn.buffer.stop;
+  bytes : Brings l.fn.buffer.bytes l.buffer.bytes (g.S.Told.told l.fn.source) (g.S.Told.told l.source);
+  faults : (g.S.Told.told l.source).read_faults ≡ (g.S.Told.told l.fn.source).read_faults;
+}
+
+abbrev pub decreases-bodies : goal.decreases-bodies
+decreases-bodies g l = 2117632 - length l.buffer.bytes

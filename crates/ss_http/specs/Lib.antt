@@ -1,0 +1,5 @@
+pub mod Buffers
+pub mod Heads
+pub mod Messages
+pub mod Reading
+pub mod Responses

@@ -1,0 +1,146 @@
+//! The bytes between a source and its messages.
+
+ghost use Rattle.std.specs.Prelude.{◌≡◌, ◌≤◌, ◌<◌, ◌+◌, ◌-◌, slice_range, [], None, Some, length, drop, IfOk, OnErr};
+ghost use Rattle.ss_outside.specs.Causes.{RisesOnErr};
+ghost use Rattle.ss_outside.specs.Told.{EndsAt};
+ghost use Rattle.ss_http.specs.Buffers.{Kept, Brings, count_of};
+ghost use Rattle.ss_http.specs.declared.buffer.TheConstants.{ROOM};
+
+use ss_outside::{ReadFault, Source};
+use std::alloc::{AllocError, Global};
+use std::marker::Model;
+
+/// The room of a buffer in bytes: that of the longest head and of the longest body.
+pub const ROOM: usize = 2_117_632;
+
+/// Why a buffer gives no message any more.
+#[derive(Clone, Copy, Debug, PartialEq, Eq)]
+pub enum Stop {
+    /// The input ended between messages.
+    End,
+
+    /// The input ended inside a message.
+    Cut,
+
+    /// The bytes begin no message that is answered.
+    Unbuilt,
+}
+
+/// Bytes that were read and belong to no message yet, and why no message will come any more, if so.
+#[derive(Drop)]
+pub struct Buffer {
+    bytes: Vec<u8>,
+    start: usize,
+    end: usize,
+    stop: Option<Stop>,
+}
+
+impl Model for Buffer {
+    ghost use Rattle.std.specs.Prelude.{◌≡◌, ◌≤◌, slice_range, length};
+    ghost use Rattle.ss_http.specs.Buffers.{Kept};
+
+    ghost Value = { Kept };
+
+    ghost view = { λ buffer. record { bytes = slice_range buffer.bytes.items buffer.start buffer.end; stop = buffer.stop } };
+
+    ghost invariant = { λ buffer. (buffer.start ≤ buffer.end) × (buffer.end ≤ length buffer.bytes.items) × (length buffer.bytes.items ≡ 2117632) };
+}
+
+impl Buffer {
+    /// An empty buffer with all the memory that it ever needs.
+    pub fn new(alloc: Global) -> Result<Buffer, AllocError>
+        ensures { IfOk result (λ buffer. buffer ≡ record { bytes = []; stop = None }) }
+    {
+        Ok(Buffer {
+            bytes: vec![in alloc; 0u8; ROOM]?,
+            start: 0,
+            end: 0,
+            stop: None,
+        })
+    }
+
+    /// The bytes that are kept.
+    pub fn kept(&self) -> &[u8]
+        ensures bytes { result.now ≡ self.now.bytes }
+        ensures room { length result.now ≤ ROOM }
+    {
+        &self.bytes[self.start..self.end]
+    }
+
+    /// Why no message will come any more, if so.
+    pub fn stop(&self) -> Option<Stop>
+        ensures { result ≡ self.now.stop }
+    {
+        self.stop
+    }
+
+    /// Notes why no message will come any more.
+    pub(crate) fn stop_at(&mut self, stop: Stop)
+        ensures { self.new ≡ record { bytes = self.old.bytes; stop = Some stop } }
+    {
+        self.stop = Some(stop);
+    }
+
+    /// Lets the first bytes go.
+    pub(crate) fn take(&mut self, count: usize)
+        requires { count ≤ length self.old.bytes }
+        ensures { self.new ≡ record { bytes = drop count self.old.bytes; stop = self.old.stop } }
+    {
+        self.start += count;
+    }
+
+    /// Reads more bytes. What is kept is moved only where the room behind it is used up: all of it then belongs to the
+    /// message that is awaited, so a byte is moved at most once a message.
+    pub(crate) fn fill<S: Source>(&mut self, source: &mut S) -> Result<usize, ReadFault>
+        requires { length self.old.bytes < ROOM }
+        ensures stop { self.new.stop ≡ self.old.stop }
+        ensures bytes { Brings self.old.bytes self.new.bytes (S.Told.told source.old) (S.Told.told source.new) }
+        ensures count { IfOk result (λ count. length self.new.bytes ≡ length self.old.bytes + count) }
+        ensures room { length self.new.bytes ≤ ROOM }
+        ensures err { OnErr result (self.new.bytes ≡ self.old.bytes) }
+        ensures ended { EndsAt result 1 (S.Told.told source.old) }
+        ensures cause { RisesOnErr (S.Told.told source.old).read_faults (S.Told.told source.new).read_faults result }
+    {
+        let kept = self.end - self.start;
+        self.start = pack(self.bytes.as_mut_slice(), self.start, self.end);
+        self.end = self.start + kept;
+        let count = read_behind(self.bytes.as_mut_slice(), self.start, self.end, source)?;
+        self.end += count;
+        Ok(count)
+    }
+}
+
+/// Moves the bytes from `start` to `end` to the front where no room is left behind them, and answers where they begin.
+fn pack(bytes: &mut [u8], start: usize, end: usize) -> usize
+    requires ordered { start ≤ end }
+    requires within { end ≤ length bytes.old }
+    ensures kept { slice_range bytes.new result (result + (end - start)) ≡ slice_range bytes.old start end }
+    ensures within { result + (end - start) ≤ length bytes.new }
+    ensures room { end - start < length bytes.old → result + (end - start) < length bytes.new }
+    ensures length { length bytes.new ≡ length bytes.old }
+{
+    if end < bytes.len() {
+        return start;
+    }
+    bytes.rotate_left(start);
+    0
+}
+
+/// Reads to the bytes behind `end`.
+fn read_behind<S: Source>(
+    bytes: &mut [u8],
+    start: usize,
+    end: usize,
+    source: &mut S,
+) -> Result<usize, ReadFault>
+    requires ordered { start ≤ end }
+    requires within { end < length bytes.old }
+    ensures kept { Brings (slice_range bytes.old start end) (slice_range bytes.new start (end + count_of result)) (S.Told.told source.old) (S.Told.told source.new) }
+    ensures within { end + count_of result ≤ length bytes.new }
+    ensures length { length bytes.new ≡ length bytes.old }
+    ensures err { OnErr result (slice_range bytes.new start end ≡ slice_range bytes.old start end) }
+    ensures ended { EndsAt result 1 (S.Told.told source.old) }
+    ensures cause { RisesOnErr (S.Told.told source.old).read_faults (S.Told.told source.new).read_faults result }
+{
+    source.read(&mut bytes[end..])
+}

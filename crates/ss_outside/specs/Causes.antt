@@ -1,0 +1,18 @@
+-- How a count of faults tells the cause of an answer.
+use Rattle.std.specs.Prelude.{◌≡◌, ◌≤◌, ◌<◌, ◌+◌, ◌-◌, ◌^◌, ℕ, min, Result, Ok, Err}
+
+-- the count rose; one that stands at the greatest u64 counts as risen
+pub record Rose (before now : ℕ) : Type 0 where
+  pub later : before ≤ now
+  pub risen : min (before + 1) (2 ^ 64 - 1) ≤ now
+
+-- the count rises in a call that answers a fault, and in no other
+abbrev pub RisesOnErr : {T E : Type 0} → ℕ → ℕ → Result T E → Type 0
+RisesOnErr before now (Ok value) = now ≡ before
+RisesOnErr before now (Err fault) = Rose before now
+
+-- the same of a write of a piece of this size: that it takes nothing of a piece that isn't empty is a fault too
+abbrev pub RisesOnRefusal : {E : Type 0} → ℕ → ℕ → ℕ → Result ℕ E → Type 0
+RisesOnRefusal size before now (Ok n) =
+    (n ≡ 0 → 0 < size → Rose before now) × (0 < n → now ≡ before) × (size ≡ 0 → now ≡ before)
+RisesOnRefusal size before now (Err fault) = Rose before now

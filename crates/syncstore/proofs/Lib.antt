@@ -1,0 +1,3 @@
+pub mod Alphanumerics
+pub mod Run
+pub mod Writing

@@ -1,0 +1,5 @@
+pub mod Api
+pub mod Asking
+pub mod Turns
+pub mod Wire
+pub mod Words

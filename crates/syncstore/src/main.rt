@@ -1,0 +1,44 @@
+//! `syncstore`: a storage server with the behaviour of Mozilla's SyncStorage API 1.5.
+//! It answers the messages of an input for one account; the words name the command.
+//! Its contract, on `run_offline`: what was read, what was written, and the cause of the status.
+#![tactic(auto)]
+
+mod account;
+mod answer;
+mod help;
+mod offline;
+mod reply;
+mod request;
+#[cfg(test)]
+mod tests;
+mod words;
+
+use ss_outside::{CountClock, StdSink, StdSource};
+use std::env;
+use std::process::ExitCode;
+
+fn main(rt: HostRuntime) -> ExitCode {
+    let Ok(arguments) = env::args(&rt) else {
+        help::explain(&rt, 1);
+        return ExitCode::from(1);
+    };
+    let Ok(words) = arguments.skip(1).collect::<Vec<String>>(rt.alloc()) else {
+        help::explain(&rt, 8);
+        return ExitCode::from(8);
+    };
+    if let Some(text) = help::asked_for(words.as_slice()) {
+        return ExitCode::from(help::print(&rt, text));
+    }
+    let mut input = StdSource::new(rt.stdin());
+    let mut output = StdSink::new(rt.stdout());
+    let mut clock = CountClock::new(0);
+    let status = offline::run_offline(
+        rt.alloc(),
+        words.as_slice(),
+        &mut input,
+        &mut output,
+        &mut clock,
+    );
+    help::explain(&rt, status);
+    ExitCode::from(status)
+}

@@ -1,0 +1,159 @@
+//! Whole runs of `run_offline` over memory.
+
+use crate::offline::run_offline;
+use ss_outside::{CountClock, MemSink, MemSource};
+use std::alloc::{AllocError, Global};
+use std::test::Fail;
+
+const PUT: &str =
+    "PUT /1.5/7/storage/forms/a HTTP/1.1\r\nContent-Length: 15\r\n\r\n{\"payload\":\"x\"}";
+
+const GET: &str = "GET /1.5/7/storage/forms/a HTTP/1.1\r\n\r\n";
+
+const WRITTEN: &str =
+    "HTTP/1.1 200 OK\r\nX-Weave-Timestamp: 10.00\r\nX-Last-Modified: 10.00\r\nContent-Type: application/json\r\nContent-Length: 5\r\n\r\n10.00";
+
+const FOUND: &str =
+    "HTTP/1.1 200 OK\r\nX-Weave-Timestamp: 10.01\r\nX-Last-Modified: 10.00\r\nContent-Type: application/json\r\nContent-Length: 41\r\n\r\n{\"id\":\"a\",\"modified\":10.00,\"payload\":\"x\"}";
+
+const ABSENT: &str =
+    "HTTP/1.1 404 Not Found\r\nX-Weave-Timestamp: 10.00\r\nContent-Type: application/json\r\nContent-Length: 6\r\n\r\n\"item\"";
+
+fn words_of(alloc: Global, words: &[&str]) -> Result<Vec<String>, AllocError> {
+    let mut all = Vec::new(alloc);
+    for word in words {
+        all.push(String::from_str(alloc, word)?)?;
+    }
+    Ok(all)
+}
+
+fn pieces_of(alloc: Global, texts: &[&str]) -> Result<Vec<Vec<u8>>, AllocError> {
+    let mut all = Vec::new(alloc);
+    for text in texts {
+        all.push(Vec::from_slice(alloc, text.as_bytes())?)?;
+    }
+    Ok(all)
+}
+
+/// Runs the words over an input in pieces, and answers the status and what was written. The reads and writes with the numbers
+/// given fail; 0 is none.
+fn run(
+    alloc: Global,
+    words: &[&str],
+    pieces: Vec<Vec<u8>>,
+    failing_read: u64,
+    failing_write: u64,
+) -> Result<(u8, Vec<u8>), AllocError> {
+    let words = words_of(alloc, words)?;
+    let mut input = MemSource::new(pieces, vec![in alloc; failing_read]?);
+    let mut output = MemSink::new(alloc, 4096, vec![in alloc; failing_write]?)?;
+    let mut clock = CountClock::new(0);
+    let status = run_offline(alloc, words.as_slice(), &mut input, &mut output, &mut clock);
+    let written = Vec::from_slice(alloc, output.written().unwrap_or(b"untold"))?;
+    Ok((status, written))
+}
+
+/// What `answer 7 --at 1000` does with these pieces.
+fn answer(
+    alloc: Global,
+    texts: &[&str],
+    failing_read: u64,
+    failing_write: u64,
+) -> Result<(u8, Vec<u8>), AllocError> {
+    let words = ["answer", "7", "--at", "1000"];
+    run(
+        alloc,
+        words.as_slice(),
+        pieces_of(alloc, texts)?,
+        failing_read,
+        failing_write,
+    )
+}
+
+#[test]
+fn put_then_get_byte_for_byte(rt: HostRuntime) -> Result<(), Fail> {
+    let (status, written) = answer(rt.alloc(), [PUT, GET].as_slice(), 0, 0)?;
+    assert_eq!(rt; status, 0);
+    assert!(rt; written.starts_with(WRITTEN.as_bytes()));
+    assert!(rt; written.ends_with(FOUND.as_bytes()));
+    assert_eq!(rt; written.len(), WRITTEN.len() + FOUND.len());
+    Ok(())
+}
+
+#[test]
+fn an_input_cut_after_every_byte_is_answered_alike(rt: HostRuntime) -> Result<(), Fail> {
+    let (_, whole) = answer(rt.alloc(), [PUT, GET].as_slice(), 0, 0)?;
+    let mut pieces = Vec::new(rt.alloc());
+    for byte in PUT.bytes() {
+        pieces.push(vec![in rt.alloc(); byte]?)?;
+    }
+    for byte in GET.bytes() {
+        pieces.push(vec![in rt.alloc(); byte]?)?;
+    }
+    let words = ["answer", "7", "--at", "1000"];
+    let (status, written) = run(rt.alloc(), words.as_slice(), pieces, 0, 0)?;
+    assert_eq!(rt; status, 0);
+    assert_eq!(rt; written.as_slice(), whole.as_slice());
+    Ok(())
+}
+
+#[test]
+fn other_messages_and_ends_stop_the_run(rt: HostRuntime) -> Result<(), Fail> {
+    let patch = "PATCH /1.5/7/storage/forms/a HTTP/1.1\r\n\r\n";
+    let (status, written) = answer(rt.alloc(), [PUT, patch].as_slice(), 0, 0)?;
+    assert_eq!(rt; (status, written.as_slice()), (9, WRITTEN.as_bytes()));
+    let other = "GET /1.5/8/storage/forms/a HTTP/1.1\r\n\r\n";
+    let (status, written) = answer(rt.alloc(), [PUT, other].as_slice(), 0, 0)?;
+    assert_eq!(rt; (status, written.as_slice()), (9, WRITTEN.as_bytes()));
+    let short = "GET /1.5/7/storage/forms/a HTTP/1.1\r\n\r";
+    let (status, written) = answer(rt.alloc(), [PUT, short].as_slice(), 0, 0)?;
+    assert_eq!(rt; (status, written.as_slice()), (4, WRITTEN.as_bytes()));
+    let (status, written) = answer(rt.alloc(), [GET].as_slice(), 0, 0)?;
+    assert_eq!(rt; (status, written.as_slice()), (0, ABSENT.as_bytes()));
+    let (status, written) = answer(rt.alloc(), [].as_slice(), 0, 0)?;
+    assert_eq!(rt; (status, written.as_slice()), (0, b"".as_slice()));
+    Ok(())
+}
+
+#[test]
+fn a_failing_read_or_write_leaves_what_was_answered(rt: HostRuntime) -> Result<(), Fail> {
+    let both = [PUT, GET];
+    let (status, written) = answer(rt.alloc(), both.as_slice(), 1, 0)?;
+    assert_eq!(rt; (status, written.as_slice()), (2, b"".as_slice()));
+    let (status, written) = answer(rt.alloc(), both.as_slice(), 2, 0)?;
+    assert_eq!(rt; (status, written.as_slice()), (2, WRITTEN.as_bytes()));
+    let (status, written) = answer(rt.alloc(), both.as_slice(), 3, 0)?;
+    assert_eq!(rt; (status, written.len()), (2, WRITTEN.len() + FOUND.len()));
+    let (status, written) = answer(rt.alloc(), both.as_slice(), 0, 1)?;
+    assert_eq!(rt; (status, written.as_slice()), (3, b"".as_slice()));
+    let (status, written) = answer(rt.alloc(), both.as_slice(), 0, 2)?;
+    assert_eq!(rt; (status, written.as_slice()), (3, WRITTEN.as_bytes()));
+    Ok(())
+}
+
+#[test]
+fn other_words_are_refused(rt: HostRuntime) -> Result<(), Fail> {
+    let refused = [
+        ["answer", "0", "--at", "1000"],
+        ["answer", "07", "--at", "1000"],
+        ["answer", "4294967296", "--at", "1000"],
+        ["answer", "7", "--at", "1234567890123"],
+        ["answer", "7", "--at", "-1"],
+        ["answer", "7", "--as", "1000"],
+        ["serve", "7", "--at", "1000"],
+    ];
+    for words in refused.as_slice() {
+        let (status, written) = run(
+            rt.alloc(),
+            words.as_slice(),
+            pieces_of(rt.alloc(), [GET].as_slice())?,
+            0,
+            0,
+        )?;
+        assert_eq!(rt; (status, written.as_slice()), (1, b"".as_slice()));
+    }
+    let few = ["answer", "7"];
+    let (status, _) = run(rt.alloc(), few.as_slice(), Vec::new(rt.alloc()), 0, 0)?;
+    assert_eq!(rt; status, 1);
+    Ok(())
+}

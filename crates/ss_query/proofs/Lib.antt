@@ -1,0 +1,4 @@
+pub mod Answered
+pub mod Digits
+pub mod Orders
+pub mod Sorting

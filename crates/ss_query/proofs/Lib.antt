@@ -1,4 +1,4 @@
 pub mod Answered
-pub mod Digits
 pub mod Orders
+mod Rows
 pub mod Sorting

@@ -1,11 +1,10 @@
 -- What the text of a query says (SyncStorage API 1.5, GET of a collection).
-use Rattle.std.specs.Prelude.{◌≡◌, ℕ, Bool, not, ◌&&◌, ◌==◌, nat_le, List, [], ◌∷◌, length, bytes_eq, is_some, if◌then◌else◌, Option, Some, None, ok_or, Result, Ok, Err, codes, ⊤}
+use Rattle.std.specs.Prelude.{◌≡◌, ℕ, ◌==◌, nat_le, List, [], ◌∷◌, length, bytes_eq, is_some, if◌then◌else◌, Option, Some, None, ok_or, Result, Ok, Err, codes, ⊤}
 use Rattle.std.specs.List.{list_all, slice_split}
-use Rattle.std.specs.Char.{is_ascii_digit}
 use Rattle.std.specs.Str.Lossy.{utf8_lossy}
-use Rattle.std.specs.Str.Parse.{digits_value}
 use Rattle.form_urlencoded.specs.Form.{raw_pairs, decode}
 use Rattle.ss_text.specs.Names.{is_id}
+use Rattle.ss_text.specs.Numbers.{number_of}
 use Rattle.ss_text.specs.Time.{stamp_of}
 use Rattle.ss_query.specs.declared.requests.Query.{Query}
 use Rattle.ss_query.specs.declared.requests.Sort.{Sort}
@@ -40,16 +39,17 @@ ids_in value =
 abbrev pub stamp_in : List ℕ → Result ℕ QueryFault
 stamp_in value = ok_or (stamp_of value) fault.BadStamp
 
--- 1 to 9 digits
-abbrev pub is_number : List ℕ → Bool
-is_number value = nat_le 1 (length value) && nat_le (length value) 9 && list_all is_ascii_digit value
+-- a limit: 1 to 9 digits of a number other than 0
+abbrev pub limit_of : Option ℕ → Result ℕ QueryFault
+limit_of None = Err fault.BadLimit
+limit_of (Some n) = if n == 0 then Err fault.BadLimit else Ok n
 
--- a limit: such a number other than 0
 unfoldable pub limit_in : List ℕ → Result ℕ QueryFault
-limit_in value = if is_number value && not (digits_value 10 value == 0) then Ok (digits_value 10 value) else Err fault.BadLimit
+limit_in value = limit_of (number_of 9 value)
 
+-- an offset: 1 to 9 digits
 unfoldable pub offset_in : List ℕ → Result ℕ QueryFault
-offset_in value = if is_number value then Ok (digits_value 10 value) else Err fault.BadOffset
+offset_in value = ok_or (number_of 9 value) fault.BadOffset
 
 -- an order by its name
 unfoldable pub sort_in : List ℕ → Result Sort QueryFault

@@ -1,16 +1,15 @@
 //! The text of a query.
 
 ghost use Rattle.std.specs.Prelude.{◌≡◌, ◌==◌, IfOk, Some, None, if◌then◌else◌, map, option_map, string_bytes};
-ghost use Rattle.std.specs.Char.{is_ascii_digit};
 ghost use Rattle.std.specs.List.{list_all, slice_split};
-ghost use Rattle.std.specs.Str.Parse.{digits_value};
 ghost use Rattle.ss_text.specs.Names.{is_id};
-ghost use Rattle.ss_query.specs.Parameters.{parameter, ids_in, is_number, stamp_in, limit_in, offset_in, sort_in, optional, or_default, ids_of_text, query_of_text, Gives};
+ghost use Rattle.ss_text.specs.Numbers.{number_of};
+ghost use Rattle.ss_query.specs.Parameters.{parameter, ids_in, stamp_in, limit_in, offset_in, sort_in, optional, or_default, ids_of_text, query_of_text, Gives};
 ghost use Rattle.ss_query.specs.declared.requests.Sort.TheVariants as order;
 ghost use Rattle.ss_query.specs.declared.queries.QueryFault.TheVariants.{Memory};
 
 use crate::requests::{Query, Sort};
-use ss_text::{Id, Ids, Stamp, read_stamp};
+use ss_text::{Id, Ids, Stamp, read_number, read_stamp};
 use std::alloc::{AllocError, Global};
 use thiserror::Error;
 
@@ -106,26 +105,13 @@ pub fn read_ids(alloc: Global, text: &[u8]) -> Result<Option<Ids>, QueryFault>
     }
 }
 
-fn are_digits(text: &[u8]) -> bool
-    ensures { result ≡ list_all is_ascii_digit text.now }
-{
-    text.iter().all(|c| c.is_ascii_digit())
-}
-
-fn has_form_of_number(text: &[u8]) -> bool
-    ensures { result ≡ is_number text.now }
-{
-    1 <= text.len() && text.len() <= 9 && are_digits(text)
-}
-
 /// The number that 1 to 9 digits write.
 fn number_in(text: &str) -> Option<u32>
-    ensures { result ≡ (if is_number text.now then Some (digits_value 10 text.now) else None) }
+    ensures { result ≡ number_of 9 text.now }
 {
-    if has_form_of_number(text.as_bytes()) {
-        text.parse::<u32>().ok()
-    } else {
-        None
+    match read_number(text.as_bytes(), 9) {
+        Some(number) => Some(number as u32),
+        None => None,
     }
 }
 

@@ -1,0 +1,120 @@
+-- When a request is refused, and with what.
+use Rattle.std.specs.Prelude.{ℕ, Bool, true, false, ◌&&◌, nat_le, ◌==◌, List, [], ◌++◌, length, find, bytes_eq, Option, Some, None, unwrap_or, IsSome, IsTrue}
+use Rattle.std.specs.Option.{option_map_or}
+use Rattle.ss_text.specs.declared.stamps.Cond.{Cond}
+use Rattle.ss_bso.specs.declared.parts.Part.{Part}
+use Rattle.ss_bso.specs.declared.account.Plain.{Plain}
+use Rattle.ss_bso.specs.declared.account.Staged.{Staged}
+use Rattle.ss_bso.specs.Account.{row_at, time_of}
+use Rattle.ss_query.specs.Validity.{most_batch_records, most_batch_bytes, part_bytes}
+use Rattle.ss_query.specs.declared.requests.Request.{Request}
+use Rattle.ss_query.specs.declared.requests.Request.TheVariants.{Info, DeleteAll, List as ListOf, Post, DeleteCollection, DeleteIds, Get, Put, Delete}
+use Rattle.ss_query.specs.declared.requests.Mode.{Mode}
+use Rattle.ss_query.specs.declared.requests.Mode.TheVariants.{Plain as PlainPost, Begin, Append, Commit}
+use Rattle.ss_query.specs.declared.replies.Body.{Body}
+use Rattle.ss_query.specs.declared.replies.Body.TheVariants.{Empty, Code, Said}
+use Rattle.ss_query.specs.declared.replies.Said.TheVariants.{Item, Modified, Batches, Batch, Clock}
+
+-- the condition of a request
+abbrev pub condition_of : Request → Cond
+condition_of (Info what cond) = cond
+condition_of (DeleteAll cond) = cond
+condition_of (ListOf collection query cond) = cond
+condition_of (Post collection records mode cond) = cond
+condition_of (DeleteCollection collection cond) = cond
+condition_of (DeleteIds collection ids cond) = cond
+condition_of (Get collection id cond) = cond
+condition_of (Put collection id fields cond) = cond
+condition_of (Delete collection id cond) = cond
+
+-- the time of a collection, or of the last deletion where the collection is absent
+abbrev pub collection_time : Plain → List ℕ → ℕ
+collection_time account collection = unwrap_or (time_of collection account.collections) account.last_delete
+
+-- the time of an item, or 0 where it is absent
+abbrev pub item_time : Plain → List ℕ → List ℕ → ℕ
+item_time account collection id = option_map_or (λ row. row.modified) (row_at collection id account.rows) 0
+
+-- the time of a request's target
+abbrev pub target_time : Plain → Request → ℕ
+target_time account (Info what cond) = account.store
+target_time account (DeleteAll cond) = account.store
+target_time account (ListOf collection query cond) = collection_time account collection
+target_time account (Post collection records mode cond) = collection_time account collection
+target_time account (DeleteCollection collection cond) = collection_time account collection
+target_time account (DeleteIds collection ids cond) = collection_time account collection
+target_time account (Get collection id cond) = item_time account collection id
+target_time account (Put collection id fields cond) = item_time account collection id
+target_time account (Delete collection id cond) = item_time account collection id
+
+-- the live batch of this number and collection
+abbrev pub batch_of : Plain → List ℕ → ℕ → Option Staged
+batch_of account collection number = find (λ batch. batch.number == number && bytes_eq batch.collection collection) account.batches
+
+-- the parts of the live batch of this number and collection
+abbrev pub staged_parts : Plain → List ℕ → ℕ → List Part
+staged_parts account collection number = option_map_or (λ batch. batch.parts) (batch_of account collection number) []
+
+-- a batch is live for a collection
+abbrev pub IsLive : Plain → List ℕ → ℕ → Type 0
+IsLive account collection number = IsSome (batch_of account collection number)
+
+-- whether parts are within the limits of a batch
+abbrev pub fit : List Part → Bool
+fit parts = nat_le (length parts) most_batch_records && nat_le (part_bytes parts) most_batch_bytes
+
+-- the parts of a batch and further parts fit
+abbrev pub Fits : Plain → List ℕ → ℕ → List Part → Type 0
+Fits account collection number parts = IsTrue (fit (staged_parts account collection number ++ parts))
+
+-- the batch that a request continues, if it does
+abbrev pub continued : Mode → Option ℕ
+continued PlainPost = None
+continued Begin = None
+continued (Append number) = Some number
+continued (Commit number) = Some number
+
+-- whether a POST begins a batch
+abbrev pub begins : Mode → Bool
+begins Begin = true
+begins _ = false
+
+-- why a request is refused: its item isn't there, its condition stops it, no batch may begin or its batch isn't live or
+-- gets too large, no later stamp is left, or the account gets too large
+pub data Refusal : Type 0 where
+  NoItem : Refusal
+  NotModified : Refusal
+  WasModified : Refusal
+  NoMoreBatches : Refusal
+  NoBatch : Refusal
+  BatchFull : Refusal
+  ClockEnded : Refusal
+  AccountFull : Refusal
+
+-- the status of a refusal
+abbrev pub status_of : Refusal → ℕ
+status_of NoItem = 404
+status_of NotModified = 304
+status_of WasModified = 412
+status_of NoMoreBatches = 400
+status_of NoBatch = 400
+status_of BatchFull = 400
+status_of ClockEnded = 503
+status_of AccountFull = 403
+
+-- the body of a refusal
+abbrev pub said_by : Refusal → Body
+said_by NoItem = Said Item
+said_by NotModified = Empty
+said_by WasModified = Said Modified
+said_by NoMoreBatches = Said Batches
+said_by NoBatch = Said Batch
+said_by BatchFull = Code 17
+said_by ClockEnded = Said Clock
+said_by AccountFull = Code 14
+
+-- a refusal by the condition shows the target's time
+abbrev pub time_shown : Refusal → ℕ → Option ℕ
+time_shown NotModified time = Some time
+time_shown WasModified time = Some time
+time_shown _ time = None

@@ -1,13 +1,12 @@
 -- Edits keep a tree a tree.
-use Rattle.std.proofs.Common.{◌≡◌, ◌≢◌, ℕ, zero, suc, ◌==◌, List, [], ◌∷◌, Bool, true, false, not, cond, ◌⊎◌, inl, inr, refl, sym, ap, ◌∙◌, subst, Option, Some, None, option_and_then, option_map, unwrap_or, is_some, length}
-use Rattle.std.proofs.lemmas.Bool.{false≢true, eqb-true, and_parts}
-use Rattle.ss_record.specs.Ids.{has, Apart, places, roots}
+use Rattle.std.proofs.Common.{◌≡◌, ◌≢◌, ℕ, zero, suc, ◌==◌, List, Bool, true, false, cond, refl, sym, ap, ◌∙◌, subst, Option, Some, None, option_and_then, unwrap_or, is_some}
+use Rattle.std.proofs.lemmas.Bool.{false≢true, eqb-true}
+use Rattle.ss_record.specs.Ids.{Apart, roots}
 use Rattle.ss_record.specs.Kinds.{is_folder}
-use Rattle.ss_record.specs.Items.{empty_folder}
 use Rattle.ss_tree.specs.declared.entries.Entry.{Entry}
 use Rattle.ss_tree.specs.Trees.{steps, Reaches}
-use Rattle.ss_tree.specs.Entries.{entry, stands_under, kids, kid_ids, above, up, entry_ids, NodesApart, IsTree, top_entry}
-use Rattle.ss_tree.proofs.Edits.{same_number, other_number, number_sym, entry-cons}
+use Rattle.ss_tree.specs.Entries.{entry, kid_ids, above, up, entry_ids, NodesApart, IsTree, top_entry}
+use Rattle.ss_tree.proofs.Edits.{other_number, number_sym}
 
 none_some : {X : Type 0} {x : X} → None ≡ Some x → ⊥
 none_some f = cc

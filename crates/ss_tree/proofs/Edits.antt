@@ -1,8 +1,8 @@
 -- What a list of entries with one more, or one less, says of each node.
-use Rattle.std.proofs.Common.{◌≡◌, ◌≢◌, ℕ, ◌==◌, List, [], ◌∷◌, ◌++◌, map, Bool, true, false, not, cond, ◌||◌, refl, sym, ap, ◌∙◌, filter, find, bytes_eq, Option, Some, None, option_map, unwrap_or, arith}
-use Rattle.std.proofs.lemmas.Bool.{false≢true, eqb-true, ne_eqb, or_parts}
+use Rattle.std.proofs.Common.{◌≡◌, ◌≢◌, ℕ, ◌==◌, List, [], ◌∷◌, ◌++◌, map, Bool, true, false, not, cond, ◌||◌, refl, sym, ap, ◌∙◌, filter, bytes_eq, Option, Some, None, option_map, unwrap_or, arith}
+use Rattle.std.proofs.lemmas.Bool.{false≢true, eqb-true, or_parts}
 use Rattle.ss_record.specs.Ids.{has, Apart}
-use Rattle.ss_record.proofs.IdLists.{same_id, bytes_eq-refl, has-nil, has-cons, Apart-nil, Apart-cons, Apart-head, Apart-tail}
+use Rattle.ss_record.proofs.IdLists.{same_id, bytes_eq-refl, has-cons, Apart-cons, Apart-head, Apart-tail}
 use Rattle.ss_tree.specs.declared.entries.Entry.{Entry}
 use Rattle.ss_tree.specs.Entries.{entry, stands_under, kids, kid_ids, entry_ids, NodesApart, put_before, without_node, is_place}
 use Rattle.ss_tree.specs.Lists.{put_entry, without_entry}

@@ -1,22 +1,18 @@
 -- The calls keep a tree.
-use Rattle.std.proofs.Common.{◌≡◌, ◌≢◌, ℕ, zero, suc, ◌+◌, ◌-◌, ◌<◌, ◌==◌, List, [], ◌∷◌, map, Bool, true, false, not, cond, ◌&&◌, ◌||◌, ◌⊎◌, inl, inr, refl, sym, ap, ap₂, ◌∙◌, subst, arith, Option, Some, None, option_map, unwrap_or, is_some, codes, lit<}
+use Rattle.std.proofs.Common.{◌≡◌, ◌≢◌, ℕ, zero, suc, ◌+◌, ◌-◌, ◌<◌, ◌==◌, List, [], ◌∷◌, map, Bool, true, false, not, cond, ◌||◌, ◌⊎◌, inl, inr, refl, sym, ap, ap₂, ◌∙◌, subst, arith, Option, Some, None, option_map, unwrap_or, is_some, codes, lit<}
 use Rattle.std.specs.List.{flat_map}
 use Rattle.std.proofs.lemmas.Bool.{false≢true, eqb-true, or_parts, and_parts, not-true}
 use Rattle.ss_record.specs.Ids.{has, Apart, places, roots}
 use Rattle.ss_record.specs.Kinds.{is_folder}
-use Rattle.ss_record.specs.Items.{ItemView, empty_folder}
-use Rattle.ss_record.proofs.IdLists.{Apart-nil, Apart-cons}
+use Rattle.ss_record.specs.Items.{empty_folder}
 use Rattle.ss_tree.specs.declared.entries.Entry.{Entry}
-use Rattle.ss_tree.specs.declared.faults.TreeFault.{TreeFault}
 use Rattle.ss_tree.specs.declared.faults.TreeFault.TheVariants.{NotFolder, Twice, BadPlace}
-use Rattle.ss_tree.specs.declared.faults.MoveFault.{MoveFault}
 use Rattle.ss_tree.specs.declared.faults.MoveFault.TheVariants.{Root, NotFolder as NoFolder, Under, BadPlace as NoPlace}
-use Rattle.ss_tree.specs.declared.faults.RemoveFault.{RemoveFault}
 use Rattle.ss_tree.specs.declared.faults.RemoveFault.TheVariants.{Root as Fixed, NotEmpty}
-use Rattle.ss_tree.specs.Trees.{steps, Reaches, IsSame, node, empty_tree, places_node}
-use Rattle.ss_tree.specs.Entries.{entry, is_live, stands_under, kids, kid_ids, up, above, placed, tree, NodesApart, entry_ids, top_entry, IsTree, IsKept, under, revised, put_before, without_node, first_of, is_below, takes_children, is_fixed, is_place, insert_fault, is_node, move_fault, remove_fault, new_entries, is_fit_with, preorder}
+use Rattle.ss_tree.specs.Trees.{steps, Reaches, empty_tree, places_node}
+use Rattle.ss_tree.specs.Entries.{entry, is_live, stands_under, kids, kid_ids, up, placed, tree, NodesApart, entry_ids, top_entry, IsTree, IsKept, under, revised, put_before, without_node, first_of, is_below, takes_children, is_fixed, is_place, insert_fault, is_node, move_fault, remove_fault, new_entries, is_fit_with, preorder}
 use Rattle.ss_tree.specs.Lists.{put_entry, without_entry, revise_entry}
-use Rattle.ss_tree.proofs.Edits.{same_number, other_number, number_sym, entry-nil, entry-cons, entry_put, entry_without, kids-cons, kids-nil, kids_put, kids_without, kid_ids-cons, kid_ids_put, kid_ids_without, nodes_put, nodes_without, has_put, ids_put, ids_without, id_is_free, fresh_parts}
+use Rattle.ss_tree.proofs.Edits.{same_number, other_number, number_sym, entry-nil, entry-cons, entry_put, entry_without, kids-cons, kids_put, kids_without, kid_ids-cons, kid_ids_put, kid_ids_without, nodes_put, nodes_without, ids_put, ids_without, id_is_free}
 use Rattle.ss_tree.proofs.Changes.{some_same, onward, up_of, live_steps, changed_tree, leafless_tree, revised_tree}
 use Rattle.ss_tree.proofs.Ways.{never_met}
 use Rattle.ss_tree.proofs.Places.{live_entry}

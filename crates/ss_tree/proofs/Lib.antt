@@ -4,3 +4,4 @@ pub mod Changes
 pub mod Ways
 pub mod Valid
 pub mod Kept
+pub mod Live

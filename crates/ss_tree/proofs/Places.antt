@@ -1,5 +1,5 @@
 -- Where entries stand in a list, and the list with one more or one less.
-use Rattle.std.proofs.Common.{◌≡◌, ℕ, suc, ◌+◌, ◌<◌, ◌≤◌, ◌==◌, List, [], ◌∷◌, ◌++◌, length, take, drop, option_map, set, get_or, Bool, true, false, not, cond, refl, sym, ap, ◌∙◌, subst, arith, filter, find, Option, Some, None, is_some, unwrap_or, nat_lt}
+use Rattle.std.proofs.Common.{◌≡◌, ℕ, suc, ◌+◌, ◌<◌, ◌≤◌, ◌==◌, List, [], ◌∷◌, ◌++◌, length, take, drop, option_map, set, get_or, Bool, true, false, not, cond, refl, sym, ap, ◌∙◌, arith, find, Option, Some, None, is_some, unwrap_or, nat_lt}
 use Rattle.std.specs.List.{position, position_or_len, insert, remove}
 use Rattle.std.proofs.lemmas.Bool.{false≢true, eqb-true, ltb-false}
 use Rattle.std.proofs.lemmas.List.Recursion.{is_position_or_len}

@@ -1,10 +1,10 @@
 -- Entries that are a tree give a valid tree of ids.
-use Rattle.std.proofs.Common.{◌≡◌, ◌≢◌, ◌↔◌, ℕ, zero, suc, ◌==◌, List, [], ◌∷◌, map, Bool, true, false, cond, ◌||◌, ◌⊎◌, inl, inr, refl, sym, ap, ◌∙◌, subst, find, filter, bytes_eq, codes, Option, Some, None, option_and_then, option_map, unwrap_or}
+use Rattle.std.proofs.Common.{◌≡◌, ◌≢◌, ℕ, zero, suc, ◌==◌, List, [], ◌∷◌, map, Bool, true, false, cond, ◌||◌, ◌⊎◌, inl, inr, refl, sym, ap, ◌∙◌, subst, find, bytes_eq, codes, Option, Some, None, option_and_then, option_map, unwrap_or}
 use Rattle.std.proofs.lemmas.Bool.{false≢true, eqb-true}
 use Rattle.ss_record.specs.declared.kinds.Kind.TheVariants.{Folder}
-use Rattle.ss_record.specs.Ids.{has, Apart, places, roots}
+use Rattle.ss_record.specs.Ids.{has, Apart, places}
 use Rattle.ss_record.specs.Kinds.{is_folder}
-use Rattle.ss_record.proofs.IdLists.{same_id, bytes_eq-refl, bytes_eq-apart, bytes_eq-same, has-nil, has-cons, has-head, has-tail, Apart-nil, Apart-cons, Apart-head, Apart-tail}
+use Rattle.ss_record.proofs.IdLists.{same_id, bytes_eq-apart, bytes_eq-same, has-nil, has-cons, has-head, has-tail, Apart-nil, Apart-cons, Apart-head, Apart-tail}
 use Rattle.ss_tree.specs.declared.entries.Entry.{Entry}
 use Rattle.ss_tree.specs.Trees.{Placed, node_ids, node, parent_in, places_node, IsUnder, steps, Reaches, IsValidTree}
 use Rattle.ss_tree.specs.Entries.{entry, stands_under, kid_ids, up, placed, tree, entry_ids, NodesApart, IsTree, top_entry}

@@ -1,12 +1,12 @@
 -- A way up is no longer than the entries are many.
-use Rattle.std.proofs.Common.{◌≡◌, ◌≢◌, ℕ, zero, suc, ◌+◌, ◌-◌, ◌<◌, ◌≤◌, ◌==◌, nat_eq, nat_lt, List, [], ◌∷◌, map, Bool, true, false, cond, ◌||◌, ◌⊎◌, inl, inr, refl, sym, ap, ◌∙◌, subst, arith, Option, Some, None, option_and_then, unwrap_or, is_some, length, find}
-use Rattle.std.specs.List.{IsDistinct, AllByRecursion, list_any}
+use Rattle.std.proofs.Common.{◌≡◌, ◌≢◌, ℕ, zero, suc, ◌+◌, ◌-◌, ◌<◌, ◌≤◌, ◌==◌, nat_eq, nat_lt, List, [], ◌∷◌, map, Bool, true, false, cond, ◌||◌, ◌⊎◌, inl, inr, refl, sym, ap, ◌∙◌, arith, Option, Some, None, unwrap_or, is_some, length}
+use Rattle.std.specs.List.{IsDistinct, AllByRecursion}
 use Rattle.std.specs.Set.{is_member}
 use Rattle.std.specs.Cmp.{nat_eq_equiv}
 use Rattle.std.proofs.lemmas.Bool.{false≢true, or_parts, eqb-true, ltb-true, ltb-false}
 use Rattle.std.proofs.lemmas.Map.Made.{length-le_from_is_member}
 use Rattle.ss_tree.specs.declared.entries.Entry.{Entry}
-use Rattle.ss_tree.specs.Trees.{steps, Reaches}
+use Rattle.ss_tree.specs.Trees.{steps}
 use Rattle.ss_tree.specs.Entries.{entry, above, up, met, is_below, IsTree}
 use Rattle.ss_tree.proofs.Edits.{same_number, other_number, entry-nil, entry-cons}
 use Rattle.ss_tree.proofs.Changes.{up_top, live_steps}

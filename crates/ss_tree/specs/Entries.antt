@@ -4,7 +4,7 @@ use Rattle.std.specs.List.{flat_map}
 use Rattle.std.specs.Bool.{⊤}
 use Rattle.ss_record.specs.Ids.{has, Apart, places, roots}
 use Rattle.ss_record.specs.Kinds.{is_folder}
-use Rattle.ss_record.specs.Items.{ItemView, empty_folder, is_fit}
+use Rattle.ss_record.specs.Items.{empty_folder, is_fit}
 use Rattle.ss_tree.specs.declared.entries.Entry.{Entry}
 use Rattle.ss_tree.specs.declared.faults.TreeFault.{TreeFault}
 use Rattle.ss_tree.specs.declared.faults.TreeFault.TheVariants.{NotFolder, Twice, BadPlace}

@@ -7,6 +7,8 @@ mod entries;
 mod faults;
 mod list;
 mod sides;
+#[cfg(test)]
+mod tests;
 mod trees;
 
 pub use entries::{Entry, Node};

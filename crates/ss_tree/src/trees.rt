@@ -1,6 +1,7 @@
 //! Trees of items.
 
-ghost use Rattle.std.specs.Prelude.{◌≡◌, ◌==◌, ◌<◌, ◌++◌, ◌⊎◌, ℕ, Some, None, true, false, IfOk, OnOk, OnErr, MatchResult, IsTrue, option_map, option_and_then, vec_len, length, if◌then◌else◌};
+ghost use Rattle.std.specs.Prelude.{◌≡◌, ◌==◌, ◌<◌, ◌++◌, ◌⊎◌, ℕ, Some, None, true, false, IfOk, OnOk, OnErr, MatchResult, IfSome, IsTrue, option_map, option_and_then, vec_len, length, if◌then◌else◌};
+ghost use Rattle.std.specs.List.{All};
 ghost use Rattle.ss_text.specs.Names.{is_id};
 ghost use Rattle.ss_record.specs.Items.{empty_folder};
 ghost use Rattle.ss_tree.specs.declared.faults.TreeFault.TheVariants.{Memory};
@@ -109,6 +110,7 @@ impl Tree {
         ensures node { result ≡ node_of id.now self.now }
         ensures valid { IsValidTree (tree self.now) }
         ensures kept { IsTree self.now }
+        ensures live { IfSome result (λ k. is_live k self.now ≡ true) }
     {
         node_of(&self.entries, id)
     }
@@ -136,21 +138,24 @@ impl Tree {
 
     /// The node above; None for `places`.
     pub fn parent(&self, node: Node) -> Option<Node>
-        ensures { result ≡ above self.now node }
+        ensures node { result ≡ above self.now node }
+        ensures live { IfSome result (λ k. is_live k self.now ≡ true) }
     {
         parent(&self.entries, node)
     }
 
     /// The first of a node's children.
     pub fn first(&self, node: Node) -> Option<Node>
-        ensures { result ≡ first_of (kids node self.now) }
+        ensures node { result ≡ first_of (kids node self.now) }
+        ensures live { IfSome result (λ k. is_live k self.now ≡ true) }
     {
         first(&self.entries, node)
     }
 
     /// The sibling after a node.
     pub fn next(&self, node: Node) -> Option<Node>
-        ensures { result ≡ option_and_then (λ p. next_after node (kids p self.now)) (above self.now node) }
+        ensures node { result ≡ option_and_then (λ p. next_after node (kids p self.now)) (above self.now node) }
+        ensures live { IfSome result (λ k. is_live k self.now ≡ true) }
     {
         match parent(&self.entries, node) {
             Some(parent) => next(&self.entries, node, parent),
@@ -167,14 +172,16 @@ impl Tree {
 
     /// A node's children, in their order.
     pub fn children(&self, alloc: Global, node: Node) -> Result<Vec<Node>, AllocError>
-        ensures { IfOk result (λ nodes. nodes.items ≡ kids node self.now) }
+        ensures nodes { IfOk result (λ nodes. nodes.items ≡ kids node self.now) }
+        ensures live { IfOk result (λ nodes. All (λ k. is_live k self.now ≡ true) nodes.items) }
     {
-        children(alloc, &self.entries, node)
+        Ok(children(alloc, &self.entries, node)?)
     }
 
     /// All nodes in preorder: `places` first, each before its children, and these in their order.
     pub fn walk(&self, alloc: Global) -> Result<Vec<Node>, AllocError>
-        ensures { IfOk result (λ nodes. nodes.items ≡ preorder self.now (length self.now) 0) }
+        ensures nodes { IfOk result (λ nodes. nodes.items ≡ preorder self.now (length self.now) 0) }
+        ensures live { IfOk result (λ nodes. All (λ k. is_live k self.now ≡ true) nodes.items) }
     {
         let mut nodes = Vec::new(alloc);
         visit(

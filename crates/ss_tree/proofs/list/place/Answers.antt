@@ -1,4 +1,4 @@
-use Rattle.std.proofs.Common.{◌==◌, length, unwrap_or, ap, ◌∙◌}
+use Rattle.std.proofs.Common.{length, unwrap_or, ap, ◌∙◌}
 use Rattle.ss_tree.proofs.Places.{place_or_end}
 use Rattle.ss_tree.proofs.list.place.Goals as goal
 

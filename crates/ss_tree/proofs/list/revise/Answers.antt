@@ -1,5 +1,5 @@
-use Rattle.std.proofs.Common.{arith, ◌≡◌, Some, length, get_or, set, ap, ◌∙◌}
-use Rattle.ss_tree.specs.Entries.{entry, is_live, revised}
+use Rattle.std.proofs.Common.{arith, ◌≡◌, length, get_or, set, ap, ◌∙◌}
+use Rattle.ss_tree.specs.Entries.{revised}
 use Rattle.ss_tree.specs.Lists.{place_of}
 use Rattle.ss_tree.proofs.Places.{live_place, entry_at_place, live_entry, fit_at, revise_at}
 use Rattle.ss_tree.proofs.list.revise.Goals as goal

@@ -1,4 +1,4 @@
-use Rattle.std.proofs.Common.{arith, ◌≡◌, ◌==◌, ◌<◌, length, get_or, subst, sym, ap, ◌∙◌}
+use Rattle.std.proofs.Common.{arith, ◌≡◌, length, get_or, ap, ◌∙◌}
 use Rattle.std.specs.List.{remove}
 use Rattle.ss_tree.specs.Lists.{place_of}
 use Rattle.ss_tree.proofs.Places.{live_place, entry_at_place, without_at}

@@ -1,6 +1,5 @@
-use Rattle.std.proofs.Common.{◌≡◌, [], ◌∷◌, ◌++◌, Some, codes, ap₂, ◌∙◌}
-use Rattle.ss_record.specs.Items.{empty_folder}
-use Rattle.ss_tree.specs.Entries.{top_entry, new_entries}
+use Rattle.std.proofs.Common.{◌≡◌, [], ◌∷◌, ◌++◌, ap₂, ◌∙◌}
+use Rattle.ss_tree.specs.Entries.{top_entry}
 use Rattle.ss_tree.proofs.trees.new_entries.Goals as goal
 
 pub returns-clause-entries : goal.returns-clause-entries

@@ -1,7 +1,6 @@
 use Rattle.std.proofs.Common.{◌≡◌, ◌==◌, ◌+◌, Some, None, cond, refl, sym, ap, ap₂, ◌∙◌, subst}
 use Rattle.ss_tree.specs.declared.entries.Entry.{Entry}
 use Rattle.ss_tree.specs.Entries.{IsKept, entry, kids, put_before, insert_fault}
-use Rattle.ss_tree.specs.Lists.{put_entry}
 use Rattle.ss_tree.proofs.Edits.{entry_put}
 use Rattle.ss_tree.proofs.Kept.{kept_insert, insert_kids, unused}
 use Rattle.ss_tree.proofs.trees.Tree.insert.Goals as goal

@@ -1,5 +1,4 @@
-use Rattle.std.proofs.Common.{◌≡◌, ◌==◌, Some, None, option_map, cond, sym, ap, ◌∙◌, subst}
-use Rattle.ss_tree.specs.declared.entries.Entry.{Entry}
+use Rattle.std.proofs.Common.{◌≡◌, ◌==◌, None, option_map, cond, sym, ap, ◌∙◌, subst}
 use Rattle.ss_tree.specs.Entries.{IsKept, entry, kids, put_before, without_node, under, move_fault}
 use Rattle.ss_tree.specs.Lists.{put_entry, without_entry}
 use Rattle.ss_tree.proofs.Kept.{kept_move, moved_entry, move_kids}

@@ -1,4 +1,4 @@
-use Rattle.std.proofs.Common.{◌≡◌, ◌<◌, sym, ap, ◌∙◌, subst, arith, true}
+use Rattle.std.proofs.Common.{◌≡◌, ◌<◌, sym, ap, ◌∙◌, subst, true}
 use Rattle.ss_tree.specs.Trees.{node}
 use Rattle.ss_tree.specs.Entries.{IsTree, is_live, tree}
 use Rattle.ss_tree.proofs.Kept.{new_tree, new_numbered, new_same}

@@ -1,5 +1,5 @@
 -- A way up is no longer than the entries are many.
-use Rattle.std.proofs.Common.{◌≡◌, ◌≢◌, ℕ, zero, suc, ◌+◌, ◌-◌, ◌<◌, ◌≤◌, ◌==◌, nat_eq, nat_lt, List, [], ◌∷◌, map, Bool, true, false, cond, ◌||◌, ◌⊎◌, inl, inr, refl, sym, ap, ◌∙◌, arith, Option, Some, None, unwrap_or, is_some, length}
+use Rattle.std.proofs.Common.{option_and_then, ◌≡◌, ◌≢◌, ◌↔◌, ℕ, zero, suc, ◌+◌, ◌-◌, ◌<◌, ◌≤◌, ◌==◌, nat_eq, nat_lt, List, [], ◌∷◌, map, Bool, true, false, cond, ◌||◌, ◌⊎◌, inl, inr, refl, sym, ap, ◌∙◌, arith, Option, Some, None, unwrap_or, is_some, length}
 use Rattle.std.specs.List.{IsDistinct, AllByRecursion}
 use Rattle.std.specs.Set.{is_member}
 use Rattle.std.specs.Cmp.{nat_eq_equiv}
@@ -7,9 +7,12 @@ use Rattle.std.proofs.lemmas.Bool.{false≢true, or_parts, eqb-true, ltb-true, l
 use Rattle.std.proofs.lemmas.Map.Made.{length-le_from_is_member}
 use Rattle.ss_tree.specs.declared.entries.Entry.{Entry}
 use Rattle.ss_tree.specs.Trees.{steps}
-use Rattle.ss_tree.specs.Entries.{entry, above, up, met, is_below, IsTree}
+use Rattle.ss_tree.specs.Entries.{entry, above, ancestor, up, met, is_below, IsBelow, IsTree}
 use Rattle.ss_tree.proofs.Edits.{same_number, other_number, entry-nil, entry-cons}
 use Rattle.ss_tree.proofs.Changes.{up_top, live_steps}
+
+none_some : {X : Type 0} {x : X} → None ≡ Some x → ⊥
+none_some f = cc
 
 walk : (ℕ → ℕ) → ℕ → ℕ → List ℕ
 walk step zero x = []
@@ -155,3 +158,75 @@ never_met es t k p f q ne np nb (suc i) e = false≢true (sym nb ∙ met_on_way 
 -- one step more of the look for a node
 pub met_step : (es : List Entry) (top n j : ℕ) → (top == j) ≡ false → met es top (suc n) (Some j) ≡ met es top n (above es j)
 met_step es top n j other = ap (λ b. b || met es top n (above es j)) other
+
+-- ---- how far up doesn't matter
+
+nowhere : (es : List Entry) (top n k : ℕ) → above es k ≡ None → ancestor es n k ≡ Some top → ⊥
+nowhere es top zero k h q = none_some (sym h ∙ q)
+nowhere es top (suc n) k h q = none_some (sym (ap (option_and_then (ancestor es n)) h) ∙ q)
+
+met_above : (es : List Entry) (top most n k : ℕ) → n < most → ancestor es n k ≡ Some top → met es top most (above es k) ≡ true
+met_above es top zero n k l q = absurd (omega arith)
+met_above es top (suc most) zero k l q = ap (met es top (suc most)) q ∙ ap (λ b. b || met es top most (above es top)) (same_number top top refl)
+met_above es top (suc most) (suc n) k l q = go (above es k) refl (λ j. met_above es top most n j (omega arith))
+  where
+    either : (b c : Bool) → c ≡ true → (b || c) ≡ true
+    either true c h = refl
+    either false c h = h
+
+    go : (o : Option ℕ) → above es k ≡ o → ((j : ℕ) → ancestor es n j ≡ Some top → met es top most (above es j) ≡ true) → met es top (suc most) o ≡ true
+    go None h ih = absurd (nowhere es top (suc n) k h q)
+    go (Some j) h ih = either (top == j) (met es top most (above es j)) (ih j (sym (ap (option_and_then (ancestor es n)) h) ∙ q))
+
+above_met : (es : List Entry) (top most k : ℕ) → met es top most (above es k) ≡ true → (n : ℕ) × (ancestor es n k ≡ Some top)
+above_met es top zero k h = absurd (false≢true h)
+above_met es top (suc most) k h = go (above es k) refl h (λ j. above_met es top most j)
+  where
+    at : (j : ℕ) → above es k ≡ Some j → (b : Bool) → (top == j) ≡ b → (b || met es top most (above es j)) ≡ true → (met es top most (above es j) ≡ true → (n : ℕ) × (ancestor es n j ≡ Some top)) → (n : ℕ) × (ancestor es n k ≡ Some top)
+    at j q true c k2 ih = (zero, q ∙ ap Some (sym (eqb-true top j c)))
+    at j q false c k2 ih = let r = ih k2 in (suc r.0, ap (option_and_then (ancestor es r.0)) q ∙ r.1)
+
+    go : (o : Option ℕ) → above es k ≡ o → met es top (suc most) o ≡ true → ((j : ℕ) → met es top most (above es j) ≡ true → (n : ℕ) × (ancestor es n j ≡ Some top)) → (n : ℕ) × (ancestor es n k ≡ Some top)
+    go None q k2 ih = absurd (false≢true k2)
+    go (Some j) q k2 ih = at j q (top == j) refl k2 (ih j)
+
+above_top : (es : List Entry) → IsTree es → above es 0 ≡ None
+unfolding above
+above_top es t = ap (option_and_then (λ e. e.parent)) t.top
+
+-- no step but the last may lead to the top of the tree
+not_top : (es : List Entry) → IsTree es → (top n i k : ℕ) → i ≤ n → ancestor es n k ≡ Some top → steps (up es) i k ≢ 0
+unfolding steps
+not_top es t top n zero k l q = λ z. nowhere es top n k (ap (above es) z ∙ above_top es t) q
+not_top es t top zero (suc i) k l q = absurd (omega arith)
+not_top es t top (suc n) (suc i) k l q = go (above es k) refl (λ j. not_top es t top n i j (omega arith))
+  where
+    go : (o : Option ℕ) → above es k ≡ o → ((j : ℕ) → ancestor es n j ≡ Some top → steps (up es) i j ≢ 0) → steps (up es) i (up es k) ≢ 0
+    go None h ih = absurd (nowhere es top (suc n) k h q)
+    go (Some j) h ih = λ z. ih j (sym (ap (option_and_then (ancestor es n)) h) ∙ q) (ap (steps (up es) i) (sym (up_some es k j h)) ∙ z)
+
+live_below : (es : List Entry) (top n k : ℕ) → ancestor es n k ≡ Some top → (e : Entry) × (entry k es ≡ Some e)
+unfolding above
+live_below es top n k q = go (entry k es) refl
+  where
+    go : (o : Option Entry) → entry k es ≡ o → (e : Entry) × (entry k es ≡ Some e)
+    go None h = absurd (nowhere es top n k (ap (option_and_then (λ e. e.parent)) h) q)
+    go (Some e) h = (e, h)
+
+pub below_is : (es : List Entry) → IsTree es → (top k : ℕ) → (is_below es top k ≡ true) ↔ IsBelow es top k
+unfolding is_below
+below_is es t top k = (above_met es top (length es) k, from)
+  where
+    from : (n : ℕ) × (ancestor es n k ≡ Some top) → met es top (length es) (above es k) ≡ true
+    from r =
+        let e = live_below es top r.0 k r.1 in
+        let w = within es t k e.0 e.1 in
+        met_above es top (length es) r.0 k (near w (compare_le w.0 r.0)) r.1
+      where
+        near : (w : (m : ℕ) × (steps (up es) m k ≡ 0) × (m ≤ length es)) → (w.0 ≤ suc r.0) ⊎ (suc r.0 < w.0) → r.0 < length es
+        near w (inr lt) = let le : w.0 ≤ length es = w.2 in omega arith
+        near w (inl le) = pick (nat_lt r.0 w.0) refl
+          where
+            pick : (b : Bool) → nat_lt r.0 w.0 ≡ b → r.0 < length es
+            pick true c = let lt : r.0 < w.0 = ltb-true r.0 w.0 c in let l2 : w.0 ≤ length es = w.2 in omega arith
+            pick false c = absurd (not_top es t top r.0 w.0 k (ltb-false r.0 w.0 c) r.1 w.1)

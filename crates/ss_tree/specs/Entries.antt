@@ -127,13 +127,22 @@ abbrev pub next_after : ℕ → List ℕ → Option ℕ
 next_after x [] = None
 next_after x (k ∷ ks) = if x == k then first_of ks else next_after x ks
 
+-- the node n + 1 steps above k, where there is one
+abbrev pub ancestor : List Entry → ℕ → ℕ → Option ℕ
+ancestor es zero k = above es k
+ancestor es (suc n) k = option_and_then (ancestor es n) (above es k)
+
+-- k is below top: top is above it, however many steps
+abbrev pub IsBelow : List Entry → ℕ → ℕ → Type 0
+IsBelow es top k = (n : ℕ) × (ancestor es n k ≡ Some top)
+
 -- top is met within n steps up, from where the last one led
 abbrev pub met : List Entry → ℕ → ℕ → Option ℕ → Bool
 met es top zero j = false
 met es top (suc n) None = false
 met es top (suc n) (Some j) = (top == j) || met es top n (above es j)
 
--- top is met on the way up from k; no way up is longer than the entries are many
+-- the test of it (`is_under` says that it is one): no way up is longer than the entries are many
 unfoldable pub is_below : List Entry → ℕ → ℕ → Bool
 is_below es top k = met es top (length es) (above es k)
 

@@ -1,12 +1,12 @@
 //! Trees of items.
 
-ghost use Rattle.std.specs.Prelude.{◌≡◌, ◌==◌, ◌<◌, ◌++◌, ◌⊎◌, ℕ, Some, None, true, false, IfOk, OnOk, OnErr, MatchResult, IfSome, IsTrue, option_map, option_and_then, vec_len, length, if◌then◌else◌};
+ghost use Rattle.std.specs.Prelude.{◌≡◌, ◌==◌, ◌<◌, ◌++◌, ◌⊎◌, ◌↔◌, ℕ, Some, None, true, false, IfOk, OnOk, OnErr, MatchResult, IfSome, IsTrue, option_map, option_and_then, vec_len, length, if◌then◌else◌};
 ghost use Rattle.std.specs.List.{All};
 ghost use Rattle.ss_text.specs.Names.{is_id};
 ghost use Rattle.ss_record.specs.Items.{empty_folder};
 ghost use Rattle.ss_tree.specs.declared.faults.TreeFault.TheVariants.{Memory};
 ghost use Rattle.ss_tree.specs.Trees.{IsSame, IsValidTree, empty_tree};
-ghost use Rattle.ss_tree.specs.Entries.{IsTree, above, entry, first_of, insert_fault, is_below, is_fit_with, is_live, kids, move_fault, new_entries, next_after, node_of, preorder, put_before, remove_fault, revised, top_entry, tree, under, without_node};
+ghost use Rattle.ss_tree.specs.Entries.{IsBelow, IsTree, above, entry, first_of, insert_fault, is_below, is_fit_with, is_live, kids, move_fault, new_entries, next_after, node_of, preorder, put_before, remove_fault, revised, top_entry, tree, under, without_node};
 
 use crate::entries::{Entry, Node};
 use crate::faults::{MoveFault, RemoveFault, TreeFault};
@@ -165,7 +165,8 @@ impl Tree {
 
     /// Whether a node is below another one; no node is below itself.
     pub fn is_under(&self, node: Node, top: Node) -> bool
-        ensures { result ≡ is_below self.now top node }
+        ensures test { result ≡ is_below self.now top node }
+        ensures below { IsTrue result ↔ IsBelow self.now top node }
     {
         is_below(&self.entries, top, node)
     }

@@ -1,6 +1,6 @@
 //! What the program says of itself.
 
-use std::io::{Eprint, Print};
+use std::io::{self, Eprint, ErrorKind, Print};
 
 /// The text of `--version`.
 const VERSION: &str = "syncstore 0.1.0\n";
@@ -34,6 +34,15 @@ pub fn asked_for(words: &[String]) -> Option<&'static str> {
         "--help" => Some(USAGE),
         "--version" => Some(VERSION),
         _ => None,
+    }
+}
+
+/// The status where the words can't be read: want of memory, or words that are no text.
+pub fn status_of_words(error: &io::Error) -> u8 {
+    if error.kind() == ErrorKind::OutOfMemory {
+        8
+    } else {
+        1
     }
 }
 

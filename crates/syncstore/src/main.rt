@@ -18,9 +18,13 @@ use std::env;
 use std::process::ExitCode;
 
 fn main(rt: HostRuntime) -> ExitCode {
-    let Ok(arguments) = env::args(&rt) else {
-        help::explain(&rt, 1);
-        return ExitCode::from(1);
+    let arguments = match env::args(&rt) {
+        Ok(arguments) => arguments,
+        Err(error) => {
+            let status = help::status_of_words(&error);
+            help::explain(&rt, status);
+            return ExitCode::from(status);
+        }
     };
     let Ok(words) = arguments.skip(1).collect::<Vec<String>>(rt.alloc()) else {
         help::explain(&rt, 8);

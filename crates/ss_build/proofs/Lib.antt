@@ -1,0 +1,16 @@
+pub mod Walks
+pub mod Items
+pub mod Keyed
+pub mod Valid
+pub mod Read
+pub mod Rows
+pub mod Best
+pub mod Stand
+pub mod Bounded
+pub mod Same
+pub mod OfSheets
+pub mod Worked
+pub mod Walking
+pub mod Marking
+pub mod Visiting
+pub mod Places

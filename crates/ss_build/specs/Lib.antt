@@ -1,0 +1,5 @@
+pub mod Rows
+pub mod Built
+pub mod Stand
+pub mod Marks
+pub mod Places

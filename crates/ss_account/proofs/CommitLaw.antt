@@ -49,7 +49,7 @@ pub over_from : (writes : Bool) (account : Plain) → (writes && is_over account
 over_from true account e f = record { bytes = grind (arith, nat_tests); number = grind (arith, nat_tests) }
 over_from false account e f = cc
 
-over_test : (writes : Bool) (account : Plain) → (writes ≡ true → IsWithinLimits account) → (writes && is_over account) ≡ false
+pub over_test : (writes : Bool) (account : Plain) → (writes ≡ true → IsWithinLimits account) → (writes && is_over account) ≡ false
 over_test true account h = let within : IsWithinLimits account = h refl in let bytes : row_bytes account.rows ≤ most_payload_bytes = within.bytes in let number : length account.rows + length account.collections ≤ most_rows_and_collections = within.number in grind (arith, nat_tests)
 over_test false account h = refl
 

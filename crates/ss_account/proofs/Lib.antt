@@ -5,6 +5,7 @@ pub mod Induction
 pub mod JournalOrder
 pub mod Journals
 pub mod Lists
+pub mod Making
 pub mod Orders
 pub mod Permutations
 pub mod Reading
@@ -14,7 +15,10 @@ pub mod SameRows
 pub mod SameValid
 pub mod Shown
 pub mod Staging
+pub mod Sorted
 pub mod Stamps
+pub mod Stepped
+pub mod Stepping
 pub mod Texts
 pub mod Valid
 pub mod Written

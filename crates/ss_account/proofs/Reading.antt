@@ -153,13 +153,13 @@ pub write_law : (collection : List ℕ) (parts : List Part) (time : ℕ) (rows :
 write_law collection parts time rows = record { here = write-here collection parts time rows; elsewhere = write-elsewhere collection parts time rows }
 
 -- one list after the other
-parts_of-append : (id : List ℕ) (parts more : List Part) → parts_of id (parts ++ more) ≡ parts_of id parts ++ parts_of id more
+pub parts_of-append : (id : List ℕ) (parts more : List Part) → parts_of id (parts ++ more) ≡ parts_of id parts ++ parts_of id more
 parts_of-append id [] more = refl
 parts_of-append id (part ∷ parts) more =
     elim (bytes_eq part.id id) as (λ v. cond v (part ∷ parts_of id (parts ++ more)) (parts_of id (parts ++ more)) ≡ cond v (part ∷ parts_of id parts) (parts_of id parts) ++ parts_of id more)
     [ true ↦ ap (λ rest. part ∷ rest) (parts_of-append id parts more) | false ↦ parts_of-append id parts more ]
 
-put_all-append : (collection : List ℕ) (parts more : List Part) (time : ℕ) (old : Option Row) → put_all collection (parts ++ more) time old ≡ put_all collection more time (put_all collection parts time old)
+pub put_all-append : (collection : List ℕ) (parts more : List Part) (time : ℕ) (old : Option Row) → put_all collection (parts ++ more) time old ≡ put_all collection more time (put_all collection parts time old)
 put_all-append collection [] more time old = refl
 put_all-append collection (part ∷ parts) more time old = put_all-append collection parts more time (Some (put old collection part time))
 

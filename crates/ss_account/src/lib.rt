@@ -1,11 +1,19 @@
-//! One account: what its journal holds, and the laws of the one-account API.
-//! The definitions of the API stand in ss_query; here it is proved what follows from them for every account and list.
-//! Its contracts: each law is the contract of a function that does nothing.
+//! One account: it answers each request by the one-account API, whose definitions stand in ss_query.
+//! Its contracts: `step` gives the account and the reply of that definition, or what the clock alone leaves, and the account
+//! stays valid. The laws of the definition, for every account and list, are contracts of functions that do nothing.
 #![tactic(auto)]
 
+mod account;
+mod finding;
+mod infos;
 mod journal;
 mod laws;
+mod sizes;
+mod state;
+mod targets;
+mod writing;
 
+pub use account::Account;
 pub use journal::{Entries, Entry, Journal};
 pub use laws::{
     batch_law, commit_law, journal_law, journal_order_law, order_law, quiet_law, refusal_law,

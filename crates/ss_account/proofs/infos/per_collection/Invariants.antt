@@ -1,0 +1,7 @@
+use Rattle.std.proofs.Common.{◌≡◌, map, take}
+use Rattle.ss_query.specs.Validity.{rows_of}
+use Rattle.ss_account.specs.Steps.{counted}
+use Rattle.ss_account.proofs.infos.per_collection.Given as goal
+
+abbrev pub invariant-loop-entry : goal.invariant-loop-entry
+invariant-loop-entry l = l.numbers.items ≡ map (λ entry. (entry.0, counted l.fn.measure (rows_of entry.0 l.rows))) (take l.entry-index l.entry-items)

@@ -1,0 +1,97 @@
+//! How large rows are.
+
+ghost use Rattle.std.specs.Prelude.{◌≡◌, ◌++◌, ◌∷◌, [], List};
+ghost use Rattle.ss_bso.specs.declared.rows.Row.{Row as RowValue};
+ghost use Rattle.ss_bso.specs.Write.{rows_without};
+ghost use Rattle.ss_query.specs.Validity.{rows_of};
+ghost use Rattle.ss_account.specs.Steps.{IsSize, is_full};
+
+use crate::finding::is_in;
+use crate::targets::Targets;
+use ss_bso::Row;
+use ss_text::Name;
+
+/// The most payload bytes of an account's rows.
+const MOST_PAYLOAD_BYTES: u64 = 134_217_728;
+
+/// The most rows and collections of an account, together.
+const MOST_ROWS_AND_COLLECTIONS: u64 = 200_000;
+
+/// A number of rows and their payload bytes, each up to the greatest u64.
+#[derive(Clone, Copy)]
+pub(crate) struct Size {
+    pub(crate) rows: u64,
+    pub(crate) bytes: u64,
+}
+
+impl Size {
+    fn none() -> Size
+        ensures { IsSize [] result }
+    {
+        Size { rows: 0, bytes: 0 }
+    }
+
+    fn with(self, row: &Row) -> Size
+        ensures { (old : List RowValue) → IsSize old self → IsSize (old ++ row.now ∷ []) result }
+    {
+        Size {
+            rows: self.rows.saturating_add(1),
+            bytes: self.bytes.saturating_add(row.payload.as_str().len() as u64),
+        }
+    }
+
+    /// The size of rows.
+    pub(crate) fn of(rows: &[Row]) -> Size
+        ensures { IsSize rows.now result }
+    {
+        let mut size = Size::none();
+        for row in rows {
+            size = size.with(row);
+        }
+        size
+    }
+
+    /// The size of a collection's rows.
+    pub(crate) fn within(rows: &[Row], collection: &Name) -> Size
+        ensures { IsSize (rows_of collection.now rows.now) result }
+    {
+        let mut size = Size::none();
+        for row in rows {
+            if is_in(row, collection) {
+                size = size.with(row);
+            }
+        }
+        size
+    }
+
+    /// The size of the rows without those that are named.
+    fn without(rows: &[Row], collection: &Name, targets: &Targets) -> Size
+        ensures { IsSize (rows_without collection.now targets.now rows.now) result }
+    {
+        let mut size = Size::none();
+        for row in rows {
+            if !targets.name(collection, row) {
+                size = size.with(row);
+            }
+        }
+        size
+    }
+}
+
+/// Whether the rows pass the limits of an account once those that are named are replaced by others.
+pub(crate) fn would_be_full(
+    rows: &[Row],
+    collection: &Name,
+    targets: &Targets,
+    made: &[Row],
+    collections: usize,
+) -> bool
+    ensures { result ≡ is_full (rows_without collection.now targets.now rows.now ++ made.now) collections }
+{
+    let kept = Size::without(rows, collection, targets);
+    let added = Size::of(made);
+    let bytes = kept.bytes.saturating_add(added.bytes);
+    let rows = kept.rows.saturating_add(added.rows);
+    bytes > MOST_PAYLOAD_BYTES
+        || rows.saturating_add(collections as u64) > MOST_ROWS_AND_COLLECTIONS
+}

@@ -11,6 +11,8 @@ mod laws;
 mod sizes;
 mod state;
 mod targets;
+#[cfg(test)]
+mod tests;
 mod writing;
 
 pub use account::Account;

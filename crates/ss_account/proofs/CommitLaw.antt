@@ -7,7 +7,8 @@ use Rattle.ss_text.specs.declared.stamps.Cond.{Cond}
 use Rattle.ss_bso.specs.declared.parts.Records.{Records}
 use Rattle.ss_bso.specs.declared.account.Plain.{Plain}
 use Rattle.ss_bso.specs.Account.{tick}
-use Rattle.ss_query.specs.Validity.{most_rows_and_collections, most_payload_bytes, row_bytes, IsWithinLimits}
+use Rattle.ss_bso.specs.Limits.{most_rows_and_collections, most_payload_bytes, row_bytes}
+use Rattle.ss_bso.specs.Validity.{IsWithinLimits}
 use Rattle.ss_query.specs.declared.requests.Request.{Request}
 use Rattle.ss_query.specs.declared.requests.Request.TheVariants.{Post}
 use Rattle.ss_query.specs.declared.requests.Mode.TheVariants.{Commit}

@@ -2,7 +2,7 @@
 use Rattle.std.specs.Prelude.{◌≡◌, ℕ, List, [], ◌∷◌, take, slice_get, Option, None, Some, option_map, refl}
 use Rattle.std.proofs.Common.{ap}
 use Rattle.ss_bso.specs.declared.account.Plain.{Plain}
-use Rattle.ss_query.specs.Validity.{IsValid, SameAccount}
+use Rattle.ss_bso.specs.Validity.{IsValid, SameAccount}
 use Rattle.ss_query.specs.declared.replies.Mark.{Mark}
 use Rattle.ss_query.specs.declared.replies.Mark.TheVariants.{Done, Keeper, Memory}
 use Rattle.ss_query.specs.declared.replies.Reply.{Reply}
@@ -12,7 +12,7 @@ use Rattle.ss_query.specs.declared.replies.Said.TheVariants.{Keeper as KeeperWor
 use Rattle.ss_query.specs.declared.requests.Request.{Request}
 use Rattle.ss_account.specs.declared.journal.Entry.{Entry}
 use Rattle.ss_account.specs.declared.journal.Journal.{Journal}
-use Rattle.ss_query.specs.Validity.{IsFitRequest}
+use Rattle.ss_query.specs.Fit.{IsFitRequest}
 use Rattle.ss_account.specs.Laws.{SameOutcome}
 use Rattle.ss_account.specs.Journals.{failed, marked, entered, account_after, reply_at, IsLegal}
 use Rattle.ss_account.proofs.Lists.{Each, Each-from_All}

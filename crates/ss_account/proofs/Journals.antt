@@ -2,14 +2,14 @@
 use Rattle.std.specs.Prelude.{◌≡◌, ℕ, zero, suc, ◌+◌, List, [], ◌∷◌, take, slice_get, Option, option_map, refl}
 use Rattle.std.proofs.Common.{sym, ap, ◌∙◌, add-one}
 use Rattle.ss_bso.specs.declared.account.Plain.{Plain}
-use Rattle.ss_query.specs.Validity.{IsValid}
+use Rattle.ss_bso.specs.Validity.{IsValid}
 use Rattle.ss_query.specs.declared.replies.Mark.{Mark}
 use Rattle.ss_query.specs.declared.replies.Mark.TheVariants.{Done, Keeper, Memory}
 use Rattle.ss_query.specs.declared.replies.Reply.{Reply}
 use Rattle.ss_query.specs.declared.requests.Request.{Request}
 use Rattle.ss_account.specs.declared.journal.Entry.{Entry}
 use Rattle.ss_account.specs.declared.journal.Journal.{Journal}
-use Rattle.ss_query.specs.Validity.{IsFitRequest}
+use Rattle.ss_query.specs.Fit.{IsFitRequest}
 use Rattle.ss_account.specs.Journals.{marked, entered, account_after, reply_at, IsLegal}
 use Rattle.ss_account.proofs.Lists.{Each, Each-from_All}
 use Rattle.ss_account.proofs.Valid.{valid-tick, valid-api}

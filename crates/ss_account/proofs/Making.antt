@@ -1,5 +1,5 @@
 -- What the loops over a request's parts and over the rows keep.
-use Rattle.std.specs.Prelude.{◌≡◌, ℕ, zero, suc, ◌+◌, ◌-◌, ◌^◌, ◌<◌, ◌≤◌, min, Bool, true, false, not, cond, ◌&&◌, ◌||◌, List, [], ◌∷◌, ◌++◌, length, take, get_or, map, filter, find, filter_map, sum_by, bytes_eq, Option, Some, None, refl}
+use Rattle.std.specs.Prelude.{◌≡◌, ℕ, zero, suc, ◌+◌, ◌<◌, min, Bool, true, false, not, cond, ◌&&◌, ◌||◌, List, [], ◌∷◌, ◌++◌, length, take, get_or, map, filter, find, filter_map, bytes_eq, Option, Some, None, refl}
 use Rattle.std.specs.List.{list_any}
 use Rattle.std.specs.Option.{option_map_or}
 use Rattle.std.proofs.Common.{sym, ap, subst, ◌∙◌, arith}
@@ -10,11 +10,11 @@ use Rattle.ss_text.specs.Texts.{once_by}
 use Rattle.ss_bso.specs.declared.rows.Row.{Row}
 use Rattle.ss_bso.specs.declared.parts.Part.{Part}
 use Rattle.ss_bso.specs.declared.parts.Reason.{Reason}
-use Rattle.ss_bso.specs.Account.{is_at, row_at}
+use Rattle.ss_bso.specs.Account.{row_at}
 use Rattle.ss_bso.specs.Put.{put}
-use Rattle.ss_bso.specs.Write.{ids_of, is_among, parts_of, put_all, rows_without}
+use Rattle.ss_bso.specs.Write.{ids_of, is_among, parts_of, put_all}
 use Rattle.ss_query.specs.Told.{first_failures}
-use Rattle.ss_query.specs.Validity.{row_bytes}
+use Rattle.ss_bso.specs.Limits.{row_bytes}
 use Rattle.ss_account.specs.declared.sizes.Size.{Size}
 use Rattle.ss_account.specs.Steps.{IsSize, is_target, most_counted}
 use Rattle.ss_account.proofs.Texts.{same_text, bytes_eq-same, bytes_eq-flip}

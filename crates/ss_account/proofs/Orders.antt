@@ -8,7 +8,7 @@ use Rattle.std.specs.Cmp.{IsTotalOrder, nat_cmp_total, int_cmp_total, then_total
 use Rattle.std.specs.Cmp.Lexicographic.{nat_list_cmp_total, texts_ties}
 use Rattle.ss_text.specs.Texts.{Reordered, text_cmp}
 use Rattle.ss_bso.specs.declared.rows.Row.{Row}
-use Rattle.ss_query.specs.Validity.{rows_of}
+use Rattle.ss_bso.specs.Limits.{rows_of}
 use Rattle.ss_query.specs.declared.requests.Query.{Query}
 use Rattle.ss_query.specs.declared.requests.Sort.{Sort}
 use Rattle.ss_query.specs.declared.requests.Sort.TheVariants.{Newest, Oldest, Index}

@@ -7,7 +7,7 @@ use Rattle.ss_bso.specs.declared.rows.Row.{Row}
 use Rattle.ss_bso.specs.declared.parts.Part.{Part}
 use Rattle.ss_bso.specs.declared.account.Plain.{Plain}
 use Rattle.ss_bso.specs.Account.{is_at, row_at}
-use Rattle.ss_query.specs.Validity.{IsValid}
+use Rattle.ss_bso.specs.Validity.{IsValid}
 use Rattle.ss_bso.specs.Put.{put}
 use Rattle.ss_bso.specs.Write.{ids_of, parts_of, is_among, put_all, rows_without, rows_written}
 use Rattle.ss_account.specs.Laws.{WriteLaw}

@@ -4,7 +4,7 @@ use Rattle.std.proofs.Common.{sym, ap, ◌∙◌, arith}
 use Rattle.std.proofs.lemmas.List.Sums.{sum_by-cons}
 use Rattle.ss_text.specs.Texts.{Reordered, nothing, head, swapped, chain, placed, sorted}
 use Rattle.ss_bso.specs.declared.account.Plain.{Plain}
-use Rattle.ss_query.specs.Validity.{SameAccount}
+use Rattle.ss_bso.specs.Validity.{SameAccount}
 use Rattle.ss_account.proofs.Lists.{Each, Pairs}
 
 pub reordered-refl : {X : Type 0} (xs : List X) → Reordered xs xs

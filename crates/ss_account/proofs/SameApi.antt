@@ -12,7 +12,8 @@ use Rattle.ss_bso.specs.declared.parts.Records.{Records}
 use Rattle.ss_bso.specs.declared.account.Plain.{Plain}
 use Rattle.ss_bso.specs.declared.account.Staged.{Staged}
 use Rattle.ss_bso.specs.Account.{tick, is_alive, is_open, row_at, time_of}
-use Rattle.ss_query.specs.Validity.{most_live_batches, most_rows_and_collections, most_payload_bytes, rows_of, IsValid, SameAccount}
+use Rattle.ss_bso.specs.Limits.{most_live_batches, most_rows_and_collections, most_payload_bytes, rows_of}
+use Rattle.ss_bso.specs.Validity.{IsValid, SameAccount}
 use Rattle.ss_bso.specs.Write.{ids_of, parts_of, is_among, put_all, stamped, write, rows_without, rows_written}
 use Rattle.ss_query.specs.declared.requests.Request.{Request}
 use Rattle.ss_query.specs.declared.requests.Request.TheVariants.{Info, DeleteAll, List as ListOf, Post, DeleteCollection, DeleteIds, Get, Put, Delete}
@@ -23,8 +24,10 @@ use Rattle.ss_query.specs.declared.requests.Info.{Info as InfoKind}
 use Rattle.ss_query.specs.declared.requests.Info.TheVariants.{Collections, Counts, Usage, Quota, Configuration}
 use Rattle.ss_query.specs.declared.replies.Picked.{Picked}
 use Rattle.ss_query.specs.declared.replies.Body.TheVariants.{Times, Counts as CountsBody, Usage as UsageBody, Quota as QuotaBody, Staged as StagedBody, One, Empty}
-use Rattle.ss_query.specs.Refused.{Refusal, NoItem, NoMoreBatches, NoBatch, BatchFull, ClockEnded, AccountFull, status_of, said_by, time_shown, condition_of, target_time, collection_time, item_time, batch_of, staged_parts, fit, continued, begins}
-use Rattle.ss_query.specs.Effect.{stamp_in, effect, is_write, is_over, is_empty, write_some, grown, parts_to_put, batches_after, counter_after}
+use Rattle.ss_bso.specs.Batches.{fit}
+use Rattle.ss_query.specs.Refused.{Refusal, NoItem, NoMoreBatches, NoBatch, BatchFull, ClockEnded, AccountFull, status_of, said_by, time_shown, condition_of, target_time, collection_time, item_time, batch_of, staged_parts, continued, begins}
+use Rattle.ss_bso.specs.Batches.{grown}
+use Rattle.ss_query.specs.Effect.{stamp_in, effect, is_write, is_over, is_empty, write_some, parts_to_put, batches_after, counter_after}
 use Rattle.ss_query.specs.Told.{by_name, info_body, first_failures, post_body, picked, rows_body, body_of, ok_status, count_of, next_of}
 use Rattle.ss_query.specs.Api.{why_stopped, refusal, outcome, api, first_some, where_so, misses_item, lacks_room, misses_batch, overfills_batch, time_told}
 use Rattle.ss_account.specs.Laws.{SameOutcome}

@@ -4,7 +4,8 @@ use Rattle.std.proofs.Common.{subst, sym, ◌∙◌, arith}
 use Rattle.ss_bso.specs.declared.rows.Row.{Row}
 use Rattle.ss_bso.specs.declared.account.Plain.{Plain}
 use Rattle.ss_bso.specs.Account.{is_at}
-use Rattle.ss_query.specs.Validity.{row_bytes, IsValid, IsValidBatch, SameAccount}
+use Rattle.ss_bso.specs.Limits.{row_bytes}
+use Rattle.ss_bso.specs.Validity.{IsValid, IsValidBatch, SameAccount}
 use Rattle.ss_account.proofs.Lists.{Each, Each-imp, Each-from_All, All-from_Each, Pairs, Pairs-from_AllPairs, AllPairs-from_Pairs}
 use Rattle.ss_account.proofs.Texts.{same_text, bytes_eq-same, bytes_eq-flip}
 use Rattle.ss_account.proofs.Written.{Apart, IsItem, both, both_left, both_right}

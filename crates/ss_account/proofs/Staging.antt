@@ -19,7 +19,8 @@ use Rattle.ss_query.specs.declared.requests.Mode.TheVariants.{Plain as PlainPost
 use Rattle.ss_query.specs.declared.replies.Body.TheVariants.{Rows, Ids, One, Empty}
 use Rattle.ss_query.specs.declared.replies.Reply.{Reply}
 use Rattle.ss_query.specs.Refused.{Refusal, NoItem, NotModified, WasModified, NoMoreBatches, NoBatch, BatchFull, ClockEnded, AccountFull, said_by, staged_parts, batch_of}
-use Rattle.ss_query.specs.Effect.{stamp_in, effect, grown}
+use Rattle.ss_bso.specs.Batches.{grown}
+use Rattle.ss_query.specs.Effect.{stamp_in, effect}
 use Rattle.ss_query.specs.Told.{info_body, body_of, picked}
 use Rattle.ss_query.specs.Api.{refusal, outcome, done, time_told}
 use Rattle.ss_query.specs.Flat.{Turn, gathered, staged_by, batch_named, parts_sent}

@@ -1,5 +1,5 @@
 -- What a step comes to, where it answers by the API and where memory ran out.
-use Rattle.std.specs.Prelude.{◌≡◌, ◌≢◌, ℕ, None, refl}
+use Rattle.std.specs.Prelude.{◌≡◌, ◌≢◌, ℕ, None}
 use Rattle.std.proofs.Common.{sym, ap, subst, ◌∙◌}
 use Rattle.ss_bso.specs.declared.account.Plain.{Plain}
 use Rattle.ss_bso.specs.Account.{tick}
@@ -9,7 +9,8 @@ use Rattle.ss_query.specs.declared.replies.Body.TheVariants.{Said}
 use Rattle.ss_query.specs.declared.replies.Said.TheVariants.{Memory as MemoryWord}
 use Rattle.ss_query.specs.declared.replies.Mark.TheVariants.{Done, Keeper, Memory}
 use Rattle.ss_query.specs.Marks.{mark_of}
-use Rattle.ss_query.specs.Validity.{IsFitRequest, IsValid, SameAccount}
+use Rattle.ss_bso.specs.Validity.{IsValid, SameAccount}
+use Rattle.ss_query.specs.Fit.{IsFitRequest}
 use Rattle.ss_query.specs.Api.{api, outcome, refusal}
 use Rattle.ss_account.specs.Journals.{marked}
 use Rattle.ss_account.specs.Steps.{plain_reply}

@@ -1,5 +1,5 @@
 -- What the parts of a step come to.
-use Rattle.std.specs.Prelude.{◌≡◌, ℕ, ◌≤◌, ◌+◌, min, Bool, true, false, ◌&&◌, cond, List, [], ◌∷◌, length, filter, find, map, not, bytes_eq, Option, Some, None, option_map, is_none, nat_le, refl}
+use Rattle.std.specs.Prelude.{◌≡◌, ℕ, ◌≤◌, ◌+◌, Bool, true, false, cond, List, [], ◌∷◌, length, find, map, not, bytes_eq, Option, Some, None, option_map, is_none, refl}
 use Rattle.std.proofs.Common.{sym, ap, subst, ◌∙◌, arith}
 use Rattle.std.proofs.lemmas.Bool.Decides.{nat_tests}
 use Rattle.ss_text.specs.Time.{stops}
@@ -15,7 +15,8 @@ use Rattle.ss_query.specs.declared.replies.Said.{Said as Word}
 use Rattle.ss_query.specs.declared.replies.Said.TheVariants.{Batch, Batches}
 use Rattle.ss_query.specs.declared.replies.Mark.TheVariants.{Done}
 use Rattle.ss_query.specs.Marks.{mark_of}
-use Rattle.ss_query.specs.Validity.{IsWithinLimits, rows_of, row_bytes}
+use Rattle.ss_bso.specs.Limits.{rows_of, row_bytes}
+use Rattle.ss_bso.specs.Validity.{IsWithinLimits}
 use Rattle.ss_query.specs.Refused.{Refusal, NoItem, NotModified, WasModified, NoMoreBatches, NoBatch, BatchFull, ClockEnded, AccountFull, condition_of, target_time}
 use Rattle.ss_query.specs.Effect.{effect, is_over}
 use Rattle.ss_query.specs.Told.{by_name, per_collection}

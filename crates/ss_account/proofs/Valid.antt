@@ -12,15 +12,18 @@ use Rattle.ss_bso.specs.declared.parts.Part.{Part}
 use Rattle.ss_bso.specs.declared.account.Plain.{Plain}
 use Rattle.ss_bso.specs.declared.account.Staged.{Staged}
 use Rattle.ss_bso.specs.Account.{tick, is_alive, is_open, time_of}
-use Rattle.ss_query.specs.Validity.{most_live_batches, most_batch_bytes, most_batch_records, most_rows_and_collections, most_payload_bytes, row_bytes, part_bytes, IsValid, IsValidBatch, IsWithinLimits}
+use Rattle.ss_bso.specs.Limits.{most_live_batches, most_batch_bytes, most_batch_records, most_rows_and_collections, most_payload_bytes, row_bytes, part_bytes}
+use Rattle.ss_bso.specs.Validity.{IsValid, IsValidBatch, IsWithinLimits}
 use Rattle.ss_bso.specs.Write.{stamped, write, rows_without, rows_written, times_without, times_with, is_among}
 use Rattle.ss_query.specs.declared.requests.Request.{Request}
 use Rattle.ss_query.specs.declared.requests.Request.TheVariants.{Info, DeleteAll, List as ListOf, Post, DeleteCollection, DeleteIds, Get, Put, Delete}
 use Rattle.ss_query.specs.declared.requests.Mode.TheVariants.{Plain as PlainPost, Begin, Append, Commit}
-use Rattle.ss_query.specs.Refused.{Refusal, batch_of, staged_parts, fit}
-use Rattle.ss_query.specs.Effect.{stamp_in, effect, is_over, is_empty, write_some, grown, parts_to_put}
+use Rattle.ss_bso.specs.Batches.{fit}
+use Rattle.ss_query.specs.Refused.{Refusal, batch_of, staged_parts}
+use Rattle.ss_bso.specs.Batches.{grown}
+use Rattle.ss_query.specs.Effect.{stamp_in, effect, is_over, is_empty, write_some, parts_to_put}
 use Rattle.ss_query.specs.Api.{refusal, outcome, api}
-use Rattle.ss_query.specs.Validity.{IsFitRequest}
+use Rattle.ss_query.specs.Fit.{IsFitRequest}
 use Rattle.ss_account.proofs.Shown.{Shown, shown}
 use Rattle.ss_account.proofs.Commit.{Passes, passes}
 use Rattle.ss_account.proofs.CommitLaw.{clock_from, over_from, true_from}

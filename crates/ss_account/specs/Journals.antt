@@ -3,7 +3,7 @@ use Rattle.std.specs.Prelude.{ℕ, ◌≤◌, List, length, take, map, fold, sli
 use Rattle.std.specs.List.Sorted.{IsStrictlyIncreasing}
 use Rattle.ss_bso.specs.declared.account.Plain.{Plain}
 use Rattle.ss_bso.specs.Account.{tick}
-use Rattle.ss_query.specs.Validity.{IsValid}
+use Rattle.ss_bso.specs.Validity.{IsValid}
 use Rattle.ss_query.specs.declared.replies.Mark.{Mark}
 use Rattle.ss_query.specs.declared.replies.Mark.TheVariants.{Done, Keeper, Memory}
 use Rattle.ss_query.specs.declared.replies.Reply.{Reply}
@@ -14,7 +14,7 @@ use Rattle.ss_query.specs.declared.requests.Request.{Request}
 use Rattle.ss_query.specs.Api.{api, Outcome}
 use Rattle.ss_account.specs.declared.journal.Entry.{Entry}
 use Rattle.ss_account.specs.declared.journal.Journal.{Journal}
-use Rattle.ss_query.specs.Validity.{IsFitRequest}
+use Rattle.ss_query.specs.Fit.{IsFitRequest}
 
 -- a request that ended for want of memory or by its keeper's failure: the clock alone has moved
 abbrev pub failed : Plain → ℕ → ℕ → Word → Outcome

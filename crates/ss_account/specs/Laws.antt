@@ -10,7 +10,7 @@ use Rattle.ss_bso.specs.declared.parts.Part.{Part}
 use Rattle.ss_bso.specs.declared.parts.Records.{Records}
 use Rattle.ss_bso.specs.declared.account.Plain.{Plain}
 use Rattle.ss_bso.specs.Account.{tick, row_at}
-use Rattle.ss_query.specs.Validity.{IsWithinLimits, SameAccount}
+use Rattle.ss_bso.specs.Validity.{IsWithinLimits, SameAccount}
 use Rattle.ss_bso.specs.Write.{rows_written, put_all, parts_of}
 use Rattle.ss_query.specs.declared.requests.Request.{Request}
 use Rattle.ss_query.specs.declared.requests.Request.TheVariants.{Post}

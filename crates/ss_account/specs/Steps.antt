@@ -1,5 +1,5 @@
 -- The parts of a step: what is cut from the rows, how large rows are, and what a write comes to.
-use Rattle.std.specs.Prelude.{◌≡◌, ℕ, ◌+◌, ◌-◌, ◌^◌, min, Bool, true, false, ◌&&◌, ◌||◌, nat_le, nat_lt, List, [], ◌∷◌, length, sum_by, bytes_eq, Option, Some, None, if◌then◌else◌}
+use Rattle.std.specs.Prelude.{◌≡◌, ℕ, ◌+◌, ◌-◌, ◌^◌, min, Bool, true, false, ◌&&◌, ◌||◌, nat_le, nat_lt, List, [], ◌∷◌, length, bytes_eq, Option, Some, None}
 use Rattle.ss_text.specs.Time.{last_stamp}
 use Rattle.ss_bso.specs.declared.rows.Row.{Row}
 use Rattle.ss_bso.specs.declared.account.Plain.{Plain}
@@ -15,7 +15,7 @@ use Rattle.ss_query.specs.declared.replies.Body.{Body}
 use Rattle.ss_query.specs.declared.replies.Reply.{Reply}
 use Rattle.ss_query.specs.declared.replies.Said.{Said}
 use Rattle.ss_query.specs.declared.replies.Said.TheVariants.{Batch, Batches}
-use Rattle.ss_query.specs.Validity.{most_payload_bytes, most_rows_and_collections, row_bytes}
+use Rattle.ss_bso.specs.Limits.{most_payload_bytes, most_rows_and_collections, row_bytes}
 use Rattle.ss_query.specs.Refused.{Refusal, ClockEnded, AccountFull}
 use Rattle.ss_query.specs.Effect.{effect, is_write, is_over, stamp_in}
 use Rattle.ss_query.specs.Told.{body_of, rows_body}

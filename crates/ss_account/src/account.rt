@@ -4,7 +4,8 @@ ghost use Rattle.std.specs.Prelude.{◌≡◌, ◌≢◌, IfOk};
 ghost use Rattle.ss_bso.specs.Account.{fresh, tick};
 ghost use Rattle.ss_query.specs.declared.replies.Mark.TheVariants.{Keeper};
 ghost use Rattle.ss_query.specs.Marks.{mark_of};
-ghost use Rattle.ss_query.specs.Validity.{IsFitRequest, IsValid, SameAccount};
+ghost use Rattle.ss_bso.specs.Validity.{IsValid, SameAccount};
+ghost use Rattle.ss_query.specs.Fit.{IsFitRequest};
 ghost use Rattle.ss_account.specs.Journals.{marked};
 
 use crate::state::State;
@@ -21,7 +22,7 @@ pub struct Account {
 
 impl Model for Account {
     ghost use Rattle.ss_bso.specs.declared.account.Plain.{Plain};
-    ghost use Rattle.ss_query.specs.Validity.{IsValid};
+    ghost use Rattle.ss_bso.specs.Validity.{IsValid};
 
     ghost Value = { Plain };
 

@@ -3,7 +3,7 @@
 ghost use Rattle.std.specs.Prelude.{◌≡◌, List, map, IfOk};
 ghost use Rattle.ss_bso.specs.declared.rows.Row.{Row as RowValue};
 ghost use Rattle.ss_query.specs.Told.{by_name};
-ghost use Rattle.ss_query.specs.Validity.{rows_of};
+ghost use Rattle.ss_bso.specs.Limits.{rows_of};
 ghost use Rattle.ss_account.specs.Steps.{IsSize, counted};
 
 use crate::sizes::Size;

@@ -1,7 +1,7 @@
 //! Laws of the one-account API.
 ghost use Rattle.std.specs.Prelude.{◌≡◌, ◌≢◌, false, ◌+◌, ◌++◌, ℕ, List, take};
 ghost use Rattle.ss_bso.specs.declared.account.Plain.{Plain};
-ghost use Rattle.ss_query.specs.Validity.{IsValid, SameAccount};
+ghost use Rattle.ss_bso.specs.Validity.{IsValid, SameAccount};
 ghost use Rattle.ss_query.specs.Flat.{Ask};
 ghost use Rattle.ss_text.specs.declared.stamps.Cond.{Cond};
 ghost use Rattle.ss_bso.specs.declared.rows.Row.{Row};
@@ -10,7 +10,7 @@ ghost use Rattle.ss_bso.specs.declared.parts.Records.{Records};
 ghost use Rattle.ss_text.specs.Texts.{Reordered};
 ghost use Rattle.ss_query.specs.declared.requests.Sort.{Sort};
 ghost use Rattle.ss_bso.specs.Write.{rows_written};
-ghost use Rattle.ss_query.specs.Validity.{IsFitRequest};
+ghost use Rattle.ss_query.specs.Fit.{IsFitRequest};
 ghost use Rattle.ss_account.specs.Laws.{AreCounted, BatchLaw, CommitLaw, QuietLaw, StampLaw, SameOutcome, SortLaw, WriteLaw};
 ghost use Rattle.ss_query.specs.declared.requests.Request.{Request};
 ghost use Rattle.ss_query.specs.Api.{api};

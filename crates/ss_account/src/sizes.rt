@@ -3,7 +3,7 @@
 ghost use Rattle.std.specs.Prelude.{◌≡◌, ◌++◌, ◌∷◌, [], List};
 ghost use Rattle.ss_bso.specs.declared.rows.Row.{Row as RowValue};
 ghost use Rattle.ss_bso.specs.Write.{rows_without};
-ghost use Rattle.ss_query.specs.Validity.{rows_of};
+ghost use Rattle.ss_bso.specs.Limits.{rows_of};
 ghost use Rattle.ss_account.specs.Steps.{IsSize, is_full};
 
 use crate::finding::is_in;

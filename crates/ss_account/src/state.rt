@@ -7,7 +7,8 @@ ghost use Rattle.ss_bso.specs.Write.{ids_of, rows_without, times_without, stampe
 ghost use Rattle.ss_query.specs.declared.replies.Body.TheVariants.{Gone, At, Posted, Said as Word};
 ghost use Rattle.ss_query.specs.declared.replies.Said.TheVariants.{Memory};
 ghost use Rattle.ss_query.specs.declared.requests.Request.TheVariants.{DeleteAll, DeleteCollection};
-ghost use Rattle.ss_query.specs.Validity.{IsWithinLimits, row_bytes, rows_of};
+ghost use Rattle.ss_bso.specs.Limits.{row_bytes, rows_of};
+ghost use Rattle.ss_bso.specs.Validity.{IsWithinLimits};
 ghost use Rattle.ss_query.specs.Refused.{condition_of, target_time, collection_time, said_by};
 ghost use Rattle.ss_query.specs.Effect.{effect, is_write, stamp_in};
 ghost use Rattle.ss_query.specs.Told.{first_failures, info_body, per_collection, picked, rows_body};

@@ -1,7 +1,7 @@
 //! Steps of one account by worked values, and each call once with ample memory.
 
 ghost use Rattle.std.specs.Prelude.{◌≤◌, IfOk, length};
-ghost use Rattle.ss_query.specs.Validity.{IsFitRequest};
+ghost use Rattle.ss_query.specs.Fit.{IsFitRequest};
 
 use crate::account::Account;
 use ss_bso::{Failures, Field, Fields, Part, Parts, Records};

@@ -1,5 +1,9 @@
 pub mod Account
+pub mod Batches
 pub mod Bodies
+pub mod Changes
+pub mod Limits
 pub mod Members
 pub mod Put
+pub mod Validity
 pub mod Write

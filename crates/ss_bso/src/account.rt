@@ -1,10 +1,11 @@
 //! An account as plain data.
 
-ghost use Rattle.std.specs.Prelude.{◌≡◌};
+ghost use Rattle.std.specs.Prelude.{◌≡◌, IfOk};
 
 use crate::parts::Parts;
 use crate::rows::Rows;
 use ss_text::{Name, Stamp};
+use std::alloc::{AllocError, Global};
 use std::marker::Model;
 
 /// The collections, each with the time of its last write.
@@ -40,6 +41,16 @@ impl Times {
         ensures { result.items ≡ self }
     {
         self.times
+    }
+
+    pub fn copy(&self, alloc: Global) -> Result<Times, AllocError>
+        ensures { IfOk result (λ copied. copied ≡ self.now) }
+    {
+        let mut times = Vec::with_capacity(alloc, self.times.len())?;
+        for entry in &self.times {
+            times.push((entry.0.copy(alloc)?, entry.1))?;
+        }
+        Ok(Times { times })
     }
 }
 

@@ -5,6 +5,7 @@
 
 mod account;
 mod bodies;
+mod changes;
 mod members;
 mod parts;
 mod puts;
@@ -14,6 +15,7 @@ mod tests;
 
 pub use account::{Batches, Plain, Staged, Times};
 pub use bodies::{BodyFault, read_parts};
+pub use changes::{Changes, CollectionChange, CollectionChanges, Kept, RowChange, RowChanges};
 pub use members::{FieldsFault, read_fields};
 pub use parts::{Failures, Field, Fields, Part, Parts, Reason, Records};
 pub use puts::put;

@@ -1,6 +1,6 @@
 //! What a request says of records.
 
-ghost use Rattle.std.specs.Prelude.{◌≡◌, IfOk};
+ghost use Rattle.std.specs.Prelude.{◌≡◌, ◌++◌, IfOk, if◌then◌else◌, is_ok, take};
 
 use ss_text::{Id, Word};
 use std::alloc::{AllocError, Global};
@@ -54,17 +54,25 @@ fn copy_number<T: Copy>(number: &Field<T>) -> Field<T>
     }
 }
 
+impl Fields {
+    pub fn copy(&self, alloc: Global) -> Result<Fields, AllocError>
+        ensures { IfOk result (λ copied. copied ≡ self.now) }
+    {
+        Ok(Fields {
+            payload: copy_payload(alloc, &self.payload)?,
+            sortindex: copy_number(&self.sortindex),
+            ttl: copy_number(&self.ttl),
+        })
+    }
+}
+
 impl Part {
     pub fn copy(&self, alloc: Global) -> Result<Part, AllocError>
         ensures { IfOk result (λ copied. copied ≡ self.now) }
     {
         Ok(Part {
             id: self.id.copy(alloc)?,
-            fields: Fields {
-                payload: copy_payload(alloc, &self.fields.payload)?,
-                sortindex: copy_number(&self.fields.sortindex),
-                ttl: copy_number(&self.fields.ttl),
-            },
+            fields: self.fields.copy(alloc)?,
         })
     }
 }
@@ -103,6 +111,24 @@ impl Parts {
         ensures { result.items ≡ self }
     {
         self.parts
+    }
+
+    /// Moves parts to the end. Without memory the list is as it was, and they are dropped.
+    pub fn append(&mut self, more: Vec<Part>) -> Result<(), AllocError>
+        ensures { self.new ≡ (if is_ok result then self.old ++ more.items else self.old) }
+    {
+        self.parts.reserve(more.len())?;
+        for part in more {
+            self.parts.push_reserved(part);
+        }
+        Ok(())
+    }
+
+    /// Keeps the first so many parts, or all where there are fewer. It takes no memory.
+    pub fn truncate(&mut self, count: usize)
+        ensures { self.new ≡ take count self.old }
+    {
+        self.parts.truncate(count);
     }
 }
 

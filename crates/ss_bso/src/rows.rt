@@ -73,4 +73,14 @@ impl Rows {
     {
         self.rows
     }
+
+    pub fn copy(&self, alloc: Global) -> Result<Rows, AllocError>
+        ensures { IfOk result (λ copied. copied ≡ self.now) }
+    {
+        let mut rows = Vec::with_capacity(alloc, self.rows.len())?;
+        for row in &self.rows {
+            rows.push(row.copy(alloc)?)?;
+        }
+        Ok(Rows { rows })
+    }
 }

@@ -1,9 +1,12 @@
 //! Bodies whose reading is settled by worked values, and each call that allocates, once, with ample memory.
 
+use crate::account::Times;
 use crate::bodies::{BodyFault, read_parts};
+use crate::changes::Kept;
 use crate::members::{FieldsFault, read_fields};
 use crate::parts::{Field, Reason};
 use crate::puts::put;
+use crate::rows::Rows;
 use ss_text::{Name, Stamp};
 use std::test::Fail;
 
@@ -153,5 +156,43 @@ fn rows_are_put_and_copied(rt: HostRuntime) -> Result<(), Fail> {
     assert_eq!(rt; second.sortindex, Some(7));
     assert_eq!(rt; second.expires, Some(1200));
     assert_eq!(rt; second.modified.get(), 1100);
+    Ok(())
+}
+
+#[test]
+fn parts_are_moved_and_what_is_kept_is_copied(rt: HostRuntime) -> Result<(), Fail> {
+    let alloc = rt.alloc();
+    let body = br#"[{"id":"a","payload":"x"},{"id":"b"},{"id":"c"}]"#;
+    let Ok(records) = read_parts(alloc, body, false) else {
+        return Err("records".into());
+    };
+    let Ok(more) = read_parts(alloc, br#"[{"id":"d"}]"#, false) else {
+        return Err("records".into());
+    };
+    let mut parts = records.parts;
+    parts.append(more.parts.into_vec())?;
+    assert_eq!(rt; parts.as_slice().len(), 4);
+    assert_eq!(rt; parts.as_slice()[3].id.as_str(), "d");
+    parts.truncate(1);
+    assert_eq!(rt; parts.as_slice().len(), 1);
+    let forms = Name::new(alloc, b"forms")?.ok_or("a name")?;
+    let row = put(
+        alloc,
+        None,
+        &forms,
+        &parts.as_slice()[0],
+        Stamp::clamp(1000),
+    )?;
+    let kept = Kept {
+        rows: Rows::new(vec![in alloc; row]?),
+        collections: Times::new(vec![in alloc; (forms, Stamp::clamp(1000))]?),
+        store: Stamp::clamp(1000),
+        last_delete: Stamp::clamp(10),
+        counter: 3,
+    };
+    let copied = kept.copy(alloc)?;
+    assert_eq!(rt; copied.rows.as_slice()[0].payload.as_str(), "x");
+    assert_eq!(rt; copied.collections.as_slice()[0].1.get(), 1000);
+    assert_eq!(rt; copied.counter, 3);
     Ok(())
 }

@@ -4,11 +4,12 @@ use Rattle.std.specs.Option.{option_map_or}
 use Rattle.ss_text.specs.Time.{last_stamp, stops}
 use Rattle.ss_bso.specs.declared.account.Plain.{Plain}
 use Rattle.ss_bso.specs.Account.{tick, row_at}
-use Rattle.ss_query.specs.Validity.{most_live_batches}
+use Rattle.ss_bso.specs.Limits.{most_live_batches}
 use Rattle.ss_query.specs.declared.requests.Request.{Request}
 use Rattle.ss_query.specs.declared.requests.Request.TheVariants.{Post, Get, Delete}
 use Rattle.ss_query.specs.declared.replies.Reply.{Reply}
-use Rattle.ss_query.specs.Refused.{Refusal, NoItem, NotModified, WasModified, NoMoreBatches, NoBatch, BatchFull, ClockEnded, AccountFull, status_of, said_by, time_shown, condition_of, target_time, batch_of, staged_parts, fit, continued, begins}
+use Rattle.ss_bso.specs.Batches.{fit}
+use Rattle.ss_query.specs.Refused.{Refusal, NoItem, NotModified, WasModified, NoMoreBatches, NoBatch, BatchFull, ClockEnded, AccountFull, status_of, said_by, time_shown, condition_of, target_time, batch_of, staged_parts, continued, begins}
 use Rattle.ss_query.specs.Effect.{stamp_in, effect, is_write, is_over}
 use Rattle.ss_query.specs.Told.{body_of, ok_status, count_of, next_of}
 

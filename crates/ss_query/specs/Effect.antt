@@ -1,10 +1,11 @@
 -- What each request that isn't refused does to the account.
-use Rattle.std.specs.Prelude.{ℕ, ◌+◌, Bool, true, false, not, ◌||◌, nat_lt, ◌==◌, is_some, List, [], ◌∷◌, ◌++◌, map, filter, length, bytes_eq, if◌then◌else◌}
+use Rattle.std.specs.Prelude.{ℕ, ◌+◌, Bool, true, false, not, ◌||◌, nat_lt, is_some, List, [], ◌∷◌, ◌++◌, map, filter, length, bytes_eq, if◌then◌else◌}
 use Rattle.ss_bso.specs.declared.parts.Part.{Part}
 use Rattle.ss_bso.specs.declared.account.Plain.{Plain}
 use Rattle.ss_bso.specs.declared.account.Staged.{Staged}
 use Rattle.ss_bso.specs.Account.{time_of}
-use Rattle.ss_query.specs.Validity.{most_payload_bytes, most_rows_and_collections, row_bytes}
+use Rattle.ss_bso.specs.Batches.{grown, batches_without, batches_elsewhere}
+use Rattle.ss_bso.specs.Limits.{most_payload_bytes, most_rows_and_collections, row_bytes}
 use Rattle.ss_text.specs.Time.{write_stamp}
 use Rattle.ss_bso.specs.Write.{write, stamped, rows_without, times_without}
 use Rattle.ss_query.specs.declared.requests.Request.{Request}
@@ -41,17 +42,13 @@ is_write account (Get collection id cond) = false
 is_write account (Put collection id fields cond) = true
 is_write account (Delete collection id cond) = true
 
--- a batch with more parts at its end, where it has this number
-abbrev pub grown : ℕ → List Part → Staged → Staged
-grown number parts batch = if batch.number == number then record batch { parts = batch.parts ++ parts } else batch
-
 -- the batches after a POST: one more, one with more parts, or one fewer
 abbrev pub batches_after : Plain → List ℕ → List Part → Mode → List Staged
 batches_after account collection parts PlainPost = account.batches
 batches_after account collection parts Begin =
     account.batches ++ record { number = account.counter + 1; collection = collection; begun = account.moment; parts = parts } ∷ []
 batches_after account collection parts (Append number) = map (grown number parts) account.batches
-batches_after account collection parts (Commit number) = filter (λ batch. not (batch.number == number)) account.batches
+batches_after account collection parts (Commit number) = batches_without number account.batches
 
 -- the counter after a POST
 abbrev pub counter_after : Plain → Mode → ℕ
@@ -80,7 +77,7 @@ effect account (DeleteCollection collection cond) =
     record account {
       rows = filter (λ row. not (bytes_eq row.collection collection)) account.rows;
       collections = times_without collection account.collections;
-      batches = filter (λ batch. not (bytes_eq batch.collection collection)) account.batches;
+      batches = batches_elsewhere collection account.batches;
       store = stamp;
       last_delete = stamp;
       moment = stamp;

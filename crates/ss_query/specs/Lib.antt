@@ -1,9 +1,9 @@
 pub mod Answer
 pub mod Api
 pub mod Effect
+pub mod Fit
 pub mod Flat
 pub mod Marks
 pub mod Parameters
 pub mod Refused
 pub mod Told
-pub mod Validity

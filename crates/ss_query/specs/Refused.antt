@@ -1,12 +1,12 @@
 -- When a request is refused, and with what.
-use Rattle.std.specs.Prelude.{ℕ, Bool, true, false, ◌&&◌, nat_le, ◌==◌, List, [], ◌++◌, length, find, bytes_eq, Option, Some, None, unwrap_or, IsSome, IsTrue}
+use Rattle.std.specs.Prelude.{ℕ, Bool, true, false, List, [], ◌++◌, Option, Some, None, unwrap_or, IsSome, IsTrue}
 use Rattle.std.specs.Option.{option_map_or}
 use Rattle.ss_text.specs.declared.stamps.Cond.{Cond}
 use Rattle.ss_bso.specs.declared.parts.Part.{Part}
 use Rattle.ss_bso.specs.declared.account.Plain.{Plain}
 use Rattle.ss_bso.specs.declared.account.Staged.{Staged}
 use Rattle.ss_bso.specs.Account.{row_at, time_of}
-use Rattle.ss_query.specs.Validity.{most_batch_records, most_batch_bytes, part_bytes}
+use Rattle.ss_bso.specs.Batches.{batch_in, fit}
 use Rattle.ss_query.specs.declared.requests.Request.{Request}
 use Rattle.ss_query.specs.declared.requests.Request.TheVariants.{Info, DeleteAll, List as ListOf, Post, DeleteCollection, DeleteIds, Get, Put, Delete}
 use Rattle.ss_query.specs.declared.requests.Mode.{Mode}
@@ -49,7 +49,7 @@ target_time account (Delete collection id cond) = item_time account collection i
 
 -- the live batch of this number and collection
 abbrev pub batch_of : Plain → List ℕ → ℕ → Option Staged
-batch_of account collection number = find (λ batch. batch.number == number && bytes_eq batch.collection collection) account.batches
+batch_of account collection number = batch_in collection number account.batches
 
 -- the parts of the live batch of this number and collection
 abbrev pub staged_parts : Plain → List ℕ → ℕ → List Part
@@ -58,10 +58,6 @@ staged_parts account collection number = option_map_or (λ batch. batch.parts) (
 -- a batch is live for a collection
 abbrev pub IsLive : Plain → List ℕ → ℕ → Type 0
 IsLive account collection number = IsSome (batch_of account collection number)
-
--- whether parts are within the limits of a batch
-abbrev pub fit : List Part → Bool
-fit parts = nat_le (length parts) most_batch_records && nat_le (part_bytes parts) most_batch_bytes
 
 -- the parts of a batch and further parts fit
 abbrev pub Fits : Plain → List ℕ → ℕ → List Part → Type 0

@@ -8,7 +8,7 @@ use Rattle.ss_bso.specs.declared.parts.Records.{Records}
 use Rattle.ss_bso.specs.declared.parts.Reason.{Reason}
 use Rattle.ss_bso.specs.declared.account.Plain.{Plain}
 use Rattle.ss_bso.specs.Account.{row_at}
-use Rattle.ss_query.specs.Validity.{rows_of, row_bytes}
+use Rattle.ss_bso.specs.Limits.{rows_of, row_bytes}
 use Rattle.ss_bso.specs.Write.{ids_of}
 use Rattle.ss_query.specs.declared.requests.Query.{Query}
 use Rattle.ss_query.specs.declared.requests.Mode.{Mode}

@@ -1,5 +1,5 @@
 use Rattle.std.proofs.Common.{◌≡◌, map, take}
-use Rattle.ss_query.specs.Validity.{rows_of}
+use Rattle.ss_bso.specs.Limits.{rows_of}
 use Rattle.ss_account.specs.Steps.{counted}
 use Rattle.ss_account.proofs.infos.per_collection.Given as goal
 

@@ -1,6 +1,6 @@
 use Rattle.std.proofs.Common.{sym, subst, ◌∙◌}
 use Rattle.ss_bso.specs.declared.account.Plain.{Plain}
-use Rattle.ss_query.specs.Validity.{SameAccount}
+use Rattle.ss_bso.specs.Validity.{SameAccount}
 use Rattle.ss_account.proofs.Reordering.{same-self}
 use Rattle.ss_account.proofs.account.Account.plain.Goals as goal
 

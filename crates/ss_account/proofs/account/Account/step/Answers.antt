@@ -1,9 +1,8 @@
 use Rattle.std.proofs.Common.{◌≡◌, sym, subst, ◌∙◌}
 use Rattle.std.specs.Result.{IfOk, OnOk, OnErr}
 use Rattle.ss_bso.specs.declared.account.Plain.{Plain}
-use Rattle.ss_query.specs.declared.replies.Mark.TheVariants.{Keeper}
 use Rattle.ss_query.specs.Marks.{mark_of}
-use Rattle.ss_query.specs.Validity.{IsValid, IsWithinLimits, SameAccount}
+use Rattle.ss_bso.specs.Validity.{IsWithinLimits, SameAccount}
 use Rattle.ss_query.specs.Api.{outcome, refusal}
 use Rattle.ss_account.specs.Journals.{marked}
 use Rattle.ss_account.proofs.Valid.{valid-tick}

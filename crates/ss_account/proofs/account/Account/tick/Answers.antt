@@ -1,5 +1,5 @@
 use Rattle.std.proofs.Common.{sym, subst}
-use Rattle.ss_query.specs.Validity.{IsValid}
+use Rattle.ss_bso.specs.Validity.{IsValid}
 use Rattle.ss_account.proofs.Valid.{valid-tick}
 use Rattle.ss_account.proofs.account.Account.tick.Goals as goal
 

@@ -1,5 +1,5 @@
 use Rattle.std.proofs.Common.{take}
-use Rattle.ss_query.specs.Validity.{rows_of}
+use Rattle.ss_bso.specs.Limits.{rows_of}
 use Rattle.ss_account.specs.Steps.{IsSize}
 use Rattle.ss_account.proofs.sizes.Size.within.Given as goal
 

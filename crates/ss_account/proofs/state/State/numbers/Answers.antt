@@ -1,6 +1,6 @@
-use Rattle.std.proofs.Common.{◌≡◌, map, ap, ◌∙◌}
+use Rattle.std.proofs.Common.{map, ap, ◌∙◌}
 use Rattle.ss_bso.specs.declared.account.Plain.{Plain}
-use Rattle.ss_query.specs.Validity.{rows_of}
+use Rattle.ss_bso.specs.Limits.{rows_of}
 use Rattle.ss_query.specs.Told.{by_name}
 use Rattle.ss_account.specs.Steps.{counted}
 use Rattle.ss_account.proofs.Stepping.{numbers-exact}

@@ -11,6 +11,7 @@ mod memory_source;
 mod sink;
 mod source;
 mod standard;
+mod system_clock;
 #[cfg(test)]
 mod tests;
 mod told;
@@ -23,4 +24,5 @@ pub use memory_source::{MemSource, SourceUnder, SureSource};
 pub use sink::{Sink, WriteFault, write_all};
 pub use source::{ReadFault, Source};
 pub use standard::{StdSink, StdSource};
+pub use system_clock::SystemClock;
 pub use told::Told;

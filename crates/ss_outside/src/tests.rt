@@ -1,6 +1,6 @@
 use crate::{
     Clock, CountClock, MemClock, MemSink, MemSource, Sink, Source, StdSink, StdSource, SureSink,
-    SureSource, write_all,
+    SureSource, SystemClock, write_all,
 };
 use std::test::Fail;
 
@@ -59,4 +59,11 @@ fn clocks_read_what_is_to_come(rt: HostRuntime) -> Result<(), Fail> {
         (u64::MAX - 1, u64::MAX, u64::MAX)
     );
     Ok(())
+}
+
+#[test]
+fn the_system_clock_reads_hundredths_since_1970(rt: HostRuntime) {
+    // From September 2020 to the last stamp, in the year 2286.
+    let now = SystemClock::new(&rt).now();
+    assert!(rt; 160_000_000_000 < now && now < 999_999_999_999);
 }

@@ -21,9 +21,9 @@ most_batch_records = 20000
 abbrev pub most_batch_bytes : ℕ
 most_batch_bytes = 16777216
 
--- the most live batches of an account: none may begin yet
+-- the most live batches of an account
 abbrev pub most_live_batches : ℕ
-most_live_batches = 0
+most_live_batches = 4
 
 -- the rows of a collection
 abbrev pub rows_of : List ℕ → List Row → List Row

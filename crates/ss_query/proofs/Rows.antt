@@ -172,9 +172,11 @@ begin_stages_its_parts : done (tick (api fresh 1000 (Put forms z none Free)).acc
     ≡ record { account = begun; reply = record { status = 202; moment = 1001; modified = Some 1000; count = None; next = None; body = Staged 1 (a ∷ []) [] } }
 begin_stages_its_parts = refl
 
-begin_is_refused_for_now : told fresh (at 1001 (post Begin (one a none)) ∷ at 1001 (post (Append 1) []) ∷ at 1001 (post (Commit 1) []) ∷ [])
-    ≡ no 400 1001 (Said Batches) ∷ no 400 1001 (Said Batch) ∷ no 400 1001 (Said Batch) ∷ []
-begin_is_refused_for_now = refl
+-- four batches may be live, and a number that was not given out names none
+a_fifth_batch_is_refused : told fresh (at 1001 (post Begin (one a none)) ∷ at 1001 (post Begin []) ∷ at 1001 (post Begin []) ∷ at 1001 (post Begin []) ∷ at 1001 (post Begin (one a none)) ∷ at 1001 (post (Append 5) []) ∷ at 1001 (post (Commit 5) []) ∷ [])
+    ≡ staged_ok 1001 0 (Staged 1 (a ∷ []) []) ∷ staged_ok 1001 0 (Staged 2 [] []) ∷ staged_ok 1001 0 (Staged 3 [] []) ∷ staged_ok 1001 0 (Staged 4 [] [])
+    ∷ no 400 1001 (Said Batches) ∷ no 400 1001 (Said Batch) ∷ no 400 1001 (Said Batch) ∷ []
+a_fifth_batch_is_refused = refl
 
 -- a batch shows nothing until its commit, which ends it
 batch_is_unseen_until_commit : told begun (at 1002 (post (Append 1) (one b none)) ∷ at 1003 (ListOf forms all Free) ∷ at 1004 (post (Commit 1) []) ∷ at 1004 (ListOf forms all Free) ∷ at 1005 (post (Commit 1) []) ∷ [])

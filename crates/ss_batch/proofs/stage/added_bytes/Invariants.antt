@@ -1,0 +1,7 @@
+use Rattle.std.proofs.Common.{◌≡◌, ◌+◌, min, take}
+use Rattle.ss_bso.specs.Limits.{part_bytes}
+use Rattle.ss_batch.specs.Stage.{most_counted}
+use Rattle.ss_batch.proofs.stage.added_bytes.Given as goal
+
+abbrev pub invariant-loop-part : goal.invariant-loop-part
+invariant-loop-part l = l.total ≡ min (l.fn.bytes + part_bytes (take l.part-index l.parts)) most_counted

@@ -24,7 +24,7 @@ failed-same one other now status word s =
     let t = tick-same one other now s in
     record { account = t; reply = λ i. record { status = status; moment = t.moment i; modified = None; count = None; next = None; body = Said word } }
 
-marked-same : (one other : Plain) (now : ℕ) (request : Request) (mark : Mark) → IsValid one → SameAccount one other → SameOutcome (marked one now request mark) (marked other now request mark)
+pub marked-same : (one other : Plain) (now : ℕ) (request : Request) (mark : Mark) → IsValid one → SameAccount one other → SameOutcome (marked one now request mark) (marked other now request mark)
 marked-same one other now request Done valid s = order_law one other now request valid s
 marked-same one other now request Keeper valid s = failed-same one other now 503 KeeperWord s
 marked-same one other now request Memory valid s = failed-same one other now 507 MemoryWord s

@@ -1,3 +1,4 @@
+pub mod Batching
 pub mod Commit
 pub mod CommitLaw
 pub mod InOrder
@@ -5,6 +6,7 @@ pub mod Induction
 pub mod JournalOrder
 pub mod Journals
 pub mod Lists
+pub mod Made
 pub mod Making
 pub mod Orders
 pub mod Permutations

@@ -26,7 +26,7 @@ among-filter id x (y ∷ ids) e =
       | false ↦ (λ t. ap (λ rest. bytes_eq y id || rest) (among-filter id x ids e))
     ] refl
 
-among-once : (id : List ℕ) (ids : List (List ℕ)) → is_among (once_by (λ x. x) ids) id ≡ is_among ids id
+pub among-once : (id : List ℕ) (ids : List (List ℕ)) → is_among (once_by (λ x. x) ids) id ≡ is_among ids id
 among-once id [] = refl
 among-once id (x ∷ ids) =
     elim (bytes_eq x id) as (λ v. bytes_eq x id ≡ v → (v || is_among (filter (λ y. not (bytes_eq y x)) (once_by (λ x. x) ids)) id) ≡ (v || is_among ids id)) [
@@ -42,7 +42,7 @@ first_none : (p q : Bool) → (p || q) ≡ false → p ≡ false
 first_none true q e = e
 first_none false q e = refl
 
-none_named : (id : List ℕ) (parts : List Part) → is_among (map (λ part. part.id) parts) id ≡ false → parts_of id parts ≡ []
+pub none_named : (id : List ℕ) (parts : List Part) → is_among (map (λ part. part.id) parts) id ≡ false → parts_of id parts ≡ []
 none_named id [] e = refl
 none_named id (part ∷ parts) e =
     ap (λ v. cond v (part ∷ parts_of id parts) (parts_of id parts)) (first_none (bytes_eq part.id id) (is_among (map (λ part. part.id) parts) id) e)

@@ -1,30 +1,27 @@
 -- What the parts of a step come to.
-use Rattle.std.specs.Prelude.{◌≡◌, ℕ, ◌≤◌, ◌+◌, Bool, true, false, cond, List, [], ◌∷◌, length, find, map, not, bytes_eq, Option, Some, None, option_map, is_none, refl}
+use Rattle.std.specs.Prelude.{◌≡◌, ℕ, ◌≤◌, ◌+◌, Bool, true, false, cond, List, [], ◌++◌, ◌&&◌, length, filter, map, not, bytes_eq, Option, Some, None, is_some, Result, Ok, Err, IfOk, IfSome, refl}
 use Rattle.std.proofs.Common.{sym, ap, subst, ◌∙◌, arith}
-use Rattle.std.proofs.lemmas.Bool.Decides.{nat_tests}
-use Rattle.ss_text.specs.Time.{stops}
+use Rattle.std.proofs.lemmas.List.{append-nil}
 use Rattle.ss_text.specs.declared.stamps.Cond.TheVariants.{Free}
 use Rattle.ss_bso.specs.declared.rows.Row.{Row}
 use Rattle.ss_bso.specs.declared.account.Plain.{Plain}
-use Rattle.ss_bso.specs.declared.account.Staged.{Staged}
 use Rattle.ss_query.specs.declared.requests.Request.{Request}
 use Rattle.ss_query.specs.declared.requests.Request.TheVariants.{Info, DeleteAll, List as ListOf, Post, DeleteCollection, DeleteIds, Get, Put, Delete}
 use Rattle.ss_query.specs.declared.requests.Mode.TheVariants.{Plain as PlainPost, Begin, Append, Commit}
-use Rattle.ss_query.specs.declared.replies.Body.TheVariants.{Said}
-use Rattle.ss_query.specs.declared.replies.Said.{Said as Word}
-use Rattle.ss_query.specs.declared.replies.Said.TheVariants.{Batch, Batches}
 use Rattle.ss_query.specs.declared.replies.Mark.TheVariants.{Done}
 use Rattle.ss_query.specs.Marks.{mark_of}
+use Rattle.ss_bso.specs.Write.{is_among, rows_without}
 use Rattle.ss_bso.specs.Limits.{rows_of, row_bytes}
 use Rattle.ss_bso.specs.Validity.{IsWithinLimits}
-use Rattle.ss_query.specs.Refused.{Refusal, NoItem, NotModified, WasModified, NoMoreBatches, NoBatch, BatchFull, ClockEnded, AccountFull, condition_of, target_time}
-use Rattle.ss_query.specs.Effect.{effect, is_over}
-use Rattle.ss_query.specs.Told.{by_name, per_collection}
-use Rattle.ss_query.specs.Api.{refusal, outcome, first_some, where_so, why_stopped}
+use Rattle.ss_query.specs.Refused.{Refusal, NoItem, NotModified, WasModified, NoMoreBatches, NoBatch, BatchFull, ClockEnded, AccountFull}
+use Rattle.ss_query.specs.Effect.{effect, is_over, stamp_in}
+use Rattle.ss_query.specs.Told.{body_of, by_name, per_collection}
+use Rattle.ss_query.specs.declared.replies.Body.{Body}
+use Rattle.ss_query.specs.Api.{outcome}
 use Rattle.ss_account.specs.declared.infos.Measure.{Measure}
 use Rattle.ss_account.specs.declared.infos.Measure.TheVariants.{Records, Bytes}
 use Rattle.ss_account.specs.declared.sizes.Size.{Size}
-use Rattle.ss_account.specs.Steps.{IsSize, Settles, batch_word, plain_reply, counted, number_of}
+use Rattle.ss_account.specs.Steps.{Comes, IsSize, Settles, counted, number_of}
 use Rattle.ss_account.proofs.Lists.{length-filter_le, sum_by-filter_le}
 use Rattle.ss_account.proofs.CommitLaw.{over_test}
 
@@ -36,6 +33,20 @@ settles-done account after other left false s same e = cc
 pub settles-full : (account after other left : Plain) (b : Bool) → Settles account after b left → after ≡ other → b ≡ false → (is_over other ≡ true) × (left ≡ account)
 settles-full account after other left true s same e = cc
 settles-full account after other left false s same e = (ap is_over (sym same) ∙ s.0, s.1)
+
+-- what a write settles, with what is told of it
+pub comes-from : {E : Type 0} (account after left : Plain) (request : Request) (told : Body) (result : Result (Option Body) E) → IfOk result (λ body. Settles account after (is_some body) left) → IfOk result (λ body. IfSome body (λ one. one ≡ told))
+    → after ≡ effect account request → told ≡ body_of account request (stamp_in account) → IfOk result (λ body. Comes account request body left)
+comes-from account after left request told (Err error) s t same e = s
+comes-from account after left request told (Ok None) s t same e = (ap is_over (sym same) ∙ s.0, s.1)
+comes-from account after left request told (Ok (Some body)) s t same e = (ap is_over (sym same) ∙ s.0, (s.1 ∙ same, t ∙ e))
+
+-- the rows without ids, whatever their order
+pub cut-same : (collection : List ℕ) (one other : List (List ℕ)) (rows more : List Row) → ((id : List ℕ) → is_among one id ≡ is_among other id) → more ≡ [] → rows_without collection one rows ++ more ≡ rows_without collection other rows
+cut-same collection one other rows more same none =
+    ap (λ l. rows_without collection one rows ++ l) none
+    ∙ append-nil (rows_without collection one rows)
+    ∙ (λ i. filter (λ (row : Row). not (bytes_eq row.collection collection && same row.id i)) rows)
 
 -- a deletion never passes the limits
 pub over-deleted : (account : Plain) (collection : List ℕ) → IsWithinLimits account → is_over (effect account (DeleteCollection collection Free)) ≡ false
@@ -67,57 +78,6 @@ used-exact account size within is =
     let all : row_bytes account.rows ≤ 134217728 = within.bytes in
     omega (arith, bytes, all)
 
--- the refusals of batches
-second_cause : (cause : Option Refusal) (test : Bool) (why : Refusal) (others : List (Option Refusal)) → cause ≡ None → test ≡ true → first_some (None ∷ cause ∷ where_so test why ∷ others) ≡ Some why
-second_cause None true why others e t = refl
-second_cause None false why others e t = cc
-second_cause (Some c) test why others e t = cc
-
-third_cause : (cause : Option Refusal) (first : Refusal) (test : Bool) (why : Refusal) (others : List (Option Refusal)) → cause ≡ None → test ≡ true
-    → first_some (None ∷ cause ∷ where_so false first ∷ where_so test why ∷ others) ≡ Some why
-third_cause None first true why others e t = refl
-third_cause None first false why others e t = cc
-third_cause (Some c) first test why others e t = cc
-
-pub record IsRefusedSo (account : Plain) (request : Request) (word : Word) : Type 0 where
-  pub reply : plain_reply account.moment 400 None (Said word) ≡ (outcome account request (refusal account request)).reply
-  pub account_left : (outcome account request (refusal account request)).account ≡ account
-
-refused_so : (account : Plain) (request : Request) (word : Word) (why : Refusal) → refusal account request ≡ Some why → plain_reply account.moment 400 None (Said word) ≡ (outcome account request (Some why)).reply → IsRefusedSo account request word
-refused_so account request word why e r = record {
-  reply = r ∙ ap (λ w. (outcome account request w).reply) (sym e);
-  account_left = ap (λ w. (outcome account request w).account) e;
-}
-
-no_batch : (p : Staged → Bool) (batches : List Staged) → batches ≡ [] → is_none (find p batches) ≡ true
-no_batch p batches e = ap (λ bs. is_none (find p bs)) e
-
-pub batch-refused : (account : Plain) (request : Request) (word : Word) → account.batches ≡ [] → stops (condition_of request) (target_time account request) ≡ None → batch_word request ≡ Some word → IsRefusedSo account request word
-batch-refused account (Info what condition) word e s w = cc
-batch-refused account (DeleteAll condition) word e s w = cc
-batch-refused account (ListOf collection query condition) word e s w = cc
-batch-refused account (Post collection records PlainPost condition) word e s w = cc
-batch-refused account (Post collection records Begin condition) word e s w =
-    let request : Request = Post collection records Begin condition in
-    let same : Batches ≡ word = cc in
-    subst (IsRefusedSo account request) same
-    (refused_so account request Batches NoMoreBatches (second_cause _ _ NoMoreBatches _ (ap (option_map why_stopped) s) (grind (arith, nat_tests))) refl)
-batch-refused account (Post collection records (Append number) condition) word e s w =
-    let request : Request = Post collection records (Append number) condition in
-    let same : Batch ≡ word = cc in
-    subst (IsRefusedSo account request) same
-    (refused_so account request Batch NoBatch (third_cause _ NoMoreBatches _ NoBatch _ (ap (option_map why_stopped) s) (no_batch _ account.batches e)) refl)
-batch-refused account (Post collection records (Commit number) condition) word e s w =
-    let request : Request = Post collection records (Commit number) condition in
-    let same : Batch ≡ word = cc in
-    subst (IsRefusedSo account request) same
-    (refused_so account request Batch NoBatch (third_cause _ NoMoreBatches _ NoBatch _ (ap (option_map why_stopped) s) (no_batch _ account.batches e)) refl)
-batch-refused account (DeleteCollection collection condition) word e s w = cc
-batch-refused account (DeleteIds collection ids condition) word e s w = cc
-batch-refused account (Get collection id condition) word e s w = cc
-batch-refused account (Put collection id fields condition) word e s w = cc
-batch-refused account (Delete collection id condition) word e s w = cc
-
 pub none-from : (o : Option ℕ) → ((x : ℕ) → o ≡ Some x → ⊥) → o ≡ None
 none-from None h = refl
 none-from (Some x) h = absurd (h x refl)
@@ -125,6 +85,10 @@ none-from (Some x) h = absurd (h x refl)
 pub time-from : (missing : Bool) (time found : ℕ) → Some found ≡ cond missing None (Some time) → found ≡ time
 time-from true time found e = cc
 time-from false time found e = cc
+
+pub present-from : (missing : Bool) (time found : ℕ) → Some found ≡ cond missing None (Some time) → missing ≡ false
+present-from true time found e = cc
+present-from false time found e = refl
 
 -- a reply of the API is marked as done
 pub api-mark : (account : Plain) (request : Request) (why : Option Refusal) → mark_of (outcome account request why).reply ≡ Done

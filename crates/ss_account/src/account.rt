@@ -51,7 +51,7 @@ impl Account {
     }
 
     /// Answers a request at a reading of the clock (hundredths of a second), by the one-account API. Without memory for it
-    /// the clock alone has moved, and the status is 507. No batch can begin yet: 400 for each request of a batch.
+    /// the clock alone has moved, and the status is 507.
     pub fn step(&mut self, alloc: Global, now: u64, request: &Request) -> Reply
         requires { IsFitRequest request.now }
         ensures account { SameAccount (marked self.old now request.now (mark_of result)).account self.new }

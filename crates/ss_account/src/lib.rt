@@ -4,6 +4,7 @@
 #![tactic(auto)]
 
 mod account;
+mod editing;
 mod finding;
 mod infos;
 mod journal;
@@ -11,6 +12,7 @@ mod laws;
 mod sizes;
 mod state;
 mod targets;
+mod telling;
 #[cfg(test)]
 mod tests;
 mod writing;

@@ -1,35 +1,44 @@
 //! An account over plain lists, and what each request makes of it.
 
-ghost use Rattle.std.specs.Prelude.{◌≡◌, ◌<◌, ◌≤◌, ◌^◌, ◌+◌, None, Some, IfOk, OnOk, OnErr, IfErr, IfSome, true, false, ◌++◌, [], is_some, option_map, filter, map, not, bytes_eq, length, if◌then◌else◌, vec_len, vec_capacity};
+ghost use Rattle.std.specs.Prelude.{◌≡◌, ◌+◌, None, Some, IfOk, OnOk, OnErr, IfErr, IfSome, IsSome, true, false, ◌++◌, is_some, option_map, map, if◌then◌else◌};
 ghost use Rattle.ss_text.specs.declared.stamps.Cond.TheVariants.{Free};
-ghost use Rattle.ss_bso.specs.Account.{fresh, tick, is_alive, row_at};
-ghost use Rattle.ss_bso.specs.Write.{ids_of, rows_without, times_without, stamped, write};
+ghost use Rattle.ss_bso.specs.Account.{fresh, tick, row_at};
+ghost use Rattle.ss_bso.specs.Batches.{batches_without};
+ghost use Rattle.ss_bso.specs.Limits.{row_bytes};
+ghost use Rattle.ss_bso.specs.Validity.{IsValid, IsWithinLimits};
+ghost use Rattle.ss_bso.specs.Write.{ids_of, rows_without, rows_written, stamped, write};
+ghost use Rattle.ss_batch.specs.Stage.{append_fault, appended, begin_fault, begun, numbered};
 ghost use Rattle.ss_query.specs.declared.replies.Body.TheVariants.{Gone, At, Posted, Said as Word};
 ghost use Rattle.ss_query.specs.declared.replies.Said.TheVariants.{Memory};
 ghost use Rattle.ss_query.specs.declared.requests.Request.TheVariants.{DeleteAll, DeleteCollection};
-ghost use Rattle.ss_bso.specs.Limits.{row_bytes, rows_of};
-ghost use Rattle.ss_bso.specs.Validity.{IsWithinLimits};
-ghost use Rattle.ss_query.specs.Refused.{condition_of, target_time, collection_time, said_by};
+ghost use Rattle.ss_query.specs.Fit.{IsFitRequest};
+ghost use Rattle.ss_query.specs.Refused.{target_time, collection_time, said_by, staged_parts, IsLive};
 ghost use Rattle.ss_query.specs.Effect.{effect, is_write, stamp_in};
-ghost use Rattle.ss_query.specs.Told.{first_failures, info_body, per_collection, picked, rows_body};
-ghost use Rattle.ss_query.specs.Api.{refusal, outcome, done, misses_item, why_stopped};
+ghost use Rattle.ss_query.specs.Told.{first_failures, info_body, per_collection, picked};
+ghost use Rattle.ss_query.specs.Api.{refusal, outcome, done, misses_item};
 ghost use Rattle.ss_account.specs.Laws.{is_of_batch};
-ghost use Rattle.ss_account.specs.Steps.{Comes, Settles, batch_word, late_refusal, plain_reply, number_of, one_part, list_reply};
+ghost use Rattle.ss_account.specs.Steps.{Comes, Settles, batch_cause, committed, fault_body, late_refusal, list_reply, number_of, one_part, plain_reply, stage_of, staged_reply, with_stage};
 
-use crate::finding::{find_row, find_time, is_alive, is_in, is_named};
+use crate::editing::{
+    copy_batches, copy_parts, copy_rows, count_others, drop_dead, remove_collection, remove_time,
+    replace_rows, rows_in,
+};
+use crate::finding::{find_row, find_time};
 use crate::infos::{Measure, by_name, copies, per_collection};
 use crate::sizes::{Size, would_be_full};
 use crate::targets::Targets;
-use crate::writing::{first_failures, ids_of, made_rows, part_of};
-use ss_bso::{Batches, Failures, Fields, Part, Plain, Records, Row, Rows, Times};
-use ss_query::{
-    Body, Cond, Info, Mode, Numbers, Picked, Query, Reply, Request, Said, answer_query,
+use crate::telling::{
+    condition_of, fault_body, is_of_batch, posted, rows_body, staged, stop_body, told_of,
 };
-use ss_text::{Id, Ids, LAST, Name, Stamp};
+use crate::writing::made_rows;
+use ss_batch::{Stage, StageFault};
+use ss_bso::{Batches, Fields, Part, Plain, Records, Row, Rows, Times};
+use ss_query::{Body, Info, Mode, Numbers, Picked, Query, Reply, Request, Said, answer_query};
+use ss_text::{Id, LAST, Name, Stamp};
 use std::alloc::{AllocError, Global};
 use std::marker::Model;
 
-/// One account's rows, collections and times. It has no batches.
+/// One account's rows, collections, times and batches.
 #[derive(Drop)]
 pub(crate) struct State {
     rows: Vec<Row>,
@@ -37,10 +46,10 @@ pub(crate) struct State {
     store: Stamp,
     last_delete: Stamp,
     moment: Stamp,
+    stage: Stage,
 }
 
 impl Model for State {
-    ghost use Rattle.std.specs.Prelude.{[]};
     ghost use Rattle.ss_bso.specs.declared.account.Plain.{Plain};
 
     ghost Value = { Plain };
@@ -51,155 +60,16 @@ impl Model for State {
       store = a.store;
       last_delete = a.last_delete;
       moment = a.moment;
-      counter = 0;
-      batches = [];
+      counter = a.stage.counter;
+      batches = a.stage.batches;
     } };
 }
 
-fn drop_dead(rows: &mut Vec<Row>, moment: Stamp)
-    ensures { rows.new.items ≡ filter (is_alive moment) rows.old.items }
-{
-    rows.retain(|row| is_alive(row, moment));
-}
-
-/// The condition of a request.
-fn condition_of(request: &Request) -> Cond
-    ensures { result ≡ condition_of request.now }
-{
-    match request {
-        Request::Info { cond, .. } => *cond,
-        Request::DeleteAll { cond } => *cond,
-        Request::List { cond, .. } => *cond,
-        Request::Post { cond, .. } => *cond,
-        Request::DeleteCollection { cond, .. } => *cond,
-        Request::DeleteIds { cond, .. } => *cond,
-        Request::Get { cond, .. } => *cond,
-        Request::Put { cond, .. } => *cond,
-        Request::Delete { cond, .. } => *cond,
-    }
-}
-
-/// The word against a POST that begins or continues a batch: no batch may begin yet.
-fn batch_word(request: &Request) -> Option<Said>
-    ensures { result ≡ batch_word request.now }
-{
-    match request {
-        Request::Post { mode, .. } => match mode {
-            Mode::Plain => None,
-            Mode::Begin => Some(Said::Batches),
-            Mode::Append { .. } | Mode::Commit { .. } => Some(Said::Batch),
-        },
-        _ => None,
-    }
-}
-
-/// The body of a request that its condition stops.
-fn stop_body(status: u16) -> Body
-    ensures { result ≡ said_by (why_stopped status) }
-{
-    if status == 304 {
-        Body::Empty
-    } else {
-        Body::Said(Said::Modified)
-    }
-}
-
-fn remove_collection(rows: &mut Vec<Row>, collection: &Name)
-    ensures { rows.new.items ≡ filter (λ row. not (bytes_eq row.collection collection.now)) rows.old.items }
-{
-    rows.retain(|row| !is_in(row, collection));
-}
-
-fn remove_time(collections: &mut Vec<(Name, Stamp)>, collection: &Name)
-    ensures times { collections.new.items ≡ times_without collection.now collections.old.items }
-    ensures len { vec_len collections.new ≤ vec_len collections.old }
-    ensures capacity { vec_capacity collections.new ≡ vec_capacity collections.old }
-{
-    collections.retain(|entry| !is_named(entry, collection));
-}
-
-fn cut_rows(rows: &mut Vec<Row>, collection: &Name, targets: &Targets)
-    ensures rows { rows.new.items ≡ rows_without collection.now targets.now rows.old.items }
-    ensures len { vec_len rows.new ≤ vec_len rows.old }
-    ensures capacity { vec_capacity rows.new ≡ vec_capacity rows.old }
-{
-    rows.retain(|row| !targets.name(collection, row));
-}
-
-/// Puts rows in the place of those that are named. There is room for them.
-fn replace_rows(rows: &mut Vec<Row>, collection: &Name, targets: &Targets, mut made: Vec<Row>)
-    requires { vec_len rows.old + vec_len made ≤ vec_capacity rows.old }
-    ensures { rows.new.items ≡ rows_without collection.now targets.now rows.old.items ++ made.items }
-{
-    cut_rows(rows, collection, targets);
-    match rows.append(&mut made) {
-        Ok(()) => (),
-        Err(_) => unreachable!(),
-    }
-}
-
-/// How many other collections there are.
-fn count_others(times: &[(Name, Stamp)], collection: &Name) -> usize
-    ensures count { result ≡ length (times_without collection.now times.now) }
-    ensures small { result < 2 ^ 63 }
-{
-    times
-        .iter()
-        .filter(|entry| !is_named(entry, collection))
-        .count()
-}
-
-fn rows_in(alloc: Global, rows: &[Row], collection: &Name) -> Result<Vec<Row>, AllocError>
-    ensures { IfOk result (λ copied. copied.items ≡ rows_of collection.now rows.now) }
-{
-    let mut copied = Vec::new(alloc);
-    for row in rows {
-        if is_in(row, collection) {
-            copied.push(row.copy(alloc)?)?;
-        }
-    }
-    Ok(copied)
-}
-
-/// The body of a list: whole rows, or their ids alone.
-fn rows_body(alloc: Global, full: bool, found: Rows) -> Result<Body, AllocError>
-    ensures { IfOk result (λ body. body ≡ rows_body full found) }
-{
-    if full {
-        Ok(Body::Rows(found))
-    } else {
-        Ok(Body::Ids(Ids::new(ids_of_rows(alloc, found.as_slice())?)))
-    }
-}
-
-fn copy_rows(alloc: Global, rows: &[Row]) -> Result<Vec<Row>, AllocError>
-    ensures { IfOk result (λ copied. copied.items ≡ rows.now) }
-{
-    let mut copied = Vec::with_capacity(alloc, rows.len())?;
-    for row in rows {
-        copied.push(row.copy(alloc)?)?;
-    }
-    Ok(copied)
-}
-
-fn copies_of(alloc: Global, ids: &[Id]) -> Result<Vec<Id>, AllocError>
-    ensures { IfOk result (λ copied. copied.items ≡ ids.now) }
-{
-    let mut copied = Vec::with_capacity(alloc, ids.len())?;
-    for id in ids {
-        copied.push(id.copy(alloc)?)?;
-    }
-    Ok(copied)
-}
-
-fn ids_of_rows(alloc: Global, rows: &[Row]) -> Result<Vec<Id>, AllocError>
-    ensures { IfOk result (λ ids. ids.items ≡ map (λ row. row.id) rows.now) }
-{
-    let mut ids = Vec::with_capacity(alloc, rows.len())?;
-    for row in rows {
-        ids.push(row.id.copy(alloc)?)?;
-    }
-    Ok(ids)
+/// Rows that a write makes, and the ids of those whose place they take.
+#[derive(Drop)]
+struct Written {
+    targets: Targets,
+    rows: Vec<Row>,
 }
 
 impl State {
@@ -213,6 +83,7 @@ impl State {
             store: Stamp::clamp(0),
             last_delete: Stamp::clamp(0),
             moment: Stamp::clamp(0),
+            stage: Stage::new(alloc, 0),
         }
     }
 
@@ -222,6 +93,7 @@ impl State {
     {
         self.moment = self.moment.max(Stamp::clamp(now));
         drop_dead(&mut self.rows, self.moment);
+        self.stage.expire(self.moment);
     }
 
     pub(crate) fn moment(&self) -> Stamp
@@ -241,8 +113,7 @@ impl State {
 
     /// The time of a request's target; None where a GET or DELETE names no row.
     fn target_time(&self, request: &Request) -> Option<Stamp>
-        ensures time { result ≡ (if misses_item self.now request.now then None else Some (target_time self.now request.now)) }
-        ensures batches { self.now.batches ≡ [] }
+        ensures { result ≡ (if misses_item self.now request.now then None else Some (target_time self.now request.now)) }
     {
         match request {
             Request::Info { .. } | Request::DeleteAll { .. } => Some(self.store),
@@ -266,14 +137,74 @@ impl State {
         Some(row.modified)
     }
 
+    /// The parts of a live batch of the collection, or none.
+    fn staged_parts(&self, batch: u64, collection: &Name) -> &[Part]
+        requires { IsValid self.now }
+        ensures { result.now ≡ staged_parts self.now collection.now batch }
+    {
+        match self.stage.peek(batch, collection) {
+            Ok(parts) => parts,
+            Err(_) => &[],
+        }
+    }
+
+    /// The body against a request that continues no batch, or overfills it.
+    fn continue_refusal(&self, batch: u64, collection: &Name, parts: &[Part]) -> Option<Body>
+        ensures { result ≡ option_map fault_body (append_fault (stage_of self.now) batch collection.now parts.now) }
+    {
+        match self.stage.fits(batch, collection, parts) {
+            Ok(()) => None,
+            Err(fault) => Some(fault_body(fault)),
+        }
+    }
+
+    /// The body against a request that can't begin or continue a batch.
+    fn batch_refusal(&self, request: &Request) -> Option<Body>
+        requires { IsValid self.now }
+        ensures { result ≡ option_map said_by (batch_cause self.now request.now) }
+    {
+        let Request::Post {
+            collection,
+            records,
+            mode,
+            ..
+        } = request
+        else {
+            return None;
+        };
+        let parts = records.parts.as_slice();
+        match mode {
+            Mode::Plain => None,
+            Mode::Begin => {
+                if self.stage.has_room() {
+                    None
+                } else {
+                    Some(Body::Said(Said::Batches))
+                }
+            }
+            Mode::Append { batch } => self.continue_refusal(*batch, collection, parts),
+            Mode::Commit { batch } => self.continue_refusal(*batch, collection, parts),
+        }
+    }
+
     fn is_write(&self, request: &Request) -> bool
+        requires { IsValid self.now }
         ensures { result ≡ is_write self.now request.now }
     {
         match request {
             Request::Info { .. } | Request::List { .. } | Request::Get { .. } => false,
-            Request::Post { records, mode, .. } => match mode {
-                Mode::Plain | Mode::Commit { .. } => !records.parts.as_slice().is_empty(),
+            Request::Post {
+                collection,
+                records,
+                mode,
+                ..
+            } => match mode {
+                Mode::Plain => !records.parts.as_slice().is_empty(),
                 Mode::Begin | Mode::Append { .. } => false,
+                Mode::Commit { batch } => {
+                    !self.staged_parts(*batch, collection).is_empty()
+                        || !records.parts.as_slice().is_empty()
+                }
             },
             Request::DeleteIds { collection, .. } => {
                 find_time(self.collections.as_slice(), collection).is_some()
@@ -300,9 +231,10 @@ impl State {
 
     /// The time of the target, or the refusal by item, condition or batch.
     fn admit(&self, request: &Request) -> Result<Stamp, Reply>
+        requires { IsValid self.now }
         ensures time { IfOk result (λ time. time ≡ target_time self.now request.now) }
         ensures passes { OnOk result (refusal self.now request.now ≡ late_refusal self.now request.now) }
-        ensures outside { OnOk result (is_of_batch request.now ≡ false) }
+        ensures batch { OnOk result (batch_cause self.now request.now ≡ None) }
         ensures reply { IfErr result (λ reply. reply ≡ (outcome self.now request.now (refusal self.now request.now)).reply) }
         ensures account { OnErr result ((outcome self.now request.now (refusal self.now request.now)).account ≡ self.now) }
     {
@@ -312,15 +244,16 @@ impl State {
         if let Some(status) = condition_of(request).stops(time) {
             return Err(self.refuse(status, Some(time), stop_body(status)));
         }
-        if let Some(word) = batch_word(request) {
-            return Err(self.refuse(400, None, Body::Said(word)));
+        if let Some(body) = self.batch_refusal(request) {
+            return Err(self.refuse(400, None, body));
         }
         Ok(time)
     }
 
     /// Answers a request once the clock was read. Without memory for it nothing changes.
     pub(crate) fn answer(&mut self, alloc: Global, request: &Request) -> Result<Reply, AllocError>
-        requires { IsWithinLimits self.old }
+        requires valid { IsValid self.old }
+        requires fits { IsFitRequest request.now }
         ensures reply { IfOk result (λ reply. reply ≡ (outcome self.old request.now (refusal self.old request.now)).reply) }
         ensures account { OnOk result (self.new ≡ (outcome self.old request.now (refusal self.old request.now)).account) }
         ensures err { OnErr result (self.new ≡ self.old) }
@@ -330,6 +263,8 @@ impl State {
             Ok(time) => {
                 if self.is_write(request) {
                     self.write(alloc, request)
+                } else if is_of_batch(request) {
+                    self.stage_parts(alloc, request, time)
                 } else {
                     self.read(alloc, request, time)
                 }
@@ -340,8 +275,8 @@ impl State {
     /// A write: refused at the clock's end and past the limits, or done with a stamp.
     fn write(&mut self, alloc: Global, request: &Request) -> Result<Reply, AllocError>
         requires write { is_write self.old request.now ≡ true }
-        requires outside { is_of_batch request.now ≡ false }
-        requires limits { IsWithinLimits self.old }
+        requires batch { batch_cause self.old request.now ≡ None }
+        requires valid { IsValid self.old }
         ensures reply { IfOk result (λ reply. reply ≡ (outcome self.old request.now (late_refusal self.old request.now)).reply) }
         ensures account { OnOk result (self.new ≡ (outcome self.old request.now (late_refusal self.old request.now)).account) }
         ensures err { OnErr result (self.new ≡ self.old) }
@@ -372,8 +307,8 @@ impl State {
     ) -> Result<Option<Body>, AllocError>
         requires stamp { stamp ≡ stamp_in self.old }
         requires write { is_write self.old request.now ≡ true }
-        requires outside { is_of_batch request.now ≡ false }
-        requires limits { IsWithinLimits self.old }
+        requires batch { batch_cause self.old request.now ≡ None }
+        requires valid { IsValid self.old }
         ensures ok { IfOk result (λ body. Comes self.old request.now body self.new) }
         ensures err { OnErr result (self.new ≡ self.old) }
     {
@@ -390,13 +325,10 @@ impl State {
                 collection,
                 ids,
                 ..
-            } => {
-                let ids = copies_of(alloc, ids.as_slice())?;
-                self.delete(alloc, collection, ids, stamp)
-            }
+            } => { self.delete(alloc, collection, ids.as_slice(), stamp) }
             Request::Delete { collection, id, .. } => {
                 let ids = vec![in alloc; id.copy(alloc)?]?;
-                self.delete(alloc, collection, ids, stamp)
+                self.delete(alloc, collection, ids.as_slice(), stamp)
             }
             Request::Put {
                 collection,
@@ -407,8 +339,13 @@ impl State {
             Request::Post {
                 collection,
                 records,
+                mode,
                 ..
-            } => self.post(alloc, collection, records, stamp),
+            } => match mode {
+                Mode::Plain => self.post(alloc, collection, records, stamp),
+                Mode::Commit { batch } => self.commit(alloc, collection, records, *batch, stamp),
+                Mode::Begin | Mode::Append { .. } => unreachable!(),
+            },
             Request::Info { .. } | Request::List { .. } | Request::Get { .. } => unreachable!(),
         }
     }
@@ -419,6 +356,7 @@ impl State {
     {
         self.rows.clear();
         self.collections.clear();
+        self.stage.clear();
         self.store = stamp;
         self.last_delete = stamp;
         self.moment = stamp;
@@ -430,6 +368,7 @@ impl State {
     {
         remove_collection(&mut self.rows, collection);
         remove_time(&mut self.collections, collection);
+        self.stage.drop_collection(collection);
         self.store = stamp;
         self.last_delete = stamp;
         self.moment = stamp;
@@ -439,15 +378,19 @@ impl State {
         &mut self,
         alloc: Global,
         collection: &Name,
-        ids: Vec<Id>,
+        ids: &[Id],
         stamp: Stamp,
     ) -> Result<Option<Body>, AllocError>
-        ensures ok { IfOk result (λ body. Settles self.old (stamped self.old collection.now stamp (rows_without collection.now ids.items self.old.rows)) (is_some body) self.new) }
+        ensures ok { IfOk result (λ body. Settles self.old (stamped self.old collection.now stamp (rows_without collection.now ids.now self.old.rows)) (is_some body) self.new) }
         ensures body { IfOk result (λ body. IfSome body (λ told. told ≡ Gone stamp)) }
         ensures err { OnErr result (self.new ≡ self.old) }
     {
-        let targets = Targets::new(alloc, ids)?;
-        if self.replace(alloc, collection, &targets, Vec::new(alloc), stamp)? {
+        let targets = Targets::of_ids(alloc, ids)?;
+        let written = Written {
+            targets,
+            rows: Vec::new(alloc),
+        };
+        if self.replace(alloc, collection, written, stamp)? {
             Ok(Some(Body::Gone(stamp)))
         } else {
             Ok(None)
@@ -466,7 +409,11 @@ impl State {
         ensures body { IfOk result (λ body. IfSome body (λ told. told ≡ At stamp)) }
         ensures err { OnErr result (self.new ≡ self.old) }
     {
-        let parts = vec![in alloc; part_of(alloc, id, fields)?]?;
+        let part = Part {
+            id: id.copy(alloc)?,
+            fields: fields.copy(alloc)?,
+        };
+        let parts = vec![in alloc; part]?;
         if self.put_parts(alloc, collection, parts.as_slice(), stamp)? {
             Ok(Some(Body::At(stamp)))
         } else {
@@ -485,15 +432,35 @@ impl State {
         ensures body { IfOk result (λ body. IfSome body (λ told. told ≡ Posted stamp (ids_of records.now.parts) (first_failures records.now.failed))) }
         ensures err { OnErr result (self.new ≡ self.old) }
     {
-        let parts = records.parts.as_slice();
-        let success = Ids::new(ids_of(alloc, parts)?);
-        let failed = Failures::new(first_failures(alloc, records.failed.as_slice())?);
-        if self.put_parts(alloc, collection, parts, stamp)? {
-            Ok(Some(Body::Posted {
-                modified: stamp,
-                success,
-                failed,
-            }))
+        let told = told_of(alloc, records)?;
+        if self.put_parts(alloc, collection, records.parts.as_slice(), stamp)? {
+            Ok(Some(posted(stamp, told)))
+        } else {
+            Ok(None)
+        }
+    }
+
+    /// Puts the parts of a live batch and then those of the request, and takes the batch out last.
+    fn commit(
+        &mut self,
+        alloc: Global,
+        collection: &Name,
+        records: &Records,
+        batch: u64,
+        stamp: Stamp,
+    ) -> Result<Option<Body>, AllocError>
+        requires live { IsLive self.old collection.now batch }
+        requires valid { IsValid self.old }
+        ensures ok { IfOk result (λ body. Settles self.old (committed self.old collection.now records.now.parts batch stamp) (is_some body) self.new) }
+        ensures body { IfOk result (λ body. IfSome body (λ told. told ≡ Posted stamp (ids_of records.now.parts) (first_failures records.now.failed))) }
+        ensures err { OnErr result (self.new ≡ self.old) }
+    {
+        let told = told_of(alloc, records)?;
+        let staged = self.staged_parts(batch, collection);
+        let written = self.written(alloc, collection, staged, records.parts.as_slice(), stamp)?;
+        if self.replace(alloc, collection, written, stamp)? {
+            self.finish(batch);
+            Ok(Some(posted(stamp, told)))
         } else {
             Ok(None)
         }
@@ -509,16 +476,32 @@ impl State {
         ensures ok { IfOk result (λ is_done. Settles self.old (write self.old collection.now parts.now stamp) is_done self.new) }
         ensures err { OnErr result (self.new ≡ self.old) }
     {
-        let targets = Targets::new(alloc, ids_of(alloc, parts)?)?;
-        let made = made_rows(
+        let written = self.written(alloc, collection, parts, &[], stamp)?;
+        self.replace(alloc, collection, written, stamp)
+    }
+
+    /// The rows that parts and then further parts make, with the ids of those whose place they take.
+    fn written(
+        &self,
+        alloc: Global,
+        collection: &Name,
+        first: &[Part],
+        more: &[Part],
+        stamp: Stamp,
+    ) -> Result<Written, AllocError>
+        ensures { IfOk result (λ written. rows_without collection.now written.targets self.now.rows ++ written.rows.items ≡ rows_written collection.now (first.now ++ more.now) stamp self.now.rows) }
+    {
+        let targets = Targets::of_parts(alloc, first, more)?;
+        let rows = made_rows(
             alloc,
             self.rows.as_slice(),
             collection,
-            parts,
+            first,
+            more,
             &targets,
             stamp,
         )?;
-        self.replace(alloc, collection, &targets, made, stamp)
+        Ok(Written { targets, rows })
     }
 
     /// Puts new rows in the place of those that are named, with a stamp; false where the account would pass its limits.
@@ -527,32 +510,143 @@ impl State {
         &mut self,
         alloc: Global,
         collection: &Name,
-        targets: &Targets,
-        made: Vec<Row>,
+        written: Written,
         stamp: Stamp,
     ) -> Result<bool, AllocError>
-        ensures ok { IfOk result (λ is_done. Settles self.old (stamped self.old collection.now stamp (rows_without collection.now targets.now self.old.rows ++ made.items)) is_done self.new) }
+        ensures ok { IfOk result (λ is_done. Settles self.old (stamped self.old collection.now stamp (rows_without collection.now written.targets self.old.rows ++ written.rows.items)) is_done self.new) }
         ensures err { OnErr result (self.new ≡ self.old) }
     {
+        let Written { targets, rows } = written;
         let name = collection.copy(alloc)?;
         let collections = count_others(self.collections.as_slice(), collection) + 1;
         if would_be_full(
             self.rows.as_slice(),
             collection,
-            targets,
-            made.as_slice(),
+            &targets,
+            rows.as_slice(),
             collections,
         ) {
             return Ok(false);
         }
-        self.rows.reserve(made.len())?;
+        self.rows.reserve(rows.len())?;
         self.collections.reserve(1)?;
-        replace_rows(&mut self.rows, collection, targets, made);
+        replace_rows(&mut self.rows, collection, &targets, rows);
         remove_time(&mut self.collections, collection);
         self.collections.push_reserved((name, stamp));
         self.store = stamp;
         self.moment = stamp;
         Ok(true)
+    }
+
+    /// A begin, an append, or a commit that puts nothing.
+    fn stage_parts(
+        &mut self,
+        alloc: Global,
+        request: &Request,
+        time: Stamp,
+    ) -> Result<Reply, AllocError>
+        requires time { time ≡ target_time self.old request.now }
+        requires quiet { is_write self.old request.now ≡ false }
+        requires of_batch { is_of_batch request.now ≡ true }
+        requires batch { batch_cause self.old request.now ≡ None }
+        requires valid { IsValid self.old }
+        requires fits { IsFitRequest request.now }
+        ensures reply { IfOk result (λ reply. reply ≡ (done self.old request.now).reply) }
+        ensures account { OnOk result (self.new ≡ (done self.old request.now).account) }
+        ensures err { OnErr result (self.new ≡ self.old) }
+    {
+        match request {
+            Request::Post {
+                collection,
+                records,
+                mode,
+                ..
+            } => match mode {
+                Mode::Plain => unreachable!(),
+                Mode::Begin => self.begin(alloc, collection, records, time),
+                Mode::Append { batch } => self.append(alloc, collection, records, *batch, time),
+                Mode::Commit { batch } => self.end(alloc, records, *batch, time),
+            },
+            _ => unreachable!(),
+        }
+    }
+
+    /// Begins a batch, for which there is room.
+    fn begin(
+        &mut self,
+        alloc: Global,
+        collection: &Name,
+        records: &Records,
+        time: Stamp,
+    ) -> Result<Reply, AllocError>
+        requires room { begin_fault (stage_of self.old) records.now.parts ≡ None }
+        ensures reply { IfOk result (λ reply. reply ≡ staged_reply self.old.moment time (self.old.counter + 1) records.now) }
+        ensures account { OnOk result (self.new ≡ with_stage self.old (begun (stage_of self.old) self.old.moment collection.now records.now.parts)) }
+        ensures err { OnErr result (self.new ≡ self.old) }
+    {
+        let told = told_of(alloc, records)?;
+        let parts = copy_parts(alloc, records.parts.as_slice())?;
+        match self.stage.begin(alloc, self.moment, collection, parts) {
+            Ok(batch) => Ok(self.told_reply(202, time, staged(batch, told))),
+            Err(StageFault::Memory) => Err(AllocError),
+            Err(_) => unreachable!(),
+        }
+    }
+
+    /// Moves a copy of the parts to the end of a live batch, into which they fit.
+    fn append(
+        &mut self,
+        alloc: Global,
+        collection: &Name,
+        records: &Records,
+        batch: u64,
+        time: Stamp,
+    ) -> Result<Reply, AllocError>
+        requires room { append_fault (stage_of self.old) batch collection.now records.now.parts ≡ None }
+        ensures reply { IfOk result (λ reply. reply ≡ staged_reply self.old.moment time batch records.now) }
+        ensures account { OnOk result (self.new ≡ with_stage self.old (appended (stage_of self.old) batch records.now.parts)) }
+        ensures err { OnErr result (self.new ≡ self.old) }
+    {
+        let told = told_of(alloc, records)?;
+        let parts = copy_parts(alloc, records.parts.as_slice())?;
+        match self.stage.append(batch, collection, parts) {
+            Ok(()) => Ok(self.told_reply(202, time, staged(batch, told))),
+            Err(StageFault::Memory) => Err(AllocError),
+            Err(_) => unreachable!(),
+        }
+    }
+
+    /// Ends a live batch without parts.
+    fn end(
+        &mut self,
+        alloc: Global,
+        records: &Records,
+        batch: u64,
+        time: Stamp,
+    ) -> Result<Reply, AllocError>
+        requires { IsSome (numbered batch self.old.batches) }
+        ensures reply { IfOk result (λ reply. reply ≡ plain_reply self.old.moment 200 (Some time) (Posted time (ids_of records.now.parts) (first_failures records.now.failed))) }
+        ensures account { OnOk result (self.new ≡ record self.old { batches = batches_without batch self.old.batches }) }
+        ensures err { OnErr result (self.new ≡ self.old) }
+    {
+        let told = told_of(alloc, records)?;
+        self.finish(batch);
+        Ok(self.told_reply(200, time, posted(time, told)))
+    }
+
+    /// Takes a live batch out.
+    fn finish(&mut self, batch: u64)
+        requires { IsSome (numbered batch self.old.batches) }
+        ensures { self.new ≡ record self.old { batches = batches_without batch self.old.batches } }
+    {
+        drop(self.stage.take(batch));
+    }
+
+    /// A reply that tells no list.
+    fn told_reply(&self, status: u16, time: Stamp, body: Body) -> Reply
+        ensures { result ≡ plain_reply self.now.moment status (Some time) body }
+    {
+        self.refuse(status, Some(time), body)
     }
 
     /// What a request is told that is no write.
@@ -578,11 +672,7 @@ impl State {
                 Some(row) => Body::One(row.copy(alloc)?),
                 None => Body::Empty,
             },
-            Request::Post { records, .. } => Body::Posted {
-                modified: time,
-                success: Ids::new(Vec::new(alloc)),
-                failed: Failures::new(first_failures(alloc, records.failed.as_slice())?),
-            },
+            Request::Post { records, .. } => posted(time, told_of(alloc, records)?),
             Request::DeleteIds { .. } => Body::Gone(time),
             Request::DeleteAll { .. }
             | Request::DeleteCollection { .. }
@@ -675,8 +765,8 @@ impl State {
             store: self.store,
             last_delete: self.last_delete,
             moment: self.moment,
-            counter: 0,
-            batches: Batches::new(Vec::new(alloc)),
+            counter: self.stage.counter(),
+            batches: Batches::new(copy_batches(alloc, self.stage.batches())?),
         })
     }
 }

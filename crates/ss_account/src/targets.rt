@@ -1,56 +1,86 @@
-//! The ids that a request names, with one look-up for each row.
+//! The ids that a request names, each once, with one look-up for each row.
 
-ghost use Rattle.std.specs.Prelude.{◌≡◌, IfOk, map, filter};
-ghost use Rattle.ss_bso.specs.Write.{is_among};
-ghost use Rattle.ss_account.specs.Steps.{is_target};
+ghost use Rattle.std.specs.Prelude.{◌≡◌, ◌++◌, [], List, ℕ, IfOk, OnOk, fold};
+ghost use Rattle.ss_bso.specs.Write.{ids_of, is_among};
+ghost use Rattle.ss_account.specs.Steps.{is_target, with_id, with_part_id};
 
 use crate::finding::is_in;
-use ss_bso::Row;
+use indexmap::IndexSet;
+use ss_bso::{Part, Row};
 use ss_text::{Id, Name};
 use std::alloc::{AllocError, Global};
-use std::collections::HashSet;
 use std::marker::Model;
 
-/// Ids in an order, and the set of them.
+/// Ids, each once, in the order in which they were named first.
 #[derive(Drop)]
 pub(crate) struct Targets {
-    ids: Vec<Id>,
-    set: HashSet<Id>,
+    ids: IndexSet<Id>,
 }
 
 impl Model for Targets {
-    ghost use Rattle.std.specs.Prelude.{◌≡◌, List, ℕ, bytes_eq};
-    ghost use Rattle.std.specs.HashSet.{contains_by};
-    ghost use Rattle.ss_bso.specs.Write.{is_among};
+    ghost use Rattle.std.specs.Prelude.{List, ℕ};
 
     ghost Value = { List (List ℕ) };
 
-    ghost view = { λ t. t.ids.items };
-
-    ghost invariant = { λ t. (id : List ℕ) → contains_by (bytes_eq id) t.set ≡ is_among t.ids.items id };
+    ghost view = { λ t. t.ids.keys };
 }
 
 impl Targets {
-    pub(crate) fn new(alloc: Global, ids: Vec<Id>) -> Result<Targets, AllocError>
-        ensures { IfOk result (λ targets. targets ≡ ids.items) }
+    fn new(alloc: Global) -> Targets
+        ensures { result ≡ [] }
     {
-        let mut set = HashSet::new(alloc);
-        for id in ids.as_slice() {
-            set.insert(id.copy(alloc)?)?;
+        Targets {
+            ids: IndexSet::new(alloc),
         }
-        Ok(Targets { ids, set })
     }
 
-    pub(crate) fn as_slice(&self) -> &[Id]
-        ensures { result.now ≡ self.now }
+    /// Names an id.
+    fn add(&mut self, alloc: Global, id: &Id) -> Result<(), AllocError>
+        ensures { OnOk result (self.new ≡ with_id self.old id.now) }
     {
-        self.ids.as_slice()
+        self.ids.insert(id.copy(alloc)?)?;
+        Ok(())
+    }
+
+    /// Names the ids of parts.
+    fn add_parts(&mut self, alloc: Global, parts: &[Part]) -> Result<(), AllocError>
+        ensures { OnOk result (self.new ≡ fold with_part_id self.old parts.now) }
+    {
+        for part in parts {
+            self.add(alloc, &part.id)?;
+        }
+        Ok(())
+    }
+
+    /// These ids are named.
+    pub(crate) fn of_ids(alloc: Global, ids: &[Id]) -> Result<Targets, AllocError>
+        ensures { IfOk result (λ targets. (id : List ℕ) → is_among targets id ≡ is_among ids.now id) }
+    {
+        let mut targets = Targets::new(alloc);
+        for id in ids {
+            targets.add(alloc, id)?;
+        }
+        Ok(targets)
+    }
+
+    /// The ids that parts name, and then those that further parts name.
+    pub(crate) fn of_parts(
+        alloc: Global,
+        first: &[Part],
+        more: &[Part],
+    ) -> Result<Targets, AllocError>
+        ensures { IfOk result (λ targets. targets ≡ ids_of (first.now ++ more.now)) }
+    {
+        let mut targets = Targets::new(alloc);
+        targets.add_parts(alloc, first)?;
+        targets.add_parts(alloc, more)?;
+        Ok(targets)
     }
 
     fn has(&self, id: &Id) -> bool
         ensures { result ≡ is_among self.now id.now }
     {
-        self.set.contains(id)
+        self.ids.contains(id)
     }
 
     /// Whether a row is in the collection and is named.
@@ -60,17 +90,10 @@ impl Targets {
         is_in(row, collection) && self.has(&row.id)
     }
 
-    /// The rows of the collection that are named, lent.
-    pub(crate) fn rows_among<'a>(
-        &self,
-        alloc: Global,
-        collection: &Name,
-        rows: &'a [Row],
-    ) -> Result<Vec<&'a Row>, AllocError>
-        ensures { IfOk result (λ found. map (λ row. row.now) found.items ≡ filter (is_target collection.now self.now) rows.now) }
+    /// The ids as a vector, which are moved.
+    pub(crate) fn into_vec(self, alloc: Global) -> Result<Vec<Id>, AllocError>
+        ensures { IfOk result (λ ids. ids.items ≡ self) }
     {
-        rows.iter()
-            .filter(|row| self.name(collection, row))
-            .collect(alloc)
+        self.ids.into_iter().collect(alloc)
     }
 }

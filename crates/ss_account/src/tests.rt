@@ -1,59 +1,138 @@
-//! Steps of one account by worked values, and each call once with ample memory.
+//! Steps of one account by worked values, each call with ample memory.
 
-ghost use Rattle.std.specs.Prelude.{◌≤◌, IfOk, length};
+ghost use Rattle.std.specs.Prelude.{◌≤◌, ◌≡◌, ◌+◌, ◌*◌, OnOk, IfOk, length, vec_len};
+ghost use Rattle.ss_bso.specs.Limits.{part_bytes, payload_size};
 ghost use Rattle.ss_query.specs.Fit.{IsFitRequest};
 
 use crate::account::Account;
-use ss_bso::{Failures, Field, Fields, Part, Parts, Records};
-use ss_query::{Body, Cond, Info, Mode, Query, Reply, Request, Said, Sort};
-use ss_text::{Id, Name, Stamp, Word};
-use std::alloc::Global;
+use ss_bso::{Failures, Field, Fields, Part, Parts, Reason, Records};
+use ss_query::{Body, Cond, Info, Mode, Numbers, Query, Reply, Request, Sort};
+use ss_text::{Id, Ids, Name, Stamp, Word};
+use std::alloc::{AllocError, Global};
+use std::process::Abort;
 use std::test::Fail;
 
-fn forms(alloc: Global) -> Result<Name, Fail> {
-    Ok(Name::new(alloc, b"forms")?.ok_or("a name")?)
+/// A request of items or a page in short: on the collection `forms`, without a condition unless it has a time. A record's payload
+/// is its id.
+#[derive(Clone, Copy)]
+enum Item {
+    Put(&'static str),
+    PutIfUnmodified(&'static str, u64),
+    PutTtl(&'static str, u32),
+    Get(&'static str),
+    GetIfModified(&'static str, u64),
+    Delete(&'static str),
+    DeleteIds(&'static [&'static str]),
+    Newer(u64),
+    Page(u32, u32),
+}
+
+/// A request in short, likewise.
+#[derive(Clone, Copy)]
+enum Ask {
+    Of(Item),
+    List,
+    DeleteCollection,
+    DeleteAll,
+    Post(&'static [&'static str], Mode),
+    PostIfUnmodified(Mode, u64),
+    PostTabs(Mode),
+    Info(Info),
+}
+
+use Ask::*;
+use Item::*;
+
+/// A reading of the clock, a request, and what it is told: the status, the time, and the body in short.
+type Step = (u64, Ask, &'static str);
+
+fn name(alloc: Global, text: &str) -> Result<Name, Fail> {
+    Ok(Name::new(alloc, text.as_bytes())?.ok_or("a name")?)
 }
 
 fn id_of(alloc: Global, text: &str) -> Result<Id, Fail> {
     Ok(Id::new(alloc, text.as_bytes())?.ok_or("an id")?)
 }
 
-fn word(alloc: Global, text: &str) -> Result<Field<Word>, Fail> {
-    Ok(Field::Set(Word::new(String::from_str(alloc, text)?)))
+/// The fields of a record with a payload.
+fn fields(alloc: Global, payload: &str, ttl: Field<u32>) -> Result<Fields, AllocError>
+    ensures { IfOk result (λ fields. payload_size fields.payload ≡ length payload.now) }
+{
+    Ok(Fields {
+        payload: Field::Set(Word::new(String::from_str(alloc, payload)?)),
+        sortindex: Field::Keep,
+        ttl,
+    })
 }
 
-fn put(
+/// A record whose payload is its id, or empty where that is long.
+fn part(alloc: Global, id: &str) -> Result<Part, Fail>
+    ensures { IfOk result (λ part. payload_size part.fields.payload ≤ 10) }
+{
+    let payload = if id.len() <= 10 { id } else { "" };
+    Ok(Part {
+        id: id_of(alloc, id)?,
+        fields: fields(alloc, payload, Field::Keep)?,
+    })
+}
+
+fn add(alloc: Global, parts: &mut Vec<Part>, id: &str) -> Result<(), Fail>
+    ensures len { OnOk result (vec_len parts.new ≡ vec_len parts.old + 1) }
+    ensures bytes { OnOk result (part_bytes parts.new.items ≤ part_bytes parts.old.items + 10) }
+{
+    parts.push(part(alloc, id)?)?;
+    Ok(())
+}
+
+/// The records of a POST, of which the first hundred count.
+fn records(alloc: Global, ids: &[&str]) -> Result<Vec<Part>, Fail>
+    ensures len { IfOk result (λ parts. vec_len parts ≤ 100) }
+    ensures bytes { IfOk result (λ parts. part_bytes parts.items ≤ 1000) }
+{
+    let mut parts = Vec::new(alloc);
+    for id in ids {
+        if parts.len() < 100 {
+            add(alloc, &mut parts, id)?;
+        }
+    }
+    Ok(parts)
+}
+
+fn post(
+    collection: Name,
+    parts: Vec<Part>,
+    failed: Vec<(Id, Reason)>,
+    mode: Mode,
+    cond: Cond,
+) -> Request
+    requires { (vec_len parts + vec_len failed ≤ 100) × (part_bytes parts.items ≤ 2097152) }
+    ensures { IsFitRequest result }
+{
+    Request::Post {
+        collection,
+        records: Records {
+            parts: Parts::new(parts),
+            failed: Failures::new(failed),
+        },
+        mode,
+        cond,
+    }
+}
+
+fn posted(
     alloc: Global,
-    id: &str,
-    payload: Field<Word>,
-    ttl: Field<u32>,
+    collection: &str,
+    ids: &[&str],
+    mode: Mode,
     cond: Cond,
 ) -> Result<Request, Fail>
     ensures { IfOk result IsFitRequest }
 {
-    Ok(Request::Put {
-        collection: forms(alloc)?,
-        id: id_of(alloc, id)?,
-        fields: Fields {
-            payload,
-            sortindex: Field::Keep,
-            ttl,
-        },
-        cond,
-    })
+    let parts = records(alloc, ids)?;
+    Ok(post(name(alloc, collection)?, parts, Vec::new(alloc), mode, cond))
 }
 
-fn get(alloc: Global, id: &str, cond: Cond) -> Result<Request, Fail>
-    ensures { IfOk result IsFitRequest }
-{
-    Ok(Request::Get {
-        collection: forms(alloc)?,
-        id: id_of(alloc, id)?,
-        cond,
-    })
-}
-
-fn list(
+fn listed(
     alloc: Global,
     newer: Option<Stamp>,
     limit: Option<u32>,
@@ -62,7 +141,7 @@ fn list(
     ensures { IfOk result IsFitRequest }
 {
     Ok(Request::List {
-        collection: forms(alloc)?,
+        collection: name(alloc, "forms")?,
         query: Query {
             ids: None,
             newer,
@@ -76,124 +155,526 @@ fn list(
     })
 }
 
-fn post(alloc: Global, mode: Mode) -> Result<Request, Fail>
+fn put(alloc: Global, id: &str, payload: &str, ttl: Field<u32>, cond: Cond) -> Result<Request, Fail>
     ensures { IfOk result IsFitRequest }
 {
-    let parts: Vec<Part> = Vec::new(alloc);
-    Ok(Request::Post {
-        collection: forms(alloc)?,
-        records: Records {
-            parts: Parts::new(parts),
-            failed: Failures::new(Vec::new(alloc)),
-        },
-        mode,
+    Ok(Request::Put {
+        collection: name(alloc, "forms")?,
+        id: id_of(alloc, id)?,
+        fields: fields(alloc, payload, ttl)?,
+        cond,
+    })
+}
+
+fn got(alloc: Global, id: &str, cond: Cond) -> Result<Request, Fail>
+    ensures { IfOk result IsFitRequest }
+{
+    Ok(Request::Get {
+        collection: name(alloc, "forms")?,
+        id: id_of(alloc, id)?,
+        cond,
+    })
+}
+
+fn deleted(alloc: Global, id: &str) -> Result<Request, Fail>
+    ensures { IfOk result IsFitRequest }
+{
+    Ok(Request::Delete {
+        collection: name(alloc, "forms")?,
+        id: id_of(alloc, id)?,
         cond: Cond::Free,
     })
 }
 
-/// The ids of a list's reply.
-fn ids(reply: &Reply) -> usize {
-    match &reply.body {
-        Body::Ids(ids) => ids.as_slice().len(),
-        _ => 99,
+fn cleared(alloc: Global) -> Result<Request, Fail>
+    ensures { IfOk result IsFitRequest }
+{
+    Ok(Request::DeleteCollection {
+        collection: name(alloc, "forms")?,
+        cond: Cond::Free,
+    })
+}
+
+fn ids_of(alloc: Global, ids: &[&str]) -> Result<Vec<Id>, Fail>
+    ensures { IfOk result (λ named. vec_len named ≤ 100) }
+{
+    let mut named = Vec::new(alloc);
+    for id in ids {
+        if named.len() < 100 {
+            named.push(id_of(alloc, id)?)?;
+        }
+    }
+    Ok(named)
+}
+
+fn cut(alloc: Global, ids: &[&str]) -> Result<Request, Fail>
+    ensures { IfOk result IsFitRequest }
+{
+    let ids = ids_of(alloc, ids)?;
+    Ok(Request::DeleteIds {
+        collection: name(alloc, "forms")?,
+        ids: Ids::new(ids),
+        cond: Cond::Free,
+    })
+}
+
+fn since(time: u64) -> Cond {
+    Cond::IfUnmodified(Stamp::clamp(time))
+}
+
+/// A request of items or lists.
+fn item_request(alloc: Global, ask: Item) -> Result<Request, Fail>
+    ensures { IfOk result IsFitRequest }
+{
+    match ask {
+        Put(id) => put(alloc, id, id, Field::Keep, Cond::Free),
+        PutIfUnmodified(id, time) => put(alloc, id, id, Field::Keep, since(time)),
+        PutTtl(id, ttl) => put(alloc, id, id, Field::Set(ttl), Cond::Free),
+        Get(id) => got(alloc, id, Cond::Free),
+        GetIfModified(id, time) => got(alloc, id, Cond::IfModified(Stamp::clamp(time))),
+        Delete(id) => deleted(alloc, id),
+        DeleteIds(ids) => cut(alloc, ids),
+        Newer(time) => listed(alloc, Some(Stamp::clamp(time)), None, 0),
+        Page(limit, offset) => listed(alloc, None, Some(limit), offset),
     }
 }
 
-/// The time that a PUT is told.
-fn at(reply: &Reply) -> u64 {
-    match &reply.body {
-        Body::At(time) => time.get(),
-        _ => 0,
+fn request_of(alloc: Global, ask: Ask) -> Result<Request, Fail>
+    ensures { IfOk result IsFitRequest }
+{
+    match ask {
+        Of(item) => item_request(alloc, item),
+        List => listed(alloc, None, None, 0),
+        DeleteCollection => cleared(alloc),
+        DeleteAll => Ok(Request::DeleteAll { cond: Cond::Free }),
+        Post(ids, mode) => posted(alloc, "forms", ids, mode, Cond::Free),
+        PostIfUnmodified(mode, time) => posted(alloc, "forms", &[], mode, since(time)),
+        PostTabs(mode) => posted(alloc, "tabs", &[], mode, Cond::Free),
+        Info(what) => Ok(Request::Info {
+            what,
+            cond: Cond::Free,
+        }),
     }
 }
+
+fn push_ids(text: &mut String, ids: &[Id]) -> Result<(), AllocError> {
+    for id in ids {
+        text.push_str(" ")?;
+        text.push_str(id.as_str())?;
+    }
+    Ok(())
+}
+
+fn push_failures(text: &mut String, failed: &[(Id, Reason)]) -> Result<(), AllocError> {
+    for failure in failed {
+        text.push_str(" -")?;
+        text.push_str(failure.0.as_str())?;
+    }
+    Ok(())
+}
+
+fn push_numbers(text: &mut String, alloc: Global, numbers: &Numbers) -> Result<(), AllocError> {
+    for entry in numbers.as_slice() {
+        push_number(text, alloc, entry.0.as_str(), entry.1)?;
+    }
+    Ok(())
+}
+
+fn push_times(text: &mut String, alloc: Global, times: &[(Name, Stamp)]) -> Result<(), AllocError> {
+    for entry in times {
+        push_number(text, alloc, entry.0.as_str(), entry.1.get())?;
+    }
+    Ok(())
+}
+
+/// A word and a number, after a space each.
+fn push_number(
+    text: &mut String,
+    alloc: Global,
+    word: &str,
+    number: u64,
+) -> Result<(), AllocError> {
+    text.push_str(" ")?;
+    text.push_str(word)?;
+    text.push_str(" ")?;
+    text.push_str(number.to_string(alloc)?.as_str())
+}
+
+fn push_told(text: &mut String, success: &[Id], failed: &[(Id, Reason)]) -> Result<(), AllocError> {
+    push_ids(text, success)?;
+    push_failures(text, failed)
+}
+
+fn push_body(alloc: Global, text: &mut String, body: &Body) -> Result<(), AllocError> {
+    match body {
+        Body::Times(times) => push_times(text, alloc, times.as_slice()),
+        Body::Counts(numbers) | Body::Usage(numbers) => push_numbers(text, alloc, numbers),
+        Body::Quota { used } => push_number(text, alloc, "used", *used),
+        Body::Gone(time) => push_number(text, alloc, "gone", time.get()),
+        Body::At(time) => push_number(text, alloc, "at", time.get()),
+        Body::Code(code) => push_number(text, alloc, "code", u64::from(*code)),
+        Body::Ids(ids) => push_ids(text, ids.as_slice()),
+        Body::Posted {
+            modified,
+            success,
+            failed,
+        } => {
+            push_number(text, alloc, "posted", modified.get())?;
+            push_told(text, success.as_slice(), failed.as_slice())
+        }
+        Body::Staged {
+            batch,
+            success,
+            failed,
+        } => {
+            push_number(text, alloc, "batch", *batch)?;
+            push_told(text, success.as_slice(), failed.as_slice())
+        }
+        Body::One(row) => {
+            text.push_str(" ")?;
+            text.push_str(row.id.as_str())?;
+            text.push_str(" ")?;
+            text.push_str(row.payload.as_str())
+        }
+        Body::Said(said) => {
+            text.push_str(" ")?;
+            text.push_str(format!(in alloc; "{said:?}")?.as_str())
+        }
+        Body::Limits => text.push_str(" limits"),
+        Body::Rows(_) => text.push_str(" rows"),
+        Body::Empty => Ok(()),
+    }
+}
+
+/// What a reply tells, in short.
+fn told(alloc: Global, reply: &Reply) -> Result<String, Fail> {
+    let mut text = format!(in alloc; "{}", reply.status)?;
+    match reply.modified {
+        Some(time) => text.push_str(format!(in alloc; " {}:", time.get())?.as_str())?,
+        None => text.push_str(" -:")?,
+    }
+    push_body(alloc, &mut text, &reply.body)?;
+    if let Some(next) = reply.next {
+        text.push_str(format!(in alloc; " next {next}")?.as_str())?;
+    }
+    Ok(text)
+}
+
+/// Makes the requests of one account, one after the other, and looks at what each is told.
+fn run(rt: &impl Abort, alloc: Global, account: &mut Account, steps: &[Step]) -> Result<(), Fail> {
+    for (now, ask, expected) in steps {
+        let request = request_of(alloc, *ask)?;
+        let reply = account.step(alloc, *now, &request);
+        assert_eq!(rt; told(alloc, &reply)?.as_str(), *expected, "at {now}");
+    }
+    Ok(())
+}
+
+/// A fresh account that such requests are made of.
+fn answers(rt: &impl Abort, alloc: Global, steps: &[Step]) -> Result<(), Fail> {
+    let mut account = Account::fresh(alloc);
+    run(rt, alloc, &mut account, steps)
+}
+
+const BEGIN: Mode = Mode::Begin;
+
+const APPEND: Mode = Mode::Append { batch: 1 };
+
+const COMMIT: Mode = Mode::Commit { batch: 1 };
+
+const STAMPS_RISE_AND_ROWS_END: &[Step] = &[
+    (1000, Of(Put("a")), "200 1000: at 1000"),
+    (1000, Of(Put("b")), "200 1001: at 1001"),
+    (900, Of(Put("c")), "200 1002: at 1002"),
+    (1100, Of(PutTtl("a", 2)), "200 1100: at 1100"),
+    (1299, Of(Get("a")), "200 1100: a a"),
+    (1300, Of(Get("a")), "404 -: Item"),
+    (1300, List, "200 1100: c b"),
+];
 
 #[test]
 fn stamps_rise_and_rows_end(rt: HostRuntime) -> Result<(), Fail> {
-    let alloc = rt.alloc();
-    let mut account = Account::fresh(alloc);
-    let asked = put(alloc, "a", word(alloc, "x")?, Field::Keep, Cond::Free)?;
-    assert_eq!(rt; at(&account.step(alloc, 1000, &asked)), 1000);
-    let asked = put(alloc, "b", Field::Keep, Field::Keep, Cond::Free)?;
-    assert_eq!(rt; at(&account.step(alloc, 1000, &asked)), 1001);
-    assert_eq!(rt; at(&account.step(alloc, 900, &asked)), 1002);
-    let asked = put(alloc, "a", Field::Keep, Field::Set(2), Cond::Free)?;
-    assert_eq!(rt; at(&account.step(alloc, 1100, &asked)), 1100);
-    let asked = get(alloc, "a", Cond::Free)?;
-    let reply = account.step(alloc, 1299, &asked);
-    assert_eq!(rt; reply.modified.map(|time| time.get()), Some(1100));
-    match &reply.body {
-        Body::One(row) => assert_eq!(rt; row.payload.as_str(), "x"),
-        _ => return Err("a row".into()),
-    }
-    let reply = account.step(alloc, 1300, &asked);
-    assert_eq!(rt; reply.status, 404);
-    account.tick(1400);
-    let plain = account.plain(alloc)?;
-    assert_eq!(rt; plain.rows.as_slice().len(), 1);
-    assert_eq!(rt; plain.moment.get(), 1400);
-    Ok(())
+    answers(&rt, rt.alloc(), STAMPS_RISE_AND_ROWS_END)
 }
 
+const CONDITIONS_STOP_AND_PAGES_FOLLOW: &[Step] = &[
+    (1050, Of(Put("a")), "200 1050: at 1050"),
+    (1100, Of(GetIfModified("a", 1050)), "304 1050:"),
+    (1100, Of(GetIfModified("a", 1049)), "200 1050: a a"),
+    (1100, Of(PutIfUnmodified("a", 1040)), "412 1050: Modified"),
+    (1100, Of(PutIfUnmodified("a", 1050)), "200 1100: at 1100"),
+    (1100, Of(Newer(1100)), "200 1100:"),
+    (1100, Of(Newer(1099)), "200 1100: a"),
+    (
+        1200,
+        Post(&["e", "d", "c", "b", "a"], Mode::Plain),
+        "200 1200: posted 1200 e d c b a",
+    ),
+    (1200, Of(Page(2, 0)), "200 1200: a b next 2"),
+    (1200, Of(Page(2, 2)), "200 1200: c d next 4"),
+    (1200, Of(Page(2, 4)), "200 1200: e"),
+];
+
 #[test]
-fn lists_and_conditions(rt: HostRuntime) -> Result<(), Fail> {
+fn conditions_stop_and_pages_follow(rt: HostRuntime) -> Result<(), Fail> {
+    answers(&rt, rt.alloc(), CONDITIONS_STOP_AND_PAGES_FOLLOW)
+}
+
+const DELETIONS_LEAVE_TIMES_AND_INFOS_TELL_ALL: &[Step] = &[
+    (
+        1000,
+        Post(&["aa", "b", "aa", "c"], Mode::Plain),
+        "200 1000: posted 1000 aa b c",
+    ),
+    (1000, Info(Info::Collections), "200 1000: forms 1000"),
+    (1000, Info(Info::Counts), "200 1000: forms 3"),
+    (1000, Info(Info::Usage), "200 1000: forms 4"),
+    (1000, Info(Info::Quota), "200 1000: used 4"),
+    (1000, Info(Info::Configuration), "200 1000: limits"),
+    (1001, Of(DeleteIds(&["aa", "q"])), "200 1001: gone 1001"),
+    (1001, Of(Delete("q")), "404 -: Item"),
+    (1002, Of(Delete("b")), "200 1002: gone 1002"),
+    (1002, Info(Info::Counts), "200 1002: forms 1"),
+    (1003, DeleteCollection, "200 1003: gone 1003"),
+    (1003, Of(DeleteIds(&["c"])), "200 1003: gone 1003"),
+    (1003, Info(Info::Collections), "200 1003:"),
+    (1004, Of(Put("c")), "200 1004: at 1004"),
+    (1005, DeleteAll, "200 1005: gone 1005"),
+    (1005, Info(Info::Usage), "200 1005:"),
+    (1005, List, "200 1005:"),
+];
+
+#[test]
+fn deletions_leave_times_and_infos_tell_all(rt: HostRuntime) -> Result<(), Fail> {
+    answers(&rt, rt.alloc(), DELETIONS_LEAVE_TIMES_AND_INFOS_TELL_ALL)
+}
+
+const THE_CLOCK_ENDS: &[Step] = &[
+    (
+        999_999_999_999,
+        Of(Put("a")),
+        "200 999999999999: at 999999999999",
+    ),
+    (999_999_999_999, Of(Put("b")), "503 -: Clock"),
+    (u64::MAX, Of(Get("a")), "200 999999999999: a a"),
+];
+
+#[test]
+fn the_clock_ends(rt: HostRuntime) -> Result<(), Fail> {
+    answers(&rt, rt.alloc(), THE_CLOCK_ENDS)
+}
+
+const BATCH_IS_UNSEEN_UNTIL_COMMIT: &[Step] = &[
+    (1000, Of(Put("z")), "200 1000: at 1000"),
+    (1001, Post(&["a"], BEGIN), "202 1000: batch 1 a"),
+    (1002, Post(&["b"], APPEND), "202 1000: batch 1 b"),
+    (1003, List, "200 1000: z"),
+    (1003, Info(Info::Counts), "200 1000: forms 1"),
+    (1003, Info(Info::Usage), "200 1000: forms 1"),
+    (1003, Info(Info::Quota), "200 1000: used 1"),
+    (
+        1003,
+        Post(&["a"], Mode::Append { batch: 2 }),
+        "400 -: Batch",
+    ),
+    (1004, Post(&["c"], COMMIT), "200 1004: posted 1004 c"),
+    (1004, List, "200 1004: a b c z"),
+    (1005, Post(&[], COMMIT), "400 -: Batch"),
+];
+
+#[test]
+fn batch_is_unseen_until_commit(rt: HostRuntime) -> Result<(), Fail> {
+    answers(&rt, rt.alloc(), BATCH_IS_UNSEEN_UNTIL_COMMIT)
+}
+
+const REFUSED_COMMIT_KEEPS_ITS_BATCH: &[Step] = &[
+    (1000, Post(&["a"], BEGIN), "202 0: batch 1 a"),
+    (1000, List, "200 0:"),
+    (1000, Info(Info::Counts), "200 0:"),
+    (1001, Of(Put("z")), "200 1001: at 1001"),
+    (1002, PostIfUnmodified(COMMIT, 0), "412 1001: Modified"),
+    (1002, PostTabs(COMMIT), "400 -: Batch"),
+    (1003, Post(&[], COMMIT), "200 1003: posted 1003"),
+    (1003, List, "200 1003: a z"),
+    (1004, Post(&[], BEGIN), "202 1003: batch 2"),
+    (
+        1005,
+        Post(&[], Mode::Commit { batch: 2 }),
+        "200 1003: posted 1003",
+    ),
+    (1006, Post(&[], Mode::Commit { batch: 2 }), "400 -: Batch"),
+];
+
+#[test]
+fn refused_commit_keeps_its_batch(rt: HostRuntime) -> Result<(), Fail> {
+    answers(&rt, rt.alloc(), REFUSED_COMMIT_KEEPS_ITS_BATCH)
+}
+
+const COMMITS_PUT_THE_BATCH_FIRST: &[Step] = &[(
+    1000,
+    Post(&["a", "b"], BEGIN),
+    "202 0: batch 1 a b",
+)];
+
+const COMMITS_PUT_THE_BATCH_FIRST_THEN: &[Step] = &[
+    (1001, Of(Get("a")), "200 1001: a later"),
+    (1001, Of(Get("b")), "200 1001: b b"),
+    (1001, List, "200 1001: a b"),
+];
+
+#[test]
+fn commits_put_the_batch_first(rt: HostRuntime) -> Result<(), Fail> {
     let alloc = rt.alloc();
     let mut account = Account::fresh(alloc);
-    for id in ["a", "b", "c"] {
-        let asked = put(alloc, id, Field::Keep, Field::Keep, Cond::Free)?;
-        assert_eq!(rt; account.step(alloc, 1000, &asked).status, 200);
+    run(&rt, alloc, &mut account, COMMITS_PUT_THE_BATCH_FIRST)?;
+    let again = Part {
+        id: id_of(alloc, "a")?,
+        fields: fields(alloc, "later", Field::Keep)?,
+    };
+    let mut parts = Vec::new(alloc);
+    parts.push(again)?;
+    let failed = vec![in alloc;
+        (id_of(alloc, "c")?, Reason::Ttl),
+        (id_of(alloc, "c")?, Reason::Payload),
+    ]?;
+    let commit = post(name(alloc, "forms")?, parts, failed, COMMIT, Cond::Free);
+    let reply = account.step(alloc, 1001, &commit);
+    assert_eq!(rt; told(alloc, &reply)?.as_str(), "200 1001: posted 1001 a -c");
+    run(&rt, alloc, &mut account, COMMITS_PUT_THE_BATCH_FIRST_THEN)
+}
+
+const BATCH_ENDS_AFTER_TWO_HOURS: &[Step] = &[
+    (1000, Post(&["a"], BEGIN), "202 0: batch 1 a"),
+    (1000, Post(&["b"], BEGIN), "202 0: batch 2 b"),
+    (720_999, Post(&[], COMMIT), "200 720999: posted 720999"),
+    (
+        721_000,
+        Post(&[], Mode::Commit { batch: 2 }),
+        "400 -: Batch",
+    ),
+    (721_000, List, "200 720999: a"),
+];
+
+#[test]
+fn batch_ends_after_two_hours(rt: HostRuntime) -> Result<(), Fail> {
+    answers(&rt, rt.alloc(), BATCH_ENDS_AFTER_TWO_HOURS)
+}
+
+const A_FIFTH_BATCH_IS_REFUSED_AND_DELETION_ENDS_BATCHES: &[Step] = &[
+    (1000, Of(Put("z")), "200 1000: at 1000"),
+    (1001, Post(&["a"], BEGIN), "202 1000: batch 1 a"),
+    (1001, PostTabs(BEGIN), "202 0: batch 2"),
+    (1001, Post(&["a"], BEGIN), "202 1000: batch 3 a"),
+    (1001, Post(&["a"], BEGIN), "202 1000: batch 4 a"),
+    (1001, Post(&["a"], BEGIN), "400 -: Batches"),
+    (1002, DeleteCollection, "200 1002: gone 1002"),
+    (1003, Post(&[], COMMIT), "400 -: Batch"),
+    (1003, PostIfUnmodified(COMMIT, 1000), "412 1002: Modified"),
+    (
+        1003,
+        PostTabs(Mode::Commit { batch: 2 }),
+        "200 1002: posted 1002",
+    ),
+    (1003, Post(&["a"], BEGIN), "202 1002: batch 5 a"),
+    (1004, DeleteAll, "200 1004: gone 1004"),
+    (1005, Post(&[], Mode::Commit { batch: 5 }), "400 -: Batch"),
+];
+
+#[test]
+fn a_fifth_batch_is_refused_and_deletion_ends_batches(rt: HostRuntime) -> Result<(), Fail> {
+    answers(
+        &rt,
+        rt.alloc(),
+        A_FIFTH_BATCH_IS_REFUSED_AND_DELETION_ENDS_BATCHES,
+    )
+}
+
+/// A hundred records whose ids are numbers from one on.
+fn numbered(alloc: Global, from: u32) -> Result<Vec<Part>, Fail>
+    ensures len { IfOk result (λ parts. vec_len parts ≤ 100) }
+    ensures bytes { IfOk result (λ parts. part_bytes parts.items ≤ 1000) }
+{
+    let mut parts = Vec::new(alloc);
+    for n in 0..100u32 {
+        if parts.len() < 100 {
+            let id = format!(in alloc; "{}", from.wrapping_add(n))?;
+            add(alloc, &mut parts, id.as_str())?;
+        }
     }
-    assert_eq!(rt;
-        ids(&account.step(
-            alloc,
-            1000,
-            &list(alloc, Some(Stamp::clamp(1001)), None, 0)?
-        )),
-        1
-    );
-    let reply = account.step(alloc, 1000, &list(alloc, None, Some(2), 0)?);
-    assert_eq!(rt; ids(&reply), 2);
-    assert_eq!(rt; reply.next, Some(2));
-    let reply = account.step(alloc, 1000, &list(alloc, None, Some(2), 2)?);
-    assert_eq!(rt; ids(&reply), 1);
-    assert_eq!(rt; reply.next, None);
-    let stop = Cond::IfUnmodified(Stamp::clamp(999));
-    assert_eq!(rt;
-        account
-            .step(
-                alloc,
-                1100,
-                &put(alloc, "a", Field::Keep, Field::Keep, stop)?
-            )
-            .status,
-        412
-    );
-    let stop = Cond::IfModified(Stamp::clamp(1000));
-    assert_eq!(rt;
-        account.step(alloc, 1100, &get(alloc, "a", stop)?).status,
-        304
-    );
-    let reply = account.step(alloc, 1100, &post(alloc, Mode::Plain)?);
-    assert_eq!(rt; reply.modified.map(|time| time.get()), Some(1002));
-    let reply = account.step(alloc, 1100, &post(alloc, Mode::Begin)?);
-    assert!(rt; matches!(reply.body, Body::Said(Said::Batches)));
-    let reply = account.step(alloc, 1100, &post(alloc, Mode::Commit { batch: 1 })?);
-    assert!(rt; matches!(reply.body, Body::Said(Said::Batch)));
-    for (what, name) in [
-        (Info::Collections, "times"),
-        (Info::Counts, "counts"),
-        (Info::Usage, "usage"),
-        (Info::Quota, "quota"),
-        (Info::Configuration, "limits"),
-    ] {
-        let reply = account.step(
-            alloc,
-            1100,
-            &Request::Info {
-                what,
-                cond: Cond::Free,
-            },
+    Ok(parts)
+}
+
+/// Begins a batch and gives it so many times a hundred records, with the ids from a number on; it gives the batch's number.
+fn gather(
+    rt: &impl Abort,
+    alloc: Global,
+    account: &mut Account,
+    from: u32,
+    hundreds: u32,
+) -> Result<u64, Fail> {
+    let begin = request_of(alloc, Post(&[], BEGIN))?;
+    let batch = match account.step(alloc, 1000, &begin).body {
+        Body::Staged { batch, .. } => batch,
+        _ => return Err("a batch".into()),
+    };
+    for k in 0..hundreds {
+        let parts = numbered(alloc, from.wrapping_add(k.wrapping_mul(100)))?;
+        let append = post(
+            name(alloc, "forms")?,
+            parts,
+            Vec::new(alloc),
+            Mode::Append { batch },
+            Cond::Free,
         );
-        assert_eq!(rt; reply.status, 200, "{name}");
+        assert_eq!(rt; account.step(alloc, 1000, &append).status, 202);
     }
-    Ok(())
+    Ok(batch)
+}
+
+const TWENTY_THOUSAND_RECORDS_AND_ONE_MORE: &[Step] = &[
+    (1000, Post(&["a"], APPEND), "400 -: code 17"),
+    (1000, Post(&["a"], COMMIT), "400 -: code 17"),
+    (1001, Post(&[], COMMIT), "200 1001: posted 1001"),
+    (1002, Info(Info::Counts), "200 1001: forms 20000"),
+    (1002, Of(Get("19999")), "200 1001: 19999 19999"),
+];
+
+#[test]
+fn twenty_thousand_records_and_one_more(rt: HostRuntime) -> Result<(), Fail> {
+    let alloc = rt.alloc();
+    let mut account = Account::fresh(alloc);
+    assert_eq!(rt; gather(&rt, alloc, &mut account, 0, 200)?, 1);
+    run(
+        &rt,
+        alloc,
+        &mut account,
+        TWENTY_THOUSAND_RECORDS_AND_ONE_MORE,
+    )
+}
+
+const PAYLOADS_OF_134_217_728_BYTES: &[Step] = &[
+    (1000, Info(Info::Quota), "200 1063: used 134217728"),
+    (1000, Of(Put("a")), "403 -: code 14"),
+    (1000, Of(Put("0")), "200 1064: at 1064"),
+    (1000, Of(Put("a")), "200 1065: at 1065"),
+    (1000, Info(Info::Usage), "200 1065: forms 132120578"),
+];
+
+#[test]
+fn payloads_of_134_217_728_bytes(rt: HostRuntime) -> Result<(), Fail> {
+    let alloc = rt.alloc();
+    let mut account = Account::fresh(alloc);
+    let payload = "x".repeat(alloc, 2_097_152)?;
+    for k in 0..64u32 {
+        let id = format!(in alloc; "{k}")?;
+        let request = put(
+            alloc,
+            id.as_str(),
+            payload.as_str(),
+            Field::Keep,
+            Cond::Free,
+        )?;
+        assert_eq!(rt; account.step(alloc, 1000, &request).status, 200);
+    }
+    run(&rt, alloc, &mut account, PAYLOADS_OF_134_217_728_BYTES)
 }

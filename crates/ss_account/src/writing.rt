@@ -1,42 +1,19 @@
 //! What the parts of a request make of the rows that they name.
 
-ghost use Rattle.std.specs.Prelude.{◌≡◌, ◌++◌, ◌∷◌, [], if◌then◌else◌, IfOk, OnOk, bytes_eq, find, filter_map, map, option_copied};
+ghost use Rattle.std.specs.Prelude.{◌≡◌, ◌++◌, ◌∷◌, [], ◌&&◌, List, ℕ, if◌then◌else◌, IfOk, OnOk, Some, bytes_eq, filter_map, fold, map, true};
 ghost use Rattle.std.specs.List.{list_any};
-ghost use Rattle.std.specs.Option.{option_map_or};
+ghost use Rattle.indexmap.specs.IndexMap.{values};
 ghost use Rattle.ss_bso.specs.Account.{row_at};
 ghost use Rattle.ss_bso.specs.Write.{ids_of, is_among, parts_of, put_all};
 ghost use Rattle.ss_query.specs.Told.{first_failures};
+ghost use Rattle.ss_account.specs.Steps.{is_target, old_in, or_else, with_row};
 
 use crate::targets::Targets;
-use ss_bso::{Field, Fields, Part, Reason, Row, put};
-use ss_text::{Id, Name, Stamp, Word};
+use indexmap::IndexMap;
+use ss_bso::{Part, Reason, Row, put};
+use ss_text::{Id, Name, Stamp};
 use std::alloc::{AllocError, Global};
-
-fn is_among(ids: &[Id], id: &Id) -> bool
-    ensures { result ≡ is_among ids.now id.now }
-{
-    ids.iter().any(|other| other == id)
-}
-
-fn add_id(alloc: Global, ids: &mut Vec<Id>, id: &Id) -> Result<(), AllocError>
-    ensures { OnOk result (ids.new.items ≡ (if is_among ids.old.items id.now then ids.old.items else ids.old.items ++ id.now ∷ [])) }
-{
-    if !is_among(ids.as_slice(), id) {
-        ids.push(id.copy(alloc)?)?;
-    }
-    Ok(())
-}
-
-/// The ids that the parts name, each once, in the order of first appearance.
-pub(crate) fn ids_of(alloc: Global, parts: &[Part]) -> Result<Vec<Id>, AllocError>
-    ensures { IfOk result (λ ids. ids.items ≡ ids_of parts.now) }
-{
-    let mut ids = Vec::new(alloc);
-    for part in parts {
-        add_id(alloc, &mut ids, &part.id)?;
-    }
-    Ok(ids)
-}
+use std::collections::HashMap;
 
 fn has_failed(failed: &[(Id, Reason)], id: &Id) -> bool
     ensures { result ≡ list_any (λ failure. bytes_eq failure.0 id.now) failed.now }
@@ -71,106 +48,98 @@ pub(crate) fn first_failures(
     Ok(first)
 }
 
-fn copy_payload(alloc: Global, payload: &Field<Word>) -> Result<Field<Word>, AllocError>
-    ensures { IfOk result (λ copied. copied ≡ payload.now) }
-{
-    Ok(match payload {
-        Field::Keep => Field::Keep,
-        Field::Clear => Field::Clear,
-        Field::Set(text) => Field::Set(text.copy(alloc)?),
-    })
-}
-
-fn copy_number<T: Copy>(number: &Field<T>) -> Field<T>
-    ensures { result ≡ number.now }
-{
-    match number {
-        Field::Keep => Field::Keep,
-        Field::Clear => Field::Clear,
-        Field::Set(value) => Field::Set(*value),
-    }
-}
-
-/// The part of a PUT.
-pub(crate) fn part_of(alloc: Global, id: &Id, fields: &Fields) -> Result<Part, AllocError>
-    ensures id { IfOk result (λ part. part.id ≡ id.now) }
-    ensures fields { IfOk result (λ part. part.fields ≡ fields.now) }
-{
-    Ok(Part {
-        id: id.copy(alloc)?,
-        fields: Fields {
-            payload: copy_payload(alloc, &fields.payload)?,
-            sortindex: copy_number(&fields.sortindex),
-            ttl: copy_number(&fields.ttl),
-        },
-    })
-}
-
-fn find_id<'a>(rows: &[&'a Row], id: &Id) -> Option<&'a Row>
-    ensures { option_copied result ≡ find (λ row. bytes_eq row.id id.now) (map (λ row. row.now) rows.now) }
-{
-    for row in rows {
-        if row.id == *id {
-            return Some(row);
-        }
-    }
-    None
-}
-
-/// The row that the parts of an id make of the old one, one after the other.
-fn put_all(
+/// Notes a row under its id, where it is in the collection and named, and is the first there.
+fn note<'a>(
     alloc: Global,
-    old: Option<&Row>,
+    olds: &mut HashMap<Id, &'a Row>,
     collection: &Name,
-    id: &Id,
-    parts: &[Part],
-    stamp: Stamp,
-) -> Result<Option<Row>, AllocError>
-    ensures { IfOk result (λ row. row ≡ put_all collection.now (parts_of id.now parts.now) stamp (option_copied old.entry)) }
+    targets: &Targets,
+    row: &'a Row,
+) -> Result<(), AllocError>
+    ensures { OnOk result ((id : List ℕ) → old_in olds.new id ≡ (if is_target collection.now targets.now row.now && bytes_eq row.now.id id then or_else (old_in olds.old id) (Some row.now) else old_in olds.old id)) }
 {
-    let mut last: Option<Row> = None;
-    for part in parts {
-        if part.id == *id {
-            let base = match &last {
-                Some(row) => Some(row),
-                None => old,
-            };
-            last = Some(put(alloc, base, collection, part, stamp)?);
-        }
-    }
-    match (last, old) {
-        (Some(row), _) => Ok(Some(row)),
-        (None, Some(row)) => Ok(Some(row.copy(alloc)?)),
-        (None, None) => Ok(None),
-    }
-}
-
-fn add_row(made: &mut Vec<Row>, row: Option<Row>) -> Result<(), AllocError>
-    ensures { OnOk result (made.new.items ≡ option_map_or (λ new. made.old.items ++ new ∷ []) row made.old.items) }
-{
-    if let Some(row) = row {
-        made.push(row)?;
+    if targets.name(collection, row) && !olds.contains_key(&row.id) {
+        olds.insert(row.id.copy(alloc)?, row)?;
     }
     Ok(())
 }
 
-/// The rows that the parts make, in the order of the ids.
+/// The rows of the collection that are named, lent, by id.
+fn named_rows<'a>(
+    alloc: Global,
+    rows: &'a [Row],
+    collection: &Name,
+    targets: &Targets,
+) -> Result<HashMap<Id, &'a Row>, AllocError>
+    ensures { IfOk result (λ olds. (id : List ℕ) → is_among targets.now id ≡ true → old_in olds id ≡ row_at collection.now id rows.now) }
+{
+    let mut olds = HashMap::new(alloc);
+    for row in rows {
+        note(alloc, &mut olds, collection, targets, row)?;
+    }
+    Ok(olds)
+}
+
+/// Puts a part over the row that was made of its id, or else over the old row.
+fn put_part(
+    alloc: Global,
+    made: &mut IndexMap<Id, Row>,
+    olds: &HashMap<Id, &Row>,
+    collection: &Name,
+    part: &Part,
+    stamp: Stamp,
+) -> Result<(), AllocError>
+    ensures { OnOk result (made.new.entries ≡ with_row collection.now (old_in olds.now) stamp made.old.entries part.now) }
+{
+    let old = match made.get(&part.id) {
+        Some(row) => Some(row),
+        None => olds.get(&part.id).copied(),
+    };
+    let row = put(alloc, old, collection, part, stamp)?;
+    made.insert(part.id.copy(alloc)?, row)?;
+    Ok(())
+}
+
+fn put_parts(
+    alloc: Global,
+    made: &mut IndexMap<Id, Row>,
+    olds: &HashMap<Id, &Row>,
+    collection: &Name,
+    parts: &[Part],
+    stamp: Stamp,
+) -> Result<(), AllocError>
+    ensures { OnOk result (made.new.entries ≡ fold (with_row collection.now (old_in olds.now) stamp) made.old.entries parts.now) }
+{
+    for part in parts {
+        put_part(alloc, made, olds, collection, part, stamp)?;
+    }
+    Ok(())
+}
+
+/// The rows that were made, in the order of their ids.
+fn into_rows(alloc: Global, made: IndexMap<Id, Row>) -> Result<Vec<Row>, AllocError>
+    ensures { IfOk result (λ rows. rows.items ≡ values made) }
+{
+    made.into_values().collect(alloc)
+}
+
+/// The rows that parts and then further parts make, one for each id, in the order of the ids: one pass over the rows and one
+/// over the parts.
 pub(crate) fn made_rows(
     alloc: Global,
     rows: &[Row],
     collection: &Name,
-    parts: &[Part],
+    first: &[Part],
+    more: &[Part],
     targets: &Targets,
     stamp: Stamp,
 ) -> Result<Vec<Row>, AllocError>
-    ensures { IfOk result (λ made. made.items ≡ filter_map (λ id. put_all collection.now (parts_of id parts.now) stamp (row_at collection.now id rows.now)) targets.now) }
+    requires { targets.now ≡ ids_of (first.now ++ more.now) }
+    ensures { IfOk result (λ made. made.items ≡ filter_map (λ id. put_all collection.now (parts_of id (first.now ++ more.now)) stamp (row_at collection.now id rows.now)) targets.now) }
 {
-    let named = targets.rows_among(alloc, collection, rows)?;
-    let mut made = Vec::new(alloc);
-    for id in targets.as_slice() {
-        let old = find_id(named.as_slice(), id);
-        let row = put_all(alloc, old, collection, id, parts, stamp)?;
-        add_row(&mut made, row)?;
-    }
-    Ok(made)
+    let olds = named_rows(alloc, rows, collection, targets)?;
+    let mut made = IndexMap::new(alloc);
+    put_parts(alloc, &mut made, &olds, collection, first, stamp)?;
+    put_parts(alloc, &mut made, &olds, collection, more, stamp)?;
+    into_rows(alloc, made)
 }

@@ -2,7 +2,7 @@ use Rattle.std.proofs.Common.{◌≡◌, sym, subst, ◌∙◌}
 use Rattle.std.specs.Result.{IfOk, OnOk, OnErr}
 use Rattle.ss_bso.specs.declared.account.Plain.{Plain}
 use Rattle.ss_query.specs.Marks.{mark_of}
-use Rattle.ss_bso.specs.Validity.{IsWithinLimits, SameAccount}
+use Rattle.ss_bso.specs.Validity.{IsValid, SameAccount}
 use Rattle.ss_query.specs.Api.{outcome, refusal}
 use Rattle.ss_account.specs.Journals.{marked}
 use Rattle.ss_account.proofs.Valid.{valid-tick}
@@ -11,7 +11,7 @@ use Rattle.ss_account.proofs.account.Account.step.Goals.{in-Ok, in-Err}
 use Rattle.ss_account.proofs.account.Account.step.Goals as goal
 
 pub answer-requires : goal.answer-requires
-answer-requires c = subst IsWithinLimits (sym c.tick.ensures) (valid-tick c.self.inside.state c.args.now c.self.invariant).limits
+answer-requires c = record { valid = subst IsValid (sym c.tick.ensures) (valid-tick c.self.inside.state c.args.now c.self.invariant); fits = c.requires }
 
 stepped : (c : goal.Joined-answer) → Stepped c.self.inside.state c.args.now c.args.request.now c.match-answer.result c.answer.new.self
 stepped c =

@@ -1,0 +1,116 @@
+//! What requests ask in common, and the bodies that tell of them.
+
+ghost use Rattle.std.specs.Prelude.{◌≡◌, IfOk};
+ghost use Rattle.ss_bso.specs.Write.{ids_of};
+ghost use Rattle.ss_query.specs.declared.replies.Body.TheVariants.{Posted, Staged as StagedBody};
+ghost use Rattle.ss_query.specs.Api.{why_stopped};
+ghost use Rattle.ss_query.specs.Refused.{condition_of, said_by};
+ghost use Rattle.ss_query.specs.Told.{first_failures, rows_body};
+ghost use Rattle.ss_account.specs.Laws.{is_of_batch};
+ghost use Rattle.ss_account.specs.Steps.{fault_body};
+
+use crate::editing::ids_of_rows;
+use crate::targets::Targets;
+use crate::writing::first_failures;
+use ss_batch::StageFault;
+use ss_bso::{Failures, Records, Rows};
+use ss_query::{Body, Cond, Mode, Request, Said};
+use ss_text::{Ids, Stamp};
+use std::alloc::{AllocError, Global};
+
+/// The condition of a request.
+pub(crate) fn condition_of(request: &Request) -> Cond
+    ensures { result ≡ condition_of request.now }
+{
+    match request {
+        Request::Info { cond, .. } => *cond,
+        Request::DeleteAll { cond } => *cond,
+        Request::List { cond, .. } => *cond,
+        Request::Post { cond, .. } => *cond,
+        Request::DeleteCollection { cond, .. } => *cond,
+        Request::DeleteIds { cond, .. } => *cond,
+        Request::Get { cond, .. } => *cond,
+        Request::Put { cond, .. } => *cond,
+        Request::Delete { cond, .. } => *cond,
+    }
+}
+
+/// The body of a request that its condition stops.
+pub(crate) fn stop_body(status: u16) -> Body
+    ensures { result ≡ said_by (why_stopped status) }
+{
+    if status == 304 {
+        Body::Empty
+    } else {
+        Body::Said(Said::Modified)
+    }
+}
+
+/// Whether a request is of a batch: a begin, an append or a commit.
+pub(crate) fn is_of_batch(request: &Request) -> bool
+    ensures { result ≡ is_of_batch request.now }
+{
+    match request {
+        Request::Post { mode, .. } => *mode != Mode::Plain,
+        _ => false,
+    }
+}
+
+/// The body against a request that continues a batch.
+pub(crate) fn fault_body(fault: StageFault) -> Body
+    ensures { result ≡ fault_body fault }
+{
+    match fault {
+        StageFault::TooManyRecords { .. } | StageFault::TooManyBytes { .. } => Body::Code(17),
+        _ => Body::Said(Said::Batch),
+    }
+}
+
+/// The ids of a POST's good parts, and its failed records, as it is told of them.
+#[derive(Drop)]
+pub(crate) struct Told {
+    pub(crate) success: Ids,
+    pub(crate) failed: Failures,
+}
+
+pub(crate) fn told_of(alloc: Global, records: &Records) -> Result<Told, AllocError>
+    ensures success { IfOk result (λ told. told.success ≡ ids_of records.now.parts) }
+    ensures failed { IfOk result (λ told. told.failed ≡ first_failures records.now.failed) }
+{
+    let targets = Targets::of_parts(alloc, records.parts.as_slice(), &[])?;
+    Ok(Told {
+        success: Ids::new(targets.into_vec(alloc)?),
+        failed: Failures::new(first_failures(alloc, records.failed.as_slice())?),
+    })
+}
+
+pub(crate) fn posted(modified: Stamp, told: Told) -> Body
+    ensures { result ≡ Posted modified told.success told.failed }
+{
+    Body::Posted {
+        modified,
+        success: told.success,
+        failed: told.failed,
+    }
+}
+
+pub(crate) fn staged(batch: u64, told: Told) -> Body
+    ensures { result ≡ StagedBody batch told.success told.failed }
+{
+    Body::Staged {
+        batch,
+        success: told.success,
+        failed: told.failed,
+    }
+}
+
+/// The body of a list: whole rows, or their ids alone.
+pub(crate) fn rows_body(alloc: Global, full: bool, found: Rows) -> Result<Body, AllocError>
+    ensures { IfOk result (λ body. body ≡ rows_body full found) }
+{
+    if full {
+        Ok(Body::Rows(found))
+    } else {
+        Ok(Body::Ids(Ids::new(ids_of_rows(alloc, found.as_slice())?)))
+    }
+}

@@ -1,5 +1,13 @@
+pub mod AnswerLemmas
+pub mod Asking
 pub mod Filling
 pub mod HeadLemmas
-pub mod Lines
+pub mod LineEnds
+pub mod LineLemmas
+pub mod MemoryLemmas
 pub mod MessageLemmas
 pub mod Ranges
+pub mod Replies
+pub mod Spaces
+pub mod Values
+pub mod Written

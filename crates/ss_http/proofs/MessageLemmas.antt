@@ -2,13 +2,13 @@
 use Rattle.std.proofs.Common.{◌≡◌, ℕ, List, [], ◌∷◌, ◌++◌, length, map, refl, sym, ◌∙◌, ap, subst, append_assoc, arith}
 use Rattle.std.proofs.lemmas.Option.{same_Some}
 use Rattle.httparse.specs.Grammar.{RequestHead, ReadsRequest}
-use Rattle.httparse.specs.Spans.{name_and_value}
 use Rattle.httparse.proofs.GrammarLemmas.{request_unique}
 use Rattle.ss_http.specs.declared.message.Message.{Message}
-use Rattle.ss_http.specs.Messages.{body_length, message_of, ReadsMessage, Reads, Splits}
+use Rattle.ss_http.specs.Fields.{announced}
+use Rattle.ss_http.specs.Messages.{fields_of, message_of, ReadsMessage, Reads, Splits}
 
 -- equal fronts of equal lists
-same_fronts : (a b x y : List ℕ) → length a ≡ length b → a ++ x ≡ b ++ y → (a ≡ b) × (x ≡ y)
+pub same_fronts : (a b x y : List ℕ) → length a ≡ length b → a ++ x ≡ b ++ y → (a ≡ b) × (x ≡ y)
 same_fronts [] [] x y n e = (refl, e)
 same_fronts (c ∷ a) (d ∷ b) x y n e =
     let tails : a ++ x ≡ b ++ y = cc in
@@ -28,8 +28,8 @@ pub message_unique : (buf : List ℕ) (m n : Message) (r q : List ℕ) → Reads
 message_unique buf m n r q x y =
     let heads = request_unique buf x.head y.head (x.body ++ r) (y.body ++ q) (reads_head buf m r x) (reads_head buf n q y) in
     let same : x.head ≡ y.head = heads.0 in
-    let fields : body_length (map name_and_value x.head.fields) ≡ body_length (map name_and_value y.head.fields) = ap (λ (h : RequestHead). body_length (map name_and_value h.fields)) same in
-    let counts : length x.body ≡ length y.body = same_Some _ _ (sym x.is_head.body ∙ fields ∙ y.is_head.body) in
+    let fields : announced (fields_of x.head) ≡ announced (fields_of y.head) = ap (λ (h : RequestHead). announced (fields_of h)) same in
+    let counts : length x.body ≡ length y.body = same_Some _ _ (sym x.announces.size ∙ fields ∙ y.announces.size) in
     let bodies = same_fronts x.body y.body r q counts heads.1 in
     let body : x.body ≡ y.body = bodies.0 in
     (x.says ∙ ap (λ (h : RequestHead). message_of h x.body) same ∙ ap (λ b. message_of y.head b) body ∙ sym y.says, bodies.1)
@@ -40,6 +40,8 @@ message_append buf more m rest r = record {
   head = r.head;
   body = r.body;
   is_head = r.is_head;
+  announces = r.announces;
+  limit = r.limit;
   bytes = ap (λ b. b ++ more) r.bytes ∙ simp append_assoc;
   says = r.says;
 }

@@ -1,12 +1,12 @@
 -- What a buffer keeps between two messages.
 use Rattle.std.specs.Prelude.{◌≡◌, ℕ, List, ◌++◌, Option, Result, Ok, Err}
 use Rattle.ss_outside.specs.Told.{Meanings, HasRead}
-use Rattle.ss_http.specs.declared.buffer.Stop.{Stop}
+use Rattle.ss_http.specs.declared.fault.MsgFault.{MsgFault}
 
 -- the bytes that were read and belong to no message yet, and why no message will come any more, if so
 pub record Kept : Type 0 where
   pub bytes : List ℕ
-  pub stop : Option Stop
+  pub stop : Option MsgFault
 
 -- what reads brought stands behind what was kept
 pub record Brings (old new : List ℕ) (before now : Meanings) : Type 0 where

@@ -1,5 +1,10 @@
 pub mod Buffers
+pub mod Faults
+pub mod Fields
 pub mod Heads
+pub mod Hearing
+pub mod Listening
 pub mod Messages
 pub mod Reading
+pub mod Requests
 pub mod Responses

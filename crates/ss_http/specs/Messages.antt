@@ -1,35 +1,43 @@
--- Messages (RFC 9112), over httparse's grammar of heads.
-use Rattle.std.specs.Prelude.{◌≡◌, ◌≤◌, ℕ, if◌then◌else◌, List, [], ◌∷◌, ◌++◌, length, map, Option, None, Some, codes}
-use Rattle.std.specs.Str.{str_eq_ignore_ascii_case}
+-- Messages of a client (RFC 9112), over httparse's grammar of heads.
+use Rattle.std.specs.Prelude.{◌≡◌, ◌≤◌, ℕ, List, [], ◌∷◌, ◌++◌, length, map, Option, None, Some, codes}
 use Rattle.httparse.specs.Grammar.{RequestHead, IsRequestHead, print_request}
 use Rattle.httparse.specs.Spans.{name_and_value}
-use Rattle.ss_text.specs.Numbers.{number_of}
 use Rattle.ss_http.specs.declared.message.Message.{Message}
+use Rattle.ss_http.specs.Fields.{Line, first_named, announced, ends}
 
--- how many bytes of body the fields announce, where a message may have these fields: none, or Content-Length alone
-unfoldable pub body_length : List (List ℕ × List ℕ) → Option ℕ
-body_length [] = Some 0
-body_length (field ∷ []) = if str_eq_ignore_ascii_case field.0 (codes "content-length") then number_of 7 field.1 else None
-body_length (a ∷ b ∷ fields) = None
+-- the fields of a head
+abbrev pub fields_of : RequestHead → List Line
+fields_of h = map name_and_value h.fields
 
--- a head that a message with a body of n bytes may have
-pub record IsHead (h : RequestHead) (n : ℕ) : Type 0 where
+-- a head that a message may begin with: it has at most 64 fields and 16,384 bytes
+pub record IsHead (h : RequestHead) : Type 0 where
   pub grammar : IsRequestHead h
   pub size : length (print_request h) ≤ 16384
   pub count : length h.fields ≤ 64
-  pub version : h.minor ≡ 1
-  pub body : body_length (map name_and_value h.fields) ≡ Some n
-  pub limit : n ≤ 2101248
+
+-- buf begins with such a head
+pub record BeginsWith (buf : List ℕ) (h : RequestHead) : Type 0 where
+  pub is_head : IsHead h
+  pub after : List ℕ
+  pub bytes : buf ≡ print_request h ++ after
+
+-- the fields announce a body of n bytes: no Transfer-Encoding, and no length but n
+pub record Announces (fields : List Line) (n : ℕ) : Type 0 where
+  pub plain : first_named (codes "Transfer-Encoding") fields ≡ None
+  pub size : announced fields ≡ Some n
 
 -- what a head and a body say
 abbrev pub message_of : RequestHead → List ℕ → Message
-message_of h body = record { method = h.method; target = h.target; fields = map name_and_value h.fields; body = body }
+message_of h body =
+    record { method = h.method; target = h.target; fields = fields_of h; body = body; last = ends h.minor (fields_of h) }
 
 -- buf is the message m and then rest
 pub record ReadsMessage (buf : List ℕ) (m : Message) (rest : List ℕ) : Type 0 where
   pub head : RequestHead
   pub body : List ℕ
-  pub is_head : IsHead head (length body)
+  pub is_head : IsHead head
+  pub announces : Announces (fields_of head) (length body)
+  pub limit : length body ≤ 2101248
   pub bytes : buf ≡ print_request head ++ (body ++ rest)
   pub says : m ≡ message_of head body
 

@@ -1,8 +1,8 @@
 -- The bytes of a response (RFC 9112), with the fields of the SyncStorage API 1.5.
-use Rattle.std.specs.Prelude.{ℕ, List, [], ◌∷◌, ◌++◌, length, Bool, ◌==◌, if◌then◌else◌, Option, Some, None, option_map, codes, decimal}
-use Rattle.std.specs.List.{flat_map}
+use Rattle.std.specs.Prelude.{ℕ, List, [], ◌∷◌, ◌++◌, length, Bool, false, ◌==◌, if◌then◌else◌, Option, Some, None, option_map, codes, decimal}
 use Rattle.ss_text.specs.Time.{stamp_text}
 use Rattle.ss_http.specs.declared.response.ResponseHead.{ResponseHead}
+use Rattle.ss_http.specs.Fields.{Line, lines, field_if}
 
 -- the reason of a status
 abbrev pub reason_of : ℕ → List ℕ
@@ -22,31 +22,18 @@ reason_of status =
     (if status == 503 then codes "Service Unavailable" else
     (if status == 507 then codes "Insufficient Storage" else [])))))))))))))
 
--- a field line: the name, a colon, a space and the value
-abbrev pub line : List ℕ × List ℕ → List ℕ
-line field = field.0 ++ codes ": " ++ field.1 ++ codes "\r\n"
-
--- field lines, one after the other
-unfoldable pub lines : List (List ℕ × List ℕ) → List ℕ
-lines fields = flat_map line fields
-
--- the field, where it has a value
-abbrev pub field_if : List ℕ → Option (List ℕ) → List (List ℕ × List ℕ)
-field_if name None = []
-field_if name (Some value) = (name, value) ∷ []
-
 -- the type of a body: an object or a list a line, or one JSON text
 abbrev pub type_of : Bool → List ℕ
 type_of newlines = if newlines then codes "application/newlines" else codes "application/json"
 
 -- the fields on a body of this size; a 304 has neither type nor length
-abbrev pub body_fields : ResponseHead → ℕ → List (List ℕ × List ℕ)
+abbrev pub body_fields : ResponseHead → ℕ → List Line
 body_fields head size =
     if head.status == 304 then []
     else ((codes "Content-Type", type_of head.newlines) ∷ (codes "Content-Length", decimal size) ∷ [])
 
 -- the fields of a response whose body has this size, in their order
-abbrev pub fields : ResponseHead → ℕ → List (List ℕ × List ℕ)
+abbrev pub fields : ResponseHead → ℕ → List Line
 fields head size =
     field_if (codes "X-Weave-Timestamp") (Some (stamp_text head.moment))
     ++ (field_if (codes "X-Last-Modified") (option_map stamp_text head.modified)
@@ -67,3 +54,16 @@ head_text head size = status_line head.status ++ lines (fields head size) ++ cod
 -- a response: its head and its body
 abbrev pub response : ResponseHead → List ℕ → List ℕ
 response head body = head_text head (length body) ++ body
+
+-- the head of the response that says that no memory was found
+abbrev pub memory_head : ℕ → Bool → ResponseHead
+memory_head moment last =
+    record { status = 507; moment = moment; modified = None; count = None; next = None; allow = None; newlines = false; last = last }
+
+-- the response that says that no memory was found
+abbrev pub memory_response : ℕ → Bool → List ℕ
+memory_response moment last = response (memory_head moment last) (codes "\"memory\"")
+
+-- the field that ends the connection, if it is to end
+abbrev pub close_text : Bool → List ℕ
+close_text last = if last then codes "Connection: close\r\n" else []

@@ -6,6 +6,7 @@ ghost use Rattle.ss_outside.specs.Told.{EndsAt};
 ghost use Rattle.ss_http.specs.Buffers.{Kept, Brings, count_of};
 ghost use Rattle.ss_http.specs.declared.buffer.TheConstants.{ROOM};
 
+use crate::fault::MsgFault;
 use ss_outside::{ReadFault, Source};
 use std::alloc::{AllocError, Global};
 use std::marker::Model;
@@ -13,26 +14,13 @@ use std::marker::Model;
 /// The room of a buffer in bytes: that of the longest head and of the longest body.
 pub const ROOM: usize = 2_117_632;
 
-/// Why a buffer gives no message any more.
-#[derive(Clone, Copy, Debug, PartialEq, Eq)]
-pub enum Stop {
-    /// The input ended between messages.
-    End,
-
-    /// The input ended inside a message.
-    Cut,
-
-    /// The bytes begin no message that is answered.
-    Unbuilt,
-}
-
 /// Bytes that were read and belong to no message yet, and why no message will come any more, if so.
 #[derive(Drop)]
 pub struct Buffer {
     bytes: Vec<u8>,
     start: usize,
     end: usize,
-    stop: Option<Stop>,
+    stop: Option<MsgFault>,
 }
 
 impl Model for Buffer {
@@ -68,14 +56,14 @@ impl Buffer {
     }
 
     /// Why no message will come any more, if so.
-    pub fn stop(&self) -> Option<Stop>
+    pub fn stop(&self) -> Option<MsgFault>
         ensures { result ≡ self.now.stop }
     {
         self.stop
     }
 
     /// Notes why no message will come any more.
-    pub(crate) fn stop_at(&mut self, stop: Stop)
+    pub(crate) fn stop_at(&mut self, stop: MsgFault)
         ensures { self.new ≡ record { bytes = self.old.bytes; stop = Some stop } }
     {
         self.stop = Some(stop);

@@ -1,14 +1,15 @@
 //! The head of a message.
 
-ghost use Rattle.std.specs.Prelude.{◌≡◌, ◌≤◌, length, map, All, IfOk, IfSome, IfNone};
+ghost use Rattle.std.specs.Prelude.{◌≡◌, ◌≤◌, length, map, All, IfOk};
 ghost use Rattle.httparse.specs.Spans.{IsHeaderWithin, IsRequestWithin, IsRequestOf, header_bytes};
-ghost use Rattle.ss_http.specs.Heads.{Finds, IsHeadAt};
-ghost use Rattle.ss_http.specs.Messages.{NeverMessage, body_length};
+ghost use Rattle.ss_http.specs.Heads.{Finds};
 
+use crate::fault::MsgFault;
+use crate::fields::{announced, ends, find};
 use crate::message::FieldLines;
 use httparse::Status;
 use httparse::spans::{EMPTY_HEADER_SPAN, HeaderSpan, RequestSpans, parse_request};
-use ss_text::{Bytes, read_number};
+use ss_text::Bytes;
 use std::alloc::{AllocError, Global};
 
 /// The longest head, in bytes.
@@ -23,6 +24,7 @@ pub struct Head {
     pub method: Bytes,
     pub target: Bytes,
     pub fields: FieldLines,
+    pub last: bool,
     pub size: usize,
     pub body: usize,
 }
@@ -37,28 +39,15 @@ pub enum Found {
     Unfinished,
 
     /// Nothing that a message may begin with.
-    Refused,
+    Refused(MsgFault),
 }
 
-/// How many bytes of body the fields announce, where a message may have these fields.
-#[tactic(auto, unfolding(crate::specs::Messages::body_length))]
-pub fn body_length(fields: &[(Bytes, Bytes)]) -> Option<u64>
-    ensures { result ≡ body_length fields.now }
-{
-    match fields {
-        [] => Some(0),
-        [(name, value)] => {
-            if name.as_slice().eq_ignore_ascii_case(b"content-length") {
-                read_number(value.as_slice(), 7)
-            } else {
-                None
-            }
-        }
-        _ => None,
-    }
-}
-
-fn fields_at(alloc: Global, buf: &[u8], headers: &[HeaderSpan]) -> Result<FieldLines, AllocError>
+/// A copy of the fields.
+pub(crate) fn fields_at(
+    alloc: Global,
+    buf: &[u8],
+    headers: &[HeaderSpan],
+) -> Result<FieldLines, AllocError>
     requires { All (IsHeaderWithin (length buf.now)) headers.now }
     ensures { IfOk result (λ fields. fields ≡ map (header_bytes buf.now) headers.now) }
 {
@@ -71,36 +60,35 @@ fn fields_at(alloc: Global, buf: &[u8], headers: &[HeaderSpan]) -> Result<FieldL
     Ok(FieldLines::new(lines))
 }
 
+/// A head that was parsed: its copy, or why no message has it.
 fn head_of(
     alloc: Global,
     buf: &[u8],
     headers: &[HeaderSpan],
     spans: RequestSpans,
-) -> Result<Option<Head>, AllocError>
+) -> Result<Found, AllocError>
     requires within { IsRequestWithin buf.now headers.now spans }
     requires found { IsRequestOf buf.now headers.now spans }
     requires room { length buf.now ≤ 16384 }
     requires count { length headers.now ≤ 64 }
-    ensures some { IfOk result (λ head. IfSome head (λ head. IsHeadAt buf.now head)) }
-    ensures none { IfOk result (λ head. IfNone head (NeverMessage buf.now)) }
+    ensures { IfOk result (λ found. Finds found buf.now) }
 {
-    let fields = fields_at(alloc, buf, &headers[..spans.headers])?;
-    if spans.version != 1 {
-        return Ok(None);
+    let fields = &headers[..spans.headers];
+    if find(buf, fields, "Transfer-Encoding").is_some() {
+        return Ok(Found::Refused(MsgFault::Coded));
     }
-    let body = match body_length(fields.as_slice()) {
+    let body = match announced(buf, fields) {
         Some(body) => body,
-        None => return Ok(None),
+        None => return Ok(Found::Refused(MsgFault::BadLength)),
     };
     if body > BODY_ROOM {
-        return Ok(None);
+        return Ok(Found::Refused(MsgFault::TooLarge { n: body }));
     }
-    let method = Bytes::from_slice(alloc, spans.method.of(buf))?;
-    let target = Bytes::from_slice(alloc, spans.path.of(buf))?;
-    Ok(Some(Head {
-        method,
-        target,
-        fields,
+    Ok(Found::Whole(Head {
+        method: Bytes::from_slice(alloc, spans.method.of(buf))?,
+        target: Bytes::from_slice(alloc, spans.path.of(buf))?,
+        fields: fields_at(alloc, buf, fields)?,
+        last: ends(buf, fields, spans.version),
         size: spans.len,
         body: body as usize,
     }))
@@ -113,17 +101,14 @@ pub fn find_head(alloc: Global, buf: &[u8]) -> Result<Found, AllocError>
     let front = &buf[..buf.len().min(HEAD_ROOM)];
     let mut headers = [EMPTY_HEADER_SPAN; 64];
     match parse_request(front, &mut headers) {
-        Ok(Status::Complete(spans)) => match head_of(alloc, front, &headers, spans)? {
-            Some(head) => Ok(Found::Whole(head)),
-            None => Ok(Found::Refused),
-        },
+        Ok(Status::Complete(spans)) => head_of(alloc, front, &headers, spans),
         Ok(Status::Partial) => {
             if buf.len() < HEAD_ROOM {
                 Ok(Found::Unfinished)
             } else {
-                Ok(Found::Refused)
+                Ok(Found::Refused(MsgFault::HeadTooLong))
             }
         }
-        Err(_) => Ok(Found::Refused),
+        Err(_) => Ok(Found::Refused(MsgFault::BadHead)),
     }
 }

@@ -1,52 +1,47 @@
 //! The next message of a source.
 
-ghost use Rattle.std.specs.Prelude.{◌≡◌, ◌≤◌, ◌+◌, ℕ, List, ◌++◌, None, Some, length, IfOk, OnOk, drop, Err, IfErr, IfSome, IfNone, MatchResult};
+ghost use Rattle.std.specs.Prelude.{◌≡◌, ◌≤◌, ◌<◌, ◌+◌, ℕ, List, ◌++◌, Some, length, IfOk, OnOk, drop, Err, IfErr, IfSome, IfNone, MatchResult};
+ghost use Rattle.httparse.specs.Grammar.{HasNoRequest, RequestHead};
 ghost use Rattle.ss_outside.specs.Told.{HasRead};
 ghost use Rattle.ss_http.specs.Buffers.{Brings};
+ghost use Rattle.ss_http.specs.Faults.{IsFaultOf};
 ghost use Rattle.ss_http.specs.Heads.{IsHeadAt};
-ghost use Rattle.ss_http.specs.Reading.{IsFaultOf, IsShort, EndsWith, RisesWith, Answers, fault_of, stop_of};
-ghost use Rattle.ss_http.specs.Messages.{ReadsMessage};
+ghost use Rattle.ss_http.specs.Reading.{IsShort, EndsWith, RisesWith, Answers, ended_by};
+ghost use Rattle.ss_http.specs.Messages.{BeginsWith, ReadsMessage};
+ghost use Rattle.ss_http.specs.declared.message.Message.{Message};
 
-use crate::buffer::{Buffer, Stop};
-use crate::head::{Found, Head, find_head};
+use crate::buffer::Buffer;
+use crate::fault::MsgFault;
+use crate::head::{Found, HEAD_ROOM, Head, find_head};
 use crate::message::Message;
 use ss_outside::Source;
 use ss_text::Bytes;
 use std::alloc::Global;
-use thiserror::Error;
 
-/// Why no message was read.
-#[derive(Clone, Copy, Debug, PartialEq, Eq, Error)]
-pub enum MsgFault {
-    /// The input ended between messages.
-    #[error("the input ended")]
-    End,
-
-    /// The input ended inside a message.
-    #[error("the input ended inside a message")]
-    Cut,
-
-    /// The bytes begin no message of the form that is read, however they go on: a head of HTTP/1.1 with no field or
-    /// with `Content-Length` alone, within its limits.
-    #[error("the input goes on with no message that is answered")]
-    Unbuilt,
-
-    /// The source failed.
-    #[error("reading the input failed")]
-    ReadFault,
-
-    /// No memory was found for the message.
-    #[error("no memory was found")]
-    Memory,
-}
-
-fn fault_at(stop: Stop) -> MsgFault
-    ensures { result ≡ fault_of stop }
+/// Reads until a line end came, or as many bytes are kept as a head may have: before that no head becomes whole.
+fn read_line<S: Source>(buffer: &mut Buffer, source: &mut S) -> Result<(), MsgFault>
+    requires headless { HasNoRequest buffer.old.bytes }
+    requires short { length buffer.old.bytes < 16384 }
+    ensures stop { buffer.new.stop ≡ buffer.old.stop }
+    ensures bytes { Brings buffer.old.bytes buffer.new.bytes (S.Told.told source.old) (S.Told.told source.new) }
+    ensures more { OnOk result (length buffer.old.bytes < length buffer.new.bytes) }
+    ensures fault { IfErr result (λ e. IsFaultOf e buffer.new.bytes) }
+    ensures ended { IfErr result (λ e. EndsWith e (S.Told.told source.new)) }
+    ensures cause { MatchResult result
+        (λ _. (S.Told.told source.new).read_faults ≡ (S.Told.told source.old).read_faults)
+        (λ e. RisesWith e (S.Told.told source.old).read_faults (S.Told.told source.new).read_faults) }
 {
-    match stop {
-        Stop::End => MsgFault::End,
-        Stop::Cut => MsgFault::Cut,
-        Stop::Unbuilt => MsgFault::Unbuilt,
+    'lines: loop {
+        let before = buffer.kept().len();
+        match buffer.fill(source) {
+            Err(_) => return Err(MsgFault::ReadFault),
+            Ok(0) => return Err(ended(buffer)),
+            Ok(_) => {}
+        }
+        let kept = buffer.kept();
+        if kept.len() >= HEAD_ROOM || kept[before..].contains(&b'\n') {
+            return Ok(());
+        }
     }
 }
 
@@ -59,6 +54,7 @@ fn read_head<S: Source>(
     ensures stop { buffer.new.stop ≡ buffer.old.stop }
     ensures bytes { Brings buffer.old.bytes buffer.new.bytes (S.Told.told source.old) (S.Told.told source.new) }
     ensures head { IfOk result (λ head. IsHeadAt buffer.new.bytes head) }
+    ensures ready { (h : RequestHead) → BeginsWith buffer.old.bytes h → (buffer.new ≡ buffer.old) × (S.Told.told source.new ≡ S.Told.told source.old) }
     ensures fault { IfErr result (λ e. IsFaultOf e buffer.new.bytes) }
     ensures ended { IfErr result (λ e. EndsWith e (S.Told.told source.new)) }
     ensures cause { MatchResult result
@@ -69,19 +65,12 @@ fn read_head<S: Source>(
         match find_head(alloc, buffer.kept()) {
             Err(_) => return Err(MsgFault::Memory),
             Ok(Found::Whole(head)) => return Ok(head),
-            Ok(Found::Refused) => return Err(MsgFault::Unbuilt),
+            Ok(Found::Refused(fault)) => return Err(fault),
             Ok(Found::Unfinished) => {}
         }
-        match buffer.fill(source) {
-            Err(_) => return Err(MsgFault::ReadFault),
-            Ok(count) => {
-                if count == 0 {
-                    if buffer.kept().is_empty() {
-                        return Err(MsgFault::End);
-                    }
-                    return Err(MsgFault::Cut);
-                }
-            }
+        match read_line(buffer, source) {
+            Ok(()) => {}
+            Err(fault) => return Err(fault),
         }
     }
 }
@@ -92,6 +81,7 @@ fn fill_to<S: Source>(buffer: &mut Buffer, source: &mut S, size: usize) -> Resul
     ensures stop { buffer.new.stop ≡ buffer.old.stop }
     ensures bytes { Brings buffer.old.bytes buffer.new.bytes (S.Told.told source.old) (S.Told.told source.new) }
     ensures enough { OnOk result (size ≤ length buffer.new.bytes) }
+    ensures ready { size ≤ length buffer.old.bytes → (buffer.new ≡ buffer.old) × (S.Told.told source.new ≡ S.Told.told source.old) }
     ensures fault { IfErr result (λ e. IsShort e size buffer.new.bytes) }
     ensures ended { IfErr result (λ e. EndsWith e (S.Told.told source.new)) }
     ensures cause { MatchResult result
@@ -120,6 +110,7 @@ fn read_whole<S: Source>(
     ensures stop { buffer.new.stop ≡ buffer.old.stop }
     ensures bytes { Brings buffer.old.bytes buffer.new.bytes (S.Told.told source.old) (S.Told.told source.new) }
     ensures whole { IfOk result (λ r. (r.1 ≤ length buffer.new.bytes) × ReadsMessage buffer.new.bytes r.0 (drop r.1 buffer.new.bytes)) }
+    ensures ready { (m : Message) (rest : List ℕ) → ReadsMessage buffer.old.bytes m rest → S.Told.told source.new ≡ S.Told.told source.old }
     ensures fault { IfErr result (λ e. IsFaultOf e buffer.new.bytes) }
     ensures ended { IfErr result (λ e. EndsWith e (S.Told.told source.new)) }
     ensures cause { MatchResult result
@@ -136,6 +127,7 @@ fn read_whole<S: Source>(
         method,
         target,
         fields,
+        last,
         ..
     } = head;
     Ok((
@@ -144,6 +136,7 @@ fn read_whole<S: Source>(
             target,
             fields,
             body,
+            last,
         },
         size,
     ))
@@ -156,17 +149,20 @@ pub fn read_message<S: Source>(
     buffer: &mut Buffer,
     source: &mut S,
 ) -> Result<Message, MsgFault>
-    ensures again { IfSome buffer.old.stop (λ stop. (result ≡ Err (fault_of stop)) × (buffer.new ≡ buffer.old)
+    ensures again { IfSome buffer.old.stop (λ fault. (result ≡ Err fault) × (buffer.new ≡ buffer.old)
         × (S.Told.told source.new ≡ S.Told.told source.old)) }
     ensures takes { IfNone buffer.old.stop ((got : List ℕ) × HasRead got (S.Told.told source.old) (S.Told.told source.new)
         × Answers result (buffer.old.bytes ++ got) buffer.new) }
+    // A message that is kept whole is given without a read.
+    ensures ready { IfNone buffer.old.stop ((m : Message) (rest : List ℕ) → ReadsMessage buffer.old.bytes m rest
+        → S.Told.told source.new ≡ S.Told.told source.old) }
     ensures ended { IfNone buffer.old.stop (IfErr result (λ e. EndsWith e (S.Told.told source.new))) }
     ensures cause { IfNone buffer.old.stop (MatchResult result
         (λ _. (S.Told.told source.new).read_faults ≡ (S.Told.told source.old).read_faults)
         (λ e. RisesWith e (S.Told.told source.old).read_faults (S.Told.told source.new).read_faults)) }
 {
-    if let Some(stop) = buffer.stop() {
-        return Err(fault_at(stop));
+    if let Some(fault) = buffer.stop() {
+        return Err(fault);
     }
     match read_whole(alloc, buffer, source) {
         Ok((message, size)) => {
@@ -174,21 +170,21 @@ pub fn read_message<S: Source>(
             Ok(message)
         }
         Err(fault) => {
-            if let Some(stop) = stop_after(fault) {
-                buffer.stop_at(stop);
+            if let Some(lasting) = fault.lasting() {
+                buffer.stop_at(lasting);
             }
             Err(fault)
         }
     }
 }
 
-fn stop_after(fault: MsgFault) -> Option<Stop>
-    ensures { result ≡ stop_of fault }
+/// The fault of an input that ended before a head was whole.
+fn ended(buffer: &Buffer) -> MsgFault
+    ensures { result ≡ ended_by buffer.now.bytes }
 {
-    match fault {
-        MsgFault::End => Some(Stop::End),
-        MsgFault::Cut => Some(Stop::Cut),
-        MsgFault::Unbuilt => Some(Stop::Unbuilt),
-        MsgFault::ReadFault | MsgFault::Memory => None,
+    if buffer.kept().is_empty() {
+        MsgFault::End
+    } else {
+        MsgFault::Cut
     }
 }

@@ -1,11 +1,14 @@
 //! The bytes of a response.
 
-ghost use Rattle.std.specs.Prelude.{◌≡◌, ◌++◌, Some, None, codes, decimal, option_map, if◌then◌else◌, IfOk, OnOk, OnErr};
-ghost use Rattle.ss_http.specs.Responses.{body_fields, field_if, fields, head_text, lines, reason_of, response, status_line, type_of};
+ghost use Rattle.std.specs.Prelude.{◌≡◌, ◌≤◌, ◌+◌, ◌++◌, Some, None, codes, decimal, option_map, if◌then◌else◌, IfOk, OnOk, OnErr, vec_len, vec_capacity};
+ghost use Rattle.ss_http.specs.Fields.{field_if, lines};
+ghost use Rattle.ss_http.specs.Responses.{body_fields, fields, head_text, reason_of, response, status_line, type_of};
 ghost use Rattle.ss_text.specs.Time.{stamp_text};
 
-use itoa::Buffer;
-use ss_text::{Bytes, Stamp, push_stamp};
+use crate::lines::{
+    begin_line, push_line, push_number, push_number_line, push_stamp_line, push_text,
+};
+use ss_text::{Bytes, Stamp};
 use std::alloc::{AllocError, Global};
 
 /// What the head of a response says, besides the length of its body (SyncStorage API 1.5).
@@ -57,64 +60,7 @@ fn reason(status: u16) -> &'static str
     }
 }
 
-fn push_text(out: &mut Vec<u8>, text: &str) -> Result<(), AllocError>
-    ensures { OnOk result (out.new.items ≡ out.old.items ++ text.now) }
-{
-    out.extend_from_slice(text.as_bytes())
-}
-
-fn push_number(out: &mut Vec<u8>, number: u64) -> Result<(), AllocError>
-    ensures { OnOk result (out.new.items ≡ out.old.items ++ decimal number) }
-{
-    let mut buffer = Buffer::new();
-    out.extend_from_slice(buffer.format(number).as_bytes())
-}
-
-fn begin_line(out: &mut Vec<u8>, name: &str) -> Result<(), AllocError>
-    ensures { OnOk result (out.new.items ≡ out.old.items ++ name.now ++ codes ": ") }
-{
-    push_text(out, name)?;
-    push_text(out, ": ")
-}
-
-#[tactic(auto, unfolding(crate::specs::Responses::lines))]
-fn push_stamp_line(out: &mut Vec<u8>, name: &str, stamp: Option<Stamp>) -> Result<(), AllocError>
-    ensures { OnOk result (out.new.items ≡ out.old.items ++ lines (field_if name.now (option_map stamp_text stamp))) }
-{
-    match stamp {
-        None => Ok(()),
-        Some(stamp) => {
-            begin_line(out, name)?;
-            push_stamp(out, stamp)?;
-            push_text(out, "\r\n")
-        }
-    }
-}
-
-#[tactic(auto, unfolding(crate::specs::Responses::lines))]
-fn push_number_line(out: &mut Vec<u8>, name: &str, number: Option<u64>) -> Result<(), AllocError>
-    ensures { OnOk result (out.new.items ≡ out.old.items ++ lines (field_if name.now (option_map decimal number))) }
-{
-    match number {
-        None => Ok(()),
-        Some(number) => {
-            begin_line(out, name)?;
-            push_number(out, number)?;
-            push_text(out, "\r\n")
-        }
-    }
-}
-
-#[tactic(auto, unfolding(crate::specs::Responses::lines))]
-fn push_line(out: &mut Vec<u8>, name: &str, value: &str) -> Result<(), AllocError>
-    ensures { OnOk result (out.new.items ≡ out.old.items ++ lines (field_if name.now (Some value.now))) }
-{
-    begin_line(out, name)?;
-    push_text(out, value)?;
-    push_text(out, "\r\n")
-}
-
-#[tactic(auto, unfolding(crate::specs::Responses::lines))]
+#[tactic(auto, unfolding(crate::specs::Fields::lines))]
 fn push_allow(out: &mut Vec<u8>, allow: &Option<Bytes>) -> Result<(), AllocError>
     ensures { OnOk result (out.new.items ≡ out.old.items ++ lines (field_if (codes "Allow") allow.now)) }
 {
@@ -138,7 +84,7 @@ fn type_text(newlines: bool) -> &'static str
     }
 }
 
-#[tactic(auto, unfolding(crate::specs::Responses::lines))]
+#[tactic(auto, unfolding(crate::specs::Fields::lines))]
 fn push_body_fields(out: &mut Vec<u8>, head: &ResponseHead, size: usize) -> Result<(), AllocError>
     ensures { OnOk result (out.new.items ≡ out.old.items ++ lines (body_fields head.now size)) }
 {
@@ -150,7 +96,7 @@ fn push_body_fields(out: &mut Vec<u8>, head: &ResponseHead, size: usize) -> Resu
     Ok(())
 }
 
-#[tactic(auto, unfolding(crate::specs::Responses::lines))]
+#[tactic(auto, unfolding(crate::specs::Fields::lines))]
 fn push_connection(out: &mut Vec<u8>, last: bool) -> Result<(), AllocError>
     ensures { OnOk result (out.new.items ≡ out.old.items ++ lines (field_if (codes "Connection") (if last then Some (codes "close") else None))) }
 {
@@ -194,6 +140,26 @@ fn head_lines(alloc: Global, head: &ResponseHead, size: usize) -> Result<Vec<u8>
     push_fields(&mut out, head, size)?;
     push_text(&mut out, "\r\n")?;
     Ok(out)
+}
+
+/// Appends the head of a response whose body has this size, and takes the room for the body, which is to be appended next.
+/// Without memory for both `out` stays as it was.
+pub fn push_head(
+    alloc: Global,
+    out: &mut Vec<u8>,
+    head: &ResponseHead,
+    size: usize,
+) -> Result<(), AllocError>
+    ensures ok { OnOk result (out.new.items ≡ out.old.items ++ head_text head.now size) }
+    ensures room { OnOk result (vec_len out.new + size ≤ vec_capacity out.new) }
+    ensures err { OnErr result (out.new.items ≡ out.old.items) }
+{
+    let lines = head_lines(alloc, head, size)?;
+    let Some(room) = lines.len().checked_add(size) else {
+        return Err(AllocError);
+    };
+    out.reserve(room)?;
+    out.extend_from_slice(lines.as_slice())
 }
 
 /// Appends a response with this head and body. Without memory for it `out` stays as it was.

@@ -1,54 +1,62 @@
-use Rattle.std.proofs.Common.{◌≡◌, ◌≤◌, take, drop, map, Some, None, sym, ◌∙◌, ap, length, length-append, length-take, arith}
-use Rattle.std.proofs.lemmas.List.{length-map}
-use Rattle.httparse.specs.Grammar.{print_request}
-use Rattle.std.proofs.lemmas.Option.{same_Some, none-some}
-use Rattle.httparse.specs.Spans.{header_bytes, name_and_value}
-use Rattle.ss_http.specs.Messages.{body_length}
-use Rattle.ss_http.proofs.HeadLemmas.{with_wrong_head}
+use Rattle.std.proofs.Common.{◌≡◌, ◌∙◌, codes, sym, ap, ap₂, arith}
+use Rattle.httparse.specs.Spans.{span_bytes}
+use Rattle.ss_http.specs.Fields.{announced, ends, first_named}
+use Rattle.ss_http.proofs.HeadLemmas.{parsed_begins}
+use Rattle.ss_http.proofs.AnswerLemmas.{none_there, some_there}
 use Rattle.ss_http.proofs.head.head_of.Goals as goal
 
-pub returns-then-spans-ne1-clause-none : goal.returns-then-spans-ne1-clause-none
-returns-then-spans-ne1-clause-none c =
-    let h = c.requires.found in
-    with_wrong_head c.args.buf.now h.0 _ h.1.reads (λ n is.
-    let v : c.args.spans.version ≡ h.0.minor = h.1.version in let w : h.0.minor ≡ 1 = is.version in omega arith)
+pub returns-then-is_some : goal.returns-then-is_some
+returns-then-is_some c =
+    let h = c.requires.found in (
+      tt,
+      record {
+        head = h.0;
+        begins = parsed_begins c.args.buf.now c.args.headers.now c.args.spans h.0 h.1 c.requires.room c.requires.count;
+        coded = some_there (span_bytes c.args.buf.now) c.find.result _ _ (c.find.ensures.value ∙ ap (first_named (codes "Transfer-Encoding")) h.1.fields) c.is_some.ensures c.if-is_some.true;
+      },
+    )
 
-pub returns-in-None-clause-none : goal.returns-in-None-clause-none
-returns-in-None-clause-none c =
-    let h = c.requires.found in
-    let fields : c.in_ok-fields.fields ≡ map name_and_value h.0.fields =
-    c.in_ok-fields.ensures ∙ h.1.fields in
-    with_wrong_head c.args.buf.now h.0 _ h.1.reads (λ n is.
-    let none : body_length (map name_and_value h.0.fields) ≡ None = ap body_length (sym fields ∙ sym c.as_slice.ensures) ∙ sym c.body_length.ensures ∙ c.in-None.is in
-    none-some n (sym none ∙ is.body))
+pub returns-in-None : goal.returns-in-None
+returns-in-None c =
+    let h = c.requires.found in (
+      tt,
+      record {
+        head = h.0;
+        begins = parsed_begins c.args.buf.now c.args.headers.now c.args.spans h.0 h.1 c.requires.room c.requires.count;
+        plain = ap (first_named (codes "Transfer-Encoding")) (sym h.1.fields) ∙ none_there (span_bytes c.args.buf.now) c.find.result _ _ c.find.ensures.value c.is_some.ensures c.if-is_some.false;
+        unmeasured = ap announced (sym h.1.fields) ∙ sym c.announced.ensures ∙ c.in-None.is;
+      },
+    )
 
-pub returns-then-body-gt-BODY_ROOM-clause-none : goal.returns-then-body-gt-BODY_ROOM-clause-none
-returns-then-body-gt-BODY_ROOM-clause-none c =
-    let h = c.requires.found in
-    let fields : c.in_ok-fields.fields ≡ map name_and_value h.0.fields =
-    c.in_ok-fields.ensures ∙ h.1.fields in
-    with_wrong_head c.args.buf.now h.0 _ h.1.reads (λ n is.
-    let some : body_length (map name_and_value h.0.fields) ≡ Some c.in-Some.body = ap body_length (sym fields ∙ sym c.as_slice.ensures) ∙ sym c.body_length.ensures ∙ c.in-Some.is in
-    let same : n ≡ c.in-Some.body = same_Some _ _ (sym is.body ∙ some) in
-    let most : n ≤ 2101248 = is.limit in
-    omega arith)
+pub returns-then-body-gt-BODY_ROOM : goal.returns-then-body-gt-BODY_ROOM
+returns-then-body-gt-BODY_ROOM c =
+    let h = c.requires.found in (
+      tt,
+      record {
+        head = h.0;
+        begins = parsed_begins c.args.buf.now c.args.headers.now c.args.spans h.0 h.1 c.requires.room c.requires.count;
+        announces = record {
+          plain = ap (first_named (codes "Transfer-Encoding")) (sym h.1.fields) ∙ none_there (span_bytes c.args.buf.now) c.find.result _ _ c.find.ensures.value c.is_some.ensures c.if-is_some.false;
+          size = ap announced (sym h.1.fields) ∙ sym c.announced.ensures ∙ c.in-Some.is;
+        };
+        above = omega arith;
+      },
+    )
 
-pub returns-clause-some : goal.returns-clause-some
-returns-clause-some c =
+pub returns : goal.returns
+returns c =
     let h = c.requires.found in
-    let fields : c.in_ok-fields.fields ≡ map name_and_value h.0.fields =
-    c.in_ok-fields.ensures ∙ h.1.fields in
-    let some : body_length (map name_and_value h.0.fields) ≡ Some c.in-Some.body = ap body_length (sym fields ∙ sym c.as_slice.ensures) ∙ sym c.body_length.ensures ∙ c.in-Some.is in
-    let count : length (map (header_bytes c.args.buf.now) (take c.args.spans.headers c.args.headers.now)) ≡ length (map name_and_value h.0.fields) = ap length h.1.fields in
-    let version : c.args.spans.version ≡ h.0.minor = h.1.version in
-    let size = ap length h.1.reads.1 in
     record {
       tree = h.0;
-      is_head = record { grammar = h.1.reads.0; size = omega (arith, size, length-append (print_request h.0) (drop c.args.spans.len c.args.buf.now), c.requires.room); count = omega (arith, count, length-map (take c.args.spans.headers c.args.headers.now) (header_bytes c.args.buf.now), length-map h.0.fields name_and_value, length-take c.args.spans.headers c.args.headers.now, c.requires.count); version = omega arith; body = some; limit = omega arith };
-      after = drop c.args.spans.len c.args.buf.now;
-      bytes = h.1.reads.1;
+      begins = parsed_begins c.args.buf.now c.args.headers.now c.args.spans h.0 h.1 c.requires.room c.requires.count;
+      announces = record {
+        plain = ap (first_named (codes "Transfer-Encoding")) (sym h.1.fields) ∙ none_there (span_bytes c.args.buf.now) c.find.result _ _ c.find.ensures.value c.is_some.ensures c.if-is_some.false;
+        size = ap announced (sym h.1.fields) ∙ sym c.announced.ensures ∙ c.in-Some.is;
+      };
+      limit = omega arith;
       size = h.1.len;
-      method = c.in_ok-method.ensures ∙ c.of.ensures ∙ h.1.method;
-      target = c.in_ok-target.ensures ∙ c.of-2.ensures ∙ h.1.path;
-      fields = fields;
+      method = c.in_ok-from_slice.ensures ∙ c.of.ensures ∙ h.1.method;
+      target = c.in_ok-from_slice-2.ensures ∙ c.of-2.ensures ∙ h.1.path;
+      fields = c.in_ok-fields_at.ensures ∙ h.1.fields;
+      last = c.ends.ensures ∙ ap₂ ends h.1.version h.1.fields;
     }

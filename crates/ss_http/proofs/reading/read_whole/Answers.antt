@@ -2,7 +2,9 @@ use Rattle.std.proofs.Common.{◌≡◌, ◌+◌, ◌-◌, ℕ, List, take, drop
 use Rattle.std.proofs.lemmas.Result.{err_from_is_err_and}
 use Rattle.ss_http.specs.declared.message.Message.{Message}
 use Rattle.ss_http.specs.Heads.{IsHeadAt}
-use Rattle.ss_http.proofs.HeadLemmas.{head_append, short_fault, body_whole}
+use Rattle.ss_http.specs.Buffers.{Kept}
+use Rattle.ss_http.proofs.Filling.{Brings-append}
+use Rattle.ss_http.proofs.HeadLemmas.{begins, kept_whole, head_append, short_fault, body_whole}
 use Rattle.ss_http.proofs.reading.read_whole.Goals as goal
 
 pub returns-in_err-fill_to-clause-fault : goal.returns-in_err-fill_to-clause-fault
@@ -25,5 +27,31 @@ returns-clause-whole g c =
     c.in-Ok.ensures ∙ ap (λ n. take n (drop head.size c.kept.result.now)) count ∙ ap (λ z. take head.body (drop head.size z)) c.kept.ensures.bytes in (
       c.in_ok-fill_to.ensures.enough,
       body_whole buf head _ at c.in_ok-fill_to.ensures.enough
-          (ap (λ z. let m : Message = record { method = head.method; target = head.target; fields = head.fields; body = z } in m) body),
+          (ap (λ z. let m : Message = record { method = head.method; target = head.target; fields = head.fields; body = z; last = head.last } in m) body),
     )
+
+pub returns-in_err-head-clause-ready : goal.returns-in_err-head-clause-ready
+returns-in_err-head-clause-ready g c = λ m rest r. (c.read_head.ensures.ready r.head (begins c.args.buffer.now.bytes m rest r)).1
+
+pub returns-in_err-fill_to-clause-bytes : goal.returns-in_err-fill_to-clause-bytes
+returns-in_err-fill_to-clause-bytes g c =
+    Brings-append c.args.buffer.now.bytes c.read_head.new.buffer.bytes c.fill_to.new.buffer.bytes (g.S.Told.told c.args.source.now) (g.S.Told.told c.read_head.new.source) (g.S.Told.told c.fill_to.new.source)
+    c.read_head.ensures.bytes c.fill_to.ensures.bytes
+
+pub returns-in_err-fill_to-clause-ready : goal.returns-in_err-fill_to-clause-ready
+returns-in_err-fill_to-clause-ready g c = λ m rest r.
+    let same = c.read_head.ensures.ready r.head (begins c.args.buffer.now.bytes m rest r) in
+    let size = kept_whole c.args.buffer.now.bytes c.read_head.new.buffer.bytes c.in_ok-head.head m rest (ap (λ (k : Kept). k.bytes) same.0) c.in_ok-head.ensures.head r in
+    (c.fill_to.ensures.ready size).1 ∙ same.1
+
+pub returns-in_default-clause-ready : goal.returns-in_default-clause-ready
+returns-in_default-clause-ready g c = λ m rest r.
+    let same = c.read_head.ensures.ready r.head (begins c.args.buffer.now.bytes m rest r) in
+    let size = kept_whole c.args.buffer.now.bytes c.read_head.new.buffer.bytes c.in_ok-head.head m rest (ap (λ (k : Kept). k.bytes) same.0) c.in_ok-head.ensures.head r in
+    (c.fill_to.ensures.ready size).1 ∙ same.1
+
+pub returns-clause-ready : goal.returns-clause-ready
+returns-clause-ready g c = λ m rest r.
+    let same = c.read_head.ensures.ready r.head (begins c.args.buffer.now.bytes m rest r) in
+    let size = kept_whole c.args.buffer.now.bytes c.read_head.new.buffer.bytes c.in_ok-head.head m rest (ap (λ (k : Kept). k.bytes) same.0) c.in_ok-head.ensures.head r in
+    (c.fill_to.ensures.ready size).1 ∙ same.1

@@ -1,4 +1,4 @@
-use Rattle.ss_http.proofs.Lines.{body_lines}
+use Rattle.ss_http.proofs.LineLemmas.{body_lines}
 use Rattle.ss_http.proofs.response.push_body_fields.Goals as goal
 
 pub returns : goal.returns

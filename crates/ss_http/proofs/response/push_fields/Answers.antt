@@ -1,4 +1,4 @@
-use Rattle.ss_http.proofs.Lines.{fields_written}
+use Rattle.ss_http.proofs.LineLemmas.{fields_written}
 use Rattle.ss_http.proofs.response.push_fields.Goals as goal
 
 pub returns : goal.returns

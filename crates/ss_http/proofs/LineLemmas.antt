@@ -1,9 +1,12 @@
 -- Lines one after another.
-use Rattle.std.proofs.Common.{◌≡◌, ℕ, List, [], ◌∷◌, ◌++◌, refl, sym, ap, ◌∙◌, append_assoc, append-nil, cond, codes, decimal, ◌≢◌, Some, None, option_map}
+use Rattle.std.proofs.Common.{◌≡◌, ℕ, List, [], ◌∷◌, ◌++◌, refl, sym, ap, ◌∙◌, append_assoc, append-nil, cond, codes, decimal, ◌≢◌, Option, Some, None, option_map}
 use Rattle.std.proofs.lemmas.Bool.{ne_eqb}
 use Rattle.ss_http.specs.declared.response.ResponseHead.{ResponseHead}
 use Rattle.ss_text.specs.Time.{stamp_text}
-use Rattle.ss_http.specs.Responses.{line, lines, field_if, type_of, body_fields, fields}
+use Rattle.ss_http.specs.Fields.{line, lines, field_if}
+use Rattle.ss_http.specs.Responses.{type_of, body_fields, fields}
+use Rattle.ss_http.specs.Requests.{cond_fields, content_fields, request_fields}
+use Rattle.ss_text.specs.declared.stamps.Cond.{Cond}
 
 pub lines-append : (a b : List (List ℕ × List ℕ)) → lines (a ++ b) ≡ lines a ++ lines b
 unfolding lines
@@ -50,3 +53,10 @@ fields_written h n o p q r s t u v ep eq er es et eu ev =
     (seven (field_if (codes "X-Weave-Timestamp") (Some (stamp_text h.moment))) (field_if (codes "X-Last-Modified") (option_map stamp_text h.modified))
     (field_if (codes "X-Weave-Records") (option_map decimal h.count)) (field_if (codes "X-Weave-Next-Offset") (option_map decimal h.next)) (field_if (codes "Allow") h.allow)
     (body_fields h n) (field_if (codes "Connection") (cond h.last (Some (codes "close")) None)))
+
+-- the fields of a request
+pub request_lines : (host : List ℕ) (cond : Cond) (body : Option (List ℕ)) (o p q r : List ℕ)
+    → p ≡ o ++ lines (field_if (codes "Host") (Some host)) → q ≡ p ++ lines (cond_fields cond) → r ≡ q ++ lines (content_fields body) → r ≡ o ++ lines (request_fields host cond body)
+request_lines host cond body o p q r ep eq er =
+    let two = then_lines o p q (field_if (codes "Host") (Some host)) (cond_fields cond) ep eq in
+    then_lines o q r _ (content_fields body) two er ∙ ap (λ fs. o ++ lines fs) (append_assoc (field_if (codes "Host") (Some host)) (cond_fields cond) (content_fields body))

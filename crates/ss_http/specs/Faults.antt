@@ -1,0 +1,84 @@
+-- Why the bytes that were read give no message.
+use Rattle.std.specs.Prelude.{◌≡◌, ◌<◌, ◌≤◌, ◌⊎◌, ℕ, ◌+◌, List, [], ◌++◌, length, Option, None, Some, IsSome, codes, ⊤}
+use Rattle.httparse.specs.Grammar.{RequestHead, print_request, ReadsRequest}
+use Rattle.ss_http.specs.declared.fault.MsgFault.{MsgFault}
+use Rattle.ss_http.specs.declared.fault.MsgFault.TheVariants as faults
+use Rattle.ss_http.specs.Fields.{first_named, announced}
+use Rattle.ss_http.specs.Messages.{BeginsWith, Announces, fields_of}
+
+-- no front of buf is a head
+abbrev pub NoHead : List ℕ → Type 0
+NoHead buf = (h : RequestHead) → BeginsWith buf h → ⊥
+
+-- whatever follows, no head with at most 64 fields stands at the front
+abbrev pub NeverHead : List ℕ → Type 0
+NeverHead buf = (more : List ℕ) (h : RequestHead) (rest : List ℕ) → ReadsRequest (buf ++ more) h rest → 64 < length h.fields
+
+-- the head isn't whole, and may still be within its limit
+abbrev pub WantsHead : List ℕ → Type 0
+WantsHead buf = (0 < length buf) × (length buf < 16384) × NoHead buf
+
+-- the head is there, and the body that it announces isn't whole
+pub record WantsBody (buf : List ℕ) : Type 0 where
+  pub head : RequestHead
+  pub n : ℕ
+  pub begins : BeginsWith buf head
+  pub announces : Announces (fields_of head) n
+  pub limit : n ≤ 2101248
+  pub short : length buf < length (print_request head) + n
+
+-- the head has a Transfer-Encoding
+pub record IsCoded (buf : List ℕ) : Type 0 where
+  pub head : RequestHead
+  pub begins : BeginsWith buf head
+  pub coded : IsSome (first_named (codes "Transfer-Encoding") (fields_of head))
+
+-- the head has no Transfer-Encoding, and a Content-Length that isn't 1 to 18 digits, or two that differ
+pub record IsUnmeasured (buf : List ℕ) : Type 0 where
+  pub head : RequestHead
+  pub begins : BeginsWith buf head
+  pub plain : first_named (codes "Transfer-Encoding") (fields_of head) ≡ None
+  pub unmeasured : announced (fields_of head) ≡ None
+
+-- the head announces a body of n bytes, which are too many
+pub record IsTooLarge (n : ℕ) (buf : List ℕ) : Type 0 where
+  pub head : RequestHead
+  pub begins : BeginsWith buf head
+  pub announces : Announces (fields_of head) n
+  pub above : 2101248 < n
+
+-- what the bytes are where a call answers this fault
+abbrev pub IsFaultOf : MsgFault → List ℕ → Type 0
+IsFaultOf faults.End bytes = bytes ≡ []
+IsFaultOf faults.Cut bytes = WantsHead bytes ⊎ WantsBody bytes
+IsFaultOf faults.BadHead bytes = NeverHead bytes
+IsFaultOf faults.HeadTooLong bytes = (16384 ≤ length bytes) × NoHead bytes
+IsFaultOf faults.Coded bytes = IsCoded bytes
+IsFaultOf faults.BadLength bytes = IsUnmeasured bytes
+IsFaultOf (faults.TooLarge n) bytes = IsTooLarge n bytes
+IsFaultOf faults.ReadFault bytes = ⊤
+IsFaultOf faults.Memory bytes = ⊤
+
+-- the fault that a further call gives too; after a failed read and for want of memory the call can be made again
+abbrev pub lasting : MsgFault → Option MsgFault
+lasting faults.End = Some faults.End
+lasting faults.Cut = Some faults.Cut
+lasting faults.BadHead = Some faults.BadHead
+lasting faults.HeadTooLong = Some faults.HeadTooLong
+lasting faults.Coded = Some faults.Coded
+lasting faults.BadLength = Some faults.BadLength
+lasting (faults.TooLarge n) = Some (faults.TooLarge n)
+lasting faults.ReadFault = None
+lasting faults.Memory = None
+
+-- the faults that no further bytes mend, and which are answered by a response
+abbrev pub IsRefusal : MsgFault → Type 0
+IsRefusal faults.End = ⊥
+IsRefusal faults.Cut = ⊥
+IsRefusal faults.BadHead = ⊤
+IsRefusal faults.HeadTooLong = ⊤
+IsRefusal faults.Coded = ⊤
+IsRefusal faults.BadLength = ⊤
+IsRefusal (faults.TooLarge n) = ⊤
+IsRefusal faults.ReadFault = ⊥
+IsRefusal faults.Memory = ⊥

@@ -1,0 +1,10 @@
+pub mod Appending
+mod Blanks
+mod Composed
+mod Fit
+pub mod Heard
+mod Pieces
+mod Reasons
+pub mod Sent
+mod Tokens
+mod Uploads

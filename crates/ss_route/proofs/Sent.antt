@@ -1,0 +1,419 @@
+-- A request that is sent is routed as it was meant.
+use Rattle.std.proofs.Common.{◌≡◌, ℕ, zero, suc, ◌+◌, ◌^◌, ◌<◌, ◌≤◌, List, [], ◌∷◌, ◌++◌, length, map, get_or, Bool, true, false, ◌&&◌, cond, leb, Option, Some, None, option_and_then, codes, decimal, refl, sym, ap, ap₂, ◌∙◌, subst, arith, lit<, lit≤, le-leb, append_assoc, append-nil, length-append}
+use Rattle.std.proofs.lemmas.Fmt.{decimal_nonempty}
+use Rattle.std.proofs.lemmas.List.Sums.{sum_by-cons}
+use Rattle.std.specs.List.{list_all, AllByRecursion, All}
+use Rattle.std.specs.Prelude.{Result, Ok, Err, ok_or, is_some, IfSome, sum_by, nat_le}
+use Rattle.std.specs.Str.{IsUtf8}
+use Rattle.httparse.specs.Grammar.{trim_ows}
+use Rattle.ss_text.specs.Names.{is_id, is_name}
+use Rattle.ss_text.specs.Numbers.{number_of}
+use Rattle.ss_text.specs.Time.{stamp_text, stamp_of, last_stamp}
+use Rattle.ss_text.specs.declared.stamps.Cond.{Cond}
+use Rattle.ss_text.specs.declared.stamps.Cond.TheVariants.{Free, IfModified, IfUnmodified}
+use Rattle.ss_bso.specs.Limits.{part_bytes, payload_size}
+use Rattle.ss_bso.specs.declared.parts.Field.{Field}
+use Rattle.ss_bso.specs.declared.parts.Part.{Part}
+use Rattle.ss_bso.specs.declared.parts.Records.{Records}
+use Rattle.ss_http.proofs.Values.{stamp_again}
+use Rattle.ss_http.specs.Fields.{Line}
+use Rattle.ss_http.specs.Requests.{IsCond, request_fields, message_sent}
+use Rattle.ss_http.specs.declared.message.Message.{Message}
+use Rattle.ss_query.specs.Fit.{IsFitRequest, most_post_records, most_post_bytes}
+use Rattle.ss_query.specs.Parameters.{◌>>=◌, optional, or_default, ids_in, stamp_in, limit_in, offset_in, sort_in, ids_of_text, query_of_text, parameter}
+use Rattle.ss_query.specs.declared.queries.QueryFault.{QueryFault}
+use Rattle.ss_query.specs.declared.queries.QueryFault.TheVariants as of_query
+use Rattle.ss_query.specs.declared.replies.Said.TheVariants as words
+use Rattle.ss_query.specs.declared.requests.Info.TheVariants.{Configuration}
+use Rattle.ss_query.specs.declared.requests.Mode.{Mode}
+use Rattle.ss_query.specs.declared.requests.Mode.TheVariants.{Plain, Begin, Append, Commit}
+use Rattle.ss_query.specs.declared.requests.Query.{Query}
+use Rattle.ss_query.specs.declared.requests.Request.{Request}
+use Rattle.ss_query.specs.declared.requests.Request.TheVariants.{Info, DeleteAll, List as ListOf, Post, DeleteCollection, DeleteIds, Put, Get as GetItem, Delete as DeleteItem}
+use Rattle.ss_query.specs.declared.requests.Sort.TheVariants.{Newest, Oldest}
+use Rattle.ss_route.specs.declared.asked.Asked.{Asked}
+use Rattle.ss_route.specs.declared.asked.Asked.TheVariants.{TellOf, OfCollection}
+use Rattle.ss_route.specs.declared.asked.CollectionAct.{CollectionAct}
+use Rattle.ss_route.specs.declared.asked.CollectionAct.TheVariants as collections
+use Rattle.ss_route.specs.declared.methods.Method.{Method}
+use Rattle.ss_route.specs.declared.methods.Method.TheVariants as methods
+use Rattle.ss_route.specs.declared.routed.Local.{Local}
+use Rattle.ss_route.specs.declared.routed.Routed.{Routed}
+use Rattle.ss_route.specs.declared.routed.Routed.TheVariants.{Ask}
+use Rattle.ss_route.specs.declared.targets.Named.{Named}
+use Rattle.ss_route.specs.declared.targets.Place.{Place}
+use Rattle.ss_route.specs.declared.targets.Place.TheVariants.{About, Collection}
+use Rattle.ss_route.specs.Asking.{method_in, asked_in, name_in}
+use Rattle.ss_route.specs.Bodies.{lines_in, lines_of_type, records_in, within_limits}
+use Rattle.ss_route.specs.Conditions.{condition_in, time_in}
+use Rattle.ss_route.specs.Fields.{wants_lines, without_parameters}
+use Rattle.ss_route.specs.Posts.{token, batch_of, mode_of, mode_in, batch_in, continues, names_batch, announced_in}
+use Rattle.ss_route.specs.Refusals.{said, code, or_refusal, query_refusal, body_refusal}
+use Rattle.ss_route.specs.Routing.{is_get, asking, settled, routed, request_in, collection_request, list_request, post_request}
+use Rattle.ss_route.specs.Sending.{IsSent, IsTyped, IsReadable, IsReadableBatch, IsPageAt, IsUnmodified, IsUpload, page, payload_set, account_path, offset_text, mode_text, target_of, uploads_text, message_of}
+use Rattle.ss_route.specs.Targets.{query_of, named_by, named_in, place_of, info_of, uid_of, account_in, segments_of, path_of}
+use Rattle.ss_route.proofs.Composed.{Pair, is_plain, IsPlainSegment, IsPlainPair, ArePlainSegments, ArePlainPairs, target_text, first_value, path_again, parameter_again}
+use Rattle.ss_route.proofs.Tokens.{decimal_is_plain, token_is_plain, number_back, uid_back, batch_back, token_is_not_true}
+use Rattle.ss_route.proofs.Uploads.{IsPart, uploads_are_read}
+
+-- a step that goes on
+pub on : {A B E : Type 0} (x : Result A E) (v : A) (f : A → Result B E) (y : B) → x ≡ Ok v → f v ≡ Ok y → (x >>= f) ≡ Ok y
+on x v f y e then = ap (λ r. r >>= f) e ∙ then
+
+-- ---- targets
+
+abbrev pub bookmarks : ℕ → List (List ℕ)
+bookmarks uid = codes "1.5" ∷ decimal uid ∷ codes "storage" ∷ codes "bookmarks" ∷ []
+
+abbrev pub configuration : ℕ → List (List ℕ)
+configuration uid = codes "1.5" ∷ decimal uid ∷ codes "info" ∷ codes "configuration" ∷ []
+
+segment : (xs : List ℕ) → 0 < length xs → list_all is_plain xs ≡ true → IsPlainSegment xs
+segment xs some h = record { some = some; plain = h }
+
+pair : (name value : List ℕ) → list_all is_plain name ≡ true → list_all is_plain value ≡ true → IsPlainPair (name, value)
+pair name value h g = record { name = h; value = g }
+
+pub bookmarks_plain : (uid : ℕ) → uid < 2 ^ 64 → ArePlainSegments (bookmarks uid)
+bookmarks_plain uid h =
+    (lit< tt, (segment _ (lit< tt) refl, (segment (decimal uid) (decimal_nonempty uid h) (decimal_is_plain uid h), (segment _ (lit< tt) refl, (segment _ (lit< tt) refl, tt)))))
+
+pub configuration_plain : (uid : ℕ) → uid < 2 ^ 64 → ArePlainSegments (configuration uid)
+configuration_plain uid h =
+    (lit< tt, (segment _ (lit< tt) refl, (segment (decimal uid) (decimal_nonempty uid h) (decimal_is_plain uid h), (segment _ (lit< tt) refl, (segment _ (lit< tt) refl, tt)))))
+
+named_bookmarks : (uid : ℕ) (pairs : List Pair) → uid < 2 ^ 64 → ArePlainPairs pairs
+    → named_in (target_text (bookmarks uid) pairs) ≡ Ok (record { uid = decimal uid; place = Collection (codes "bookmarks") })
+unfolding named_in named_by place_of
+named_bookmarks uid pairs h g = ap (λ s. ok_or (option_and_then named_by s) (said 404 words.Path)) (path_again (bookmarks uid) pairs (bookmarks_plain uid h) g)
+
+named_configuration : (uid : ℕ) → uid < 2 ^ 64 → named_in (target_text (configuration uid) []) ≡ Ok (record { uid = decimal uid; place = About Configuration })
+unfolding named_in named_by place_of info_of
+named_configuration uid h = ap (λ s. ok_or (option_and_then named_by s) (said 404 words.Path)) (path_again (configuration uid) [] (configuration_plain uid h) tt)
+
+account_back : (uid : ℕ) → 1 ≤ uid → uid ≤ 4294967295 → account_in (decimal uid) ≡ Ok uid
+account_back uid above below = ap (λ o. ok_or o (said 401 words.Account)) (uid_back uid above below)
+
+-- ---- the rules
+
+asked_again : (m : Message) (method : Method) (named : Named) (uid : ℕ) (asked : Asked) (request : Request)
+    → method_in m.method ≡ Ok method → named_in m.target ≡ Ok named → account_in named.uid ≡ Ok uid → asked_in named.place method ≡ Ok asked
+    → request_in asked method m ≡ Ok request → wants_lines m.fields ≡ false → asking m ≡ Ok (Ask uid request false)
+unfolding asking
+asked_again m method named uid asked request a b c d e f =
+    let ask : ℕ → Request → Result Routed Local = λ uid request. Ok (Ask uid request (wants_lines m.fields)) in
+    let y : Routed = Ask uid request (wants_lines m.fields) in
+    let whole =
+    on (method_in m.method) method
+    (λ method. named_in m.target >>= (λ named. account_in named.uid >>= (λ uid. asked_in named.place method >>= (λ asked. request_in asked method m >>= ask uid)))) y a
+    (on (named_in m.target) named (λ named. account_in named.uid >>= (λ uid. asked_in named.place method >>= (λ asked. request_in asked method m >>= ask uid))) y b
+    (on (account_in named.uid) uid (λ uid. asked_in named.place method >>= (λ asked. request_in asked method m >>= ask uid)) y c
+    (on (asked_in named.place method) asked (λ asked. request_in asked method m >>= ask uid) y d (on (request_in asked method m) request (ask uid) y e refl)))) in
+    whole ∙ ap (λ lines. Ok (Ask uid request lines)) f
+
+asked_bookmarks : (m : Message) (method : Method) (act : CollectionAct) (uid : ℕ) (pairs : List Pair) (cond : Cond) (request : Request)
+    → method_in m.method ≡ Ok method → m.target ≡ target_text (bookmarks uid) pairs → ArePlainPairs pairs → 1 ≤ uid → uid ≤ 4294967295
+    → asked_in (Collection (codes "bookmarks")) method ≡ Ok (OfCollection act (codes "bookmarks")) → condition_in (is_get method) m.fields ≡ Ok cond
+    → collection_request act (codes "bookmarks") cond m ≡ Ok request → wants_lines m.fields ≡ false → asking m ≡ Ok (Ask uid request false)
+unfolding request_in name_in
+asked_bookmarks m method act uid pairs cond request a target plain above below d condition body f =
+    let few : uid < 2 ^ 64 = omega arith in
+    asked_again m method (record { uid = decimal uid; place = Collection (codes "bookmarks") }) uid (OfCollection act (codes "bookmarks")) request a
+    (ap named_in target ∙ named_bookmarks uid pairs few plain) (account_back uid above below) d
+    (on (condition_in (is_get method) m.fields) cond (λ cond. collection_request act (codes "bookmarks") cond m) request condition body) f
+
+-- ---- conditions
+
+free_again : (gets : Bool) (host : List ℕ) → condition_in gets (request_fields host Free None) ≡ Ok Free
+unfolding condition_in
+free_again gets host = refl
+
+time_back : (time : ℕ) → time ≤ last_stamp → (time_in (stamp_text time) >>= (λ time. Ok (IfUnmodified time))) ≡ Ok (IfUnmodified time)
+time_back time h = ap (λ o. ok_or o (said 400 words.Condition) >>= (λ time. Ok (IfUnmodified time))) (stamp_again time h)
+
+unmodified_again : (gets : Bool) (host : List ℕ) (time : ℕ) (body : Option (List ℕ)) → time ≤ last_stamp
+    → condition_in gets (request_fields host (IfUnmodified time) body) ≡ Ok (IfUnmodified time)
+unfolding condition_in
+unmodified_again gets host time None h = time_back time h
+unmodified_again gets host time (Some body) h = time_back time h
+
+-- ---- a page
+
+query_from : (ids newer older limit offset sort full : Option (List ℕ)) → Result Query QueryFault
+query_from ids newer older limit offset sort full = do
+  ids ← optional ids_in ids
+  newer ← optional stamp_in newer
+  older ← optional stamp_in older
+  limit ← optional limit_in limit
+  offset ← or_default 0 offset_in offset
+  sort ← or_default Newest sort_in sort
+  Ok (record { ids = ids; newer = newer; older = older; limit = limit; offset = offset; sort = sort; full = is_some full })
+
+from_parameters : (text : List ℕ) → query_of_text text ≡ query_from (parameter (codes "ids") text) (parameter (codes "newer") text) (parameter (codes "older") text)
+    (parameter (codes "limit") text) (parameter (codes "offset") text) (parameter (codes "sort") text) (parameter (codes "full") text)
+unfolding query_of_text ids_of_text query_from
+from_parameters text = refl
+
+abbrev first_pairs : List Pair
+first_pairs = (codes "full", codes "1") ∷ (codes "sort", codes "oldest") ∷ (codes "limit", codes "1000") ∷ []
+
+abbrev later_pairs : ℕ → List Pair
+later_pairs offset = (codes "full", codes "1") ∷ (codes "sort", codes "oldest") ∷ (codes "limit", codes "1000") ∷ (codes "offset", decimal offset) ∷ []
+
+first_plain : ArePlainPairs first_pairs
+first_plain = (pair _ _ refl refl, (pair _ _ refl refl, (pair _ _ refl refl, tt)))
+
+later_plain : (offset : ℕ) → offset < 2 ^ 64 → ArePlainPairs (later_pairs offset)
+later_plain offset h = (pair _ _ refl refl, (pair _ _ refl refl, (pair _ _ refl refl, (pair _ _ refl (decimal_is_plain offset h), tt))))
+
+first_query : query_from None None None (Some (codes "1000")) None (Some (codes "oldest")) (Some (codes "1")) ≡ Ok (page 0)
+unfolding query_from limit_in sort_in number_of
+first_query = refl
+
+abbrev made : Option ℕ → ℕ → Result Query QueryFault
+made limit offset = Ok (record { ids = None; newer = None; older = None; limit = limit; offset = offset; sort = Oldest; full = true })
+
+later_query : (offset : ℕ) → offset ≤ 999999999
+    → query_from None None None (Some (codes "1000")) (Some (decimal offset)) (Some (codes "oldest")) (Some (codes "1")) ≡ Ok (page offset)
+unfolding query_from limit_in sort_in offset_in number_of
+later_query offset h =
+    ap (λ o. optional limit_in (Some (codes "1000")) >>= (λ limit. ok_or o of_query.BadOffset >>= (λ offset. made limit offset)))
+    (number_back 9 offset (lit< tt) (omega arith) (omega arith))
+
+parameters_are : (segments : List (List ℕ)) (pairs : List Pair) (query : Query) → ArePlainSegments segments → ArePlainPairs pairs
+    → query_from (first_value (codes "ids") pairs) (first_value (codes "newer") pairs) (first_value (codes "older") pairs) (first_value (codes "limit") pairs)
+    (first_value (codes "offset") pairs) (first_value (codes "sort") pairs) (first_value (codes "full") pairs) ≡ Ok query
+    → query_of_text (query_of (target_text segments pairs)) ≡ Ok query
+parameters_are segments pairs query h g e =
+    from_parameters (query_of (target_text segments pairs))
+    ∙ (λ i. query_from (parameter_again (codes "ids") segments pairs h g i) (parameter_again (codes "newer") segments pairs h g i) (parameter_again (codes "older") segments pairs h g i)
+    (parameter_again (codes "limit") segments pairs h g i) (parameter_again (codes "offset") segments pairs h g i) (parameter_again (codes "sort") segments pairs h g i)
+    (parameter_again (codes "full") segments pairs h g i))
+    ∙ e
+
+listed_again : (m : Message) (cond : Cond) (query : Query) → query_of_text (query_of m.target) ≡ Ok query
+    → list_request (codes "bookmarks") cond m ≡ Ok (ListOf (codes "bookmarks") query cond)
+unfolding list_request
+listed_again m cond query e = ap (λ r. or_refusal query_refusal r >>= (λ query. Ok (ListOf (codes "bookmarks") query cond))) e
+
+get_asks : (act : CollectionAct) → asked_in (Collection (codes "bookmarks")) methods.Get ≡ Ok (OfCollection collections.List (codes "bookmarks"))
+unfolding asked_in
+get_asks act = refl
+
+get_is : method_in (codes "GET") ≡ Ok methods.Get
+unfolding method_in
+get_is = refl
+
+no_lines : (host : List ℕ) (cond : Cond) (body : Option (List ℕ)) → wants_lines (request_fields host cond body) ≡ false
+no_lines host Free None = refl
+no_lines host Free (Some body) = refl
+no_lines host (IfModified time) None = refl
+no_lines host (IfModified time) (Some body) = refl
+no_lines host (IfUnmodified time) None = refl
+no_lines host (IfUnmodified time) (Some body) = refl
+
+first_target : (uid : ℕ) → target_of uid (ListOf (codes "bookmarks") (page 0) Free) ≡ target_text (bookmarks uid) first_pairs
+unfolding target_of account_path
+first_target uid = simp (append_assoc, append-nil)
+
+later_target : (uid offset time : ℕ) → target_of uid (ListOf (codes "bookmarks") (page offset) (IfUnmodified time)) ≡ target_text (bookmarks uid) (later_pairs offset)
+unfolding target_of account_path
+later_target uid offset time = simp (append_assoc, append-nil)
+
+first_page : (uid : ℕ) (host : List ℕ) → 1 ≤ uid → uid ≤ 4294967295
+    → asking (message_of uid host (ListOf (codes "bookmarks") (page 0) Free)) ≡ Ok (Ask uid (ListOf (codes "bookmarks") (page 0) Free) false)
+first_page uid host above below =
+    let request = ListOf (codes "bookmarks") (page 0) Free in
+    let m = message_of uid host request in
+    let few : uid < 2 ^ 64 = omega arith in
+    asked_bookmarks m methods.Get collections.List uid first_pairs Free request get_is (first_target uid) first_plain above below (get_asks collections.List)
+    (free_again true host)
+    (listed_again m Free (page 0) (ap (λ target. query_of_text (query_of target)) (first_target uid) ∙ parameters_are (bookmarks uid) first_pairs (page 0) (bookmarks_plain uid few) first_plain first_query))
+    (no_lines host Free None)
+
+later_page : (uid offset time : ℕ) (host : List ℕ) → 1 ≤ uid → uid ≤ 4294967295 → offset ≤ 999999999 → time ≤ last_stamp
+    → asking (message_of uid host (ListOf (codes "bookmarks") (page offset) (IfUnmodified time))) ≡ Ok (Ask uid (ListOf (codes "bookmarks") (page offset) (IfUnmodified time)) false)
+later_page uid offset time host above below within known =
+    let request = ListOf (codes "bookmarks") (page offset) (IfUnmodified time) in
+    let m = message_of uid host request in
+    let few : uid < 2 ^ 64 = omega arith in
+    let plain = later_plain offset (omega arith) in
+    asked_bookmarks m methods.Get collections.List uid (later_pairs offset) (IfUnmodified time) request get_is (later_target uid offset time) plain above below (get_asks collections.List)
+    (unmodified_again true host time None known)
+    (listed_again m (IfUnmodified time) (page offset)
+    (ap (λ target. query_of_text (query_of target)) (later_target uid offset time) ∙ parameters_are (bookmarks uid) (later_pairs offset) (page offset) (bookmarks_plain uid few) plain (later_query offset within)))
+    (no_lines host (IfUnmodified time) None)
+
+-- ---- the limits of the server
+
+configuration_target : (uid : ℕ) → target_of uid (Info Configuration Free) ≡ target_text (configuration uid) []
+unfolding target_of account_path
+configuration_target uid = simp (append_assoc, append-nil)
+
+told_of : (m : Message) → condition_in true m.fields ≡ Ok Free → request_in (TellOf Configuration) methods.Get m ≡ Ok (Info Configuration Free)
+unfolding request_in
+told_of m e = ap (λ r. r >>= (λ cond. Ok (Info Configuration cond))) e
+
+tell_asks : asked_in (About Configuration) methods.Get ≡ Ok (TellOf Configuration)
+unfolding asked_in
+tell_asks = refl
+
+limits_asked : (uid : ℕ) (host : List ℕ) → 1 ≤ uid → uid ≤ 4294967295 → asking (message_of uid host (Info Configuration Free)) ≡ Ok (Ask uid (Info Configuration Free) false)
+limits_asked uid host above below =
+    let m = message_of uid host (Info Configuration Free) in
+    let few : uid < 2 ^ 64 = omega arith in
+    asked_again m methods.Get (record { uid = decimal uid; place = About Configuration }) uid (TellOf Configuration) (Info Configuration Free) get_is
+    (ap named_in (configuration_target uid) ∙ named_configuration uid few) (account_back uid above below) tell_asks (told_of m (free_again true host)) (no_lines host Free None)
+
+-- ---- a POST
+
+abbrev mode_pairs : Mode → List Pair
+mode_pairs Plain = []
+mode_pairs Begin = (codes "batch", codes "true") ∷ []
+mode_pairs (Append batch) = (codes "batch", token batch) ∷ []
+mode_pairs (Commit batch) = (codes "batch", token batch) ∷ (codes "commit", codes "true") ∷ []
+
+pub mode_plain : (mode : Mode) → IsReadableBatch mode → ArePlainPairs (mode_pairs mode)
+mode_plain Plain h = tt
+mode_plain Begin h = (pair _ _ refl refl, tt)
+mode_plain (Append batch) h = (pair _ _ refl (token_is_plain batch (omega (arith, h.1))), tt)
+mode_plain (Commit batch) h = (pair _ _ refl (token_is_plain batch (omega (arith, h.1))), (pair _ _ refl refl, tt))
+
+token_mode : (commits : Bool) (n : ℕ) (mode : Mode) → 1 ≤ n → n ≤ 999999999999 → continues commits (Some n) ≡ Ok mode → batch_in commits (Some (token n)) ≡ Ok mode
+token_mode commits n mode above below e =
+    ap (λ test. cond test (Ok (cond commits Plain Begin)) (continues commits (batch_of (token n)))) (token_is_not_true n above below)
+    ∙ ap (continues commits) (batch_back n above below) ∙ e
+
+modes_again : (mode : Mode) → IsReadableBatch mode → mode_of (first_value (codes "batch") (mode_pairs mode)) (first_value (codes "commit") (mode_pairs mode)) ≡ Ok mode
+modes_again Plain h = refl
+modes_again Begin h = refl
+modes_again (Append batch) h = token_mode false batch (Append batch) h.0 h.1 refl
+modes_again (Commit batch) h = token_mode true batch (Commit batch) h.0 h.1 refl
+
+mode_again : (uid : ℕ) (mode : Mode) → uid < 2 ^ 64 → IsReadableBatch mode → mode_in (query_of (target_text (bookmarks uid) (mode_pairs mode))) ≡ Ok mode
+unfolding mode_in
+mode_again uid mode few h =
+    (λ i. mode_of (parameter_again (codes "batch") (bookmarks uid) (mode_pairs mode) (bookmarks_plain uid few) (mode_plain mode h) i)
+    (parameter_again (codes "commit") (bookmarks uid) (mode_pairs mode) (bookmarks_plain uid few) (mode_plain mode h) i))
+    ∙ modes_again mode h
+
+nothing_announced : (batch : Bool) (host : List ℕ) (time : ℕ) (body : List ℕ) → announced_in batch (request_fields host (IfUnmodified time) (Some body)) ≡ Ok tt
+unfolding announced_in
+nothing_announced true host time body = refl
+nothing_announced false host time body = refl
+
+json_again : (host : List ℕ) (time : ℕ) (body : List ℕ) → lines_in true (request_fields host (IfUnmodified time) (Some body)) ≡ Ok false
+unfolding lines_in lines_of_type without_parameters trim_ows
+json_again host time body = refl
+
+-- what holds of each element holds of the first and of the others
+all_by_recursion : {X : Type 0} (P : X → Type 0) (xs : List X) → All P xs → AllByRecursion P xs
+all_by_recursion P [] h = tt
+all_by_recursion P (x ∷ xs) h = (h 0 x (omega arith), all_by_recursion P xs (λ k d few. h (suc k) d (omega arith)))
+
+size_set : (part : Part) → IsUpload part → payload_size part.fields.payload ≡ length (payload_set part.fields.payload)
+size_set part h = ap payload_size h.payload ∙ sym (ap (λ field. length (payload_set field)) h.payload)
+
+parts_are : (parts : List Part) → AllByRecursion IsUpload parts → AllByRecursion (λ part. (is_id part.id ≡ true) × IsUtf8 (payload_set part.fields.payload)) parts
+    → part_bytes parts ≤ most_post_bytes → AllByRecursion IsPart parts
+parts_are [] uploads typed few = tt
+parts_are (part ∷ parts) uploads typed few =
+    let sum = sum_by-cons (λ (part : Part). payload_size part.fields.payload) part parts in
+    let here = size_set part uploads.0 in
+    (record { id = typed.0.0; sets = uploads.0; payload = typed.0.1; size = omega (arith, sum, here, few) }, parts_are parts uploads.1 typed.1 (omega (arith, sum, few)))
+
+fits_again : (records : Records) → length records.parts + length records.failed ≤ most_post_records → part_bytes records.parts ≤ most_post_bytes → within_limits records ≡ Ok records
+fits_again records number bytes =
+    ap₂ (λ s t. cond (s && t) (Ok records) (Err (code 17))) (le-leb (length records.parts + length records.failed) most_post_records number) (le-leb (part_bytes records.parts) most_post_bytes bytes)
+
+records_again : (parts : List Part) → AllByRecursion IsPart parts → length parts + 0 ≤ most_post_records → part_bytes parts ≤ most_post_bytes
+    → records_in false (uploads_text parts) ≡ Ok (record { parts = parts; failed = [] })
+unfolding records_in
+records_again parts are number bytes =
+    ap (λ r. or_refusal body_refusal r >>= within_limits) (uploads_are_read parts are) ∙ fits_again (record { parts = parts; failed = [] }) number bytes
+
+post_is : method_in (codes "POST") ≡ Ok methods.Post
+unfolding method_in
+post_is = refl
+
+post_asks : asked_in (Collection (codes "bookmarks")) methods.Post ≡ Ok (OfCollection collections.Post (codes "bookmarks"))
+unfolding asked_in
+post_asks = refl
+
+mode_target : (uid : ℕ) (records : Records) (mode : Mode) (cond : Cond) → target_of uid (Post (codes "bookmarks") records mode cond) ≡ target_text (bookmarks uid) (mode_pairs mode)
+unfolding target_of account_path
+mode_target uid records Plain c = refl
+mode_target uid records Begin c = refl
+mode_target uid records (Append batch) c = refl
+mode_target uid records (Commit batch) c = refl
+
+posted_again : (m : Message) (records : Records) (mode : Mode) (cond : Cond)
+    → mode_in (query_of m.target) ≡ Ok mode → announced_in (names_batch (query_of m.target)) m.fields ≡ Ok tt → lines_in true m.fields ≡ Ok false
+    → records_in false m.body ≡ Ok records → post_request (codes "bookmarks") cond m ≡ Ok (Post (codes "bookmarks") records mode cond)
+unfolding post_request
+posted_again m records mode cond a b c d =
+    let with : Mode → Records → Result Request Local = λ mode records. Ok (Post (codes "bookmarks") records mode cond) in
+    let y = Post (codes "bookmarks") records mode cond in
+    on (mode_in (query_of m.target)) mode
+    (λ mode. announced_in (names_batch (query_of m.target)) m.fields >>= (λ announced. lines_in true m.fields >>= (λ lines. records_in lines m.body >>= with mode))) y a
+    (on (announced_in (names_batch (query_of m.target)) m.fields) tt (λ announced. lines_in true m.fields >>= (λ lines. records_in lines m.body >>= with mode)) y b
+    (on (lines_in true m.fields) false (λ lines. records_in lines m.body >>= with mode) y c (on (records_in false m.body) records (with mode) y d refl)))
+
+upload : (uid time : ℕ) (host : List ℕ) (parts : List Part) (mode : Mode) → 1 ≤ uid → uid ≤ 4294967295 → time ≤ last_stamp → IsReadableBatch mode
+    → AllByRecursion IsPart parts → length parts + 0 ≤ most_post_records → part_bytes parts ≤ most_post_bytes
+    → (let request : Request = Post (codes "bookmarks") (record { parts = parts; failed = [] }) mode (IfUnmodified time) in
+    asking (message_of uid host request) ≡ Ok (Ask uid request false))
+upload uid time host parts mode above below known readable are number bytes =
+    let records : Records = record { parts = parts; failed = [] } in
+    let request = Post (codes "bookmarks") records mode (IfUnmodified time) in
+    let m = message_of uid host request in
+    let few : uid < 2 ^ 64 = omega arith in
+    let target = mode_target uid records mode (IfUnmodified time) in
+    let body = uploads_text parts in
+    asked_bookmarks m methods.Post collections.Post uid (mode_pairs mode) (IfUnmodified time) request post_is target (mode_plain mode readable) above below post_asks
+    (unmodified_again false host time (Some body) known)
+    (posted_again m records mode (IfUnmodified time) (ap (λ target. mode_in (query_of target)) target ∙ mode_again uid mode few readable)
+    (nothing_announced (names_batch (query_of m.target)) host time body) (json_again host time body) (records_again parts are number bytes))
+    (no_lines host (IfUnmodified time) (Some body))
+
+-- ---- the law
+
+abbrev Goes : ℕ → List ℕ → Request → Type 0
+Goes uid host request = asking (message_of uid host request) ≡ Ok (Ask uid request false)
+
+page_goes : (uid offset : ℕ) (host : List ℕ) (cond : Cond) → 1 ≤ uid → uid ≤ 4294967295 → IsPageAt offset cond → offset ≤ 999999999 → IsCond cond
+    → Goes uid host (ListOf (codes "bookmarks") (page offset) cond)
+page_goes uid offset host Free above below at within typed = subst (λ offset. Goes uid host (ListOf (codes "bookmarks") (page offset) Free)) (sym at) (first_page uid host above below)
+page_goes uid offset host (IfModified time) above below at within typed = absurd at
+page_goes uid offset host (IfUnmodified time) above below at within typed = later_page uid offset time host above below within typed
+
+post_goes : (uid : ℕ) (host : List ℕ) (parts : List Part) (mode : Mode) (cond : Cond) → 1 ≤ uid → uid ≤ 4294967295 → IsUnmodified cond → IsCond cond → IsReadableBatch mode
+    → AllByRecursion IsPart parts → length parts + 0 ≤ most_post_records → part_bytes parts ≤ most_post_bytes
+    → Goes uid host (Post (codes "bookmarks") (record { parts = parts; failed = [] }) mode cond)
+post_goes uid host parts mode Free above below at typed readable are number bytes = absurd at
+post_goes uid host parts mode (IfModified time) above below at typed readable are number bytes = absurd at
+post_goes uid host parts mode (IfUnmodified time) above below at typed readable are number bytes = upload uid time host parts mode above below typed readable are number bytes
+
+goes : (uid : ℕ) (host : List ℕ) (request : Request) → 1 ≤ uid → uid ≤ 4294967295 → IsTyped request → IsSent request → IsFitRequest request → IsReadable request → Goes uid host request
+goes uid host (Info what cond) above below typed sent fit readable =
+    subst (λ what. Goes uid host (Info what cond)) (sym sent.0) (subst (λ cond. Goes uid host (Info Configuration cond)) (sym sent.1) (limits_asked uid host above below))
+goes uid host (DeleteAll cond) above below typed sent fit readable = absurd sent
+goes uid host (ListOf collection query cond) above below typed sent fit readable =
+    subst (λ collection. Goes uid host (ListOf collection query cond)) (sym sent.0)
+    (subst (λ query. Goes uid host (ListOf (codes "bookmarks") query cond)) (sym sent.1) (page_goes uid query.offset host cond above below sent.2 readable typed))
+goes uid host (Post collection records mode cond) above below typed sent fit readable =
+    let are = parts_are records.parts (all_by_recursion IsUpload records.parts sent.2) (all_by_recursion _ records.parts typed.0) fit.1 in
+    let number : length records.parts + 0 ≤ most_post_records = omega (arith, fit.0) in
+    let made : Records = record { parts = records.parts; failed = [] } in
+    let same : made ≡ records = λ i. record { parts = records.parts; failed = sym sent.1 i } in
+    subst (λ collection. Goes uid host (Post collection records mode cond)) (sym sent.0)
+    (subst (λ records. Goes uid host (Post (codes "bookmarks") records mode cond)) same (post_goes uid host records.parts mode cond above below sent.3 typed.1 readable.0 are number fit.1))
+goes uid host (DeleteCollection collection cond) above below typed sent fit readable = absurd sent
+goes uid host (DeleteIds collection ids cond) above below typed sent fit readable = absurd sent
+goes uid host (GetItem collection id cond) above below typed sent fit readable = absurd sent
+goes uid host (Put collection id fields cond) above below typed sent fit readable = absurd sent
+goes uid host (DeleteItem collection id cond) above below typed sent fit readable = absurd sent
+
+pub sent_is_routed : (uid : ℕ) (host : List ℕ) (request : Request) → 1 ≤ uid → uid ≤ 4294967295 → IsTyped request → IsSent request → IsFitRequest request → IsReadable request
+    → routed (message_of uid host request) ≡ Ask uid request false
+sent_is_routed uid host request above below typed sent fit readable = ap settled (goes uid host request above below typed sent fit readable)

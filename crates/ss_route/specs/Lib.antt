@@ -1,0 +1,12 @@
+pub mod Asking
+pub mod Bodies
+pub mod Conditions
+pub mod Drafts
+pub mod Fields
+pub mod Posts
+pub mod Refusals
+pub mod Routing
+pub mod Sending
+pub mod Targets
+pub mod Texts
+pub mod Wire

@@ -1,0 +1,131 @@
+-- The requests that a sync client sends, as it writes them.
+use Rattle.std.specs.Prelude.{◌≡◌, ℕ, ◌≤◌, ◌<◌, true, List, [], ◌∷◌, ◌++◌, map, length, All, Option, Some, None, IfSome, codes, decimal, ⊤}
+use Rattle.std.specs.List.{list_all}
+use Rattle.std.specs.Str.{IsUtf8}
+use Rattle.ss_text.specs.declared.stamps.Cond.{Cond}
+use Rattle.ss_text.specs.declared.stamps.Cond.TheVariants.{Free, IfModified, IfUnmodified}
+use Rattle.ss_bso.specs.declared.parts.Field.{Field}
+use Rattle.ss_bso.specs.declared.parts.Field.TheVariants.{Keep, Clear, Set}
+use Rattle.ss_bso.specs.declared.parts.Part.{Part}
+use Rattle.ss_bso.specs.declared.parts.Records.{Records}
+use Rattle.ss_text.specs.Names.{is_id}
+use Rattle.ss_http.specs.Requests.{IsCond, is_host_byte, request_text, message_sent}
+use Rattle.ss_http.specs.declared.message.Message.{Message}
+use Rattle.ss_query.specs.Refused.{condition_of}
+use Rattle.ss_query.specs.declared.requests.Info.TheVariants.{Configuration}
+use Rattle.ss_query.specs.declared.requests.Mode.{Mode}
+use Rattle.ss_query.specs.declared.requests.Mode.TheVariants.{Plain, Begin, Append, Commit}
+use Rattle.ss_query.specs.declared.requests.Query.{Query}
+use Rattle.ss_query.specs.declared.requests.Request.{Request}
+use Rattle.ss_query.specs.declared.requests.Request.TheVariants.{Info, List as ListOf, Post}
+use Rattle.ss_query.specs.declared.requests.Sort.TheVariants.{Oldest}
+use Rattle.ss_route.specs.Posts.{token}
+use Rattle.ss_route.specs.Texts.{json_text, list_text}
+
+-- the query of a page of 1,000 whole records, the oldest first
+abbrev pub page : ℕ → Query
+page offset = record { ids = None; newer = None; older = None; limit = Some 1000; offset = offset; sort = Oldest; full = true }
+
+-- a first page has no condition and begins at the front; a later one asks that nothing has changed
+abbrev pub IsPageAt : ℕ → Cond → Type 0
+IsPageAt offset Free = offset ≡ 0
+IsPageAt offset (IfModified time) = ⊥
+IsPageAt offset (IfUnmodified time) = ⊤
+
+-- a condition that nothing has changed
+abbrev pub IsUnmodified : Cond → Type 0
+IsUnmodified Free = ⊥
+IsUnmodified (IfModified time) = ⊥
+IsUnmodified (IfUnmodified time) = ⊤
+
+-- a record that sets its payload and says nothing of the other fields
+pub record IsUpload (part : Part) : Type 0 where
+  pub text : List ℕ
+  pub payload : part.fields.payload ≡ Set text
+  pub sortindex : part.fields.sortindex ≡ Keep
+  pub ttl : part.fields.ttl ≡ Keep
+
+-- the requests that are written: for the limits of the server, for a page of the bookmarks, and to upload bookmarks
+abbrev pub IsSent : Request → Type 0
+IsSent (Info what cond) = (what ≡ Configuration) × (cond ≡ Free)
+IsSent (ListOf collection query cond) = (collection ≡ codes "bookmarks") × (query ≡ page query.offset) × IsPageAt query.offset cond
+IsSent (Post collection records mode cond) = (collection ≡ codes "bookmarks") × (records.failed ≡ []) × All IsUpload records.parts × IsUnmodified cond
+IsSent _ = ⊥
+
+-- a host of 1 to 1,030 visible bytes
+abbrev pub IsHost : List ℕ → Type 0
+IsHost host = (0 < length host) × (length host ≤ 1030) × (list_all is_host_byte host ≡ true)
+
+abbrev pub method_of : Request → List ℕ
+method_of (Post collection records mode cond) = codes "POST"
+method_of _ = codes "GET"
+
+-- where the targets of an account begin
+unfoldable pub account_path : ℕ → List ℕ
+account_path uid = codes "/1.5/" ++ decimal uid
+
+-- a later page names its offset
+abbrev pub offset_text : ℕ → Cond → List ℕ
+offset_text offset Free = []
+offset_text offset (IfModified time) = []
+offset_text offset (IfUnmodified time) = codes "&offset=" ++ decimal offset
+
+-- how the records of a POST are taken
+abbrev pub mode_text : Mode → List ℕ
+mode_text Plain = []
+mode_text Begin = codes "?batch=true"
+mode_text (Append batch) = codes "?batch=" ++ token batch
+mode_text (Commit batch) = codes "?batch=" ++ token batch ++ codes "&commit=true"
+
+-- the target of a request
+unfoldable pub target_of : ℕ → Request → List ℕ
+target_of uid (Info what cond) = account_path uid ++ codes "/info/configuration"
+target_of uid (ListOf collection query cond) =
+    account_path uid ++ codes "/storage/bookmarks?full=1&sort=oldest&limit=1000" ++ offset_text query.offset cond
+target_of uid (Post collection records mode cond) = account_path uid ++ codes "/storage/bookmarks" ++ mode_text mode
+target_of uid _ = []
+
+-- the payload of a record that sets it
+abbrev pub payload_set : Field (List ℕ) → List ℕ
+payload_set Keep = []
+payload_set Clear = []
+payload_set (Set text) = text
+
+-- a record in the body of a POST
+unfoldable pub upload_text : Part → List ℕ
+upload_text part =
+    codes "{\"id\":" ++ json_text part.id ++ codes ",\"payload\":" ++ json_text (payload_set part.fields.payload) ++ codes "}"
+
+abbrev pub uploads_text : List Part → List ℕ
+uploads_text parts = list_text (map upload_text parts)
+
+-- the body of a request
+abbrev pub body_sent : Request → Option (List ℕ)
+body_sent (Post collection records mode cond) = Some (uploads_text records.parts)
+body_sent _ = None
+
+-- the bytes of a request, and the message that a server reads
+abbrev pub request_sent : ℕ → List ℕ → Request → List ℕ
+request_sent uid host request = request_text (method_of request) (target_of uid request) host (condition_of request) (body_sent request)
+
+abbrev pub message_of : ℕ → List ℕ → Request → Message
+message_of uid host request = message_sent (method_of request) (target_of uid request) host (condition_of request) (body_sent request)
+
+-- the numbers of a request are those that can be read: an offset of at most 9 digits, a batch's number from 1 to 999,999,999,999, and a body
+-- that isn't too large
+abbrev pub IsReadableBatch : Mode → Type 0
+IsReadableBatch Plain = ⊤
+IsReadableBatch Begin = ⊤
+IsReadableBatch (Append batch) = (1 ≤ batch) × (batch ≤ 999999999999)
+IsReadableBatch (Commit batch) = (1 ≤ batch) × (batch ≤ 999999999999)
+
+-- the values of a request are those of its types: ids have the form of ids, payloads are texts, and a condition has a time
+abbrev pub IsTyped : Request → Type 0
+IsTyped (ListOf collection query cond) = IsCond cond
+IsTyped (Post collection records mode cond) = All (λ part. (is_id part.id ≡ true) × IsUtf8 (payload_set part.fields.payload)) records.parts × IsCond cond
+IsTyped _ = ⊤
+
+abbrev pub IsReadable : Request → Type 0
+IsReadable (ListOf collection query cond) = query.offset ≤ 999999999
+IsReadable (Post collection records mode cond) = IsReadableBatch mode × (length (uploads_text records.parts) ≤ 2101248)
+IsReadable _ = ⊤

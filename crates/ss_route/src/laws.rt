@@ -1,0 +1,25 @@
+//! Laws of the definitions, each on a call that does nothing.
+
+ghost use Rattle.std.specs.Prelude.{◌≡◌, ◌≤◌, ◌++◌, List, ℕ, Bool, false};
+ghost use Rattle.ss_http.specs.Hearing.{Hears};
+ghost use Rattle.ss_query.specs.Fit.{IsFitRequest};
+ghost use Rattle.ss_query.specs.declared.replies.Reply.{Reply};
+ghost use Rattle.ss_query.specs.declared.requests.Request.{Request};
+ghost use Rattle.ss_route.specs.Routing.{routed};
+ghost use Rattle.ss_route.specs.Sending.{IsSent, IsTyped, IsReadable, message_of};
+ghost use Rattle.ss_route.specs.declared.routed.Routed.TheVariants.{Ask};
+ghost use Rattle.ss_route.specs.Wire.{IsReply, HasReason, IsHeardWhole, wire, heard_of};
+
+/// Where the status of a reply has a reason, and its body has at most 536,870,912 bytes, a client that reads its response
+/// hears it, whatever follows.
+pub fn replies_are_heard()
+    ensures { (reply : Reply) (newlines last : Bool) (rest : List ℕ) → IsReply reply → HasReason reply.status → IsHeardWhole reply newlines
+        → Hears (wire reply newlines last ++ rest) (heard_of reply newlines last) rest }
+{}
+
+/// Where the account's number is at least 1, an offset is at most 999,999,999, a batch's number is from 1 to 999,999,999,999 and
+/// a body has at most 2,101,248 bytes, the message of a request that is sent is routed to this account and this request.
+pub fn requests_are_routed()
+    ensures { (uid : ℕ) (host : List ℕ) (request : Request) → 1 ≤ uid → uid ≤ 4294967295 → IsTyped request → IsSent request → IsFitRequest request
+        → IsReadable request → routed (message_of uid host request) ≡ Ask uid request false }
+{}

@@ -1,0 +1,389 @@
+//! The texts of bodies.
+
+ghost use Rattle.std.specs.Prelude.{◌≡◌, ◌++◌, List, ℕ, OnOk, IfOk, map, flat_map, codes, decimal, string_bytes};
+ghost use Rattle.std.specs.Fmt.{signed_decimal};
+ghost use Rattle.std.specs.List.{join_with_byte};
+ghost use Rattle.ss_text.specs.Time.{stamp_text};
+ghost use Rattle.ss_route.specs.Drafts.{append};
+ghost use Rattle.ss_route.specs.Posts.{token};
+ghost use Rattle.ss_route.specs.Texts.{json_text, list_text, object_text, lines_text, elements_text, member_text, sortindex_text, row_text, kilobytes_text, reason_name, failure_text, records_text, word_text, limits_text, body_text};
+
+use crate::drafts::Draft;
+use base64::engine::general_purpose::URL_SAFE_NO_PAD;
+use itoa::Buffer;
+use ss_bso::{Failures, Reason, Row};
+use ss_query::{Body, Said};
+use ss_text::{Id, Ids, Name, Stamp};
+use std::alloc::{AllocError, Global};
+
+/// What is written as an element of a list or a member of an object.
+pub trait Element {
+    ghost text: { Self → List ℕ };
+
+    fn write(&self, out: &mut Draft) -> Result<(), AllocError>
+        ensures { OnOk result (out.new ≡ append out.old (text self.now)) };
+}
+
+impl Element for Id {
+    ghost text = { json_text };
+
+    fn write(&self, out: &mut Draft) -> Result<(), AllocError> {
+        out.put_json(self.as_str())
+    }
+}
+
+impl Element for Row {
+    ghost text = { row_text };
+
+    #[tactic(auto, using(crate::proofs::Appending::append_append), unfolding(crate::specs::Texts::row_text))]
+    fn write(&self, out: &mut Draft) -> Result<(), AllocError> {
+        out.put(b"{\"id\":")?;
+        out.put_json(self.id.as_str())?;
+        out.put(b",\"modified\":")?;
+        out.put_stamp(self.modified)?;
+        out.put(b",\"payload\":")?;
+        out.put_json(self.payload.as_str())?;
+        put_sortindex(out, self.sortindex)?;
+        out.put(b"}")
+    }
+}
+
+impl Element for (Name, Stamp) {
+    ghost text = { λ entry. member_text entry.0 (stamp_text entry.1) };
+
+    #[tactic(auto, using(crate::proofs::Appending::append_append), unfolding(crate::specs::Texts::member_text))]
+    fn write(&self, out: &mut Draft) -> Result<(), AllocError> {
+        out.put_json(self.0.as_str())?;
+        out.put(b":")?;
+        out.put_stamp(self.1)
+    }
+}
+
+impl Element for (Name, u64) {
+    ghost text = { λ entry. member_text entry.0 (decimal entry.1) };
+
+    #[tactic(auto, using(crate::proofs::Appending::append_append), unfolding(crate::specs::Texts::member_text))]
+    fn write(&self, out: &mut Draft) -> Result<(), AllocError> {
+        out.put_json(self.0.as_str())?;
+        out.put(b":")?;
+        out.put_number(self.1)
+    }
+}
+
+impl Element for (Id, Reason) {
+    ghost text = { failure_text };
+
+    #[tactic(auto, using(crate::proofs::Appending::append_append), unfolding(crate::specs::Texts::member_text))]
+    fn write(&self, out: &mut Draft) -> Result<(), AllocError> {
+        out.put_json(self.0.as_str())?;
+        out.put(b":")?;
+        put_reason(out, self.1)
+    }
+}
+
+fn name_of(reason: Reason) -> &'static str
+    ensures { result.now ≡ reason_name reason }
+{
+    match reason {
+        Reason::Payload => "payload",
+        Reason::TooLarge => "payload size",
+        Reason::Sortindex => "sortindex",
+        Reason::Ttl => "ttl",
+    }
+}
+
+/// The reason of a failure, as the one string of a list.
+#[tactic(auto, using(crate::proofs::Appending::append_append))]
+fn put_reason(out: &mut Draft, reason: Reason) -> Result<(), AllocError>
+    ensures { OnOk result (out.new ≡ append out.old (codes "[\"" ++ reason_name reason ++ codes "\"]")) }
+{
+    out.put(b"[\"")?;
+    out.put(name_of(reason).as_bytes())?;
+    out.put(b"\"]")
+}
+
+#[tactic(auto, using(crate::proofs::Appending::append_append))]
+fn put_index(out: &mut Draft, index: i32) -> Result<(), AllocError>
+    ensures { OnOk result (out.new ≡ append out.old (codes ",\"sortindex\":" ++ signed_decimal index)) }
+{
+    out.put(b",\"sortindex\":")?;
+    out.put_signed(index)
+}
+
+#[tactic(auto, using(crate::proofs::Appending::append_empty), unfolding(crate::specs::Texts::sortindex_text))]
+fn put_sortindex(out: &mut Draft, sortindex: Option<i32>) -> Result<(), AllocError>
+    ensures { OnOk result (out.new ≡ append out.old (sortindex_text sortindex)) }
+{
+    match sortindex {
+        Some(index) => put_index(out, index),
+        None => Ok(()),
+    }
+}
+
+/// Texts with a comma before each.
+#[tactic(auto, using(crate::proofs::Appending::append_append, crate::proofs::Appending::append_empty))]
+fn put_tail<E: Element>(out: &mut Draft, elements: &[E]) -> Result<(), AllocError>
+    ensures { OnOk result (out.new ≡ append out.old (flat_map (λ element. codes "," ++ E.text element) elements.now)) }
+{
+    for element in elements {
+        out.put(b",")?;
+        element.write(out)?;
+    }
+    Ok(())
+}
+
+/// Texts between commas.
+#[tactic(auto, using(crate::proofs::Appending::append_append, crate::proofs::Appending::append_empty))]
+fn put_joined<E: Element>(out: &mut Draft, elements: &[E]) -> Result<(), AllocError>
+    ensures { OnOk result (out.new ≡ append out.old (join_with_byte 0x2c (map E.text elements.now))) }
+{
+    match elements {
+        [] => Ok(()),
+        [first, rest @ ..] => {
+            first.write(out)?;
+            put_tail(out, rest)
+        }
+    }
+}
+
+/// Texts with a newline behind each.
+#[tactic(auto, using(crate::proofs::Appending::append_append, crate::proofs::Appending::append_empty), unfolding(crate::specs::Texts::lines_text))]
+fn put_lines<E: Element>(out: &mut Draft, elements: &[E]) -> Result<(), AllocError>
+    ensures { OnOk result (out.new ≡ append out.old (lines_text (map E.text elements.now))) }
+{
+    for element in elements {
+        element.write(out)?;
+        out.put(b"\n")?;
+    }
+    Ok(())
+}
+
+/// A list.
+#[tactic(auto, using(crate::proofs::Appending::append_append), unfolding(crate::specs::Texts::list_text))]
+pub fn put_list<E: Element>(out: &mut Draft, elements: &[E]) -> Result<(), AllocError>
+    ensures { OnOk result (out.new ≡ append out.old (list_text (map E.text elements.now))) }
+{
+    out.put(b"[")?;
+    put_joined(out, elements)?;
+    out.put(b"]")
+}
+
+/// An object.
+#[tactic(auto, using(crate::proofs::Appending::append_append), unfolding(crate::specs::Texts::object_text))]
+fn put_object<E: Element>(out: &mut Draft, members: &[E]) -> Result<(), AllocError>
+    ensures { OnOk result (out.new ≡ append out.old (object_text (map E.text members.now))) }
+{
+    out.put(b"{")?;
+    put_joined(out, members)?;
+    out.put(b"}")
+}
+
+/// A list in the form that is asked for.
+fn put_elements<E: Element>(out: &mut Draft, lines: bool, elements: &[E]) -> Result<(), AllocError>
+    ensures { OnOk result (out.new ≡ append out.old (elements_text lines (map E.text elements.now))) }
+{
+    if lines {
+        put_lines(out, elements)
+    } else {
+        put_list(out, elements)
+    }
+}
+
+/// A collection with its payload bytes in KB.
+#[derive(Drop)]
+struct InKilobytes<'a> {
+    entry: &'a (Name, u64),
+}
+
+impl Element for InKilobytes<'_> {
+    ghost text = { λ member. member_text member.entry.now.0 (kilobytes_text member.entry.now.1) };
+
+    #[tactic(auto, using(crate::proofs::Appending::append_append), unfolding(crate::specs::Texts::member_text))]
+    fn write(&self, out: &mut Draft) -> Result<(), AllocError> {
+        out.put_json(self.entry.0.as_str())?;
+        out.put(b":")?;
+        out.put_kilobytes(self.entry.1)
+    }
+}
+
+/// The collections with their payload bytes in KB.
+fn in_kilobytes(alloc: Global, usage: &[(Name, u64)]) -> Result<Vec<InKilobytes<'_>>, AllocError>
+    ensures { IfOk result (λ members. map (λ member. member.entry.now) members.items ≡ usage.now) }
+{
+    let mut members = Vec::with_capacity(alloc, usage.len())?;
+    for entry in usage {
+        members.push(InKilobytes { entry })?;
+    }
+    Ok(members)
+}
+
+fn put_usage(alloc: Global, out: &mut Draft, usage: &[(Name, u64)]) -> Result<(), AllocError>
+    ensures { OnOk result (out.new ≡ append out.old (object_text (map (λ entry. member_text entry.0 (kilobytes_text entry.1)) usage.now))) }
+{
+    let members = in_kilobytes(alloc, usage)?;
+    put_object(out, members.as_slice())
+}
+
+#[tactic(auto, using(crate::proofs::Appending::append_append))]
+fn put_quota(out: &mut Draft, used: u64) -> Result<(), AllocError>
+    ensures { OnOk result (out.new ≡ append out.old (codes "[" ++ kilobytes_text used ++ codes ",131072.00]")) }
+{
+    out.put(b"[")?;
+    out.put_kilobytes(used)?;
+    out.put(b",131072.00]")
+}
+
+#[tactic(auto, unfolding(crate::specs::Texts::limits_text))]
+fn put_limits(out: &mut Draft) -> Result<(), AllocError>
+    ensures { OnOk result (out.new ≡ append out.old limits_text) }
+{
+    out.put(
+        b"{\"max_request_bytes\":2101248,\"max_post_records\":100,\"max_post_bytes\":2097152,\"max_total_records\":20000,\"max_total_bytes\":16777216,\"max_record_payload_bytes\":2097152}",
+    )
+}
+
+/// What is told of a deletion, and the beginning of what a POST is told.
+#[tactic(auto, using(crate::proofs::Appending::append_append))]
+fn put_modified(out: &mut Draft, time: Stamp) -> Result<(), AllocError>
+    ensures { OnOk result (out.new ≡ append out.old (codes "{\"modified\":" ++ stamp_text time)) }
+{
+    out.put(b"{\"modified\":")?;
+    out.put_stamp(time)
+}
+
+#[tactic(auto, using(crate::proofs::Appending::append_append))]
+fn put_gone(out: &mut Draft, time: Stamp) -> Result<(), AllocError>
+    ensures { OnOk result (out.new ≡ append out.old (codes "{\"modified\":" ++ stamp_text time ++ codes "}")) }
+{
+    put_modified(out, time)?;
+    out.put(b"}")
+}
+
+/// The id of a batch.
+#[tactic(auto, unfolding(crate::specs::Posts::token))]
+pub fn token(alloc: Global, batch: u64) -> Result<String, AllocError>
+    ensures { IfOk result (λ text. string_bytes text ≡ token batch) }
+{
+    let mut buffer = Buffer::new();
+    URL_SAFE_NO_PAD.encode(alloc, buffer.format(batch).as_bytes())
+}
+
+/// The beginning of what a POST to a batch is told.
+#[tactic(auto, using(crate::proofs::Appending::append_append))]
+fn put_batch(alloc: Global, out: &mut Draft, batch: u64) -> Result<(), AllocError>
+    ensures { OnOk result (out.new ≡ append out.old (codes "{\"batch\":\"" ++ token batch ++ codes "\"")) }
+{
+    let token = token(alloc, batch)?;
+    out.put(b"{\"batch\":\"")?;
+    out.put(token.as_str().as_bytes())?;
+    out.put(b"\"")
+}
+
+/// What a POST is told of its records.
+#[tactic(auto, using(crate::proofs::Appending::append_append), unfolding(crate::specs::Texts::records_text))]
+fn put_records(out: &mut Draft, success: &Ids, failed: &Failures) -> Result<(), AllocError>
+    ensures { OnOk result (out.new ≡ append out.old (records_text success.now failed.now)) }
+{
+    out.put(b",\"success\":")?;
+    put_list(out, success.as_slice())?;
+    out.put(b",\"failed\":")?;
+    put_object(out, failed.as_slice())?;
+    out.put(b"}")
+}
+
+#[tactic(auto, using(crate::proofs::Appending::append_append))]
+fn put_posted(
+    out: &mut Draft,
+    modified: Stamp,
+    success: &Ids,
+    failed: &Failures,
+) -> Result<(), AllocError>
+    ensures { OnOk result (out.new ≡ append out.old (codes "{\"modified\":" ++ stamp_text modified ++ records_text success.now failed.now)) }
+{
+    put_modified(out, modified)?;
+    put_records(out, success, failed)
+}
+
+#[tactic(auto, using(crate::proofs::Appending::append_append))]
+fn put_staged(
+    alloc: Global,
+    out: &mut Draft,
+    batch: u64,
+    success: &Ids,
+    failed: &Failures,
+) -> Result<(), AllocError>
+    ensures { OnOk result (out.new ≡ append out.old (codes "{\"batch\":\"" ++ token batch ++ codes "\"" ++ records_text success.now failed.now)) }
+{
+    put_batch(alloc, out, batch)?;
+    put_records(out, success, failed)
+}
+
+fn word_of(word: Said) -> &'static str
+    ensures { result.now ≡ word_text word }
+{
+    match word {
+        Said::Account => "account",
+        Said::Announce => "announce",
+        Said::Batch => "batch",
+        Said::Batches => "batches",
+        Said::Clock => "clock",
+        Said::Commit => "commit",
+        Said::Condition => "condition",
+        Said::Head => "head",
+        Said::Ids => "ids",
+        Said::Item => "item",
+        Said::Keeper => "keeper",
+        Said::Length => "length",
+        Said::Limit => "limit",
+        Said::Memory => "memory",
+        Said::Modified => "modified",
+        Said::Offset => "offset",
+        Said::Path => "path",
+        Said::Size => "size",
+        Said::Sort => "sort",
+        Said::Stamp => "stamp",
+        Said::Term => "term",
+        Said::Type => "type",
+    }
+}
+
+#[tactic(auto, using(crate::proofs::Appending::append_append))]
+fn put_word(out: &mut Draft, word: Said) -> Result<(), AllocError>
+    ensures { OnOk result (out.new ≡ append out.old (codes "\"" ++ word_text word ++ codes "\"")) }
+{
+    out.put(b"\"")?;
+    out.put(word_of(word).as_bytes())?;
+    out.put(b"\"")
+}
+
+/// A body; `lines` is the form of a list.
+#[tactic(auto, using(crate::proofs::Appending::append_empty), unfolding(crate::specs::Texts::body_text))]
+pub fn put_body(alloc: Global, out: &mut Draft, lines: bool, body: &Body) -> Result<(), AllocError>
+    ensures { OnOk result (out.new ≡ append out.old (body_text lines body.now)) }
+{
+    match body {
+        Body::Times(times) => put_object(out, times.as_slice()),
+        Body::Counts(counts) => put_object(out, counts.as_slice()),
+        Body::Usage(usage) => put_usage(alloc, out, usage.as_slice()),
+        Body::Quota { used } => put_quota(out, *used),
+        Body::Limits => put_limits(out),
+        Body::Gone(time) => put_gone(out, *time),
+        Body::Ids(ids) => put_elements(out, lines, ids.as_slice()),
+        Body::Rows(rows) => put_elements(out, lines, rows.as_slice()),
+        Body::Posted {
+            modified,
+            success,
+            failed,
+        } => put_posted(out, *modified, success, failed),
+        Body::Staged {
+            batch,
+            success,
+            failed,
+        } => put_staged(alloc, out, *batch, success, failed),
+        Body::One(row) => row.write(out),
+        Body::At(time) => out.put_stamp(*time),
+        Body::Empty => Ok(()),
+        Body::Code(code) => out.put_number(u64::from(*code)),
+        Body::Said(word) => put_word(out, *word),
+    }
+}

@@ -1,3 +1,1 @@
-pub mod Alphanumerics
 pub mod Run
-pub mod Writing

@@ -1,17 +1,20 @@
 //! The command `answer`: the messages of an input, answered one after the other.
 
-ghost use Rattle.std.specs.Prelude.{◌≡◌, ◌≤◌, OnOk, IfErr};
-ghost use Rattle.ss_outside.specs.Told.{Meanings};
-ghost use Rattle.syncstore.specs.Asking.{item_prefix};
-ghost use Rattle.syncstore.specs.Turns.{Mark, left_by, response_to, ending_of, WasSent, EndsTurn, Answered};
+ghost use Rattle.std.specs.Prelude.{◌≡◌, ◌≤◌, ◌<◌, IfSome};
+ghost use Rattle.ss_bso.specs.declared.account.Plain.{Plain};
+ghost use Rattle.ss_bso.specs.Validity.{IsValid};
+ghost use Rattle.ss_query.specs.Fit.{IsFitRequest};
+ghost use Rattle.syncstore.specs.Turns.{Answered, IsReading, IsTurn, Stops, asked, asks, told, bytes_of, closes, ending_of};
 ghost use Rattle.syncstore.specs.Words.{status_of};
 
-use crate::account::Account;
-use crate::reply::{push_memory, push_reply};
-use crate::request::{Request, item_prefix, request_of};
+use crate::response::Response;
+use crate::words::AnswerCommand;
+use ss_account::Account;
 use ss_http::{Buffer, Message, MsgFault, read_message};
-use ss_outside::{Sink, Source, write_all};
-use std::alloc::{AllocError, Global};
+use ss_outside::{Clock, Sink, Source};
+use ss_query::Request;
+use ss_route::{Local, Routed, not_listed, refused, route};
+use std::alloc::Global;
 
 /// How many messages one run answers.
 const MOST: u64 = 1_000_000;
@@ -22,14 +25,17 @@ pub enum Ending {
     /// The input ended between messages.
     End,
 
+    /// The last message asked to close.
+    Asked,
+
     /// The input ended inside a message.
     Cut,
 
+    /// What came is no message, and was answered by a refusal.
+    Refused,
+
     /// As many messages were answered as may be.
     Count,
-
-    /// The bytes begin no message that is answered.
-    Unbuilt,
 
     /// A read of the input failed.
     Input,
@@ -41,127 +47,171 @@ pub enum Ending {
     Memory,
 }
 
+/// The status of a run that ended so.
+pub fn status_of(ending: Ending) -> u8
+    ensures { result ≡ status_of ending }
+{
+    match ending {
+        Ending::End | Ending::Asked => 0,
+        Ending::Input => 2,
+        Ending::Output => 3,
+        Ending::Cut => 4,
+        Ending::Refused => 5,
+        Ending::Count => 6,
+        Ending::Memory => 8,
+    }
+}
+
+/// The next reading of the clock of a run (hundredths of a second), of which `count` were taken.
+fn reading<C: Clock>(at: Option<u64>, count: u64, clock: &mut C) -> u64
+    requires first { IfSome at (λ first. first ≤ 999999999999) }
+    requires count { count ≤ 1000000 }
+    ensures reading { IsReading at count result (C.coming clock.old) (C.coming clock.new) }
+    ensures unread { IfSome at (λ _. clock.new ≡ clock.old) }
+{
+    match at {
+        Some(first) => first + count,
+        None => clock.now(),
+    }
+}
+
+/// Whether a response closes, before which so many messages were answered.
+fn closes(count: u64, message: &Message) -> bool
+    requires { count < 1000000 }
+    ensures { result ≡ closes count message.now }
+{
+    message.last || count + 1 == MOST
+}
+
+/// Asks the account, and makes the response to its reply.
+fn ask(
+    alloc: Global,
+    account: &mut Account,
+    now: u64,
+    last: bool,
+    request: &Request,
+    newlines: bool,
+) -> Response
+    requires { IsFitRequest request.now }
+    ensures turn { IsTurn (asks request.now newlines) now last account.old account.new (bytes_of result) }
+    ensures valid { IsValid account.new }
+{
+    let reply = account.step(alloc, now, request);
+    Response::to_reply(alloc, &reply, newlines, last)
+}
+
+/// The response to what is told at once.
+fn tell(alloc: Global, local: &Local, now: u64, last: bool) -> Response
+    ensures { (account : Plain) → IsTurn (told local.now) now last account account (bytes_of result) }
+{
+    Response::to_local(alloc, local, now, last)
+}
+
+/// Makes what a message asks of the account, and the response.
+fn respond(
+    alloc: Global,
+    uid: u32,
+    now: u64,
+    last: bool,
+    account: &mut Account,
+    message: &Message,
+) -> Response
+    requires { IsValid account.old }
+    ensures turn { IsTurn (asked uid message.now) now last account.old account.new (bytes_of result) }
+    ensures valid { IsValid account.new }
+{
+    match route(alloc, message) {
+        Routed::Memory => Response::unread(now, last),
+        Routed::Local(local) => tell(alloc, &local, now, last),
+        Routed::Ask {
+            uid: other,
+            request,
+            newlines,
+        } => {
+            if other == uid {
+                ask(alloc, account, now, last, &request, newlines)
+            } else {
+                tell(alloc, &not_listed(), now, last)
+            }
+        }
+    }
+}
+
 fn ending_of(fault: MsgFault) -> Ending
     ensures { result ≡ ending_of fault }
 {
     match fault {
         MsgFault::End => Ending::End,
         MsgFault::Cut => Ending::Cut,
-        MsgFault::Unbuilt => Ending::Unbuilt,
         MsgFault::ReadFault => Ending::Input,
         MsgFault::Memory => Ending::Memory,
+        MsgFault::BadHead
+        | MsgFault::HeadTooLong
+        | MsgFault::Coded
+        | MsgFault::BadLength
+        | MsgFault::TooLarge { .. } => Ending::Refused,
     }
 }
 
-/// The status of a run that ended so.
-pub fn status_of(ending: Ending) -> u8
-    ensures { result ≡ status_of ending }
-{
-    match ending {
-        Ending::End => 0,
-        Ending::Input => 2,
-        Ending::Output => 3,
-        Ending::Cut => 4,
-        Ending::Count => 6,
-        Ending::Memory => 8,
-        Ending::Unbuilt => 9,
-    }
-}
-
-/// Steps the account, and puts the response in the place of what `out` holds: the reply's, or where there is no memory for it
-/// the one that says so.
-fn respond(
+/// Ends a run whose next message has a fault; bytes that are no message are answered by a refusal.
+fn stop<T: Sink, C: Clock>(
     alloc: Global,
-    account: &mut Account,
-    now: u64,
-    last: bool,
-    request: &Request,
-    out: &mut Vec<u8>,
-) -> Result<(), AllocError>
-    ensures { OnOk result ((mark : Mark) × (account.new ≡ left_by mark account.old now request.now)
-        × (out.new.items ≡ response_to mark account.old now last request.now)) }
-{
-    out.clear();
-    match account.step(alloc, now, request) {
-        Ok(reply) => {
-            if push_reply(alloc, out, &reply, last).is_ok() {
-                return Ok(());
-            }
-        }
-        Err(_) => {}
-    }
-    out.clear();
-    push_memory(alloc, out, account.moment(), last)
-}
-
-/// Answers one message.
-fn turn<T: Sink>(
-    alloc: Global,
-    prefix: &[u8],
-    now: u64,
-    last: bool,
-    account: &mut Account,
-    message: &Message,
-    out: &mut Vec<u8>,
+    at: Option<u64>,
+    count: u64,
+    fault: MsgFault,
     output: &mut T,
-) -> Result<(), Ending>
-    ensures sent { OnOk result (WasSent prefix.now now last account.old account.new message.now (T.Told.told output.old) (T.Told.told output.new)) }
-    ensures ended { IfErr result (λ e. EndsTurn e prefix.now now last account.old account.new message.now (T.Told.told output.old) (T.Told.told output.new)) }
+    clock: &mut C,
+) -> Ending
+    requires first { IfSome at (λ first. first ≤ 999999999999) }
+    requires count { count ≤ 1000000 }
+    ensures stops { Stops result fault at count (T.Told.told output.old) (T.Told.told output.new) (C.coming clock.old) (C.coming clock.new) }
+    ensures unread { IfSome at (λ _. clock.new ≡ clock.old) }
 {
-    let request = match request_of(alloc, prefix, message) {
-        Err(_) => return Err(Ending::Memory),
-        Ok(None) => return Err(Ending::Unbuilt),
-        Ok(Some(request)) => request,
+    let Some(local) = refused(fault) else {
+        return ending_of(fault);
     };
-    let Ok(()) = respond(alloc, account, now, last, &request, out) else {
-        return Err(Ending::Memory);
-    };
-    match write_all(output, out.as_slice()) {
-        Ok(()) => Ok(()),
-        Err(_) => Err(Ending::Output),
+    let now = reading(at, count, clock);
+    match Response::to_local(alloc, &local, now, true).write(output) {
+        Ok(()) => Ending::Refused,
+        Err(_) => Ending::Output,
     }
 }
 
-/// Answers the messages of the input for one account, from a fresh one on and with a clock that counts upwards from `at`
-/// hundredths of a second.
-pub fn answer<S: Source, T: Sink>(
+/// Answers the messages of the input for one account, from a fresh one on. The clock counts upwards from the first reading that
+/// is given (hundredths of a second), or is the one that is handed in.
+pub fn answer<S: Source, T: Sink, C: Clock>(
     alloc: Global,
-    uid: u32,
-    at: u64,
+    command: AnswerCommand,
     input: &mut S,
     output: &mut T,
+    clock: &mut C,
 ) -> Ending
-    requires { at ≤ 999999999999 }
-    ensures { Answered uid at result (S.Told.told input.old) (S.Told.told input.new) (T.Told.told output.old) (T.Told.told output.new) }
+    requires { IfSome command.at (λ first. first ≤ 999999999999) }
+    ensures answered { Answered command.uid command.at result (S.Told.told input.old) (S.Told.told input.new)
+        (T.Told.told output.old) (T.Told.told output.new) (C.coming clock.old) (C.coming clock.new) }
+    ensures unread { IfSome command.at (λ _. clock.new ≡ clock.old) }
 {
-    let Ok(prefix) = item_prefix(alloc, uid) else {
-        return Ending::Memory;
-    };
     let Ok(mut buffer) = Buffer::new(alloc) else {
         return Ending::Memory;
     };
     let mut account = Account::fresh(alloc);
-    let mut out = Vec::new(alloc);
     let mut count: u64 = 0;
     'turns: while count < MOST {
         let message = match read_message(alloc, &mut buffer, input) {
             Ok(message) => message,
-            Err(fault) => return ending_of(fault),
+            Err(fault) => return stop(alloc, command.at, count, fault, output, clock),
         };
-        match turn(
-            alloc,
-            prefix.as_slice(),
-            at + count,
-            count + 1 == MOST,
-            &mut account,
-            &message,
-            &mut out,
-            output,
-        ) {
+        let now = reading(command.at, count, clock);
+        let last = closes(count, &message);
+        let response = respond(alloc, command.uid, now, last, &mut account, &message);
+        match response.write(output) {
             Ok(()) => {}
-            Err(ending) => return ending,
+            Err(_) => return Ending::Output,
         }
         count += 1;
+        if message.last {
+            return Ending::Asked;
+        }
     }
     Ending::Count
 }

@@ -9,18 +9,16 @@ const VERSION: &str = "syncstore 0.1.0\n";
 const USAGE: &str = "\
 syncstore: a Firefox Sync storage server (SyncStorage API 1.5)
 
-usage: syncstore answer UID --at N    answers the HTTP/1.1 messages on standard input for the account UID, from an empty
-                                      account on; the clock counts upwards from N hundredths of a second since 1970
+usage: syncstore answer UID [--at N]    answers the HTTP/1.1 messages on standard input for the account UID, from an empty
+                                        account on; with --at the clock counts upwards from N hundredths of a second since
+                                        1970, one for each message, otherwise it is the system's
        syncstore --help | --version
 
-answer reads a PUT or a GET of one item, one after the other:
-    PUT /1.5/UID/storage/COLLECTION/ID with the one field Content-Length and the body {\"payload\":\"TEXT\"}
-    GET /1.5/UID/storage/COLLECTION/ID with no field and no body
+UID is a number from 1 to 4294967295, N one of 1 to 12 digits. docs/WIRE.md tells which messages are answered, and how.
 
-UID is a number from 1 to 4294967295, N one of 1 to 12 digits. COLLECTION is 1 to 32, ID 1 to 64 letters and digits.
-
-exit status: 0 the input was read to its end; 1 faulty words; 2 the input failed; 3 the output failed; 4 the input ended
-inside a message; 6 after 1,000,000 messages; 8 no memory for the run; 9 the input has no message of these forms
+exit status: 0 the input was read to its end, or to a message that asks to close; 1 faulty words; 2 the input failed; 3 the
+output failed; 4 the input ended inside a message; 5 what came is no message, and was answered so; 6 after 1,000,000 messages;
+8 no memory for the run
 ";
 
 /// The text that the words ask for, where they ask for one: `--help` or `--version` alone, or behind the command's name.
@@ -62,9 +60,9 @@ pub fn explain(rt: &impl Eprint, status: u8) {
         2 => "reading the input failed",
         3 => "writing the output failed",
         4 => "the input ended inside a message",
+        5 => "what came is no message",
         6 => "1,000,000 messages were answered",
-        8 => "no memory was found",
-        _ => "the input goes on with no message that is answered",
+        _ => "no memory was found",
     };
     let _ = eprintln!(rt; "syncstore: {text}");
 }

@@ -3,17 +3,15 @@
 //! Its contract, on `run_offline`: what was read, what was written, and the cause of the status.
 #![tactic(auto)]
 
-mod account;
 mod answer;
 mod help;
 mod offline;
-mod reply;
-mod request;
+mod response;
 #[cfg(test)]
 mod tests;
 mod words;
 
-use ss_outside::{CountClock, StdSink, StdSource};
+use ss_outside::{StdSink, StdSource, SystemClock};
 use std::env;
 use std::process::ExitCode;
 
@@ -35,7 +33,7 @@ fn main(rt: HostRuntime) -> ExitCode {
     }
     let mut input = StdSource::new(rt.stdin());
     let mut output = StdSink::new(rt.stdout());
-    let mut clock = CountClock::new(0);
+    let mut clock = SystemClock::new(&rt);
     let status = offline::run_offline(
         rt.alloc(),
         words.as_slice(),

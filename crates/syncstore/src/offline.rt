@@ -1,6 +1,6 @@
 //! The commands that wait for nobody.
 
-ghost use Rattle.std.specs.Prelude.{◌≡◌, map, string_bytes};
+ghost use Rattle.std.specs.Prelude.{◌≡◌, map, string_bytes, IfSome};
 ghost use Rattle.syncstore.specs.Turns.{Runs};
 ghost use Rattle.syncstore.specs.Words.{asks};
 
@@ -9,22 +9,23 @@ use crate::words::asked;
 use ss_outside::{Clock, Sink, Source};
 use std::alloc::Global;
 
-/// Runs the command that the words name, and answers its status: 0 where the input was read to its end; 1 where the words are
-/// refused; 2 and 3 where the input and the output failed; 4 where the input ended inside a message; 6 after 1,000,000
-/// messages; 8 where no memory was found for the run itself; 9 where the bytes begin no message that is answered.
+/// Runs the command that the words name, and answers its status: 0 where the input was read to its end, or to a message that
+/// asks to close; 1 where the words are refused; 2 and 3 where the input and the output failed; 4 where the input ended inside a
+/// message; 5 where what came is no message and was answered so; 6 after 1,000,000 messages; 8 where no memory was found for the
+/// run itself. With `--at` the clock that is handed in is not read.
 pub fn run_offline<S: Source, T: Sink, C: Clock>(
     alloc: Global,
     words: &[String],
     input: &mut S,
     output: &mut T,
-    _clock: &mut C,
+    clock: &mut C,
 ) -> u8
-    ensures runs { Runs (asks (map (λ word. string_bytes word) words.now)) result
-        (S.Told.told input.old) (S.Told.told input.new) (T.Told.told output.old) (T.Told.told output.new) }
-    ensures clock_unread { _clock.new ≡ _clock.old }
+    ensures runs { Runs (asks (map (λ word. string_bytes word) words.now)) result (S.Told.told input.old) (S.Told.told input.new)
+        (T.Told.told output.old) (T.Told.told output.new) (C.coming clock.old) (C.coming clock.new) }
+    ensures unread { IfSome (asks (map (λ word. string_bytes word) words.now)) (λ a. IfSome a.1 (λ _. clock.new ≡ clock.old)) }
 {
     match asked(words) {
         None => 1,
-        Some(asked) => status_of(answer(alloc, asked.uid, asked.at, input, output)),
+        Some(command) => status_of(answer(alloc, command, input, output, clock)),
     }
 }

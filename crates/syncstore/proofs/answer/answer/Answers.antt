@@ -1,68 +1,83 @@
-use Rattle.std.proofs.Common.{◌≡◌, ℕ, ◌+◌, nat_eq, List, [], None, subst, sym, ◌∙◌}
+use Rattle.std.proofs.Common.{◌≡◌, Bool, List, [], None, subst, sym, ◌∙◌}
 use Rattle.ss_bso.specs.declared.account.Plain.{Plain}
 use Rattle.ss_http.specs.Buffers.{Kept}
-use Rattle.syncstore.specs.declared.answer.Ending.{Ending}
-use Rattle.syncstore.specs.Asking.{item_prefix}
-use Rattle.syncstore.specs.Turns.{Answered, EndsTurn, Progress, WasSent, most_messages}
-use Rattle.syncstore.proofs.Run.{begun, turned, ended_reading, ended_turning, ended_counting, ended_early}
+use Rattle.syncstore.specs.Turns.{Progress, IsTurn, asked, bytes_of, closes}
+use Rattle.syncstore.proofs.Run.{begun, turned, ended_asking, ended_cut, stopped, ended_counting, ended_early, valid_fresh, unread_further, unread_at_first}
 use Rattle.syncstore.proofs.answer.answer.Goals as goal
 
-pub returns-in_default : goal.returns-in_default
-returns-in_default g c = ended_early c.args.uid c.args.at (g.S.Told.told c.args.input.now) (g.T.Told.told c.args.output.now)
-
-pub returns-in_default-new : goal.returns-in_default-new
-returns-in_default-new g c = ended_early c.args.uid c.args.at (g.S.Told.told c.args.input.now) (g.T.Told.told c.args.output.now)
+pub returns-in_default-clause-answered : goal.returns-in_default-clause-answered
+returns-in_default-clause-answered g c =
+    ended_early c.args.command.uid c.args.command.at (g.S.Told.told c.args.input.now) (g.T.Told.told c.args.output.now) (g.C.Clock.coming c.args.clock.now)
 
 pub turns-init : goal.turns-init
 turns-init g c =
     let input = g.S.Told.told c.args.input.now in
     let output = g.T.Told.told c.args.output.now in
-    let K : Kept → Type 0 = λ k. Progress c.args.uid c.args.at input input output output k c.fresh-account.result 0 in
-    let A : Plain → Type 0 = λ a. Progress c.args.uid c.args.at input input output output (record { bytes = []; stop = None }) a 0 in
-    subst K (sym c.in-Ok-new.ensures) (subst A (sym c.fresh-account.ensures) (begun c.args.uid c.args.at input output))
+    let coming = g.C.Clock.coming c.args.clock.now in
+    let uid = c.args.command.uid in
+    let at = c.args.command.at in
+    let K : Kept → Type 0 = λ k. Progress uid at input input output output coming coming k c.fresh-account.result 0 in
+    let A : Plain → Type 0 = λ a. Progress uid at input input output output coming coming (record { bytes = []; stop = None }) a 0 in
+    (subst K (sym c.in-Ok.ensures) (subst A (sym c.fresh-account.ensures) (begun uid at input output coming valid_fresh)), unread_at_first at c.args.clock.now)
 
-pub returns-in-Err : goal.returns-in-Err
-returns-in-Err g c =
-    let p = c.turns.invariant in
+pub returns-in-Err-clause-answered : goal.returns-in-Err-clause-answered
+returns-in-Err-clause-answered g c =
+    let p = c.turns.invariant.0 in
     let takes = rw p.going_on at c.in-Err.ensures.takes in
     let ended = rw p.going_on at c.in-Err.ensures.ended in
     let cause = rw p.going_on at c.in-Err.ensures.cause in
-    let input = g.S.Told.told c.args.input.now in
-    let output = g.T.Told.told c.args.output.now in
-    let P : Ending → Type 0 = λ e. Answered c.args.uid c.args.at e input (g.S.Told.told c.read_message.new.source) output (g.T.Told.told c.turns.output) in
-    subst P (sym c.ending_of.ensures)
-    (ended_reading c.args.uid c.args.at input (g.S.Told.told c.turns.input) (g.S.Told.told c.read_message.new.source) output (g.T.Told.told c.turns.output)
-    c.turns.buffer c.read_message.new.buffer c.turns.account c.turns.count c.in-Err.fault takes.0 p c.turns-test.true takes.1 takes.2.2 ended cause)
+    stopped c.args.command.uid c.args.command.at
+    (g.S.Told.told c.args.input.now) (g.S.Told.told c.turns.input) (g.S.Told.told c.read_message.new.source)
+    (g.T.Told.told c.args.output.now) (g.T.Told.told c.turns.output) (g.T.Told.told c.stop.new.output)
+    (g.C.Clock.coming c.args.clock.now) (g.C.Clock.coming c.turns.clock) (g.C.Clock.coming c.stop.new.clock)
+    c.turns.buffer c.turns.account c.turns.count c.in-Err.fault takes.0 c.stop.result p c.turns-test.true takes.1 takes.2.2 ended cause c.stop.ensures.stops
 
-pub returns-in-Err-turn : goal.returns-in-Err-turn
-returns-in-Err-turn g c =
-    let p = c.turns.invariant in
+pub returns-in-Err-write-clause-answered : goal.returns-in-Err-write-clause-answered
+returns-in-Err-write-clause-answered g c =
+    let p = c.turns.invariant.0 in
     let takes = rw p.going_on at c.in-Ok-read_message.ensures.takes in
     let cause = rw p.going_on at c.in-Ok-read_message.ensures.cause in
-    let input = g.S.Told.told c.args.input.now in
-    let output = g.T.Told.told c.args.output.now in
-    let prefix : c.as_slice.result.now ≡ item_prefix c.args.uid = c.as_slice.ensures.value ∙ c.in-Ok.ensures in
-    let P : List ℕ → Type 0 = λ front. EndsTurn c.in-Err-turn.ending front (c.args.at + c.turns.count) (nat_eq (c.turns.count + 1) most_messages)
-    c.turns.account c.turn.new.account c.in-Ok-read_message.message (g.T.Told.told c.turns.output) (g.T.Told.told c.turn.new.output) in
-    ended_turning c.args.uid c.args.at input (g.S.Told.told c.turns.input) (g.S.Told.told c.read_message.new.source)
-    output (g.T.Told.told c.turns.output) (g.T.Told.told c.turn.new.output) c.turns.buffer c.read_message.new.buffer c.turns.account c.turn.new.account
-    c.turns.count c.in-Ok-read_message.message c.in-Err-turn.ending takes.0 p c.turns-test.true takes.1 takes.2.0 cause (subst P prefix c.in-Err-turn.ensures.ended)
+    let m = c.in-Ok-read_message.message in
+    let T : Bool → Type 0 = λ last. IsTurn (asked c.args.command.uid m) c.reading-now.result last c.turns.account c.respond-response.new.account (bytes_of c.respond-response.result) in
+    ended_cut c.args.command.uid c.args.command.at
+    (g.S.Told.told c.args.input.now) (g.S.Told.told c.turns.input) (g.S.Told.told c.read_message.new.source)
+    (g.T.Told.told c.args.output.now) (g.T.Told.told c.turns.output) (g.T.Told.told c.write.new.output)
+    (g.C.Clock.coming c.args.clock.now) (g.C.Clock.coming c.turns.clock) (g.C.Clock.coming c.reading-now.new.clock)
+    c.turns.buffer c.read_message.new.buffer c.turns.account c.respond-response.new.account c.turns.count c.reading-now.result m takes.0 (bytes_of c.respond-response.result)
+    p c.turns-test.true takes.1 takes.2.0 cause c.reading-now.ensures.reading (subst T c.closes-last.ensures c.respond-response.ensures.turn) c.in-Err-write.ensures.cut
+
+pub returns-then-message-clause-answered : goal.returns-then-message-clause-answered
+returns-then-message-clause-answered g c =
+    let p = c.turns.invariant.0 in
+    let takes = rw p.going_on at c.in-Ok-read_message.ensures.takes in
+    let cause = rw p.going_on at c.in-Ok-read_message.ensures.cause in
+    let m = c.in-Ok-read_message.message in
+    let T : Bool → Type 0 = λ last. IsTurn (asked c.args.command.uid m) c.reading-now.result last c.turns.account c.respond-response.new.account (bytes_of c.respond-response.result) in
+    ended_asking c.args.command.uid c.args.command.at
+    (g.S.Told.told c.args.input.now) (g.S.Told.told c.turns.input) (g.S.Told.told c.read_message.new.source)
+    (g.T.Told.told c.args.output.now) (g.T.Told.told c.turns.output) (g.T.Told.told c.write.new.output)
+    (g.C.Clock.coming c.args.clock.now) (g.C.Clock.coming c.turns.clock) (g.C.Clock.coming c.reading-now.new.clock)
+    c.turns.buffer c.read_message.new.buffer c.turns.account c.respond-response.new.account c.turns.count c.reading-now.result m takes.0 (bytes_of c.respond-response.result)
+    p c.turns-test.true takes.1 takes.2.0 cause c.reading-now.ensures.reading (subst T c.closes-last.ensures c.respond-response.ensures.turn) c.in-Ok-write.ensures.sent c.if-message.true
 
 pub turns-preserved : goal.turns-preserved
 turns-preserved g c =
-    let p = c.turns.invariant in
+    let p = c.turns.invariant.0 in
     let takes = rw p.going_on at c.in-Ok-read_message.ensures.takes in
     let cause = rw p.going_on at c.in-Ok-read_message.ensures.cause in
-    let input = g.S.Told.told c.args.input.now in
-    let output = g.T.Told.told c.args.output.now in
-    let prefix : c.as_slice.result.now ≡ item_prefix c.args.uid = c.as_slice.ensures.value ∙ c.in-Ok.ensures in
-    let P : List ℕ → Type 0 = λ front. WasSent front (c.args.at + c.turns.count) (nat_eq (c.turns.count + 1) most_messages)
-    c.turns.account c.turn.new.account c.in-Ok-read_message.message (g.T.Told.told c.turns.output) (g.T.Told.told c.turn.new.output) in
-    turned c.args.uid c.args.at input (g.S.Told.told c.turns.input) (g.S.Told.told c.read_message.new.source)
-    output (g.T.Told.told c.turns.output) (g.T.Told.told c.turn.new.output) c.turns.buffer c.read_message.new.buffer c.turns.account c.turn.new.account
-    c.turns.count c.in-Ok-read_message.message takes.0 p c.turns-test.true takes.1 takes.2 cause (subst P prefix c.in-Ok-turn.ensures.sent)
+    let m = c.in-Ok-read_message.message in
+    let T : Bool → Type 0 = λ last. IsTurn (asked c.args.command.uid m) c.reading-now.result last c.turns.account c.respond-response.new.account (bytes_of c.respond-response.result) in (
+      turned c.args.command.uid c.args.command.at
+          (g.S.Told.told c.args.input.now) (g.S.Told.told c.turns.input) (g.S.Told.told c.read_message.new.source)
+          (g.T.Told.told c.args.output.now) (g.T.Told.told c.turns.output) (g.T.Told.told c.write.new.output)
+          (g.C.Clock.coming c.args.clock.now) (g.C.Clock.coming c.turns.clock) (g.C.Clock.coming c.reading-now.new.clock)
+          c.turns.buffer c.read_message.new.buffer c.turns.account c.respond-response.new.account c.turns.count c.reading-now.result m takes.0 (bytes_of c.respond-response.result)
+          p c.turns-test.true takes.1 takes.2 cause c.reading-now.ensures.reading (subst T c.closes-last.ensures c.respond-response.ensures.turn) c.respond-response.ensures.valid
+          c.in-Ok-write.ensures.sent c.if-message.false,
+      unread_further c.args.command.at c.args.clock.now c.turns.clock c.reading-now.new.clock c.turns.invariant.1 c.reading-now.ensures.unread,
+    )
 
-pub returns : goal.returns
-returns g c =
-    ended_counting c.args.uid c.args.at (g.S.Told.told c.args.input.now) (g.S.Told.told c.turns.input) (g.T.Told.told c.args.output.now) (g.T.Told.told c.turns.output)
-    c.turns.buffer c.turns.account c.turns.count c.turns.invariant c.turns-test.false
+pub returns-clause-answered : goal.returns-clause-answered
+returns-clause-answered g c =
+    ended_counting c.args.command.uid c.args.command.at (g.S.Told.told c.args.input.now) (g.S.Told.told c.turns.input) (g.T.Told.told c.args.output.now) (g.T.Told.told c.turns.output)
+    (g.C.Clock.coming c.args.clock.now) (g.C.Clock.coming c.turns.clock) c.turns.buffer c.turns.account c.turns.count c.turns.invariant.0 c.turns-test.false

@@ -13,7 +13,7 @@ use Rattle.ss_build.proofs.Walks.{top_or_circle}
 use Rattle.ss_build.proofs.Valid.{proposed_cases, proposed_none, length-ids}
 use Rattle.ss_build.proofs.Stand.{steps_after, walk_steps, circle_top}
 
-any_found : (p : List ℕ → Bool) (xs : List (List ℕ)) → list_any p xs ≡ true → (x : List ℕ) × (has x xs ≡ true) × (p x ≡ true)
+pub any_found : (p : List ℕ → Bool) (xs : List (List ℕ)) → list_any p xs ≡ true → (x : List ℕ) × (has x xs ≡ true) × (p x ≡ true)
 any_found p [] h = absurd (false≢true h)
 any_found p (x ∷ xs) h = go (p x) refl h (any_found p xs)
   where

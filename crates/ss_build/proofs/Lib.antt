@@ -3,7 +3,7 @@ pub mod Items
 pub mod Keyed
 pub mod Valid
 pub mod Read
-pub mod Rows
+pub mod OfRows
 pub mod Best
 pub mod Stand
 pub mod Bounded
@@ -13,4 +13,16 @@ pub mod Worked
 pub mod Walking
 pub mod Marking
 pub mod Visiting
-pub mod Places
+pub mod Hops
+pub mod Seats
+pub mod Chosen
+pub mod Uppers
+pub mod Taking
+pub mod Ordered
+pub mod Told
+pub mod Kept
+pub mod Grown
+pub mod Meeting
+pub mod Planting
+pub mod Listers
+pub mod Sorting

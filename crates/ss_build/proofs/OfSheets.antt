@@ -1,14 +1,14 @@
 -- The laws over sheets.
-use Rattle.std.proofs.Common.{◌≡◌, ℕ, List, [], ◌∷◌, inl, inr, map, refl, sym, ap, subst}
+use Rattle.std.proofs.Common.{◌≡◌, List, [], ◌∷◌, inl, inr, map, refl, sym, ap, subst}
 use Rattle.ss_record.specs.Ids.{Apart}
 use Rattle.ss_record.specs.declared.readings.Sheet.{Sheet}
 use Rattle.ss_tree.specs.Trees.{IsValidTree, Placed}
 use Rattle.ss_build.specs.Built.{built}
-use Rattle.ss_build.specs.Rows.{Row, row_of, rows_of}
+use Rattle.ss_build.specs.Rows.{row_of, rows_of}
 use Rattle.ss_build.specs.Stand.{IsSameUntimed, StandFor}
 use Rattle.ss_build.proofs.Items.{In}
 use Rattle.ss_build.proofs.Read.{IsRead, reading_is_read}
-use Rattle.ss_build.proofs.Rows.{AreRows, built_valid}
+use Rattle.ss_build.proofs.OfRows.{AreRows, built_valid}
 use Rattle.ss_build.proofs.Stand.{stand_built}
 
 In-map : {X Y : Type 0} (f : X → Y) (xs : List X) (y : Y) → In y (map f xs) → (x : X) × (y ≡ f x)

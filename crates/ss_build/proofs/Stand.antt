@@ -19,7 +19,7 @@ use Rattle.ss_build.proofs.Items.{In, claim_in, claim_found, claim_has, claim_no
 use Rattle.ss_build.proofs.Keyed.{key_found, found_key, key_at, has_key, no_key}
 use Rattle.ss_build.proofs.Valid.{proposed_root, proposed_claim, proposed_none, node_tree, node_claim, node_places}
 use Rattle.ss_build.proofs.Read.{IsRead}
-use Rattle.ss_build.proofs.Rows.{AreRows, of_row, read_from, has_ids, has-with_roots, claims_are}
+use Rattle.ss_build.proofs.OfRows.{AreRows, of_row, read_from, has_ids, has-with_roots, claims_are}
 
 -- ---- lists that a filter and `firsts` leave as they are
 

@@ -2,11 +2,10 @@
 use Rattle.std.proofs.Common.{◌≡◌, ℕ, List, [], ◌∷◌, map, refl, Some, None, Option, codes}
 use Rattle.ss_build.specs.Built.{is_kept, beats, best, built, built_children, built_parent, claim, claims, comes_back, ids, is_child, kept_if, lists, named, node_of, or_else, proposal, proposed, repaired, tree_of, walk, with_roots}
 use Rattle.ss_build.specs.Rows.{Row, claim_of}
-use Rattle.ss_record.specs.Ids.{before, by_id, firsts, has, places, roots, same_list, unfiled}
+use Rattle.ss_record.specs.Ids.{before, has, places, roots, same_list, unfiled}
 use Rattle.ss_record.specs.declared.kinds.Kind.{Kind}
 use Rattle.ss_record.specs.declared.kinds.Kind.TheVariants.{Bookmark, Folder}
 use Rattle.ss_record.specs.declared.readings.Reading.TheVariants.{Item}
-use Rattle.ss_text.specs.Texts.{placed}
 use Rattle.ss_tree.specs.Trees.{places_node}
 
 row_at : List ℕ → ℕ → Kind → List ℕ → List (List ℕ) → Row

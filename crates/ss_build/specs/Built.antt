@@ -1,5 +1,5 @@
 -- The tree that is built from rows, however damaged they are.
-use Rattle.std.specs.Prelude.{◌&&◌, ◌||◌, ◌==◌, nat_lt, ℕ, zero, suc, List, [], ◌∷◌, ◌++◌, Bool, false, not, if◌then◌else◌, Option, Some, None, map, filter, filter_map, find, length, bytes_eq, codes, unwrap_or, option_map, option_and_then}
+use Rattle.std.specs.Prelude.{◌&&◌, ◌||◌, ◌==◌, nat_lt, ℕ, zero, suc, List, [], ◌∷◌, ◌++◌, Bool, false, not, if◌then◌else◌, Option, Some, None, map, filter, filter_map, find, length, bytes_eq, unwrap_or, option_map, option_and_then}
 use Rattle.std.specs.List.{list_all}
 use Rattle.ss_record.specs.Ids.{has, places, roots, unfiled, firsts, before, by_id, same_list}
 use Rattle.ss_record.specs.Kinds.{is_folder}

@@ -3,3 +3,4 @@ pub mod Built
 pub mod Stand
 pub mod Marks
 pub mod Places
+pub mod Planted

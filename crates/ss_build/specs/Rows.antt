@@ -1,17 +1,12 @@
 -- Rows as they were read, and the items among them with the places that their records claim.
-use Rattle.std.specs.Prelude.{ℕ, List, Bool, true, false, not, ◌&&◌, Option, Some, None, map, filter}
+use Rattle.std.specs.Prelude.{ℕ, List, Bool, true, false, Option, Some, None, map, filter}
 use Rattle.ss_record.specs.declared.readings.Reading.{Reading}
 use Rattle.ss_record.specs.declared.readings.Reading.TheVariants.{Item, Tombstone, Skipped}
 use Rattle.ss_record.specs.declared.readings.Sheet.{Sheet}
 use Rattle.ss_record.specs.Ids.{by_id}
 use Rattle.ss_record.specs.Records.{reading}
 use Rattle.ss_build.specs.declared.claims.Claim.{Claim}
-
--- a row as it was read
-pub record Row : Type 0 where
-  pub id : List ℕ
-  pub time : ℕ
-  pub reading : Reading
+pub use Rattle.ss_build.specs.declared.rows.Row.{Row}
 
 -- what a sheet says of its id
 unfoldable pub row_of : Sheet → Row
@@ -39,10 +34,19 @@ is_tombstone (Item i p cs) = false
 is_tombstone Tombstone = true
 is_tombstone Skipped = false
 
+abbrev pub is_skipped : Reading → Bool
+is_skipped (Item i p cs) = false
+is_skipped Tombstone = false
+is_skipped Skipped = true
+
+-- each id with what was read of it
+abbrev pub readings : List Row → List (List ℕ × Reading)
+readings rows = map (λ r. (r.id, r.reading)) rows
+
 -- the ids that are told as deleted
 unfoldable pub dead : List Row → List (List ℕ)
 dead rows = by_id (map (λ r. r.id) (filter (λ r. is_tombstone r.reading) rows))
 
 -- the ids of which nothing is understood
 unfoldable pub skipped : List Row → List (List ℕ)
-skipped rows = by_id (map (λ r. r.id) (filter (λ r. not (is_item r.reading) && not (is_tombstone r.reading)) rows))
+skipped rows = by_id (map (λ r. r.id) (filter (λ r. is_skipped r.reading) rows))

@@ -2,7 +2,7 @@ use Rattle.ss_build.specs.Built.{claims}
 use Rattle.ss_build.specs.Rows.{rows_of}
 use Rattle.ss_build.proofs.Bounded.{comes_back_is}
 use Rattle.ss_build.proofs.OfSheets.{sheets_are_rows}
-use Rattle.ss_build.proofs.Rows.{claims_are}
+use Rattle.ss_build.proofs.OfRows.{claims_are}
 use Rattle.ss_build.proofs.laws.circles_are_bounded.Goals as goal
 
 pub returns : goal.returns

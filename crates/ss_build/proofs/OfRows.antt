@@ -90,7 +90,7 @@ pub none_true : (b : Bool) → (b ≡ true → ⊥) → b ≡ false
 none_true true h = absurd (h refl)
 none_true false h = refl
 
-reads_apart : (rows : List Row) → AreRows rows → Apart (ids (filter_map claim_of rows))
+pub reads_apart : (rows : List Row) → AreRows rows → Apart (ids (filter_map claim_of rows))
 unfolding ids In
 reads_apart [] a = Apart-nil
 reads_apart (r ∷ rows) a =

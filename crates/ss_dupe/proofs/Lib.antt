@@ -1,0 +1,14 @@
+pub mod Basics
+pub mod Walks
+pub mod Bounds
+pub mod Lists
+pub mod Shapes
+pub mod OneEach
+pub mod Renamed
+pub mod Cover
+pub mod ReadOut
+pub mod Members
+pub mod Newness
+pub mod Alike
+pub mod Adding
+pub mod Depths

@@ -1,0 +1,19 @@
+use Rattle.std.proofs.Common.{ap, ◌∙◌, arith, length, ◌<◌, ◌≤◌, bytes_eq, option_map}
+use Rattle.std.specs.Map.{lookup}
+use Rattle.ss_dupe.specs.Plains.{placed_at}
+use Rattle.ss_dupe.proofs.ReadOut.{none_yet, one_more_at, read_out}
+use Rattle.ss_dupe.proofs.plain.Plain.read.Goals as goal
+
+pub loop-node-init : goal.loop-node-init
+loop-node-init c = none_yet c.args.source.now _ (λ x. ap (λ es. option_map placed_at (lookup (bytes_eq x) es)) c.new.ensures.empty) c.in_ok-with_capacity.ensures.items
+
+pub loop-node-preserved : goal.loop-node-preserved
+loop-node-preserved c =
+    let lt : c.loop-node.node-index < length c.deref-node-items.result.now = omega arith in
+    one_more_at c.args.source.now c.in_ok-nodes.ensures.kept c.deref-node-items.result.now c.loop-node.node-index c.node-item.result c.loop-node.plain c.put.new.self c.in_ok-seat_of.field-0 lt c.node-item.is c.loop-node.invariant c.in_ok-seat_of.ensures
+    c.in_ok-put.ensures.look c.in_ok-put.ensures.ids
+
+pub returns-clause-same : goal.returns-clause-same
+returns-clause-same c =
+    let le : length c.deref-node-items.result.now ≤ c.loop-node.node-index = omega arith in
+    read_out c.args.source.now c.in_ok-nodes.ensures.kept c.loop-node.plain c.deref-node-items.result.now c.loop-node.node-index le (c.deref-node-items.ensures.value ∙ c.in_ok-nodes.ensures.nodes) c.loop-node.invariant

@@ -1,0 +1,10 @@
+use Rattle.ss_dupe.proofs.plains.Plains.read.Goals as goal
+
+pub returns-clause-same : goal.returns-clause-same
+returns-clause-same c = λ i. record {
+  mirror = λ x. c.in_ok-read.ensures.same x i;
+  local = λ x. c.in_ok-read-2.ensures.same x i;
+  remote = λ x. c.in_ok-read-3.ensures.same x i;
+  local_dead = λ x. c.in_ok-set_of.ensures x i;
+  remote_dead = λ x. c.in_ok-set_of-2.ensures x i;
+}

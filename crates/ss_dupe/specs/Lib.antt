@@ -1,0 +1,10 @@
+pub mod Looks
+pub mod Walks
+pub mod Keys
+pub mod Sides
+pub mod Pairs
+pub mod Renaming
+pub mod Plains
+pub mod Reading
+pub mod News
+pub mod Shapes

@@ -1,0 +1,30 @@
+-- The local tree after its paired items took the remote ids.
+use Rattle.std.specs.Prelude.{List, bytes_eq, unwrap_or, map, option_map}
+use Rattle.std.specs.Map.{lookup}
+use Rattle.ss_tree.specs.Trees.{Placed}
+use Rattle.ss_tree.specs.Entries.{tree}
+use Rattle.ss_tree.specs.declared.sides.Sides.{Sides as Asked}
+use Rattle.ss_dupe.specs.Looks.{Id}
+use Rattle.ss_dupe.specs.Sides.{Sides, sides}
+
+-- the remote id of a local item that is in a pair; each other id stays
+abbrev pub named : List (Id × Id) → Id → Id
+named pairs x = unwrap_or (lookup (bytes_eq x) pairs) x
+
+abbrev pub renamed_item : (Id → Id) → Placed → Placed
+renamed_item name n = record {
+  id = name n.id;
+  kind = n.kind;
+  content = n.content;
+  parent = option_map name n.parent;
+  children = map name n.children;
+  time = n.time;
+}
+
+-- a tree with other ids
+unfoldable pub renamed : (Id → Id) → List Placed → List Placed
+renamed name t = map (renamed_item name) t
+
+-- what a merge is asked of, after the renaming
+abbrev pub paired : List (Id × Id) → Asked → Sides
+paired pairs s = sides (tree s.mirror.now) (renamed (named pairs) (tree s.local.now)) (tree s.remote.now) s.local_dead.now s.remote_dead.now

@@ -1,0 +1,20 @@
+//! Duplicates: new items that are the same on both sides of a merge.
+//! It pairs them by their places, their kinds, the members that tell them apart and their ranks; it stands on ss_tree.
+//! Its contracts: the pairs are the least set that the rule gives, no id is in two, and renaming keeps a tree valid.
+#![tactic(auto)]
+
+mod keys;
+mod laws;
+mod news;
+mod plain;
+mod plains;
+mod rounds;
+mod sides;
+#[cfg(test)]
+mod tests;
+
+pub use laws::{no_id_is_in_two_pairs, renamed_trees_are_valid};
+pub use plain::{Plain, Seat};
+pub use plains::Plains;
+pub use rounds::pair_dupes;
+pub use sides::Side;

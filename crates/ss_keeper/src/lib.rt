@@ -5,6 +5,13 @@
 
 mod faults;
 mod keeper;
+mod making;
+mod memory;
+mod row_edits;
+#[cfg(test)]
+mod tests;
+mod time_edits;
 
 pub use faults::KeepFault;
 pub use keeper::Keeper;
+pub use memory::{KeeperUnder, MemKeeper, SureKeeper};

@@ -1,0 +1,10 @@
+use Rattle.std.proofs.Common.{sym, ap, ◌∙◌, ◌||◌}
+use Rattle.ss_keeper.specs.Together.{is_named, sets}
+use Rattle.ss_keeper.proofs.Sets.{name-put}
+use Rattle.ss_keeper.proofs.time_edits.note_set.Goals as goal
+
+pub returns-in_ok-_added : goal.returns-in_ok-_added
+returns-in_ok-_added c = λ name.
+    let old = c.args.names.now in
+    name-put name _ old.keys c.insert.new.self.keys c.in_ok-_added._added c.in_ok-_added.ensures.added c.in_ok-_added.ensures.keys
+    ∙ ap (λ b. b || is_named old name) (ap (sets name) (sym c.in-Set.is))

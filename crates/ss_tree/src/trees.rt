@@ -105,6 +105,16 @@ impl Tree {
         Tree { entries, next }
     }
 
+    /// The entries of all items, for reading a tree out in one pass: each with its node, its parent's node, its item and
+    /// its time, and siblings in their order.
+    pub fn entries(&self) -> &[Entry]
+        ensures entries { result.now ≡ self.now }
+        ensures valid { IsValidTree (tree self.now) }
+        ensures kept { IsTree self.now }
+    {
+        &self.entries
+    }
+
     /// The node of an id.
     pub fn find(&self, id: &Id) -> Option<Node>
         ensures node { result ≡ node_of id.now self.now }

@@ -127,6 +127,10 @@ module _ {X : Type 0} (lt : X → X → Bool) (order : IsStrictWeakOrder lt) whe
   sorted_is xs ys up stable =
       in_order_unique ys (sorted lt xs) (in_order-from_far ys (sorted_far lt order ys up)) (in_order-sorted xs) (λ w. stable w ∙ sym (ties-sorted w xs))
 
+  -- lists whose ties stand alike have one sorted list
+  pub sorted_alike : (xs ys : List X) → ((w : X) → filter (ties lt w) xs ≡ filter (ties lt w) ys) → sorted lt xs ≡ sorted lt ys
+  sorted_alike xs ys same = in_order_unique (sorted lt xs) (sorted lt ys) (in_order-sorted xs) (in_order-sorted ys) (λ w. ties-sorted w xs ∙ same w ∙ sym (ties-sorted w ys))
+
 -- what a stable sort of ids leaves
 pub by_id_is : (xs ys : List (List ℕ)) → IsSortedBy (λ x y. is_lt (slice_cmp nat_cmp x y)) ys → IsStableBy (λ x y. is_lt (slice_cmp nat_cmp x y)) xs ys → ys ≡ by_id xs
 unfolding before

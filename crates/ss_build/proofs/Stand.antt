@@ -206,7 +206,7 @@ circle_top f top' h j (suc k) x back reach =
     let next : f x ≡ top' = circle_top f top' h j k (f x) (steps_after f j (f x) ∙ ap f back) reach in
     sym back ∙ (ap (steps f j) next ∙ steps_top f top' h j)
 
-named_is : (es : List Claim) (y : List ℕ) (f : Claim) → claim y es ≡ Some f → is_folder f.item.kind ≡ true → find (λ g. is_folder g.item.kind && bytes_eq y g.item.id) es ≡ Some f
+pub named_is : (es : List Claim) (y : List ℕ) (f : Claim) → claim y es ≡ Some f → is_folder f.item.kind ≡ true → find (λ g. is_folder g.item.kind && bytes_eq y g.item.id) es ≡ Some f
 unfolding claim
 named_is [] y f q h = cc
 named_is (g ∷ gs) y f q h = go (bytes_eq y g.item.id) refl q (named_is gs y f)

@@ -78,6 +78,17 @@ fn grow(alloc: Global, claims: &[Claim], count: usize) -> Result<Grown, AllocErr
     Ok(Grown { tree, repaired })
 }
 
+/// Builds the tree of items that claim their places: distinct ids with all roots, which are folders, and without
+/// `places`.
+pub fn build_claims(alloc: Global, claims: &[Claim]) -> Result<Tree, AllocError>
+    requires items { AreItems claims.now }
+    ensures same { IfOk result (λ t. IsSame (tree t) (tree_of claims.now)) }
+    ensures valid { IfOk result (λ t. IsValidTree (tree t)) }
+{
+    let grown = grow(alloc, claims, 0)?;
+    Ok(grown.tree)
+}
+
 /// Builds the tree of rows with distinct ids, however damaged they are (the rules are this project's, over the records
 /// of Firefox's bookmarks).
 pub fn build(alloc: Global, sheets: &[Sheet]) -> Result<Built, AllocError>

@@ -13,13 +13,13 @@ use ss_record::{Item, Reading, Words};
 use ss_text::{Id, Stamp, Word};
 use std::alloc::{AllocError, Global};
 
-/// An item with the parent and the children that its record names, and its time.
+/// An item with the parent and the children that its record names, and its time in hundredths of a second.
 #[derive(Drop, Debug)]
-pub(crate) struct Claim {
-    pub(crate) item: Item,
-    pub(crate) parentid: Option<Word>,
-    pub(crate) children: Words,
-    pub(crate) time: Stamp,
+pub struct Claim {
+    pub item: Item,
+    pub parentid: Option<Word>,
+    pub children: Words,
+    pub time: Stamp,
 }
 
 fn copy_parentid(alloc: Global, parentid: &Option<Word>) -> Result<Option<Word>, AllocError>

@@ -19,6 +19,7 @@ mod siblings;
 #[cfg(test)]
 mod tests;
 
-pub use building::{Built, build};
+pub use building::{Built, build, build_claims};
+pub use claims::Claim;
 pub use distinct::are_distinct;
 pub use laws::{built_tree_is_valid, circles_are_bounded, rows_are_built_back};

@@ -1,6 +1,6 @@
 //! A tree that was read out, for look-ups by id.
 
-ghost use Rattle.std.specs.Prelude.{◌≡◌, Some, true, IfOk, OnOk, All, option_map, length, bytes_eq, if◌then◌else◌};
+ghost use Rattle.std.specs.Prelude.{◌≡◌, Some, None, [], true, IfOk, OnOk, All, option_map, length, bytes_eq, if◌then◌else◌};
 ghost use Rattle.ss_tree.specs.Trees.{IsValidTree};
 ghost use Rattle.ss_tree.specs.Entries.{IsTree, above, entry, is_live, placed, preorder, tree};
 ghost use Rattle.ss_dupe.specs.Looks.{Id as Text, is_in, look};
@@ -102,8 +102,19 @@ impl<'a> Plain<'a> {
         Ok(plain)
     }
 
+    /// A tree of no items.
+    pub fn empty(alloc: Global) -> Plain<'a>
+        ensures none { (x : Text) → look_of result x ≡ None }
+        ensures ids { result.ids.items ≡ [] }
+    {
+        Plain {
+            seats: HashMap::new(alloc),
+            ids: Vec::new(alloc),
+        }
+    }
+
     /// Adds an item in its place, in place of an earlier one of its id.
-    fn put(&mut self, alloc: Global, seat: Seat<'a>) -> Result<(), AllocError>
+    pub fn put(&mut self, alloc: Global, seat: Seat<'a>) -> Result<(), AllocError>
         ensures look { OnOk result ((x : Text) → look_of self.new x ≡ (if bytes_eq seat.entry.id x then Some (placed_at seat.entry) else look_of self.old x)) }
         ensures ids { OnOk result (AreIds self.old → AreIds self.new) }
     {

@@ -1,0 +1,14 @@
+pub mod Nearest
+pub mod Finals
+pub mod Sided
+pub mod Claimed
+pub mod Valid
+pub mod ByIds
+pub mod Taken
+pub mod Steps
+pub mod Holding
+pub mod Fit
+pub mod Naming
+pub mod Reading
+pub mod Gathering
+pub mod Whole

@@ -15,7 +15,7 @@ use Rattle.form_urlencoded.specs.Form.{raw_pairs, decode, split_once, split_pair
 use Rattle.form_urlencoded.proofs.FormLemmas.{raw_pairs-nil, raw_pairs_first, split_once_before_at, split_once_after_at, split_once_before_none, split_once_after_none, decode_plain}
 use Rattle.percent_encoding.specs.Percent.{percent_decode}
 use Rattle.percent_encoding.proofs.PercentLemmas.{percent_decode-nil, percent_decode_not_percent}
-use Rattle.ss_query.specs.Parameters.{parameter, first_in, text_of}
+use Rattle.ss_query.specs.Parameters.{parameter, first_in}
 use Rattle.ss_route.specs.Targets.{path_of, query_of, without_empty_end, segments_behind, segments_of}
 
 -- a name and a value

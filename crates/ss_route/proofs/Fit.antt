@@ -1,5 +1,5 @@
 -- A request that is routed may be asked: a POST is within its limits, and a list of ids isn't too long.
-use Rattle.std.proofs.Common.{◌≡◌, ℕ, ◌+◌, ◌≤◌, List, length, Bool, true, false, ◌&&◌, cond, nat_le, Option, Some, None, refl, ap, subst, is_some, codes}
+use Rattle.std.proofs.Common.{◌≡◌, ℕ, ◌+◌, ◌≤◌, List, length, Bool, true, false, cond, nat_le, Option, Some, None, refl, ap, subst, is_some, codes}
 use Rattle.std.proofs.lemmas.Bool.{and_parts, leb-true}
 use Rattle.std.specs.Option.{ForSome}
 use Rattle.std.specs.Prelude.{Result, Ok, Err}

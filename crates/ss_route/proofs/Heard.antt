@@ -1,5 +1,5 @@
 -- What is heard of a reply.
-use Rattle.std.proofs.Common.{◌≡◌, ℕ, ◌++◌, ◌==◌, Bool, List, [], length, refl}
+use Rattle.std.proofs.Common.{◌≡◌, ℕ, ◌++◌, Bool, List, [], refl}
 use Rattle.ss_http.specs.Hearing.{Hears}
 use Rattle.ss_http.proofs.Replies.{hears_response}
 use Rattle.ss_query.specs.declared.replies.Body.{Body}

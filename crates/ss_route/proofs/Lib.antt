@@ -5,6 +5,7 @@ mod Fit
 pub mod Heard
 mod Pieces
 mod Reasons
+pub mod Sendable
 pub mod Sent
 mod Tokens
 mod Uploads

@@ -1,7 +1,6 @@
 -- A status that has a reason has three digits.
-use Rattle.std.proofs.Common.{◌≡◌, ℕ, ◌<◌, ◌≤◌, ◌==◌, Bool, true, false, List, [], cond, length, codes, refl, sym, subst, arith}
+use Rattle.std.proofs.Common.{◌≡◌, ℕ, ◌<◌, ◌≤◌, ◌==◌, Bool, true, false, List, [], cond, length, codes, refl, arith}
 use Rattle.std.proofs.lemmas.Bool.{eqb-true}
-use Rattle.ss_http.specs.Responses.{reason_of}
 use Rattle.ss_route.specs.Wire.{HasReason}
 
 -- this status, or another one

@@ -1,23 +1,21 @@
 -- A request that is sent is routed as it was meant.
-use Rattle.std.proofs.Common.{◌≡◌, ℕ, zero, suc, ◌+◌, ◌^◌, ◌<◌, ◌≤◌, List, [], ◌∷◌, ◌++◌, length, map, get_or, Bool, true, false, ◌&&◌, cond, leb, Option, Some, None, option_and_then, codes, decimal, refl, sym, ap, ap₂, ◌∙◌, subst, arith, lit<, lit≤, le-leb, append_assoc, append-nil, length-append}
+use Rattle.std.proofs.Common.{◌≡◌, ℕ, suc, ◌+◌, ◌^◌, ◌<◌, ◌≤◌, List, [], ◌∷◌, length, Bool, true, false, ◌&&◌, cond, Option, Some, None, option_and_then, codes, decimal, refl, sym, ap, ap₂, ◌∙◌, subst, arith, lit<, le-leb, append_assoc, append-nil}
 use Rattle.std.proofs.lemmas.Fmt.{decimal_nonempty}
 use Rattle.std.proofs.lemmas.List.Sums.{sum_by-cons}
 use Rattle.std.specs.List.{list_all, AllByRecursion, All}
-use Rattle.std.specs.Prelude.{Result, Ok, Err, ok_or, is_some, IfSome, sum_by, nat_le}
+use Rattle.std.specs.Prelude.{Result, Ok, Err, ok_or, is_some}
 use Rattle.std.specs.Str.{IsUtf8}
 use Rattle.httparse.specs.Grammar.{trim_ows}
-use Rattle.ss_text.specs.Names.{is_id, is_name}
+use Rattle.ss_text.specs.Names.{is_id}
 use Rattle.ss_text.specs.Numbers.{number_of}
-use Rattle.ss_text.specs.Time.{stamp_text, stamp_of, last_stamp}
+use Rattle.ss_text.specs.Time.{stamp_text, last_stamp}
 use Rattle.ss_text.specs.declared.stamps.Cond.{Cond}
 use Rattle.ss_text.specs.declared.stamps.Cond.TheVariants.{Free, IfModified, IfUnmodified}
 use Rattle.ss_bso.specs.Limits.{part_bytes, payload_size}
-use Rattle.ss_bso.specs.declared.parts.Field.{Field}
 use Rattle.ss_bso.specs.declared.parts.Part.{Part}
 use Rattle.ss_bso.specs.declared.parts.Records.{Records}
 use Rattle.ss_http.proofs.Values.{stamp_again}
-use Rattle.ss_http.specs.Fields.{Line}
-use Rattle.ss_http.specs.Requests.{IsCond, request_fields, message_sent}
+use Rattle.ss_http.specs.Requests.{IsCond, request_fields}
 use Rattle.ss_http.specs.declared.message.Message.{Message}
 use Rattle.ss_query.specs.Fit.{IsFitRequest, most_post_records, most_post_bytes}
 use Rattle.ss_query.specs.Parameters.{◌>>=◌, optional, or_default, ids_in, stamp_in, limit_in, offset_in, sort_in, ids_of_text, query_of_text, parameter}
@@ -41,7 +39,6 @@ use Rattle.ss_route.specs.declared.routed.Local.{Local}
 use Rattle.ss_route.specs.declared.routed.Routed.{Routed}
 use Rattle.ss_route.specs.declared.routed.Routed.TheVariants.{Ask}
 use Rattle.ss_route.specs.declared.targets.Named.{Named}
-use Rattle.ss_route.specs.declared.targets.Place.{Place}
 use Rattle.ss_route.specs.declared.targets.Place.TheVariants.{About, Collection}
 use Rattle.ss_route.specs.Asking.{method_in, asked_in, name_in}
 use Rattle.ss_route.specs.Bodies.{lines_in, lines_of_type, records_in, within_limits}
@@ -50,8 +47,8 @@ use Rattle.ss_route.specs.Fields.{wants_lines, without_parameters}
 use Rattle.ss_route.specs.Posts.{token, batch_of, mode_of, mode_in, batch_in, continues, names_batch, announced_in}
 use Rattle.ss_route.specs.Refusals.{said, code, or_refusal, query_refusal, body_refusal}
 use Rattle.ss_route.specs.Routing.{is_get, asking, settled, routed, request_in, collection_request, list_request, post_request}
-use Rattle.ss_route.specs.Sending.{IsSent, IsTyped, IsReadable, IsReadableBatch, IsPageAt, IsUnmodified, IsUpload, page, payload_set, account_path, offset_text, mode_text, target_of, uploads_text, message_of}
-use Rattle.ss_route.specs.Targets.{query_of, named_by, named_in, place_of, info_of, uid_of, account_in, segments_of, path_of}
+use Rattle.ss_route.specs.Sending.{IsSent, IsTyped, IsReadable, IsReadableBatch, IsPageAt, IsUnmodified, IsUpload, page, payload_set, account_path, target_of, uploads_text, message_of}
+use Rattle.ss_route.specs.Targets.{query_of, named_by, named_in, place_of, info_of, account_in}
 use Rattle.ss_route.proofs.Composed.{Pair, is_plain, IsPlainSegment, IsPlainPair, ArePlainSegments, ArePlainPairs, target_text, first_value, path_again, parameter_again}
 use Rattle.ss_route.proofs.Tokens.{decimal_is_plain, token_is_plain, number_back, uid_back, batch_back, token_is_not_true}
 use Rattle.ss_route.proofs.Uploads.{IsPart, uploads_are_read}
@@ -154,16 +151,16 @@ from_parameters : (text : List ℕ) → query_of_text text ≡ query_from (param
 unfolding query_of_text ids_of_text query_from
 from_parameters text = refl
 
-abbrev first_pairs : List Pair
+abbrev pub first_pairs : List Pair
 first_pairs = (codes "full", codes "1") ∷ (codes "sort", codes "oldest") ∷ (codes "limit", codes "1000") ∷ []
 
-abbrev later_pairs : ℕ → List Pair
+abbrev pub later_pairs : ℕ → List Pair
 later_pairs offset = (codes "full", codes "1") ∷ (codes "sort", codes "oldest") ∷ (codes "limit", codes "1000") ∷ (codes "offset", decimal offset) ∷ []
 
-first_plain : ArePlainPairs first_pairs
+pub first_plain : ArePlainPairs first_pairs
 first_plain = (pair _ _ refl refl, (pair _ _ refl refl, (pair _ _ refl refl, tt)))
 
-later_plain : (offset : ℕ) → offset < 2 ^ 64 → ArePlainPairs (later_pairs offset)
+pub later_plain : (offset : ℕ) → offset < 2 ^ 64 → ArePlainPairs (later_pairs offset)
 later_plain offset h = (pair _ _ refl refl, (pair _ _ refl refl, (pair _ _ refl refl, (pair _ _ refl (decimal_is_plain offset h), tt))))
 
 first_query : query_from None None None (Some (codes "1000")) None (Some (codes "oldest")) (Some (codes "1")) ≡ Ok (page 0)
@@ -212,11 +209,11 @@ no_lines host (IfModified time) (Some body) = refl
 no_lines host (IfUnmodified time) None = refl
 no_lines host (IfUnmodified time) (Some body) = refl
 
-first_target : (uid : ℕ) → target_of uid (ListOf (codes "bookmarks") (page 0) Free) ≡ target_text (bookmarks uid) first_pairs
+pub first_target : (uid : ℕ) → target_of uid (ListOf (codes "bookmarks") (page 0) Free) ≡ target_text (bookmarks uid) first_pairs
 unfolding target_of account_path
 first_target uid = simp (append_assoc, append-nil)
 
-later_target : (uid offset time : ℕ) → target_of uid (ListOf (codes "bookmarks") (page offset) (IfUnmodified time)) ≡ target_text (bookmarks uid) (later_pairs offset)
+pub later_target : (uid offset time : ℕ) → target_of uid (ListOf (codes "bookmarks") (page offset) (IfUnmodified time)) ≡ target_text (bookmarks uid) (later_pairs offset)
 unfolding target_of account_path
 later_target uid offset time = simp (append_assoc, append-nil)
 
@@ -246,7 +243,7 @@ later_page uid offset time host above below within known =
 
 -- ---- the limits of the server
 
-configuration_target : (uid : ℕ) → target_of uid (Info Configuration Free) ≡ target_text (configuration uid) []
+pub configuration_target : (uid : ℕ) → target_of uid (Info Configuration Free) ≡ target_text (configuration uid) []
 unfolding target_of account_path
 configuration_target uid = simp (append_assoc, append-nil)
 
@@ -267,7 +264,7 @@ limits_asked uid host above below =
 
 -- ---- a POST
 
-abbrev mode_pairs : Mode → List Pair
+abbrev pub mode_pairs : Mode → List Pair
 mode_pairs Plain = []
 mode_pairs Begin = (codes "batch", codes "true") ∷ []
 mode_pairs (Append batch) = (codes "batch", token batch) ∷ []
@@ -340,7 +337,7 @@ post_asks : asked_in (Collection (codes "bookmarks")) methods.Post ≡ Ok (OfCol
 unfolding asked_in
 post_asks = refl
 
-mode_target : (uid : ℕ) (records : Records) (mode : Mode) (cond : Cond) → target_of uid (Post (codes "bookmarks") records mode cond) ≡ target_text (bookmarks uid) (mode_pairs mode)
+pub mode_target : (uid : ℕ) (records : Records) (mode : Mode) (cond : Cond) → target_of uid (Post (codes "bookmarks") records mode cond) ≡ target_text (bookmarks uid) (mode_pairs mode)
 unfolding target_of account_path
 mode_target uid records Plain c = refl
 mode_target uid records Begin c = refl

@@ -1,5 +1,5 @@
 -- Numbers and ids of batches, as they are written and read.
-use Rattle.std.proofs.Common.{◌≡◌, ℕ, ◌+◌, ◌*◌, ◌/◌, ◌%◌, ◌^◌, ◌<◌, ◌≤◌, List, [], ◌∷◌, ◌++◌, length, get_or, Bool, true, false, not, ◌&&◌, ◌||◌, ◌==◌, cond, leb, Option, Some, None, option_and_then, codes, decimal, refl, sym, ap, ap₂, ◌∙◌, subst, arith, lit<, lit≤, append-nil, le-leb, ne_eqb, inl, inr, ◌⊎◌}
+use Rattle.std.proofs.Common.{◌≡◌, ℕ, ◌+◌, ◌*◌, ◌/◌, ◌%◌, ◌^◌, ◌<◌, ◌≤◌, List, [], ◌∷◌, ◌++◌, length, get_or, Bool, true, false, ◌&&◌, ◌||◌, ◌==◌, cond, leb, Option, Some, None, option_and_then, codes, decimal, refl, sym, ap, ap₂, ◌∙◌, arith, lit<, append-nil, le-leb, ne_eqb}
 use Rattle.std.proofs.lemmas.Bool.{and_parts, leb-true}
 use Rattle.std.proofs.lemmas.Fmt.{decimal_is_IsNumeral, decimal_nonempty, length-decimal-le, first_decimal, IsAscii-decimal}
 use Rattle.std.proofs.lemmas.List.Sums.{AllPass-from_list_all}
@@ -63,6 +63,21 @@ few_bytes (x ∷ xs) h =
 pub token_is_plain : (n : ℕ) → n < 2 ^ 64 → list_all is_plain (token n) ≡ true
 unfolding token
 token_is_plain n h = ap (list_all is_plain) (append-nil (encode_symbols letters (decimal n))) ∙ symbols_are_plain (decimal n) (few_bytes (decimal n) (decimal_digits n h))
+
+symbols_short : (m : List ℕ) → length (encode_symbols letters m) ≤ 4 * length m
+unfolding encode_symbols
+symbols_short [] = omega arith
+symbols_short (a ∷ []) = omega arith
+symbols_short (a ∷ b ∷ []) = omega arith
+symbols_short (a ∷ b ∷ c ∷ rest) = let more = symbols_short rest in omega (arith, more)
+
+pub token_short : (n : ℕ) → n ≤ 999999999999 → length (token n) ≤ 48
+unfolding token
+token_short n below =
+    let digits = length-decimal-le 12 n (lit< tt) (omega arith) (omega arith) in
+    let symbols = symbols_short (decimal n) in
+    let same : length (encode_symbols letters (decimal n) ++ []) ≡ length (encode_symbols letters (decimal n)) = ap length (append-nil (encode_symbols letters (decimal n))) in
+    omega (arith, digits, symbols, same)
 
 -- a number is read back
 three_tests : (a b c : Bool) (x : Option ℕ) → a ≡ true → b ≡ true → c ≡ true → cond (a && b && c) x None ≡ x

@@ -1,5 +1,5 @@
 -- The condition that the fields of a message set (SyncStorage API 1.5).
-use Rattle.std.specs.Prelude.{ℕ, Bool, true, false, List, Option, Some, None, ok_or, Result, Ok, Err, if◌then◌else◌, codes}
+use Rattle.std.specs.Prelude.{ℕ, Bool, List, Option, Some, None, ok_or, Result, Ok, Err, if◌then◌else◌, codes}
 use Rattle.ss_text.specs.declared.stamps.Cond.{Cond}
 use Rattle.ss_text.specs.declared.stamps.Cond.TheVariants.{Free, IfModified, IfUnmodified}
 use Rattle.ss_text.specs.Time.{stamp_of}

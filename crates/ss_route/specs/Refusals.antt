@@ -1,5 +1,5 @@
 -- What a message is told that isn't routed (SyncStorage API 1.5; which status has which word is this project's).
-use Rattle.std.specs.Prelude.{◌≡◌, ℕ, List, [], ◌∷◌, ◌++◌, Option, Some, None, Result, Ok, Err, codes, ⊤}
+use Rattle.std.specs.Prelude.{◌≡◌, ℕ, List, [], ◌∷◌, ◌++◌, Some, None, Result, Ok, Err, codes, ⊤}
 use Rattle.ss_bso.specs.declared.bodies.BodyFault.{BodyFault}
 use Rattle.ss_bso.specs.declared.bodies.BodyFault.TheVariants as of_body
 use Rattle.ss_bso.specs.declared.members.FieldsFault.{FieldsFault}

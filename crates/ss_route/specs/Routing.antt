@@ -1,6 +1,6 @@
 -- Routing: what a message asks, and of which account, or the first rule that refuses it (SyncStorage API 1.5; the order of the
 -- rules is this project's). A line of `routed`, and of the requests that it makes, is one rule.
-use Rattle.std.specs.Prelude.{◌≡◌, ℕ, Bool, true, false, List, Option, Some, None, Result, Ok, Err, codes, ⊤}
+use Rattle.std.specs.Prelude.{◌≡◌, ℕ, Bool, true, false, List, Option, Some, None, Result, Ok, Err, ⊤}
 use Rattle.ss_text.specs.declared.stamps.Cond.{Cond}
 use Rattle.ss_http.specs.declared.message.Message.{Message}
 use Rattle.ss_query.specs.Parameters.{◌>>=◌, query_of_text, ids_of_text}

@@ -1,5 +1,5 @@
 -- The requests that a sync client sends, as it writes them.
-use Rattle.std.specs.Prelude.{◌≡◌, ℕ, ◌≤◌, ◌<◌, true, List, [], ◌∷◌, ◌++◌, map, length, All, Option, Some, None, IfSome, codes, decimal, ⊤}
+use Rattle.std.specs.Prelude.{◌≡◌, ℕ, ◌≤◌, ◌<◌, true, List, [], ◌++◌, map, length, All, Option, Some, None, codes, decimal, ⊤}
 use Rattle.std.specs.List.{list_all}
 use Rattle.std.specs.Str.{IsUtf8}
 use Rattle.ss_text.specs.declared.stamps.Cond.{Cond}
@@ -7,7 +7,6 @@ use Rattle.ss_text.specs.declared.stamps.Cond.TheVariants.{Free, IfModified, IfU
 use Rattle.ss_bso.specs.declared.parts.Field.{Field}
 use Rattle.ss_bso.specs.declared.parts.Field.TheVariants.{Keep, Clear, Set}
 use Rattle.ss_bso.specs.declared.parts.Part.{Part}
-use Rattle.ss_bso.specs.declared.parts.Records.{Records}
 use Rattle.ss_text.specs.Names.{is_id}
 use Rattle.ss_http.specs.Requests.{IsCond, is_host_byte, request_text, message_sent}
 use Rattle.ss_http.specs.declared.message.Message.{Message}

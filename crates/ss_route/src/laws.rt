@@ -2,11 +2,12 @@
 
 ghost use Rattle.std.specs.Prelude.{◌≡◌, ◌≤◌, ◌++◌, List, ℕ, Bool, false};
 ghost use Rattle.ss_http.specs.Hearing.{Hears};
+ghost use Rattle.ss_http.specs.Messages.{ReadsMessage};
 ghost use Rattle.ss_query.specs.Fit.{IsFitRequest};
 ghost use Rattle.ss_query.specs.declared.replies.Reply.{Reply};
 ghost use Rattle.ss_query.specs.declared.requests.Request.{Request};
 ghost use Rattle.ss_route.specs.Routing.{routed};
-ghost use Rattle.ss_route.specs.Sending.{IsSent, IsTyped, IsReadable, message_of};
+ghost use Rattle.ss_route.specs.Sending.{IsHost, IsSent, IsTyped, IsReadable, message_of, request_sent};
 ghost use Rattle.ss_route.specs.declared.routed.Routed.TheVariants.{Ask};
 ghost use Rattle.ss_route.specs.Wire.{IsReply, HasReason, IsHeardWhole, wire, heard_of};
 
@@ -17,9 +18,12 @@ pub fn replies_are_heard()
         → Hears (wire reply newlines last ++ rest) (heard_of reply newlines last) rest }
 {}
 
-/// Where the account's number is at least 1, an offset is at most 999,999,999, a batch's number is from 1 to 999,999,999,999 and
-/// a body has at most 2,101,248 bytes, the message of a request that is sent is routed to this account and this request.
+/// A request that is sent, to a host of 1 to 1,030 visible bytes: its bytes are read as its message, whatever follows, and its
+/// message is routed to this account and this request. It is one that is sent where the account's number is at least 1, an offset
+/// is at most 999,999,999, a batch's number is from 1 to 999,999,999,999 and a body has at most 2,101,248 bytes.
 pub fn requests_are_routed()
-    ensures { (uid : ℕ) (host : List ℕ) (request : Request) → 1 ≤ uid → uid ≤ 4294967295 → IsTyped request → IsSent request → IsFitRequest request
+    ensures read { (uid : ℕ) (host : List ℕ) (request : Request) (rest : List ℕ) → uid ≤ 4294967295 → IsHost host → IsTyped request → IsSent request
+        → IsReadable request → ReadsMessage (request_sent uid host request ++ rest) (message_of uid host request) rest }
+    ensures routed { (uid : ℕ) (host : List ℕ) (request : Request) → 1 ≤ uid → uid ≤ 4294967295 → IsTyped request → IsSent request → IsFitRequest request
         → IsReadable request → routed (message_of uid host request) ≡ Ask uid request false }
 {}

@@ -18,6 +18,8 @@ mod responses;
 mod routed;
 mod routing;
 mod targets;
+#[cfg(test)]
+mod tests;
 mod texts;
 
 pub use laws::{replies_are_heard, requests_are_routed};

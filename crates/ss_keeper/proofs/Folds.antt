@@ -12,7 +12,7 @@ use Rattle.ss_bso.specs.declared.changes.CollectionChange.TheVariants as collect
 use Rattle.ss_bso.specs.Account.{is_alive}
 use Rattle.ss_bso.specs.Changes.{drops, row_changed, rows_but, time_changed}
 use Rattle.ss_bso.specs.Write.{times_without}
-use Rattle.ss_keeper.specs.Together.{collection_of, id_of, is_set, is_touched, last_puts, last_times, sets, touches, with_put, with_time}
+use Rattle.ss_keeper.specs.Together.{collection_of, id_of, is_set, is_touched, last_puts, last_times, touches}
 
 -- two filters are one
 pub filter-both : {X : Type 0} (p q r : X → Bool) → ((x : X) → r x ≡ (q x && p x)) → (xs : List X) → filter p (filter q xs) ≡ filter r xs

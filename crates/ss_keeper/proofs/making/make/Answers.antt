@@ -1,5 +1,4 @@
 use Rattle.std.proofs.Common.{◌≡◌, ℕ, ◌++◌, not, ◌&&◌, filter, List, ap, ◌∙◌}
-use Rattle.ss_bso.specs.declared.rows.Row.{Row}
 use Rattle.ss_bso.specs.Account.{is_alive}
 use Rattle.ss_bso.specs.Changes.{changed, drops}
 use Rattle.std.specs.List.{list_any}

@@ -1,7 +1,6 @@
-use Rattle.std.proofs.Common.{◌≡◌, ◌+◌, suc, ◌∷◌, ◌||◌, drop, sym, ap, ◌∙◌, add-one, drop-cons}
-use Rattle.std.specs.List.{list_any}
+use Rattle.std.proofs.Common.{◌≡◌, ◌+◌, ◌∷◌, ◌||◌, drop, sym, ap, ◌∙◌, add-one, drop-cons}
 use Rattle.ss_bso.specs.Account.{is_at}
-use Rattle.ss_keeper.specs.Together.{is_touched, touched_by, touches}
+use Rattle.ss_keeper.specs.Together.{is_touched, touched_by}
 use Rattle.ss_keeper.proofs.Sets.{place-put}
 use Rattle.ss_keeper.proofs.row_edits.Touched.with.Goals as goal
 

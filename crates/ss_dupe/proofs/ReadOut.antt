@@ -1,7 +1,6 @@
 -- Reading a tree out.
-use Rattle.std.proofs.Common.{◌≡◌, ◌⊎◌, ◌+◌, ◌<◌, Bool, true, false, cond, ◌||◌, List, [], ◌∷◌, ◌++◌, length, take, take_all, get_or, ◌≤◌, map, filter, bytes_eq, Option, Some, None, is_some, unwrap_or, option_map, option_and_then, refl, sym, ap, subst, ◌∙◌, inl, inr, ℕ}
-use Rattle.std.proofs.lemmas.List.{take_more}
-use Rattle.ss_record.specs.Items.{ItemView}
+use Rattle.std.proofs.Common.{◌≡◌, ◌⊎◌, ◌+◌, ◌<◌, Bool, true, false, cond, ◌||◌, List, [], ◌∷◌, ◌++◌, length, take, take_all, get_or, ◌≤◌, map, filter, bytes_eq, Option, Some, None, is_some, unwrap_or, option_map, option_and_then, refl, sym, ap, subst, ◌∙◌, inl, inr, ℕ, zero, suc, arith}
+use Rattle.std.proofs.lemmas.List.{map_more, take_more}
 use Rattle.ss_record.specs.Ids.{has}
 use Rattle.ss_tree.specs.declared.entries.Entry.{Entry}
 use Rattle.ss_tree.specs.Trees.{Placed}
@@ -11,76 +10,13 @@ use Rattle.ss_dupe.specs.declared.plain.Seat.{Seat}
 use Rattle.ss_dupe.specs.declared.plain.Plain.{Plain}
 use Rattle.ss_dupe.specs.Looks.{Id, Look, look, is_in}
 use Rattle.ss_dupe.specs.Plains.{AreIds, look_of, placed_at}
-use Rattle.ss_dupe.specs.Reading.{id_at, ids_at}
+use Rattle.ss_dupe.specs.Reading.{id_at, name_at}
 use Rattle.ss_dupe.proofs.Basics.{two_ways, no_way, same-true, same-is, same_turn, false_from, has-head, has-cases, has-nil}
 use Rattle.ss_dupe.proofs.Lists.{has-append_left, has-append_right, has-append_cases}
 use Rattle.ss_dupe.proofs.Shapes.{in-of_none}
-use Rattle.ss_dupe.proofs.Cover.{covered, in_append, is_top, top-is, top-not}
-
-id_from : (o : Option Entry) (i : ItemView) → option_map (λ e. e.item) o ≡ Some i → unwrap_or (option_map (λ e. e.item.id) o) [] ≡ i.id
-id_from None i h = cc
-id_from (Some e) i h = let is : e.item ≡ i = cc in ap (λ (j : ItemView). j.id) is
-
-pub id_at-is : (es : List Entry) (k : ℕ) (i : ItemView) → option_map (λ e. e.item) (entry k es) ≡ Some i → id_at es k ≡ i.id
-id_at-is es k i h = id_from (entry k es) i h
 
 pub id_at-entry : (es : List Entry) (k : ℕ) (e : Entry) → entry k es ≡ Some e → id_at es k ≡ e.item.id
 id_at-entry es k e h = ap (λ o. unwrap_or (option_map (λ (d : Entry). d.item.id) o) []) h
-
--- ---- one item
-
-kids_ids : (es : List Entry) → NodesApart es → (k : ℕ) (fs : List Entry) → ((f : Entry) → In f fs → In f es) → map (id_at es) (kids k fs) ≡ kid_ids k fs
-unfolding kids kid_ids In
-kids_ids es a k [] inside = refl
-kids_ids es a k (f ∷ fs) inside = cases (stands_under k f) (kids_ids es a k fs (λ g i. inside g (inr i)))
-  where
-    cases : (b : Bool) → map (id_at es) (map (λ e. e.node) (filter (stands_under k) fs)) ≡ map (λ e. e.item.id) (filter (stands_under k) fs) →
-        map (id_at es) (map (λ e. e.node) (cond b (f ∷ filter (stands_under k) fs) (filter (stands_under k) fs))) ≡ map (λ e. e.item.id) (cond b (f ∷ filter (stands_under k) fs) (filter (stands_under k) fs))
-    cases false h = h
-    cases true h =
-        let first : id_at es f.node ≡ f.item.id = id_at-entry es f.node f (in_entry es f a (inside f (inl refl))) in
-        cc
-
-parent_id : (es : List Entry) → IsTree es → (k : ℕ) (e : Entry) → entry k es ≡ Some e → option_map (id_at es) e.parent ≡ option_and_then (λ p. option_map (λ f. f.item.id) (entry p es)) e.parent
-parent_id es t k e h = cases e.parent refl
-  where
-    known : (p : ℕ) → e.parent ≡ Some p → (f : Entry) × (entry p es ≡ Some f)
-    known p q = elim (two_ways (is_top k)) [
-      | inl top ↦
-          let e_top : Some e ≡ Some top_entry = sym h ∙ ap (λ j. entry j es) (top-is k top) ∙ t.top in
-          let same : e ≡ top_entry = cc in
-          let none : e.parent ≡ None = ap (λ (d : Entry). d.parent) same in
-          cc
-      | inr low ↦
-          let f = t.folder k e h (top-not k low) in
-          let same : f.0 ≡ p = cc (f.1, q) in
-          (f.2, ap (λ j. entry j es) (sym same) ∙ f.3)
-    ]
-
-    cases : (o : Option ℕ) → e.parent ≡ o → option_map (id_at es) o ≡ option_and_then (λ p. option_map (λ f. f.item.id) (entry p es)) o
-    cases None q = refl
-    cases (Some p) q = let f = known p q in ap Some (id_at-entry es p f.0 f.1) ∙ sym (ap (option_map (λ (d : Entry). d.item.id)) f.1)
-
-pub seat_is : (es : List Entry) → IsTree es → (k : ℕ) (i : ItemView) (id : Id) (parent : Option Id) (children : List Id) (time : ℕ) → option_map (λ e. e.item) (entry k es) ≡ Some i → id ≡ i.id →
-    parent ≡ option_map (id_at es) (above es k) → children ≡ ids_at es (kids k es) → option_map (λ e. e.time) (entry k es) ≡ Some time →
-    option_map (placed es) (entry k es) ≡ Some (record { id = id; kind = i.kind; content = i.content; parent = parent; children = children; time = time })
-unfolding placed above
-seat_is es t k i id parent children time hi hid hp hc ht = cases (entry k es) refl
-  where
-    cases : (o : Option Entry) → entry k es ≡ o → option_map (placed es) (entry k es) ≡ Some (record { id = id; kind = i.kind; content = i.content; parent = parent; children = children; time = time })
-    cases None h = let none : option_map (λ e. e.item) (entry k es) ≡ None = ap (option_map (λ (e : Entry). e.item)) h in cc
-    cases (Some e) h =
-        let item_some : Some e.item ≡ Some i = sym (ap (option_map (λ (d : Entry). d.item)) h) ∙ hi in
-        let item : e.item ≡ i = cc in
-        let time_some : Some e.time ≡ Some time = sym (ap (option_map (λ (d : Entry). d.time)) h) ∙ ht in
-        let time_is : e.time ≡ time = cc in
-        let own = entry_in k es e h in
-        let id_is : e.item.id ≡ id = ap (λ (j : ItemView). j.id) item ∙ sym hid in
-        let parent_is : option_and_then (λ p. option_map (λ f. f.item.id) (entry p es)) e.parent ≡ parent =
-        sym (parent_id es t k e h) ∙ ap (option_map (id_at es)) (sym (ap (option_and_then (λ (d : Entry). d.parent)) h)) ∙ sym hp in
-        let children_are : kid_ids e.node es ≡ children = ap (λ j. kid_ids j es) own.1 ∙ sym (kids_ids es t.nodes k es (λ f j. j)) ∙ sym hc in
-        ap (option_map (placed es)) h
-        ∙ (λ x. Some (record { id = id_is x; kind = (item x).kind; content = (item x).content; parent = parent_is x; children = children_are x; time = time_is x }))
 
 -- ---- one more item
 
@@ -125,6 +61,12 @@ module _ (g h : Look) (key : Id) (n : Placed) (is : (x : Id) → h x ≡ cond (b
 placed_id : (es : List Entry) (e : Entry) → e.item.id ≡ (placed es e).id
 unfolding placed
 placed_id es e = refl
+
+in_append : {X : Type 0} (x : X) (xs ys : List X) → In x (xs ++ ys) → In x xs ⊎ In x ys
+unfolding In
+in_append x [] ys i = inr i
+in_append x (z ∷ zs) ys (inl e) = inl (inl e)
+in_append x (z ∷ zs) ys (inr i) = elim (in_append x zs ys i) [ inl a ↦ inl (inr a) | inr b ↦ inr b ]
 
 or_true : (b : Bool) → (b || true) ≡ true
 or_true true = refl
@@ -176,7 +118,15 @@ one_more es t nodes k p q seat s at is ids = record { sound = sound; met = met; 
       | inr (inr f) ↦ absurd f
     ]
 
-pub all_read : (es : List Entry) → IsTree es → (p : Plain) → SoFar es (preorder es (length es) 0) p → (x : Id) → look_of p x ≡ look (tree es) x
+-- ---- all entries
+
+nodes_in : (es : List Entry) (e : Entry) → In e es → In e.node (map (λ f. f.node) es)
+unfolding In
+nodes_in (x ∷ xs) e (inl q) = inl (ap (λ (f : Entry). f.node) q)
+nodes_in (x ∷ xs) e (inr i) = inr (nodes_in xs e i)
+nodes_in [] e i = absurd i
+
+pub all_read : (es : List Entry) → IsTree es → (p : Plain) → SoFar es (map (λ e. e.node) es) p → (x : Id) → look_of p x ≡ look (tree es) x
 all_read es t p s x = cases (look_of p x) refl (look (tree es) x) refl
   where
     cases : (o : Option Placed) → look_of p x ≡ o → (r : Option Placed) → look (tree es) x ≡ r → look_of p x ≡ look (tree es) x
@@ -186,7 +136,28 @@ all_read es t p s x = cases (look_of p x) refl (look (tree es) x) refl
         let f = node_found es x m k in
         let e = f.0 in
         let there = in_entry es e t.nodes f.1 in
-        no_way (is_in (look_of p) x) (ap (is_in (look_of p)) (sym (id_at-entry es e.node e there ∙ f.2)) ∙ s.met e.node (covered es t e.node e there)) (in-of_none (look_of p) x h)
+        no_way (is_in (look_of p) x) (ap (is_in (look_of p)) (sym (id_at-entry es e.node e there ∙ f.2)) ∙ s.met e.node (nodes_in es e f.1)) (in-of_none (look_of p) x h)
+
+item_in : (es : List Entry) (i : ℕ) (e : Entry) → i < length es → e ≡ get_or es i e → In e es
+unfolding In
+item_in [] i e lt is = absurd (omega arith)
+item_in (x ∷ xs) zero e lt is = inl is
+item_in (x ∷ xs) (suc i) e lt is = inr (item_in xs i e (omega arith) is)
+
+pub one_more_at : (es : List Entry) → IsTree es → (i : ℕ) (e : Entry) (p q : Plain) (seat : Seat) → i < length es → e ≡ get_or es i e → SoFar es (map (λ f. f.node) (take i es)) p → placed es e ≡ placed_at seat →
+    ((x : Id) → look_of q x ≡ cond (bytes_eq seat.id x) (Some (placed_at seat)) (look_of p x)) → (AreIds p → AreIds q) → SoFar es (map (λ f. f.node) (take (i + 1) es)) q
+one_more_at es t i e p q seat lt is s at put ids =
+    subst (λ ks. SoFar es ks q) (sym (map_more (λ (f : Entry). f.node) es i e lt ∙ ap (λ (f : Entry). map (λ (d : Entry). d.node) (take i es) ++ f.node ∷ []) (sym is)))
+    (one_more es t (map (λ (f : Entry). f.node) (take i es)) e.node p q seat s (ap (option_map (placed es)) (in_entry es e t.nodes (item_in es i e lt is)) ∙ ap Some at) put ids)
+
+pub read_out : (es : List Entry) → IsTree es → (p : Plain) (i : ℕ) → length es ≤ i → SoFar es (map (λ f. f.node) (take i es)) p → (x : Id) → look_of p x ≡ look (tree es) x
+read_out es t p i le s = all_read es t p (subst (λ l. SoFar es (map (λ (f : Entry). f.node) l) p) (take_all i es le) s)
+
+pub seat_is : (es : List Entry) (e : Entry) (seat : Seat) (names : ℕ → Option Id) (kids : ℕ → List Id) → ((k : ℕ) → names k ≡ name_at es k) → ((k : ℕ) → kids k ≡ kid_ids k es)
+    → placed_at seat ≡ record { id = e.item.id; kind = e.item.kind; content = e.item.content; parent = option_and_then names e.parent; children = kids e.node; time = e.time } → placed es e ≡ placed_at seat
+unfolding placed
+seat_is es e seat names kids n k h =
+    (λ i. record { id = e.item.id; kind = e.item.kind; content = e.item.content; parent = option_and_then (λ j. sym (n j) i) e.parent; children = sym (k e.node) i; time = e.time }) ∙ sym h
 
 pub in_some : (g : Id → Option Seat) (x : Id) → is_some (g x) ≡ true → is_in (λ y. option_map placed_at (g y)) x ≡ true
 unfolding is_in
@@ -195,14 +166,6 @@ in_some g x h = cases (g x) h
     cases : (o : Option Seat) → is_some o ≡ true → is_some (option_map placed_at o) ≡ true
     cases None e = e
     cases (Some s) e = e
-
-pub one_more_at : (es : List Entry) → IsTree es → (nodes : List ℕ) (i k : ℕ) (p q : Plain) (seat : Seat) → i < length nodes → k ≡ get_or nodes i k → SoFar es (take i nodes) p → option_map (placed es) (entry k es) ≡ Some (placed_at seat) →
-    ((x : Id) → look_of q x ≡ cond (bytes_eq seat.id x) (Some (placed_at seat)) (look_of p x)) → (AreIds p → AreIds q) → SoFar es (take (i + 1) nodes) q
-one_more_at es t nodes i k p q seat lt is_k s at is ids =
-    subst (λ ks. SoFar es ks q) (sym (take_more nodes i k lt ∙ ap (λ j. take i nodes ++ j ∷ []) (sym is_k))) (one_more es t (take i nodes) k p q seat s at is ids)
-
-pub read_out : (es : List Entry) → IsTree es → (p : Plain) (nodes : List ℕ) (i : ℕ) → length nodes ≤ i → nodes ≡ preorder es (length es) 0 → SoFar es (take i nodes) p → (x : Id) → look_of p x ≡ look (tree es) x
-read_out es t p nodes i le is s = all_read es t p (subst (λ ks. SoFar es ks p) (take_all i nodes le ∙ is) s)
 
 -- ---- a set of ids
 

@@ -12,6 +12,8 @@ mod parents;
 mod parts;
 mod survivors;
 mod telling;
+#[cfg(test)]
+mod tests;
 
 pub use laws::{final_parents_come_to_a_root, merged_trees_are_valid, rooted_is_exact};
 pub use merging::{Merged, Origin, merge};

@@ -13,7 +13,7 @@ use Rattle.ss_account.proofs.Reordering.{length-reordered, sum_by-reordered, Eac
 use Rattle.ss_account.proofs.Orders.{NamedApart}
 use Rattle.ss_account.proofs.SameApi.{time-same, OtherNumber}
 
-apart_flip : (row other : Row) → Apart row other → Apart other row
+pub apart_flip : (row other : Row) → Apart row other → Apart other row
 apart_flip row other e =
     elim (is_at other.collection other.id row) as (λ v. is_at other.collection other.id row ≡ v → v ≡ false) [
       | true ↦ (λ t.

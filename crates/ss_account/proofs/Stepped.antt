@@ -1,12 +1,14 @@
--- What a step comes to, where it answers by the API and where memory ran out.
-use Rattle.std.specs.Prelude.{◌≡◌, ◌≢◌, ℕ, None}
+-- What a step comes to, where it answers by the API, where memory ran out and where the keeper failed.
+use Rattle.std.specs.Prelude.{◌≡◌, ℕ, Option, None}
 use Rattle.std.proofs.Common.{sym, ap, subst, ◌∙◌}
+use Rattle.ss_outside.specs.Causes.{Rose}
 use Rattle.ss_bso.specs.declared.account.Plain.{Plain}
+use Rattle.ss_bso.specs.declared.changes.Kept.{Kept}
 use Rattle.ss_bso.specs.Account.{tick}
 use Rattle.ss_query.specs.declared.requests.Request.{Request}
 use Rattle.ss_query.specs.declared.replies.Reply.{Reply}
 use Rattle.ss_query.specs.declared.replies.Body.TheVariants.{Said}
-use Rattle.ss_query.specs.declared.replies.Said.TheVariants.{Memory as MemoryWord}
+use Rattle.ss_query.specs.declared.replies.Said.TheVariants.{Keeper as KeeperWord, Memory as MemoryWord}
 use Rattle.ss_query.specs.declared.replies.Mark.TheVariants.{Done, Keeper, Memory}
 use Rattle.ss_query.specs.Marks.{mark_of}
 use Rattle.ss_bso.specs.Validity.{IsValid, SameAccount}
@@ -18,15 +20,23 @@ use Rattle.ss_account.proofs.Reordering.{same-self}
 use Rattle.ss_account.proofs.Stepping.{api-mark}
 use Rattle.ss_account.proofs.Valid.{valid-tick, valid-api}
 
-pub record Stepped (account : Plain) (now : ℕ) (request : Request) (reply : Reply) (left : Plain) : Type 0 where
+-- told and counted before and after
+pub record Sides : Type 0 where
+  pub told : Option Kept
+  pub told_after : Option Kept
+  pub faults : ℕ
+  pub faults_after : ℕ
+
+pub record Stepped (account : Plain) (now : ℕ) (request : Request) (reply : Reply) (left : Plain) (s : Sides) : Type 0 where
   pub same : SameAccount (marked account now request (mark_of reply)).account left
   pub told : reply ≡ (marked account now request (mark_of reply)).reply
   pub valid : IsValid left
-  pub keeper : mark_of reply ≢ Keeper
+  pub refused : (mark_of reply ≡ Done → ⊥) → s.told_after ≡ s.told
+  pub cause : mark_of reply ≡ Keeper → Rose s.faults s.faults_after
 
-pub stepped-done : (account ticked : Plain) (now : ℕ) (request : Request) (reply : Reply) (left : Plain) → ticked ≡ tick account now → IsValid account → IsFitRequest request
-    → reply ≡ (outcome ticked request (refusal ticked request)).reply → left ≡ (outcome ticked request (refusal ticked request)).account → Stepped account now request reply left
-stepped-done account ticked now request reply left e valid fit_request r l =
+pub stepped-done : (account ticked : Plain) (now : ℕ) (request : Request) (reply : Reply) (left : Plain) (s : Sides) → ticked ≡ tick account now → IsValid account → IsFitRequest request
+    → reply ≡ (outcome ticked request (refusal ticked request)).reply → left ≡ (outcome ticked request (refusal ticked request)).account → Stepped account now request reply left s
+stepped-done account ticked now request reply left s e valid fit_request r l =
     let told : reply ≡ (api account now request).reply = r ∙ ap (λ (t : Plain). (outcome t request (refusal t request)).reply) e in
     let same : left ≡ (api account now request).account = l ∙ ap (λ (t : Plain). (outcome t request (refusal t request)).account) e in
     let mark : mark_of reply ≡ Done = ap mark_of told ∙ api-mark (tick account now) request (refusal (tick account now) request) in
@@ -35,12 +45,13 @@ stepped-done account ticked now request reply left e valid fit_request r l =
           (subst (λ (a : Plain). SameAccount (api account now request).account a) (sym same) (same-self (api account now request).account));
       told = subst (λ m. reply ≡ (marked account now request m).reply) (sym mark) told;
       valid = subst IsValid (sym same) (valid-api account now request valid fit_request);
-      keeper = λ k. let no : Done ≡ Keeper = sym mark ∙ k in cc;
+      refused = λ no. absurd (no mark);
+      cause = λ k. absurd (let no : Done ≡ Keeper = sym mark ∙ k in cc);
     }
 
-pub stepped-memory : (account ticked : Plain) (now : ℕ) (request : Request) (reply : Reply) (left : Plain) → ticked ≡ tick account now → IsValid account
-    → reply ≡ plain_reply left.moment 507 None (Said MemoryWord) → left ≡ ticked → Stepped account now request reply left
-stepped-memory account ticked now request reply left e valid r l =
+pub stepped-memory : (account ticked : Plain) (now : ℕ) (request : Request) (reply : Reply) (left : Plain) (s : Sides) → ticked ≡ tick account now → IsValid account
+    → reply ≡ plain_reply left.moment 507 None (Said MemoryWord) → left ≡ ticked → s.told_after ≡ s.told → Stepped account now request reply left s
+stepped-memory account ticked now request reply left s e valid r l t =
     let same : left ≡ tick account now = l ∙ e in
     let told : reply ≡ plain_reply (tick account now).moment 507 None (Said MemoryWord) = r ∙ ap (λ (a : Plain). plain_reply a.moment 507 None (Said MemoryWord)) same in
     let mark : mark_of reply ≡ Memory = ap mark_of told in
@@ -48,5 +59,20 @@ stepped-memory account ticked now request reply left e valid r l =
       same = subst (λ m. SameAccount (marked account now request m).account left) (sym mark) (subst (λ (a : Plain). SameAccount (tick account now) a) (sym same) (same-self (tick account now)));
       told = subst (λ m. reply ≡ (marked account now request m).reply) (sym mark) told;
       valid = subst IsValid (sym same) (valid-tick account now valid);
-      keeper = λ k. let no : Memory ≡ Keeper = sym mark ∙ k in cc;
+      refused = λ no. t;
+      cause = λ k. absurd (let no : Memory ≡ Keeper = sym mark ∙ k in cc);
+    }
+
+pub stepped-keeper : (account ticked : Plain) (now : ℕ) (request : Request) (reply : Reply) (left : Plain) (s : Sides) → ticked ≡ tick account now → IsValid account
+    → reply ≡ plain_reply left.moment 503 None (Said KeeperWord) → left ≡ ticked → s.told_after ≡ s.told → Rose s.faults s.faults_after → Stepped account now request reply left s
+stepped-keeper account ticked now request reply left s e valid r l t rose =
+    let same : left ≡ tick account now = l ∙ e in
+    let told : reply ≡ plain_reply (tick account now).moment 503 None (Said KeeperWord) = r ∙ ap (λ (a : Plain). plain_reply a.moment 503 None (Said KeeperWord)) same in
+    let mark : mark_of reply ≡ Keeper = ap mark_of told in
+    record {
+      same = subst (λ m. SameAccount (marked account now request m).account left) (sym mark) (subst (λ (a : Plain). SameAccount (tick account now) a) (sym same) (same-self (tick account now)));
+      told = subst (λ m. reply ≡ (marked account now request m).reply) (sym mark) told;
+      valid = subst IsValid (sym same) (valid-tick account now valid);
+      refused = λ no. t;
+      cause = λ k. rose;
     }

@@ -1,7 +1,7 @@
 -- What the parts of a step come to.
-use Rattle.std.specs.Prelude.{◌≡◌, ℕ, ◌≤◌, ◌+◌, Bool, true, false, cond, List, [], ◌++◌, ◌&&◌, length, filter, map, not, bytes_eq, Option, Some, None, is_some, Result, Ok, Err, IfOk, IfSome, refl}
+use Rattle.std.specs.Prelude.{◌≡◌, ℕ, ◌≤◌, ◌+◌, Bool, true, false, cond, List, [], ◌∷◌, ◌&&◌, nat_le, length, filter, map, not, bytes_eq, Option, Some, None, option_map, Result, IfOk, refl}
 use Rattle.std.proofs.Common.{sym, ap, subst, ◌∙◌, arith}
-use Rattle.std.proofs.lemmas.List.{append-nil}
+use Rattle.ss_text.specs.Time.{last_stamp}
 use Rattle.ss_text.specs.declared.stamps.Cond.TheVariants.{Free}
 use Rattle.ss_bso.specs.declared.rows.Row.{Row}
 use Rattle.ss_bso.specs.declared.account.Plain.{Plain}
@@ -13,40 +13,66 @@ use Rattle.ss_query.specs.Marks.{mark_of}
 use Rattle.ss_bso.specs.Write.{is_among, rows_without}
 use Rattle.ss_bso.specs.Limits.{rows_of, row_bytes}
 use Rattle.ss_bso.specs.Validity.{IsWithinLimits}
-use Rattle.ss_query.specs.Refused.{Refusal, NoItem, NotModified, WasModified, NoMoreBatches, NoBatch, BatchFull, ClockEnded, AccountFull}
-use Rattle.ss_query.specs.Effect.{effect, is_over, stamp_in}
-use Rattle.ss_query.specs.Told.{body_of, by_name, per_collection}
+use Rattle.ss_query.specs.Refused.{Refusal, NoItem, NotModified, WasModified, NoMoreBatches, NoBatch, BatchFull, ClockEnded, AccountFull, target_time}
+use Rattle.ss_query.specs.Effect.{effect, is_over, is_write, stamp_in}
+use Rattle.ss_query.specs.Told.{body_of, by_name, count_of, next_of, ok_status, per_collection}
 use Rattle.ss_query.specs.declared.replies.Body.{Body}
-use Rattle.ss_query.specs.Api.{outcome}
+use Rattle.ss_query.specs.Api.{first_some, outcome, time_told, where_so}
 use Rattle.ss_account.specs.declared.infos.Measure.{Measure}
 use Rattle.ss_account.specs.declared.infos.Measure.TheVariants.{Records, Bytes}
 use Rattle.ss_account.specs.declared.sizes.Size.{Size}
-use Rattle.ss_account.specs.Steps.{Comes, IsSize, Settles, counted, number_of}
+use Rattle.ss_account.specs.declared.pending.Pending.{Pending}
+use Rattle.ss_account.specs.Pending.{Settles, Tells}
+use Rattle.ss_account.specs.Steps.{IsSize, counted, late_refusal, number_of, plain_reply}
 use Rattle.ss_account.proofs.Lists.{length-filter_le, sum_by-filter_le}
 use Rattle.ss_account.proofs.CommitLaw.{over_test}
 
--- a write that was done, and one for which there is no room
-pub settles-done : (account after other left : Plain) (b : Bool) → Settles account after b left → after ≡ other → b ≡ true → (is_over other ≡ false) × (left ≡ other)
-settles-done account after other left true s same e = subst (λ a. (is_over a ≡ false) × (left ≡ a)) same s
-settles-done account after other left false s same e = cc
+-- a write that is ready, with what is told of it
+pub tells-from : (account after : Plain) (time : ℕ) (body : Body) (found : Option Pending) → Settles account time after found → Tells account time after body (option_map (λ pending. (pending, body)) found)
+tells-from account after time body None s = s
+tells-from account after time body (Some pending) s = (s.0, s.1, s.2, refl)
 
-pub settles-full : (account after other left : Plain) (b : Bool) → Settles account after b left → after ≡ other → b ≡ false → (is_over other ≡ true) × (left ≡ account)
-settles-full account after other left true s same e = cc
-settles-full account after other left false s same e = (ap is_over (sym same) ∙ s.0, s.1)
+pub told-as : {E : Type 0} (account after other : Plain) (time : ℕ) (body told : Body) (result : Result (Option (Pending × Body)) E) → IfOk result (λ found. Tells account time after body found) → after ≡ other → body ≡ told
+    → IfOk result (λ found. Tells account time other told found)
+told-as account after other time body told result t same e =
+    subst (λ (a : Plain). IfOk result (λ found. Tells account time a told found)) same (subst (λ (b : Body). IfOk result (λ found. Tells account time after b found)) e t)
 
--- what a write settles, with what is told of it
-pub comes-from : {E : Type 0} (account after left : Plain) (request : Request) (told : Body) (result : Result (Option Body) E) → IfOk result (λ body. Settles account after (is_some body) left) → IfOk result (λ body. IfSome body (λ one. one ≡ told))
-    → after ≡ effect account request → told ≡ body_of account request (stamp_in account) → IfOk result (λ body. Comes account request body left)
-comes-from account after left request told (Err error) s t same e = s
-comes-from account after left request told (Ok None) s t same e = (ap is_over (sym same) ∙ s.0, s.1)
-comes-from account after left request told (Ok (Some body)) s t same e = (ap is_over (sym same) ∙ s.0, (s.1 ∙ same, t ∙ e))
+-- a write is told with 200, and no list
+record IsTold (account : Plain) (request : Request) : Type 0 where
+  status : ok_status request ≡ 200
+  count : count_of account request ≡ None
+  next : next_of account request ≡ None
+
+write-told : (account : Plain) (request : Request) → is_write account request ≡ true → IsTold account request
+write-told account (Info what condition) e = cc
+write-told account (DeleteAll condition) e = record { status = refl; count = refl; next = refl }
+write-told account (ListOf collection query condition) e = cc
+write-told account (Post collection records PlainPost condition) e = record { status = refl; count = refl; next = refl }
+write-told account (Post collection records Begin condition) e = cc
+write-told account (Post collection records (Append number) condition) e = cc
+write-told account (Post collection records (Commit number) condition) e = record { status = refl; count = refl; next = refl }
+write-told account (DeleteCollection collection condition) e = record { status = refl; count = refl; next = refl }
+write-told account (DeleteIds collection ids condition) e = record { status = refl; count = refl; next = refl }
+write-told account (Get collection id condition) e = cc
+write-told account (Put collection id fields condition) e = record { status = refl; count = refl; next = refl }
+write-told account (Delete collection id condition) e = record { status = refl; count = refl; next = refl }
+
+-- a write that is ready isn't refused, and this is its reply
+pub written-reply : (account : Plain) (request : Request) (time : ℕ) (pending : Pending) (body : Body) → is_write account request ≡ true → nat_le last_stamp account.store ≡ false → time ≡ stamp_in account
+    → Tells account time (effect account request) (body_of account request (stamp_in account)) (Some (pending, body))
+    → plain_reply time 200 (Some time) body ≡ (outcome account request (late_refusal account request)).reply
+written-reply account request time pending body writes clock is t =
+    let told = write-told account request writes in
+    let none : late_refusal account request ≡ None = λ i. first_some (where_so (writes i && clock i) ClockEnded ∷ where_so (writes i && t.0 i) AccountFull ∷ []) in
+    let shown : time_told account request ≡ time = (λ i. cond (writes i) (stamp_in account) (target_time account request)) ∙ sym is in
+    let moved : (effect account request).moment ≡ time = ap (λ (a : Plain). a.moment) (sym t.1) in
+    let says : body_of account request (time_told account request) ≡ body = ap (body_of account request) (shown ∙ is) ∙ sym t.3 in
+    sym (ap (λ why. (outcome account request why).reply) none
+    ∙ (λ i. record { status = told.status i; moment = moved i; modified = Some (shown i); count = told.count i; next = told.next i; body = says i }))
 
 -- the rows without ids, whatever their order
-pub cut-same : (collection : List ℕ) (one other : List (List ℕ)) (rows more : List Row) → ((id : List ℕ) → is_among one id ≡ is_among other id) → more ≡ [] → rows_without collection one rows ++ more ≡ rows_without collection other rows
-cut-same collection one other rows more same none =
-    ap (λ l. rows_without collection one rows ++ l) none
-    ∙ append-nil (rows_without collection one rows)
-    ∙ (λ i. filter (λ (row : Row). not (bytes_eq row.collection collection && same row.id i)) rows)
+pub cut-same : (collection : List ℕ) (one other : List (List ℕ)) (rows : List Row) → ((id : List ℕ) → is_among one id ≡ is_among other id) → rows_without collection one rows ≡ rows_without collection other rows
+cut-same collection one other rows same i = filter (λ (row : Row). not (bytes_eq row.collection collection && same row.id i)) rows
 
 -- a deletion never passes the limits
 pub over-deleted : (account : Plain) (collection : List ℕ) → IsWithinLimits account → is_over (effect account (DeleteCollection collection Free)) ≡ false

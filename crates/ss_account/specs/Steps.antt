@@ -1,5 +1,5 @@
 -- The parts of a step: what is cut from the rows, how large rows are, and what a write comes to.
-use Rattle.std.specs.Prelude.{◌≡◌, ℕ, ◌+◌, min, Bool, true, false, ◌&&◌, ◌||◌, nat_le, nat_lt, List, [], ◌∷◌, ◌++◌, length, bytes_eq, Option, Some, None, option_map, if◌then◌else◌}
+use Rattle.std.specs.Prelude.{◌≡◌, ℕ, ◌+◌, min, Bool, ◌&&◌, ◌||◌, nat_le, nat_lt, List, [], ◌∷◌, ◌++◌, length, bytes_eq, Option, Some, None, option_map, if◌then◌else◌}
 use Rattle.std.specs.Borrow.{Bor}
 use Rattle.std.specs.Map.{lookup}
 use Rattle.std.specs.HashMap.{HashMap, get}
@@ -24,8 +24,8 @@ use Rattle.ss_query.specs.declared.replies.Said.TheVariants.{Batch}
 use Rattle.ss_query.specs.declared.replies.Reply.{Reply}
 use Rattle.ss_bso.specs.Limits.{most_payload_bytes, most_rows_and_collections, row_bytes}
 use Rattle.ss_query.specs.Refused.{Refusal, NoMoreBatches, NoBatch, BatchFull, ClockEnded, AccountFull, staged_parts}
-use Rattle.ss_query.specs.Effect.{effect, is_write, is_over, stamp_in}
-use Rattle.ss_query.specs.Told.{body_of, first_failures, rows_body}
+use Rattle.ss_query.specs.Effect.{effect, is_write, is_over}
+use Rattle.ss_query.specs.Told.{first_failures, rows_body}
 use Rattle.ss_query.specs.Api.{first_some, where_so, lacks_room, misses_batch, overfills_batch}
 use Rattle.ss_account.specs.declared.sizes.Size.{Size}
 use Rattle.ss_account.specs.declared.infos.Measure.{Measure}
@@ -89,17 +89,6 @@ late_refusal account request = first_some (
     where_so (is_write account request && nat_le last_stamp account.store) ClockEnded
     ∷ where_so (is_write account request && is_over (effect account request)) AccountFull
     ∷ [])
-
--- a write is done and told so, or it would pass the limits and nothing is done
-abbrev pub Comes : Plain → Request → Option Body → Plain → Type 0
-Comes account request None left = (is_over (effect account request) ≡ true) × (left ≡ account)
-Comes account request (Some body) left =
-    (is_over (effect account request) ≡ false) × ((left ≡ effect account request) × (body ≡ body_of account request (stamp_in account)))
-
--- the account is another one, or that would pass the limits and nothing is done
-abbrev pub Settles : Plain → Plain → Bool → Plain → Type 0
-Settles account after true left = (is_over after ≡ false) × (left ≡ after)
-Settles account after false left = (is_over after ≡ true) × (left ≡ account)
 
 -- an account's batches as a stage, and an account with those of a stage
 abbrev pub stage_of : Plain → StageView

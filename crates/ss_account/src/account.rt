@@ -1,76 +1,121 @@
-//! One account: it answers each request by the one-account API.
+//! One account: it answers each request by the one-account API, and what a request changes is kept before it is answered.
 
-ghost use Rattle.std.specs.Prelude.{◌≡◌, ◌≢◌, IfOk};
-ghost use Rattle.ss_bso.specs.Account.{fresh, tick};
-ghost use Rattle.ss_query.specs.declared.replies.Mark.TheVariants.{Keeper};
-ghost use Rattle.ss_query.specs.Marks.{mark_of};
+ghost use Rattle.std.specs.Prelude.{◌≡◌, ◌≤◌, false, IfOk, IfErr, IfSome};
+ghost use Rattle.ss_outside.specs.Causes.{Rose};
+ghost use Rattle.ss_bso.specs.Account.{tick};
+ghost use Rattle.ss_bso.specs.Changes.{kept_of, opened};
 ghost use Rattle.ss_bso.specs.Validity.{IsValid, SameAccount};
+ghost use Rattle.ss_query.specs.declared.replies.Mark.TheVariants.{Done, Keeper as KeeperMark};
+ghost use Rattle.ss_query.specs.Marks.{mark_of};
 ghost use Rattle.ss_query.specs.Fit.{IsFitRequest};
+ghost use Rattle.ss_account.specs.declared.faults.OpenFault.TheVariants.{Keeper as OpenKeeper};
 ghost use Rattle.ss_account.specs.Journals.{marked};
+ghost use Rattle.ss_account.specs.Keeping.{IsKeptBy, is_for_keeper};
+ghost use Rattle.ss_account.specs.Opening.{IsFaultOf, IsGood};
 
+use crate::faults::OpenFault;
+use crate::opening::load;
 use crate::state::State;
 use ss_bso::Plain;
+use ss_keeper::{KeepFault, Keeper};
 use ss_query::{Reply, Request};
 use std::alloc::{AllocError, Global};
 use std::marker::Model;
 
-/// One account: its rows, its collections and its clock, valid at every moment.
+/// One account: its rows, its collections and its clock, valid at every moment, and a keeper that holds it beyond the process.
+/// What was answered as done is kept; contracts see it as the plain account and the keeper.
 #[derive(Drop)]
-pub struct Account {
+pub struct Account<K: Keeper> {
     state: State,
+    keeper: K,
 }
 
-impl Model for Account {
-    ghost use Rattle.ss_bso.specs.declared.account.Plain.{Plain};
+impl<K: Keeper> Model for Account<K> {
+    ghost use Rattle.ss_account.specs.Held.{Held};
+
+    ghost Value = { Held K };
+
     ghost use Rattle.ss_bso.specs.Validity.{IsValid};
+    ghost use Rattle.ss_account.specs.Keeping.{IsKeptBy};
 
-    ghost Value = { Plain };
+    ghost view = { λ a. record { plain = a.state; keeper = a.keeper } };
 
-    ghost view = { λ a. a.state };
-
-    ghost invariant = { λ a. IsValid a.state };
+    ghost invariant = { λ a. IsValid a.state × IsKeptBy (K.told a.keeper) a.state };
 }
 
-impl Account {
-    /// An account that nothing was asked of.
-    pub fn fresh(alloc: Global) -> Account
-        ensures { result ≡ fresh }
+impl<K: Keeper> Account<K> {
+    /// The account that a keeper holds, without batches, at the store's time. The keeper comes back with why there is none:
+    /// a collection or a row that is bad, by its number counted from 1, collections first; that the keeper failed; or that
+    /// memory is wanting. What the keeper holds is left.
+    pub fn open(alloc: Global, keeper: K) -> Result<Account<K>, (K, OpenFault)>
+        ensures opened { IfOk result (λ account. IfSome (K.told keeper) (λ kept. account.plain ≡ opened kept)) }
+        ensures good { IfOk result (λ account. IfSome (K.told keeper) IsGood) }
+        ensures begins { IfOk result (λ account. account.plain ≡ opened (kept_of account.plain)) }
+        ensures valid { IfOk result (λ account. IsValid account.plain) }
+        ensures kept { IfOk result (λ account. IsKeptBy (K.told account.keeper) account.plain) }
+        ensures bad { IfErr result (λ refusal. IfSome (K.told keeper) (λ kept. IsFaultOf kept refusal.1)) }
+        ensures cause { IfErr result (λ refusal. refusal.1 ≡ OpenKeeper → Rose (K.keep_faults keeper) (K.keep_faults refusal.0)) }
+        ensures left { IfOk result (λ account. K.told account.keeper ≡ K.told keeper) }
+        ensures left_refused { IfErr result (λ refusal. K.told refusal.0 ≡ K.told keeper) }
+        ensures faults { IfOk result (λ account. K.keep_faults keeper ≤ K.keep_faults account.keeper) }
+        ensures faults_refused { IfErr result (λ refusal. K.keep_faults keeper ≤ K.keep_faults refusal.0) }
     {
-        Account {
-            state: State::fresh(alloc),
+        let mut keeper = keeper;
+        match load(alloc, &mut keeper) {
+            Ok(kept) => Ok(Account {
+                state: State::open(alloc, kept),
+                keeper,
+            }),
+            Err(fault) => Err((keeper, fault)),
         }
     }
 
     /// Reads the clock (hundredths of a second): the moment doesn't fall, and the rows that have ended by then go.
-    /// It takes no memory.
+    /// It takes no memory, and the keeper isn't asked.
     pub fn tick(&mut self, now: u64)
-        ensures account { self.new ≡ tick self.old now }
-        ensures valid { IsValid self.new }
+        ensures account { self.new.plain ≡ tick self.old.plain now }
+        ensures keeper { self.new.keeper ≡ self.old.keeper }
+        ensures valid { IsValid self.new.plain }
+        ensures kept { IsKeptBy (K.told self.new.keeper) self.new.plain }
     {
         self.state.tick(now);
     }
 
-    /// Answers a request at a reading of the clock (hundredths of a second), by the one-account API. Without memory for it
-    /// the clock alone has moved, and the status is 507.
+    /// Answers a request at a reading of the clock (hundredths of a second), by the one-account API. What it changes is kept
+    /// before it is answered. Without memory for it (507), and where the keeper fails (503 "keeper"), the clock alone has moved.
     pub fn step(&mut self, alloc: Global, now: u64, request: &Request) -> Reply
         requires { IsFitRequest request.now }
-        ensures account { SameAccount (marked self.old now request.now (mark_of result)).account self.new }
-        ensures reply { result ≡ (marked self.old now request.now (mark_of result)).reply }
-        ensures valid { IsValid self.new }
-        ensures keeper { mark_of result ≢ Keeper }
+        ensures account { SameAccount (marked self.old.plain now request.now (mark_of result)).account self.new.plain }
+        ensures reply { result ≡ (marked self.old.plain now request.now (mark_of result)).reply }
+        ensures valid { IsValid self.new.plain }
+        ensures kept { IsKeptBy (K.told self.new.keeper) self.new.plain }
+        ensures refused { (mark_of result ≡ Done → ⊥) → K.told self.new.keeper ≡ K.told self.old.keeper }
+        ensures unasked { is_for_keeper (tick self.old.plain now) request.now ≡ false → self.new.keeper ≡ self.old.keeper }
+        ensures cause { mark_of result ≡ KeeperMark → Rose (K.keep_faults self.old.keeper) (K.keep_faults self.new.keeper) }
+        ensures faults { K.keep_faults self.old.keeper ≤ K.keep_faults self.new.keeper }
     {
         self.state.tick(now);
-        match self.state.answer(alloc, request) {
+        match self.state.answer(alloc, &mut self.keeper, request) {
             Ok(reply) => reply,
-            Err(_) => self.state.out_of_memory(),
+            Err(KeepFault::Memory) => self.state.out_of_memory(),
+            Err(KeepFault::Fault) => self.state.keeper_failed(),
         }
     }
 
     /// The account as plain data.
     pub fn plain(&self, alloc: Global) -> Result<Plain, AllocError>
-        ensures { IfOk result (λ plain. SameAccount self.now plain) }
+        ensures { IfOk result (λ plain. SameAccount self.now.plain plain) }
     {
         let plain = self.state.plain(alloc)?;
         Ok(plain)
+    }
+
+    /// The keeper, which still holds the account. It takes no memory.
+    pub fn into_keeper(self) -> K
+        ensures { result ≡ self.keeper }
+    {
+        let Account { state, keeper } = self;
+        drop(state);
+        keeper
     }
 }

@@ -3,7 +3,7 @@
 ghost use Rattle.std.specs.Prelude.{◌≡◌, ◌<◌, ◌≤◌, ◌^◌, ◌+◌, ◌++◌, IfOk, filter, map, not, bytes_eq, length, vec_len, vec_capacity};
 ghost use Rattle.ss_bso.specs.Account.{is_alive};
 ghost use Rattle.ss_bso.specs.Limits.{rows_of};
-ghost use Rattle.ss_bso.specs.Write.{rows_without, times_without};
+ghost use Rattle.ss_bso.specs.Write.{rows_without, times_with, times_without};
 
 use crate::finding::{is_alive, is_in, is_named};
 use crate::targets::Targets;
@@ -31,7 +31,8 @@ pub(crate) fn remove_time(collections: &mut Vec<(Name, Stamp)>, collection: &Nam
     collections.retain(|entry| !is_named(entry, collection));
 }
 
-fn cut_rows(rows: &mut Vec<Row>, collection: &Name, targets: &Targets)
+/// Drops the rows that are named.
+pub(crate) fn cut_rows(rows: &mut Vec<Row>, collection: &Name, targets: &Targets)
     ensures rows { rows.new.items ≡ rows_without collection.now targets.now rows.old.items }
     ensures len { vec_len rows.new ≤ vec_len rows.old }
     ensures capacity { vec_capacity rows.new ≡ vec_capacity rows.old }
@@ -54,6 +55,15 @@ pub(crate) fn replace_rows(
         Ok(()) => (),
         Err(_) => unreachable!(),
     }
+}
+
+/// Gives a collection a time. There is room for it.
+pub(crate) fn set_time(collections: &mut Vec<(Name, Stamp)>, collection: Name, time: Stamp)
+    requires { vec_len collections.old + 1 ≤ vec_capacity collections.old }
+    ensures { collections.new.items ≡ times_with collection time collections.old.items }
+{
+    remove_time(collections, &collection);
+    collections.push_reserved((collection, time));
 }
 
 /// How many other collections there are.

@@ -5,10 +5,14 @@
 
 mod account;
 mod editing;
+mod faults;
 mod finding;
 mod infos;
 mod journal;
 mod laws;
+mod opening;
+mod pending;
+mod places;
 mod sizes;
 mod state;
 mod targets;
@@ -18,6 +22,7 @@ mod tests;
 mod writing;
 
 pub use account::Account;
+pub use faults::OpenFault;
 pub use journal::{Entries, Entry, Journal};
 pub use laws::{
     batch_law, commit_law, journal_law, journal_order_law, order_law, quiet_law, refusal_law,

@@ -15,7 +15,7 @@ use ss_text::Name;
 const MOST_PAYLOAD_BYTES: u64 = 134_217_728;
 
 /// The most rows and collections of an account, together.
-const MOST_ROWS_AND_COLLECTIONS: u64 = 200_000;
+pub(crate) const MOST_ROWS_AND_COLLECTIONS: u64 = 200_000;
 
 /// A number of rows and their payload bytes, each up to the greatest u64.
 #[derive(Clone, Copy)]
@@ -25,13 +25,13 @@ pub(crate) struct Size {
 }
 
 impl Size {
-    fn none() -> Size
+    pub(crate) fn none() -> Size
         ensures { IsSize [] result }
     {
         Size { rows: 0, bytes: 0 }
     }
 
-    fn with(self, row: &Row) -> Size
+    pub(crate) fn with(self, row: &Row) -> Size
         ensures { (old : List RowValue) → IsSize old self → IsSize (old ++ row.now ∷ []) result }
     {
         Size {
@@ -49,6 +49,14 @@ impl Size {
             size = size.with(row);
         }
         size
+    }
+
+    /// Whether rows of this size, with a number of collections, pass the limits of an account.
+    pub(crate) fn is_full(self, collections: usize) -> bool
+        ensures { (rows : List RowValue) → IsSize rows self → result ≡ is_full rows collections }
+    {
+        self.bytes > MOST_PAYLOAD_BYTES
+            || self.rows.saturating_add(collections as u64) > MOST_ROWS_AND_COLLECTIONS
     }
 
     /// The size of a collection's rows.

@@ -1,30 +1,30 @@
 //! An account over plain lists, and what each request makes of it.
 
-ghost use Rattle.std.specs.Prelude.{◌≡◌, ◌+◌, None, Some, IfOk, OnOk, OnErr, IfErr, IfSome, IsSome, true, false, ◌++◌, is_some, option_map, map, if◌then◌else◌};
-ghost use Rattle.ss_text.specs.declared.stamps.Cond.TheVariants.{Free};
-ghost use Rattle.ss_bso.specs.Account.{fresh, tick, row_at};
+ghost use Rattle.std.specs.Prelude.{◌≡◌, ◌≤◌, ◌<◌, ◌+◌, ◌-◌, ℕ, None, Some, IfOk, OnOk, OnErr, IfErr, IfSome, IsSome, true, false, ◌++◌, is_none, option_map, map, if◌then◌else◌};
+ghost use Rattle.ss_bso.specs.Account.{tick, row_at};
 ghost use Rattle.ss_bso.specs.Batches.{batches_without};
+ghost use Rattle.ss_bso.specs.Changes.{opened};
 ghost use Rattle.ss_bso.specs.Limits.{row_bytes};
 ghost use Rattle.ss_bso.specs.Validity.{IsValid, IsWithinLimits};
 ghost use Rattle.ss_bso.specs.Write.{ids_of, rows_without, rows_written, stamped, write};
 ghost use Rattle.ss_batch.specs.Stage.{append_fault, appended, begin_fault, begun, numbered};
-ghost use Rattle.ss_query.specs.declared.replies.Body.TheVariants.{Gone, At, Posted, Said as Word};
-ghost use Rattle.ss_query.specs.declared.replies.Said.TheVariants.{Memory};
-ghost use Rattle.ss_query.specs.declared.requests.Request.TheVariants.{DeleteAll, DeleteCollection};
+ghost use Rattle.ss_keeper.specs.Keeping.{HasCause};
+ghost use Rattle.ss_query.specs.declared.replies.Body.TheVariants.{Posted, Said as Word};
+ghost use Rattle.ss_query.specs.declared.replies.Said.TheVariants.{Keeper as KeeperWord, Memory};
 ghost use Rattle.ss_query.specs.Fit.{IsFitRequest};
 ghost use Rattle.ss_query.specs.Refused.{target_time, collection_time, said_by, staged_parts, IsLive};
-ghost use Rattle.ss_query.specs.Effect.{effect, is_write, stamp_in};
-ghost use Rattle.ss_query.specs.Told.{first_failures, info_body, per_collection, picked};
+ghost use Rattle.ss_query.specs.Effect.{effect, is_over, is_write, stamp_in};
+ghost use Rattle.ss_query.specs.Told.{body_of, first_failures, info_body, per_collection, picked};
 ghost use Rattle.ss_query.specs.Api.{refusal, outcome, done, misses_item};
 ghost use Rattle.ss_account.specs.Laws.{is_of_batch};
-ghost use Rattle.ss_account.specs.Steps.{Comes, Settles, batch_cause, committed, fault_body, late_refusal, list_reply, number_of, one_part, plain_reply, stage_of, staged_reply, with_stage};
+ghost use Rattle.ss_account.specs.Keeping.{IsKeptBy, is_begin, is_for_keeper};
+ghost use Rattle.ss_account.specs.Pending.{IsReady, Settles, Tells, applied, begin_changes, changes_to, without_batch};
+ghost use Rattle.ss_account.specs.Steps.{batch_cause, committed, fault_body, late_refusal, list_reply, number_of, one_part, plain_reply, stage_of, staged_reply, with_stage};
 
-use crate::editing::{
-    copy_batches, copy_parts, copy_rows, count_others, drop_dead, remove_collection, remove_time,
-    replace_rows, rows_in,
-};
+use crate::editing::{copy_batches, copy_parts, copy_rows, count_others, drop_dead, rows_in};
 use crate::finding::{find_row, find_time};
 use crate::infos::{Measure, by_name, copies, per_collection};
+use crate::pending::{Pending, with_body};
 use crate::sizes::{Size, would_be_full};
 use crate::targets::Targets;
 use crate::telling::{
@@ -32,7 +32,11 @@ use crate::telling::{
 };
 use crate::writing::made_rows;
 use ss_batch::{Stage, StageFault};
-use ss_bso::{Batches, Fields, Part, Plain, Records, Row, Rows, Times};
+use ss_bso::{
+    Batches, Changes, CollectionChanges, Fields, Kept, Part, Plain, Records, Row, RowChanges, Rows,
+    Times,
+};
+use ss_keeper::{KeepFault, Keeper};
 use ss_query::{Body, Info, Mode, Numbers, Picked, Query, Reply, Request, Said, answer_query};
 use ss_text::{Id, LAST, Name, Stamp};
 use std::alloc::{AllocError, Global};
@@ -65,25 +69,18 @@ impl Model for State {
     } };
 }
 
-/// Rows that a write makes, and the ids of those whose place they take.
-#[derive(Drop)]
-struct Written {
-    targets: Targets,
-    rows: Vec<Row>,
-}
-
 impl State {
-    /// An account that nothing was asked of.
-    pub(crate) fn fresh(alloc: Global) -> State
-        ensures { result ≡ fresh }
+    /// The account that is opened from what is kept: without batches, at the store's time.
+    pub(crate) fn open(alloc: Global, kept: Kept) -> State
+        ensures { result ≡ opened kept }
     {
         State {
-            rows: Vec::new(alloc),
-            collections: Vec::new(alloc),
-            store: Stamp::clamp(0),
-            last_delete: Stamp::clamp(0),
-            moment: Stamp::clamp(0),
-            stage: Stage::new(alloc, 0),
+            rows: kept.rows.into_vec(),
+            collections: kept.collections.into_vec(),
+            store: kept.store,
+            last_delete: kept.last_delete,
+            moment: kept.store,
+            stage: Stage::new(alloc, kept.counter),
         }
     }
 
@@ -250,92 +247,122 @@ impl State {
         Ok(time)
     }
 
-    /// Answers a request once the clock was read. Without memory for it nothing changes.
-    pub(crate) fn answer(&mut self, alloc: Global, request: &Request) -> Result<Reply, AllocError>
+    /// Answers a request once the clock was read. Without memory for it, and where the keeper fails, nothing changes.
+    pub(crate) fn answer<K: Keeper>(
+        &mut self,
+        alloc: Global,
+        keeper: &mut K,
+        request: &Request,
+    ) -> Result<Reply, KeepFault>
         requires valid { IsValid self.old }
         requires fits { IsFitRequest request.now }
         ensures reply { IfOk result (λ reply. reply ≡ (outcome self.old request.now (refusal self.old request.now)).reply) }
         ensures account { OnOk result (self.new ≡ (outcome self.old request.now (refusal self.old request.now)).account) }
         ensures err { OnErr result (self.new ≡ self.old) }
+        ensures kept { IsKeptBy (K.told keeper.old) self.old → IsKeptBy (K.told keeper.new) self.new }
+        ensures refused { OnErr result (K.told keeper.new ≡ K.told keeper.old) }
+        ensures cause { HasCause (K.keep_faults keeper.old) (K.keep_faults keeper.new) result }
+        ensures unasked { is_for_keeper self.old request.now ≡ false → keeper.new ≡ keeper.old }
     {
         match self.admit(request) {
             Err(reply) => Ok(reply),
             Ok(time) => {
                 if self.is_write(request) {
-                    self.write(alloc, request)
+                    self.write(alloc, keeper, request)
                 } else if is_of_batch(request) {
-                    self.stage_parts(alloc, request, time)
+                    self.stage_parts(alloc, keeper, request, time)
                 } else {
-                    self.read(alloc, request, time)
+                    Ok(self.read(alloc, request, time)?)
                 }
             }
         }
     }
 
-    /// A write: refused at the clock's end and past the limits, or done with a stamp.
-    fn write(&mut self, alloc: Global, request: &Request) -> Result<Reply, AllocError>
+    /// A write: refused at the clock's end and past the limits, or done with a stamp once the keeper has it.
+    fn write<K: Keeper>(
+        &mut self,
+        alloc: Global,
+        keeper: &mut K,
+        request: &Request,
+    ) -> Result<Reply, KeepFault>
         requires write { is_write self.old request.now ≡ true }
         requires batch { batch_cause self.old request.now ≡ None }
         requires valid { IsValid self.old }
         ensures reply { IfOk result (λ reply. reply ≡ (outcome self.old request.now (late_refusal self.old request.now)).reply) }
         ensures account { OnOk result (self.new ≡ (outcome self.old request.now (late_refusal self.old request.now)).account) }
         ensures err { OnErr result (self.new ≡ self.old) }
+        ensures kept { IsKeptBy (K.told keeper.old) self.old → IsKeptBy (K.told keeper.new) self.new }
+        ensures refused { OnErr result (K.told keeper.new ≡ K.told keeper.old) }
+        ensures cause { HasCause (K.keep_faults keeper.old) (K.keep_faults keeper.new) result }
+        ensures unasked { is_none (late_refusal self.old request.now) ≡ false → keeper.new ≡ keeper.old }
     {
         if self.store.get() == LAST {
             return Ok(self.refuse(503, None, Body::Said(Said::Clock)));
         }
-        let stamp = self.moment.max(Stamp::clamp(self.store.get() + 1));
-        match self.change(alloc, request, stamp)? {
-            None => Ok(self.refuse(403, None, Body::Code(14))),
-            Some(body) => Ok(Reply {
-                status: 200,
-                moment: stamp,
-                modified: Some(stamp),
-                count: None,
-                next: None,
-                body,
-            }),
-        }
+        let stamp = self.next_stamp();
+        let Some((pending, body)) = self.prepare(alloc, request, stamp)? else {
+            return Ok(self.refuse(403, None, Body::Code(14)));
+        };
+        self.keep(alloc, keeper, pending, stamp)?;
+        Ok(Reply {
+            status: 200,
+            moment: stamp,
+            modified: Some(stamp),
+            count: None,
+            next: None,
+            body,
+        })
     }
 
-    /// Does a write with this stamp, and gives its body; None where the account would pass its limits, and then nothing is done.
-    fn change(
-        &mut self,
+    /// The stamp of a write: the moment, or just after the time of the last write. The clock hasn't ended.
+    fn next_stamp(&self) -> Stamp
+        requires { self.now.store < 999999999999 }
+        ensures { result ≡ stamp_in self.now }
+    {
+        self.moment.max(Stamp::clamp(self.store.get() + 1))
+    }
+
+    /// The write that a request asks for, at a stamp, and what is told of it; None where the account would pass its limits.
+    fn prepare(
+        &self,
         alloc: Global,
         request: &Request,
         stamp: Stamp,
-    ) -> Result<Option<Body>, AllocError>
-        requires stamp { stamp ≡ stamp_in self.old }
-        requires write { is_write self.old request.now ≡ true }
-        requires batch { batch_cause self.old request.now ≡ None }
-        requires valid { IsValid self.old }
-        ensures ok { IfOk result (λ body. Comes self.old request.now body self.new) }
-        ensures err { OnErr result (self.new ≡ self.old) }
+    ) -> Result<Option<(Pending, Body)>, AllocError>
+        requires stamp { stamp ≡ stamp_in self.now }
+        requires write { is_write self.now request.now ≡ true }
+        requires batch { batch_cause self.now request.now ≡ None }
+        requires valid { IsValid self.now }
+        ensures { IfOk result (λ found. Tells self.now stamp (effect self.now request.now) (body_of self.now request.now (stamp_in self.now)) found) }
     {
         match request {
-            Request::DeleteAll { .. } => {
-                self.delete_all(stamp);
-                Ok(Some(Body::Gone(stamp)))
-            }
+            Request::DeleteAll { .. } => Ok(Some((Pending::DropAll, Body::Gone(stamp)))),
             Request::DeleteCollection { collection, .. } => {
-                self.delete_collection(collection, stamp);
-                Ok(Some(Body::Gone(stamp)))
+                let collection = collection.copy(alloc)?;
+                Ok(Some((Pending::DropCollection { collection }, Body::Gone(stamp))))
             }
             Request::DeleteIds {
                 collection,
                 ids,
                 ..
-            } => { self.delete(alloc, collection, ids.as_slice(), stamp) }
+            } => {
+                let found = self.delete(alloc, collection, ids.as_slice(), stamp)?;
+                Ok(with_body(found, Body::Gone(stamp)))
+            }
             Request::Delete { collection, id, .. } => {
                 let ids = vec![in alloc; id.copy(alloc)?]?;
-                self.delete(alloc, collection, ids.as_slice(), stamp)
+                let found = self.delete(alloc, collection, ids.as_slice(), stamp)?;
+                Ok(with_body(found, Body::Gone(stamp)))
             }
             Request::Put {
                 collection,
                 id,
                 fields,
                 ..
-            } => self.put(alloc, collection, id, fields, stamp),
+            } => {
+                let found = self.put(alloc, collection, id, fields, stamp)?;
+                Ok(with_body(found, Body::At(stamp)))
+            }
             Request::Post {
                 collection,
                 records,
@@ -350,146 +377,91 @@ impl State {
         }
     }
 
-    fn delete_all(&mut self, stamp: Stamp)
-        requires { stamp ≡ stamp_in self.old }
-        ensures { self.new ≡ effect self.old (DeleteAll Free) }
-    {
-        self.rows.clear();
-        self.collections.clear();
-        self.stage.clear();
-        self.store = stamp;
-        self.last_delete = stamp;
-        self.moment = stamp;
-    }
-
-    fn delete_collection(&mut self, collection: &Name, stamp: Stamp)
-        requires { stamp ≡ stamp_in self.old }
-        ensures { self.new ≡ effect self.old (DeleteCollection collection.now Free) }
-    {
-        remove_collection(&mut self.rows, collection);
-        remove_time(&mut self.collections, collection);
-        self.stage.drop_collection(collection);
-        self.store = stamp;
-        self.last_delete = stamp;
-        self.moment = stamp;
-    }
-
     fn delete(
-        &mut self,
+        &self,
         alloc: Global,
         collection: &Name,
         ids: &[Id],
         stamp: Stamp,
-    ) -> Result<Option<Body>, AllocError>
-        ensures ok { IfOk result (λ body. Settles self.old (stamped self.old collection.now stamp (rows_without collection.now ids.now self.old.rows)) (is_some body) self.new) }
-        ensures body { IfOk result (λ body. IfSome body (λ told. told ≡ Gone stamp)) }
-        ensures err { OnErr result (self.new ≡ self.old) }
+    ) -> Result<Option<Pending>, AllocError>
+        ensures { IfOk result (λ found. Settles self.now stamp (stamped self.now collection.now stamp (rows_without collection.now ids.now self.now.rows)) found) }
     {
         let targets = Targets::of_ids(alloc, ids)?;
-        let written = Written {
-            targets,
-            rows: Vec::new(alloc),
-        };
-        if self.replace(alloc, collection, written, stamp)? {
-            Ok(Some(Body::Gone(stamp)))
-        } else {
-            Ok(None)
+        if self.would_be_over(collection, &targets, &[]) {
+            return Ok(None);
         }
+        let collection = collection.copy(alloc)?;
+        Ok(Some(Pending::Cut {
+            collection,
+            targets,
+        }))
     }
 
     fn put(
-        &mut self,
+        &self,
         alloc: Global,
         collection: &Name,
         id: &Id,
         fields: &Fields,
         stamp: Stamp,
-    ) -> Result<Option<Body>, AllocError>
-        ensures ok { IfOk result (λ body. Settles self.old (write self.old collection.now (one_part id.now fields.now) stamp) (is_some body) self.new) }
-        ensures body { IfOk result (λ body. IfSome body (λ told. told ≡ At stamp)) }
-        ensures err { OnErr result (self.new ≡ self.old) }
+    ) -> Result<Option<Pending>, AllocError>
+        ensures { IfOk result (λ found. Settles self.now stamp (write self.now collection.now (one_part id.now fields.now) stamp) found) }
     {
         let part = Part {
             id: id.copy(alloc)?,
             fields: fields.copy(alloc)?,
         };
         let parts = vec![in alloc; part]?;
-        if self.put_parts(alloc, collection, parts.as_slice(), stamp)? {
-            Ok(Some(Body::At(stamp)))
-        } else {
-            Ok(None)
-        }
+        self.put_parts(alloc, collection, &[], parts.as_slice(), None, stamp)
     }
 
     fn post(
-        &mut self,
+        &self,
         alloc: Global,
         collection: &Name,
         records: &Records,
         stamp: Stamp,
-    ) -> Result<Option<Body>, AllocError>
-        ensures ok { IfOk result (λ body. Settles self.old (write self.old collection.now records.now.parts stamp) (is_some body) self.new) }
-        ensures body { IfOk result (λ body. IfSome body (λ told. told ≡ Posted stamp (ids_of records.now.parts) (first_failures records.now.failed))) }
-        ensures err { OnErr result (self.new ≡ self.old) }
+    ) -> Result<Option<(Pending, Body)>, AllocError>
+        ensures { IfOk result (λ found. Tells self.now stamp (write self.now collection.now records.now.parts stamp) (Posted stamp (ids_of records.now.parts) (first_failures records.now.failed)) found) }
     {
         let told = told_of(alloc, records)?;
-        if self.put_parts(alloc, collection, records.parts.as_slice(), stamp)? {
-            Ok(Some(posted(stamp, told)))
-        } else {
-            Ok(None)
-        }
+        let parts = records.parts.as_slice();
+        let found = self.put_parts(alloc, collection, &[], parts, None, stamp)?;
+        Ok(with_body(found, posted(stamp, told)))
     }
 
-    /// Puts the parts of a live batch and then those of the request, and takes the batch out last.
+    /// Puts the parts of a live batch and then those of the request, and ends the batch.
     fn commit(
-        &mut self,
+        &self,
         alloc: Global,
         collection: &Name,
         records: &Records,
         batch: u64,
         stamp: Stamp,
-    ) -> Result<Option<Body>, AllocError>
-        requires live { IsLive self.old collection.now batch }
-        requires valid { IsValid self.old }
-        ensures ok { IfOk result (λ body. Settles self.old (committed self.old collection.now records.now.parts batch stamp) (is_some body) self.new) }
-        ensures body { IfOk result (λ body. IfSome body (λ told. told ≡ Posted stamp (ids_of records.now.parts) (first_failures records.now.failed))) }
-        ensures err { OnErr result (self.new ≡ self.old) }
+    ) -> Result<Option<(Pending, Body)>, AllocError>
+        requires live { IsLive self.now collection.now batch }
+        requires valid { IsValid self.now }
+        ensures { IfOk result (λ found. Tells self.now stamp (committed self.now collection.now records.now.parts batch stamp) (Posted stamp (ids_of records.now.parts) (first_failures records.now.failed)) found) }
     {
         let told = told_of(alloc, records)?;
         let staged = self.staged_parts(batch, collection);
-        let written = self.written(alloc, collection, staged, records.parts.as_slice(), stamp)?;
-        if self.replace(alloc, collection, written, stamp)? {
-            self.finish(batch);
-            Ok(Some(posted(stamp, told)))
-        } else {
-            Ok(None)
-        }
+        let parts = records.parts.as_slice();
+        let found = self.put_parts(alloc, collection, staged, parts, Some(batch), stamp)?;
+        Ok(with_body(found, posted(stamp, told)))
     }
 
+    /// The write of parts and then further parts, which ends a batch if one is named.
     fn put_parts(
-        &mut self,
-        alloc: Global,
-        collection: &Name,
-        parts: &[Part],
-        stamp: Stamp,
-    ) -> Result<bool, AllocError>
-        ensures ok { IfOk result (λ is_done. Settles self.old (write self.old collection.now parts.now stamp) is_done self.new) }
-        ensures err { OnErr result (self.new ≡ self.old) }
-    {
-        let written = self.written(alloc, collection, parts, &[], stamp)?;
-        self.replace(alloc, collection, written, stamp)
-    }
-
-    /// The rows that parts and then further parts make, with the ids of those whose place they take.
-    fn written(
         &self,
         alloc: Global,
         collection: &Name,
         first: &[Part],
         more: &[Part],
+        batch: Option<u64>,
         stamp: Stamp,
-    ) -> Result<Written, AllocError>
-        ensures { IfOk result (λ written. rows_without collection.now written.targets self.now.rows ++ written.rows.items ≡ rows_written collection.now (first.now ++ more.now) stamp self.now.rows) }
+    ) -> Result<Option<Pending>, AllocError>
+        requires { IfSome batch (λ number. IsSome (numbered number self.now.batches)) }
+        ensures { IfOk result (λ found. Settles self.now stamp (without_batch batch (write self.now collection.now (first.now ++ more.now) stamp)) found) }
     {
         let targets = Targets::of_parts(alloc, first, more)?;
         let rows = made_rows(
@@ -501,50 +473,84 @@ impl State {
             &targets,
             stamp,
         )?;
-        Ok(Written { targets, rows })
+        if self.would_be_over(collection, &targets, rows.as_slice()) {
+            return Ok(None);
+        }
+        let collection = collection.copy(alloc)?;
+        Ok(Some(Pending::Put {
+            collection,
+            targets,
+            rows,
+            batch,
+        }))
     }
 
-    /// Puts new rows in the place of those that are named, with a stamp; false where the account would pass its limits.
-    /// All memory is taken before anything changes.
-    fn replace(
+    /// Whether the account passes its limits once rows take the place of those that are named.
+    fn would_be_over(&self, collection: &Name, targets: &Targets, made: &[Row]) -> bool
+        ensures { (time : ℕ) → result ≡ is_over (stamped self.now collection.now time (rows_without collection.now targets.now self.now.rows ++ made.now)) }
+    {
+        let collections = count_others(self.collections.as_slice(), collection) + 1;
+        would_be_full(self.rows.as_slice(), collection, targets, made, collections)
+    }
+
+    /// What a keeper is told of a write.
+    fn changes(&self, alloc: Global, pending: &Pending, stamp: Stamp) -> Result<Changes, AllocError>
+        ensures { IfOk result (λ changes. changes ≡ changes_to self.now stamp pending.now) }
+    {
+        let rows = pending.row_changes(alloc)?;
+        let times = self.collections.as_slice();
+        let collections = pending.collection_changes(alloc, times, stamp)?;
+        Ok(Changes {
+            moment: stamp,
+            rows: RowChanges::new(rows),
+            collections: CollectionChanges::new(collections),
+            store: stamp,
+            last_delete: pending.last_delete(self.last_delete, stamp),
+            counter: self.stage.counter(),
+        })
+    }
+
+    /// Does a write once the keeper has it. All memory is taken before the keeper is asked.
+    fn keep<K: Keeper>(
         &mut self,
         alloc: Global,
-        collection: &Name,
-        written: Written,
+        keeper: &mut K,
+        pending: Pending,
         stamp: Stamp,
-    ) -> Result<bool, AllocError>
-        ensures ok { IfOk result (λ is_done. Settles self.old (stamped self.old collection.now stamp (rows_without collection.now written.targets self.old.rows ++ written.rows.items)) is_done self.new) }
+    ) -> Result<(), KeepFault>
+        requires later { self.old.moment ≤ stamp }
+        requires valid { IsValid self.old }
+        requires ready { IsReady self.old pending }
+        ensures ok { OnOk result (self.new ≡ applied self.old stamp pending) }
         ensures err { OnErr result (self.new ≡ self.old) }
+        ensures kept { IsKeptBy (K.told keeper.old) self.old → IsKeptBy (K.told keeper.new) self.new }
+        ensures refused { OnErr result (K.told keeper.new ≡ K.told keeper.old) }
+        ensures cause { HasCause (K.keep_faults keeper.old) (K.keep_faults keeper.new) result }
     {
-        let Written { targets, rows } = written;
-        let name = collection.copy(alloc)?;
-        let collections = count_others(self.collections.as_slice(), collection) + 1;
-        if would_be_full(
-            self.rows.as_slice(),
-            collection,
-            &targets,
-            rows.as_slice(),
-            collections,
-        ) {
-            return Ok(false);
-        }
-        self.rows.reserve(rows.len())?;
+        let changes = self.changes(alloc, &pending, stamp)?;
+        self.rows.reserve(pending.made())?;
         self.collections.reserve(1)?;
-        replace_rows(&mut self.rows, collection, &targets, rows);
-        remove_time(&mut self.collections, collection);
-        self.collections.push_reserved((name, stamp));
+        keeper.commit(alloc, &changes)?;
+        pending.apply(
+            &mut self.rows,
+            &mut self.collections,
+            &mut self.stage,
+            stamp,
+        );
         self.store = stamp;
+        self.last_delete = changes.last_delete;
         self.moment = stamp;
-        Ok(true)
+        Ok(())
     }
 
     /// A begin, an append, or a commit that puts nothing.
-    fn stage_parts(
+    fn stage_parts<K: Keeper>(
         &mut self,
         alloc: Global,
+        keeper: &mut K,
         request: &Request,
         time: Stamp,
-    ) -> Result<Reply, AllocError>
+    ) -> Result<Reply, KeepFault>
         requires time { time ≡ target_time self.old request.now }
         requires quiet { is_write self.old request.now ≡ false }
         requires of_batch { is_of_batch request.now ≡ true }
@@ -554,6 +560,10 @@ impl State {
         ensures reply { IfOk result (λ reply. reply ≡ (done self.old request.now).reply) }
         ensures account { OnOk result (self.new ≡ (done self.old request.now).account) }
         ensures err { OnErr result (self.new ≡ self.old) }
+        ensures kept { IsKeptBy (K.told keeper.old) self.old → IsKeptBy (K.told keeper.new) self.new }
+        ensures refused { OnErr result (K.told keeper.new ≡ K.told keeper.old) }
+        ensures cause { HasCause (K.keep_faults keeper.old) (K.keep_faults keeper.new) result }
+        ensures unasked { is_begin request.now ≡ false → keeper.new ≡ keeper.old }
     {
         match request {
             Request::Post {
@@ -563,34 +573,87 @@ impl State {
                 ..
             } => match mode {
                 Mode::Plain => unreachable!(),
-                Mode::Begin => self.begin(alloc, collection, records, time),
-                Mode::Append { batch } => self.append(alloc, collection, records, *batch, time),
-                Mode::Commit { batch } => self.end(alloc, records, *batch, time),
+                Mode::Begin => self.begin(alloc, keeper, collection, records, time),
+                Mode::Append { batch } => {
+                    Ok(self.append(alloc, collection, records, *batch, time)?)
+                }
+                Mode::Commit { batch } => Ok(self.end(alloc, records, *batch, time)?),
             },
             _ => unreachable!(),
         }
     }
 
-    /// Begins a batch, for which there is room.
-    fn begin(
+    /// What a keeper is told of a begin.
+    fn begin_changes(&self, alloc: Global) -> Changes
+        requires { self.now.counter < 999999999999 }
+        ensures { result ≡ begin_changes self.now }
+    {
+        Changes {
+            moment: self.moment,
+            rows: RowChanges::new(Vec::new(alloc)),
+            collections: CollectionChanges::new(Vec::new(alloc)),
+            store: self.store,
+            last_delete: self.last_delete,
+            counter: self.stage.counter() + 1,
+        }
+    }
+
+    /// Begins a batch, for which there is room, and takes it back where the keeper fails.
+    fn begin<K: Keeper>(
         &mut self,
         alloc: Global,
+        keeper: &mut K,
         collection: &Name,
         records: &Records,
         time: Stamp,
-    ) -> Result<Reply, AllocError>
+    ) -> Result<Reply, KeepFault>
         requires room { begin_fault (stage_of self.old) records.now.parts ≡ None }
+        requires valid { IsValid self.old }
         ensures reply { IfOk result (λ reply. reply ≡ staged_reply self.old.moment time (self.old.counter + 1) records.now) }
         ensures account { OnOk result (self.new ≡ with_stage self.old (begun (stage_of self.old) self.old.moment collection.now records.now.parts)) }
         ensures err { OnErr result (self.new ≡ self.old) }
+        ensures kept { IsKeptBy (K.told keeper.old) self.old → IsKeptBy (K.told keeper.new) self.new }
+        ensures refused { OnErr result (K.told keeper.new ≡ K.told keeper.old) }
+        ensures cause { HasCause (K.keep_faults keeper.old) (K.keep_faults keeper.new) result }
     {
         let told = told_of(alloc, records)?;
         let parts = copy_parts(alloc, records.parts.as_slice())?;
+        let changes = self.begin_changes(alloc);
+        let batch = self.open_batch(alloc, collection, parts)?;
+        match keeper.commit(alloc, &changes) {
+            Ok(()) => Ok(self.told_reply(202, time, staged(batch, told))),
+            Err(fault) => {
+                self.unbegin();
+                Err(fault)
+            }
+        }
+    }
+
+    /// Begins a batch, for which there is room, and gives its number.
+    fn open_batch(
+        &mut self,
+        alloc: Global,
+        collection: &Name,
+        parts: Vec<Part>,
+    ) -> Result<u64, AllocError>
+        requires { begin_fault (stage_of self.old) parts.items ≡ None }
+        ensures number { IfOk result (λ number. number ≡ self.old.counter + 1) }
+        ensures ok { OnOk result (self.new ≡ with_stage self.old (begun (stage_of self.old) self.old.moment collection.now parts.items)) }
+        ensures err { OnErr result (self.new ≡ self.old) }
+    {
         match self.stage.begin(alloc, self.moment, collection, parts) {
-            Ok(batch) => Ok(self.told_reply(202, time, staged(batch, told))),
+            Ok(batch) => Ok(batch),
             Err(StageFault::Memory) => Err(AllocError),
             Err(_) => unreachable!(),
         }
+    }
+
+    /// Takes back the last begin.
+    fn unbegin(&mut self)
+        requires { IsSome (numbered self.old.counter self.old.batches) }
+        ensures { self.new ≡ with_stage self.old (record { counter = self.old.counter - 1; batches = batches_without self.old.counter self.old.batches }) }
+    {
+        self.stage.unbegin();
     }
 
     /// Moves a copy of the parts to the end of a live batch, into which they fit.
@@ -754,6 +817,13 @@ impl State {
         ensures { result ≡ plain_reply self.now.moment 507 None (Word Memory) }
     {
         self.refuse(507, None, Body::Said(Said::Memory))
+    }
+
+    /// What is told where the keeper failed.
+    pub(crate) fn keeper_failed(&self) -> Reply
+        ensures { result ≡ plain_reply self.now.moment 503 None (Word KeeperWord) }
+    {
+        self.refuse(503, None, Body::Said(Said::Keeper))
     }
 
     pub(crate) fn plain(&self, alloc: Global) -> Result<Plain, AllocError>

@@ -1,12 +1,13 @@
 //! The ids that a request names, each once, with one look-up for each row.
 
-ghost use Rattle.std.specs.Prelude.{◌≡◌, ◌++◌, [], List, ℕ, IfOk, OnOk, fold};
+ghost use Rattle.std.specs.Prelude.{◌≡◌, ◌++◌, [], List, ℕ, IfOk, OnOk, fold, map};
+ghost use Rattle.ss_bso.specs.declared.changes.RowChange.TheVariants.{Drop as DropChange};
 ghost use Rattle.ss_bso.specs.Write.{ids_of, is_among};
 ghost use Rattle.ss_account.specs.Steps.{is_target, with_id, with_part_id};
 
 use crate::finding::is_in;
 use indexmap::IndexSet;
-use ss_bso::{Part, Row};
+use ss_bso::{Part, Row, RowChange};
 use ss_text::{Id, Name};
 use std::alloc::{AllocError, Global};
 use std::marker::Model;
@@ -88,6 +89,25 @@ impl Targets {
         ensures { result ≡ is_target collection.now self.now row.now }
     {
         is_in(row, collection) && self.has(&row.id)
+    }
+
+    /// The changes that drop the rows of the collection that are named.
+    pub(crate) fn drops(
+        &self,
+        alloc: Global,
+        collection: &Name,
+    ) -> Result<Vec<RowChange>, AllocError>
+        ensures { IfOk result (λ changes. changes.items ≡ map (DropChange collection.now) self.now) }
+    {
+        let ids = self.ids.as_slice();
+        let mut changes = Vec::with_capacity(alloc, ids.len())?;
+        for id in ids {
+            changes.push(RowChange::Drop {
+                collection: collection.copy(alloc)?,
+                id: id.copy(alloc)?,
+            })?;
+        }
+        Ok(changes)
     }
 
     /// The ids as a vector, which are moved.

@@ -5,7 +5,11 @@ ghost use Rattle.ss_bso.specs.Limits.{part_bytes, payload_size};
 ghost use Rattle.ss_query.specs.Fit.{IsFitRequest};
 
 use crate::account::Account;
-use ss_bso::{Failures, Field, Fields, Part, Parts, Reason, Records};
+use crate::faults::OpenFault;
+use ss_bso::{
+    Failures, Field, Fields, Kept, Part, Parts, Plain, Reason, Records, Row, Rows, Times,
+};
+use ss_keeper::{Keeper, MemKeeper, SureKeeper};
 use ss_query::{Body, Cond, Info, Mode, Numbers, Query, Reply, Request, Sort};
 use ss_text::{Id, Ids, Name, Stamp, Word};
 use std::alloc::{AllocError, Global};
@@ -17,6 +21,7 @@ use std::test::Fail;
 #[derive(Clone, Copy)]
 enum Item {
     Put(&'static str),
+    PutText(&'static str, &'static str),
     PutIfUnmodified(&'static str, u64),
     PutTtl(&'static str, u32),
     Get(&'static str),
@@ -228,6 +233,7 @@ fn item_request(alloc: Global, ask: Item) -> Result<Request, Fail>
 {
     match ask {
         Put(id) => put(alloc, id, id, Field::Keep, Cond::Free),
+        PutText(id, payload) => put(alloc, id, payload, Field::Keep, Cond::Free),
         PutIfUnmodified(id, time) => put(alloc, id, id, Field::Keep, since(time)),
         PutTtl(id, ttl) => put(alloc, id, id, Field::Set(ttl), Cond::Free),
         Get(id) => got(alloc, id, Cond::Free),
@@ -361,7 +367,12 @@ fn told(alloc: Global, reply: &Reply) -> Result<String, Fail> {
 }
 
 /// Makes the requests of one account, one after the other, and looks at what each is told.
-fn run(rt: &impl Abort, alloc: Global, account: &mut Account, steps: &[Step]) -> Result<(), Fail> {
+fn run<K: Keeper>(
+    rt: &impl Abort,
+    alloc: Global,
+    account: &mut Account<K>,
+    steps: &[Step],
+) -> Result<(), Fail> {
     for (now, ask, expected) in steps {
         let request = request_of(alloc, *ask)?;
         let reply = account.step(alloc, *now, &request);
@@ -370,9 +381,37 @@ fn run(rt: &impl Abort, alloc: Global, account: &mut Account, steps: &[Step]) ->
     Ok(())
 }
 
+/// What is kept of rows and collections, the latest of which has the store's time.
+fn kept_with(rows: Vec<Row>, collections: Vec<(Name, Stamp)>, store: u64) -> Kept {
+    Kept {
+        rows: Rows::new(rows),
+        collections: Times::new(collections),
+        store: Stamp::clamp(store),
+        last_delete: Stamp::clamp(0),
+        counter: 0,
+    }
+}
+
+/// What is kept of an account that nothing was asked of.
+fn fresh_kept(alloc: Global) -> Kept {
+    kept_with(Vec::new(alloc), Vec::new(alloc), 0)
+}
+
+fn opened<K: Keeper + Drop>(alloc: Global, keeper: K) -> Result<Account<K>, Fail> {
+    match Account::open(alloc, keeper) {
+        Ok(account) => Ok(account),
+        Err(_) => Err("an account".into()),
+    }
+}
+
+/// An account that nothing was asked of, over a keeper that never fails.
+fn fresh(alloc: Global) -> Result<Account<SureKeeper>, Fail> {
+    opened(alloc, SureKeeper::new(fresh_kept(alloc)))
+}
+
 /// A fresh account that such requests are made of.
 fn answers(rt: &impl Abort, alloc: Global, steps: &[Step]) -> Result<(), Fail> {
-    let mut account = Account::fresh(alloc);
+    let mut account = fresh(alloc)?;
     run(rt, alloc, &mut account, steps)
 }
 
@@ -525,7 +564,7 @@ const COMMITS_PUT_THE_BATCH_FIRST_THEN: &[Step] = &[
 #[test]
 fn commits_put_the_batch_first(rt: HostRuntime) -> Result<(), Fail> {
     let alloc = rt.alloc();
-    let mut account = Account::fresh(alloc);
+    let mut account = fresh(alloc)?;
     run(&rt, alloc, &mut account, COMMITS_PUT_THE_BATCH_FIRST)?;
     let again = Part {
         id: id_of(alloc, "a")?,
@@ -608,7 +647,7 @@ fn numbered(alloc: Global, from: u32) -> Result<Vec<Part>, Fail>
 fn gather(
     rt: &impl Abort,
     alloc: Global,
-    account: &mut Account,
+    account: &mut Account<SureKeeper>,
     from: u32,
     hundreds: u32,
 ) -> Result<u64, Fail> {
@@ -642,7 +681,7 @@ const TWENTY_THOUSAND_RECORDS_AND_ONE_MORE: &[Step] = &[
 #[test]
 fn twenty_thousand_records_and_one_more(rt: HostRuntime) -> Result<(), Fail> {
     let alloc = rt.alloc();
-    let mut account = Account::fresh(alloc);
+    let mut account = fresh(alloc)?;
     assert_eq!(rt; gather(&rt, alloc, &mut account, 0, 200)?, 1);
     run(
         &rt,
@@ -663,7 +702,7 @@ const PAYLOADS_OF_134_217_728_BYTES: &[Step] = &[
 #[test]
 fn payloads_of_134_217_728_bytes(rt: HostRuntime) -> Result<(), Fail> {
     let alloc = rt.alloc();
-    let mut account = Account::fresh(alloc);
+    let mut account = fresh(alloc)?;
     let payload = "x".repeat(alloc, 2_097_152)?;
     for k in 0..64u32 {
         let id = format!(in alloc; "{k}")?;
@@ -677,4 +716,208 @@ fn payloads_of_134_217_728_bytes(rt: HostRuntime) -> Result<(), Fail> {
         assert_eq!(rt; account.step(alloc, 1000, &request).status, 200);
     }
     run(&rt, alloc, &mut account, PAYLOADS_OF_134_217_728_BYTES)
+}
+
+/// An account over a keeper whose call of this number fails; the first call is the one that opens the account.
+fn fails(rt: &impl Abort, alloc: Global, call: u64, steps: &[Step]) -> Result<(), Fail> {
+    let failing = vec![in alloc; call]?;
+    let mut account = opened(alloc, MemKeeper::new(fresh_kept(alloc), failing))?;
+    run(rt, alloc, &mut account, steps)
+}
+
+const THE_FIRST_COMMIT_FAILS: &[Step] = &[
+    (1000, Of(PutText("a", "x")), "503 -: Keeper"),
+    (1000, Of(Get("a")), "404 -: Item"),
+    (1001, Of(PutText("a", "y")), "200 1001: at 1001"),
+    (1001, Of(Get("a")), "200 1001: a y"),
+    (1002, Of(PutText("a", "z")), "200 1002: at 1002"),
+    (1002, Of(Get("a")), "200 1002: a z"),
+];
+
+const THE_SECOND_COMMIT_FAILS: &[Step] = &[
+    (1000, Of(PutText("a", "x")), "200 1000: at 1000"),
+    (1000, Of(Get("a")), "200 1000: a x"),
+    (1001, Of(PutText("a", "y")), "503 -: Keeper"),
+    (1001, Of(Get("a")), "200 1000: a x"),
+    (1002, Of(PutText("a", "z")), "200 1002: at 1002"),
+    (1002, Of(Get("a")), "200 1002: a z"),
+];
+
+const THE_THIRD_COMMIT_FAILS: &[Step] = &[
+    (1000, Of(PutText("a", "x")), "200 1000: at 1000"),
+    (1000, Of(Get("a")), "200 1000: a x"),
+    (1001, Of(PutText("a", "y")), "200 1001: at 1001"),
+    (1001, Of(Get("a")), "200 1001: a y"),
+    (1002, Of(PutText("a", "z")), "503 -: Keeper"),
+    (1002, Of(Get("a")), "200 1001: a y"),
+];
+
+#[test]
+fn a_failed_commit_leaves_the_last_value(rt: HostRuntime) -> Result<(), Fail> {
+    let alloc = rt.alloc();
+    fails(&rt, alloc, 2, THE_FIRST_COMMIT_FAILS)?;
+    fails(&rt, alloc, 3, THE_SECOND_COMMIT_FAILS)?;
+    fails(&rt, alloc, 4, THE_THIRD_COMMIT_FAILS)
+}
+
+const A_FAILED_BEGIN_TAKES_NO_NUMBER: &[Step] = &[
+    (1000, Post(&["a"], BEGIN), "503 -: Keeper"),
+    (1001, Post(&["a"], COMMIT), "400 -: Batch"),
+    (1001, Post(&["b"], BEGIN), "202 0: batch 1 b"),
+    (1002, Post(&[], COMMIT), "200 1002: posted 1002"),
+    (1002, List, "200 1002: b"),
+];
+
+#[test]
+fn a_failed_begin_takes_no_number(rt: HostRuntime) -> Result<(), Fail> {
+    fails(&rt, rt.alloc(), 2, A_FAILED_BEGIN_TAKES_NO_NUMBER)
+}
+
+/// A row of the collection `forms` without a payload.
+fn kept_row(alloc: Global, id: &str, modified: u64) -> Result<Row, Fail> {
+    Ok(Row {
+        collection: name(alloc, "forms")?,
+        id: id_of(alloc, id)?,
+        modified: Stamp::clamp(modified),
+        sortindex: None,
+        payload: Word::new(String::new(alloc)),
+        expires: None,
+    })
+}
+
+/// Why an account isn't opened from these rows, in the collection `forms` of this time.
+fn refusal(
+    alloc: Global,
+    rows: Vec<Row>,
+    forms: u64,
+    store: u64,
+) -> Result<Option<OpenFault>, Fail> {
+    let collections = vec![in alloc; (name(alloc, "forms")?, Stamp::clamp(forms))]?;
+    let keeper = SureKeeper::new(kept_with(rows, collections, store));
+    match Account::open(alloc, keeper) {
+        Ok(_) => Ok(None),
+        Err((_, fault)) => Ok(Some(fault)),
+    }
+}
+
+#[test]
+fn what_is_kept_amiss_is_not_opened(rt: HostRuntime) -> Result<(), Fail> {
+    let alloc = rt.alloc();
+    let rows = vec![in alloc; kept_row(alloc, "a", 1001)?]?;
+    assert_eq!(&rt;
+        refusal(alloc, rows, 1000, 1001)?,
+        Some(OpenFault::BadRow { n: 1 })
+    );
+    let rows = vec![in alloc; kept_row(alloc, "a", 1000)?, kept_row(alloc, "a", 999)?]?;
+    assert_eq!(&rt;
+        refusal(alloc, rows, 1000, 1001)?,
+        Some(OpenFault::BadRow { n: 2 })
+    );
+    let rows = vec![in alloc; kept_row(alloc, "a", 1003)?]?;
+    assert_eq!(&rt;
+        refusal(alloc, rows, 1002, 1001)?,
+        Some(OpenFault::BadCollection { n: 1 })
+    );
+    let rows = vec![in alloc; kept_row(alloc, "a", 1000)?]?;
+    assert_eq!(&rt; refusal(alloc, rows, 1000, 1001)?, None);
+    Ok(())
+}
+
+/// So many rows whose ids are numbers.
+fn kept_rows(alloc: Global, number: u32) -> Result<Vec<Row>, Fail> {
+    let mut rows = Vec::new(alloc);
+    for n in 0..number {
+        let id = n.to_string(alloc)?;
+        rows.push(kept_row(alloc, id.as_str(), 1000)?)?;
+    }
+    Ok(rows)
+}
+
+const NO_ROW_MORE: &[Step] = &[
+    (1001, Of(Put("a")), "403 -: code 14"),
+    (1001, Of(Put("7")), "200 1001: at 1001"),
+    (1001, Info(Info::Counts), "200 1001: forms 199999"),
+];
+
+#[test]
+fn two_hundred_thousand_rows_and_collections(rt: HostRuntime) -> Result<(), Fail> {
+    let alloc = rt.alloc();
+    let rows = kept_rows(alloc, 199_999)?;
+    let collections = vec![in alloc; (name(alloc, "forms")?, Stamp::clamp(1000))]?;
+    let keeper = SureKeeper::new(kept_with(rows, collections, 1000));
+    let mut account = opened(alloc, keeper)?;
+    run(&rt, alloc, &mut account, NO_ROW_MORE)
+}
+
+fn is_same_row(row: &Row, other: &Row) -> bool {
+    row.collection == other.collection
+        && row.id == other.id
+        && row.modified == other.modified
+        && row.sortindex == other.sortindex
+        && row.payload.as_str() == other.payload.as_str()
+        && row.expires == other.expires
+}
+
+fn is_kept(kept: &Kept, row: &Row) -> bool {
+    kept.rows
+        .as_slice()
+        .iter()
+        .any(|other| is_same_row(row, other))
+}
+
+fn has_time(kept: &Kept, entry: &(Name, Stamp)) -> bool {
+    let times = kept.collections.as_slice();
+    times
+        .iter()
+        .any(|other| other.0 == entry.0 && other.1 == entry.1)
+}
+
+/// Whether what is kept is the account, whatever the order of rows and collections.
+fn is_account(kept: &Kept, plain: &Plain) -> bool {
+    let rows = plain.rows.as_slice();
+    let times = plain.collections.as_slice();
+    kept.rows.as_slice().len() == rows.len()
+        && kept.collections.as_slice().len() == times.len()
+        && rows.iter().all(|row| is_kept(kept, row))
+        && times.iter().all(|entry| has_time(kept, entry))
+        && kept.store == plain.store
+        && kept.last_delete == plain.last_delete
+        && kept.counter == plain.counter
+}
+
+const EACH_STEP_IS_KEPT: &[Step] = &[
+    (1000, Of(Put("z")), "200 1000: at 1000"),
+    (1001, Post(&["a", "b"], BEGIN), "202 1000: batch 1 a b"),
+    (1002, Post(&["c"], APPEND), "202 1000: batch 1 c"),
+    (1003, Post(&["d"], COMMIT), "200 1003: posted 1003 d"),
+    (1004, Of(PutText("b", "w")), "200 1004: at 1004"),
+    (1005, Of(DeleteIds(&["a", "q"])), "200 1005: gone 1005"),
+    (1006, Of(PutTtl("c", 1)), "200 1006: at 1006"),
+    (1106, Of(Delete("d")), "200 1106: gone 1106"),
+    (1107, PostTabs(Mode::Plain), "200 0: posted 0"),
+    (1108, DeleteCollection, "200 1108: gone 1108"),
+    (1109, Of(Put("e")), "200 1109: at 1109"),
+    (1110, DeleteAll, "200 1110: gone 1110"),
+];
+
+/// Makes the first so many requests of an account, and looks at what is then kept.
+fn keeps(rt: &impl Abort, alloc: Global, steps: &[Step]) -> Result<(), Fail> {
+    let keeper = MemKeeper::new(fresh_kept(alloc), Vec::new(alloc));
+    let mut account = opened(alloc, keeper)?;
+    run(rt, alloc, &mut account, steps)?;
+    let plain = account.plain(alloc)?;
+    let mut keeper = account.into_keeper();
+    let Ok(kept) = keeper.load(alloc) else {
+        return Err("what is kept".into());
+    };
+    assert!(rt; is_account(&kept, &plain), "after {} steps", steps.len());
+    Ok(())
+}
+
+#[test]
+fn each_step_is_kept(rt: HostRuntime) -> Result<(), Fail> {
+    for n in 0..=EACH_STEP_IS_KEPT.len() {
+        keeps(&rt, rt.alloc(), &EACH_STEP_IS_KEPT[..n])?;
+    }
+    Ok(())
 }

@@ -1,16 +1,19 @@
-use Rattle.std.proofs.Common.{ap}
-use Rattle.ss_bso.specs.Write.{stamped}
-use Rattle.ss_account.proofs.Stepping.{cut-same, settles-done, settles-full}
+use Rattle.std.proofs.Common.{List, ℕ, sym, ap, ◌∙◌}
+use Rattle.std.proofs.lemmas.List.{append-nil}
+use Rattle.ss_bso.specs.declared.rows.Row.{Row}
+use Rattle.ss_bso.specs.Write.{rows_without, stamped}
+use Rattle.ss_query.specs.Effect.{is_over}
+use Rattle.ss_account.proofs.Stepping.{cut-same}
 use Rattle.ss_account.proofs.state.State.delete.Goals as goal
 
-pub returns-then-branch-clause-ok : goal.returns-then-branch-clause-ok
-returns-then-branch-clause-ok c =
+pub returns : goal.returns
+returns c =
     let account = c.args.self.now in
-    let left = cut-same c.args.collection.now c.in_ok-targets.targets c.args.ids.now account.rows c.new.result.items c.in_ok-targets.ensures c.new.ensures.items in
-    settles-done account _ _ c.replace.new.self c.in_ok-replace.field-0 c.in_ok-replace.ensures.ok (ap (stamped account c.args.collection.now c.args.stamp) left) c.if-branch.true
-
-pub returns-else-branch-clause-ok : goal.returns-else-branch-clause-ok
-returns-else-branch-clause-ok c =
-    let account = c.args.self.now in
-    let left = cut-same c.args.collection.now c.in_ok-targets.targets c.args.ids.now account.rows c.new.result.items c.in_ok-targets.ensures c.new.ensures.items in
-    settles-full account _ _ c.replace.new.self c.in_ok-replace.field-0 c.in_ok-replace.ensures.ok (ap (stamped account c.args.collection.now c.args.stamp) left) c.if-branch.false
+    let collection = c.args.collection.now in
+    let targets = c.in_ok-targets.targets in
+    let same = cut-same collection targets c.args.ids.now account.rows c.in_ok-targets.ensures in (
+      ap (λ (rows : List Row). is_over (stamped account collection c.args.stamp rows)) (sym same ∙ sym (append-nil (rows_without collection targets account.rows)))
+          ∙ sym (c.would_be_over.ensures c.args.stamp) ∙ c.if-would_be_over.false,
+      ap (λ (name : List ℕ). stamped account name c.args.stamp (rows_without name targets account.rows)) c.in_ok-collection.ensures ∙ ap (stamped account collection c.args.stamp) same,
+      tt,
+    )

@@ -5,7 +5,7 @@ use Rattle.ss_account.proofs.Batching.{append-free, commit-live, live-numbered}
 use Rattle.ss_account.proofs.state.State.stage_parts.Goals as goal
 
 pub append-requires : goal.append-requires
-append-requires c =
+append-requires g c =
     let account = c.args.self.now in
     let is = c.in-Post.is ∙ ap (λ mode. Post c.in-Post.collection c.in-Post.records mode c.in-Post.cond) c.in-Append.is in
     record {
@@ -13,7 +13,7 @@ append-requires c =
     }
 
 pub end-requires : goal.end-requires
-end-requires c =
+end-requires g c =
     let account = c.args.self.now in
     let is = c.in-Post.is ∙ ap (λ mode. Post c.in-Post.collection c.in-Post.records mode c.in-Post.cond) c.in-Commit.is in
     live-numbered account c.in-Post.collection c.in-Commit.batch c.requires.valid

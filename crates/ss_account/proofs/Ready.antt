@@ -1,0 +1,75 @@
+-- What a write of parts makes ready.
+use Rattle.std.specs.Prelude.{◌≡◌, ℕ, Bool, true, false, ◌&&◌, ◌||◌, cond, List, [], ◌∷◌, filter_map, map, bytes_eq, IsFalse, IsSome, IfSome, Option, Some, None, refl}
+use Rattle.std.specs.List.{cons_option}
+use Rattle.std.proofs.Common.{sym, ap, ◌∙◌}
+use Rattle.ss_bso.specs.declared.rows.Row.{Row}
+use Rattle.ss_bso.specs.declared.parts.Part.{Part}
+use Rattle.ss_bso.specs.declared.account.Plain.{Plain}
+use Rattle.ss_bso.specs.Account.{row_at}
+use Rattle.ss_bso.specs.Put.{put}
+use Rattle.ss_bso.specs.Write.{ids_of, is_among, parts_of, put_all}
+use Rattle.ss_batch.specs.Stage.{numbered}
+use Rattle.ss_account.specs.Pending.{IsPutReady}
+use Rattle.ss_account.proofs.Lists.{Each, Each-imp, Each-filter_map, Pairs-filter_map, All-from_Each, AllPairs-from_Pairs}
+use Rattle.ss_account.proofs.Texts.{bytes_eq-same, once_by-distinct}
+use Rattle.ss_account.proofs.Written.{Apart, Each-any, made, made_named, and_false}
+use Rattle.ss_account.proofs.Reading.{among-once}
+
+put_all-some : (collection : List ℕ) (parts : List Part) (time : ℕ) (row : Row) → IsSome (put_all collection parts time (Some row))
+put_all-some collection [] time row = refl
+put_all-some collection (part ∷ parts) time row = put_all-some collection parts time (put (Some row) collection part time)
+
+-- an id that a part names has a row after the write
+put_all-named : (collection id : List ℕ) (parts : List Part) (time : ℕ) (old : Option Row) → is_among (map (λ (part : Part). part.id) parts) id ≡ true → IsSome (put_all collection (parts_of id parts) time old)
+put_all-named collection id [] time old e = cc
+put_all-named collection id (part ∷ parts) time old e =
+    elim (bytes_eq part.id id) as (λ v. (v || is_among (map (λ (p : Part). p.id) parts) id) ≡ true → IsSome (put_all collection (cond v (part ∷ parts_of id parts) (parts_of id parts)) time old)) [
+      | true ↦ (λ _. put_all-some collection (parts_of id parts) time (put old collection part time))
+      | false ↦ (λ h. put_all-named collection id parts time old h)
+    ] e
+
+or_true : (b : Bool) → (b || true) ≡ true
+or_true true = refl
+or_true false = refl
+
+each-among : (ids : List (List ℕ)) → Each (λ (id : List ℕ). is_among ids id ≡ true) ids
+each-among [] = tt
+each-among (id ∷ ids) = (
+  ap (λ v. v || is_among ids id) (bytes_eq-same id id refl),
+  Each-imp (λ (other : List ℕ). is_among ids other ≡ true) (λ (other : List ℕ). is_among (id ∷ ids) other ≡ true) (λ other h. ap (λ v. bytes_eq id other || v) h ∙ or_true (bytes_eq id other)) ids (each-among ids),
+)
+
+each-named : (parts : List Part) → Each (λ (id : List ℕ). is_among (map (λ (part : Part). part.id) parts) id ≡ true) (ids_of parts)
+each-named parts =
+    Each-imp (λ (id : List ℕ). is_among (ids_of parts) id ≡ true) (λ (id : List ℕ). is_among (map (λ (part : Part). part.id) parts) id ≡ true)
+    (λ id h. sym (among-once id (map (λ (part : Part). part.id) parts)) ∙ h) (ids_of parts) (each-among (ids_of parts))
+
+ids_made : (make : List ℕ → Option Row) (ids : List (List ℕ)) → Each (λ (id : List ℕ). IsSome (make id)) ids → ((id : List ℕ) (row : Row) → make id ≡ Some row → row.id ≡ id) → map (λ (row : Row). row.id) (filter_map make ids) ≡ ids
+ids_made make [] e h = refl
+ids_made make (id ∷ ids) e h =
+    elim (make id) as (λ v. make id ≡ v → IsSome v → map (λ (row : Row). row.id) (cons_option v (filter_map make ids)) ≡ id ∷ ids) [
+      | None ↦ (λ _ no. cc)
+      | Some row ↦ (λ is _. (λ i. h id row is i ∷ ids_made make ids e.1 h i))
+    ] refl e.0
+
+pub put_ready : (account : Plain) (collection : List ℕ) (parts : List Part) (time : ℕ) (batch : Option ℕ) → IfSome batch (λ number. IsSome (numbered number account.batches))
+    → IsPutReady account collection (ids_of parts) (filter_map (made collection parts time account.rows) (ids_of parts)) batch
+put_ready account collection parts time batch live =
+    let make : List ℕ → Option Row = made collection parts time account.rows in
+    let ids : List (List ℕ) = ids_of parts in
+    let named = made_named collection parts time account.rows in
+    record {
+      ids = ids_made make ids
+          (Each-imp (λ (id : List ℕ). is_among (map (λ (part : Part). part.id) parts) id ≡ true) (λ (id : List ℕ). IsSome (make id))
+          (λ id h. put_all-named collection id parts time (row_at collection id account.rows) h) ids (each-named parts))
+          (λ id row is. (named id row is).of);
+      here = All-from_Each (λ (row : Row). row.collection ≡ collection) (filter_map make ids)
+          (Each-filter_map (λ (id : List ℕ). Unit {0}) (λ (row : Row). row.collection ≡ collection) make (λ id row _ is. (named id row is).named) ids (Each-any ids));
+      apart = AllPairs-from_Pairs Apart (filter_map make ids)
+          (Pairs-filter_map (λ (id other : List ℕ). IsFalse (bytes_eq other id)) Apart make
+          (λ id other row new differ is_row is_new.
+          (λ i. bytes_eq new.collection row.collection && bytes_eq ((named other new is_new).of i) ((named id row is_row).of i))
+          ∙ ap (λ v. bytes_eq new.collection row.collection && v) differ ∙ and_false (bytes_eq new.collection row.collection))
+          ids (once_by-distinct (λ (id : List ℕ). id) (map (λ (part : Part). part.id) parts)));
+      live = live;
+    }

@@ -1,0 +1,168 @@
+//! Whether an account can be opened from what a keeper holds.
+
+ghost use Rattle.std.specs.Prelude.{◌≡◌, ◌≤◌, ◌&&◌, ◌||◌, ℕ, List, not, is_none, None, Some, Err, IfOk, OnOk, IfErr, IfSome, bytes_eq, nat_le, nat_lt, false, if◌then◌else◌};
+ghost use Rattle.std.specs.HashMap.{get};
+ghost use Rattle.std.specs.Option.{option_map_or};
+ghost use Rattle.ss_outside.specs.Causes.{Rose};
+ghost use Rattle.ss_bso.specs.declared.rows.Row.{Row as RowValue};
+ghost use Rattle.ss_bso.specs.Account.{time_of};
+ghost use Rattle.ss_keeper.specs.Keeping.{IsTold};
+ghost use Rattle.ss_account.specs.declared.faults.OpenFault.TheVariants.{Keeper as OpenKeeper};
+ghost use Rattle.ss_account.specs.Opening.{IsFaultOf, IsGood, IsRowsFault, IsTimesFault, first_bad, is_bad_collection, is_bad_row};
+ghost use Rattle.ss_account.specs.Places.{is_placed};
+ghost use Rattle.ss_account.specs.Steps.{IsSize, is_full, or_else};
+
+use crate::faults::OpenFault;
+use crate::places::Place;
+use crate::sizes::{MOST_ROWS_AND_COLLECTIONS, Size};
+use ss_bso::{Kept, Row};
+use ss_keeper::{KeepFault, Keeper};
+use ss_text::{Name, Stamp};
+use std::alloc::{AllocError, Global};
+use std::collections::{HashMap, HashSet};
+
+/// Notes the time of a collection, and tells whether it is the first of its name.
+fn add_time(
+    alloc: Global,
+    times: &mut HashMap<Name, Stamp>,
+    entry: &(Name, Stamp),
+) -> Result<bool, AllocError>
+    ensures first { IfOk result (λ is_first. is_first ≡ is_none (get bytes_eq times.old entry.now.0)) }
+    ensures times { OnOk result ((name : List ℕ) → get bytes_eq times.new name ≡ (if bytes_eq entry.now.0 name then or_else (get bytes_eq times.old name) (Some entry.now.1) else get bytes_eq times.old name)) }
+{
+    if times.contains_key(&entry.0) {
+        return Ok(false);
+    }
+    times.insert(entry.0.copy(alloc)?, entry.1)?;
+    Ok(true)
+}
+
+/// Whether the collection of this number, counted from 1, is bad.
+fn is_bad_time(is_first: bool, n: u64, time: Stamp, last: u64) -> bool
+    ensures { result ≡ (not is_first || (nat_lt last time || nat_lt 200000 n)) }
+{
+    !is_first || time.get() > last || n > MOST_ROWS_AND_COLLECTIONS
+}
+
+/// The times of the collections by name, where none of them is bad.
+fn times_of(
+    alloc: Global,
+    collections: &[(Name, Stamp)],
+    store: Stamp,
+) -> Result<HashMap<Name, Stamp>, OpenFault>
+    ensures times { IfOk result (λ times. (name : List ℕ) → get bytes_eq times name ≡ time_of name collections.now) }
+    ensures good { OnOk result (first_bad (is_bad_collection store) collections.now ≡ None) }
+    ensures store { OnOk result (store ≤ 999999999999) }
+    ensures bad { IfErr result (λ fault. IsTimesFault store collections.now fault) }
+{
+    let mut times = HashMap::new(alloc);
+    let last = store.get();
+    let mut n: u64 = 0;
+    for entry in collections {
+        n += 1;
+        let is_first = add_time(alloc, &mut times, entry)?;
+        if is_bad_time(is_first, n, entry.1, last) {
+            return Err(OpenFault::BadCollection { n });
+        }
+    }
+    Ok(times)
+}
+
+/// Whether a row's collection isn't there, or has an earlier time than the row.
+fn is_astray(times: &HashMap<Name, Stamp>, row: &Row) -> bool
+    ensures { result ≡ not (option_map_or (λ time. nat_le row.now.modified time) (get bytes_eq times.now row.now.collection) false) }
+{
+    match times.get(&row.collection) {
+        Some(time) => row.modified.get() > time.get(),
+        None => true,
+    }
+}
+
+fn place_of(row: &Row) -> Place<'_>
+    ensures collection { result.collection.now ≡ row.now.collection }
+    ensures id { result.id.now ≡ row.now.id }
+{
+    Place {
+        collection: &row.collection,
+        id: &row.id,
+    }
+}
+
+/// Notes the place of a row, and tells whether it is the first there.
+fn add_place<'a>(places: &mut HashSet<Place<'a>>, row: &'a Row) -> Result<bool, AllocError>
+    ensures first { IfOk result (λ is_first. is_first ≡ not (is_placed places.old.keys row.now.collection row.now.id)) }
+    ensures places { OnOk result ((collection id : List ℕ) → is_placed places.new.keys collection id ≡ ((bytes_eq collection row.now.collection && bytes_eq id row.now.id) || is_placed places.old.keys collection id)) }
+{
+    let is_first = places.insert(place_of(row))?;
+    Ok(is_first)
+}
+
+/// Whether a row is bad, where the rows up to it have this size.
+fn is_bad(
+    is_first: bool,
+    times: &HashMap<Name, Stamp>,
+    row: &Row,
+    size: Size,
+    collections: usize,
+) -> bool
+    ensures { (rows : List RowValue) → IsSize rows size
+        → result ≡ (not is_first || (not (option_map_or (λ time. nat_le row.now.modified time) (get bytes_eq times.now row.now.collection) false) || is_full rows collections)) }
+{
+    !is_first || is_astray(times, row) || size.is_full(collections)
+}
+
+/// Whether none of the rows is bad, under collections whose times are noted by name.
+fn check_rows(
+    alloc: Global,
+    rows: &[Row],
+    collections: &[(Name, Stamp)],
+    times: &HashMap<Name, Stamp>,
+) -> Result<(), OpenFault>
+    requires { (name : List ℕ) → get bytes_eq times.now name ≡ time_of name collections.now }
+    ensures good { OnOk result (first_bad (is_bad_row collections.now) rows.now ≡ None) }
+    ensures bad { IfErr result (λ fault. IsRowsFault collections.now rows.now fault) }
+{
+    let mut places = HashSet::new(alloc);
+    let mut size = Size::none();
+    let mut n: u64 = 0;
+    for row in rows {
+        n += 1;
+        size = size.with(row);
+        let is_first = add_place(&mut places, row)?;
+        if is_bad(is_first, times, row, size, collections.len()) {
+            return Err(OpenFault::BadRow { n });
+        }
+    }
+    Ok(())
+}
+
+/// Whether an account can be opened from what is kept.
+fn check(alloc: Global, kept: &Kept) -> Result<(), OpenFault>
+    ensures good { OnOk result (IsGood kept.now) }
+    ensures store { OnOk result (kept.now.store ≤ 999999999999) }
+    ensures bad { IfErr result (λ fault. IsFaultOf kept.now fault) }
+    ensures own { result ≡ Err OpenKeeper → ⊥ }
+{
+    let collections = kept.collections.as_slice();
+    let times = times_of(alloc, collections, kept.store)?;
+    check_rows(alloc, kept.rows.as_slice(), collections, &times)
+}
+
+/// What a keeper holds, where an account can be opened from it.
+pub(crate) fn load<K: Keeper>(alloc: Global, keeper: &mut K) -> Result<Kept, OpenFault>
+    ensures told { IfOk result (λ kept. IsTold kept (K.told keeper.old)) }
+    ensures good { IfOk result (λ kept. IsGood kept) }
+    ensures store { IfOk result (λ kept. kept.store ≤ 999999999999) }
+    ensures bad { IfErr result (λ fault. IfSome (K.told keeper.old) (λ kept. IsFaultOf kept fault)) }
+    ensures left { K.told keeper.new ≡ K.told keeper.old }
+    ensures cause { result ≡ Err OpenKeeper → Rose (K.keep_faults keeper.old) (K.keep_faults keeper.new) }
+    ensures faults { K.keep_faults keeper.old ≤ K.keep_faults keeper.new }
+{
+    let kept = match keeper.load(alloc) {
+        Ok(kept) => kept,
+        Err(KeepFault::Fault) => return Err(OpenFault::Keeper),
+        Err(KeepFault::Memory) => return Err(OpenFault::Memory),
+    };
+    check(alloc, &kept)?;
+    Ok(kept)
+}

@@ -2,10 +2,13 @@
 //! its time after `@` (1 where it has none), and its children in brackets. A folder begins with a capital letter, a
 //! separator with `-`, and each other item is a bookmark.
 
+mod plain;
+
 ghost use Rattle.std.specs.Prelude.{◌≡◌, true};
 ghost use Rattle.ss_tree.specs.Entries.{is_live};
 
 use crate::{Merged, Origin, merge};
+use plain::{Dice, NAMES, Raw, Raws, name, random_raws, shown_by_rules};
 use ss_record::{Item, Kind, is_root};
 use ss_text::{Id, Ids, Stamp, Word};
 use ss_tree::{Node, Sides, Tree};
@@ -323,5 +326,162 @@ fn a_new_device_and_a_full_server_are_one_either_way(rt: HostRuntime) -> Result<
         text.as_str(),
         "menu[F=News[b c]] toolbar unfiled[d] mobile | F local b local c local d local | |"
     );
+    Ok(())
+}
+
+fn tree_of(alloc: Global, raws: &[Raw]) -> Result<Tree, Fail> {
+    let mut tree = Tree::new(alloc)?;
+    for raw in raws {
+        let kind = if raw.folder {
+            Kind::Folder
+        } else {
+            Kind::Bookmark
+        };
+        let title = if raw.title == 0 { None } else { Some("t") };
+        let id = id_of(alloc, name(raw.id))?;
+        let item = Item::new(alloc, id, kind, content_of(alloc, title)?)
+            .ok()
+            .ok_or("unfit")?;
+        let under = tree
+            .find(&id_of(alloc, name(raw.parent))?)
+            .ok_or("no parent")?;
+        tree.insert(under, None, item, Stamp::clamp(u64::from(raw.time)))
+            .ok()
+            .ok_or("refused")?;
+    }
+    Ok(tree)
+}
+
+fn ids_of(alloc: Global, numbers: &[u8]) -> Result<Ids, Fail> {
+    let mut ids = Vec::new(alloc);
+    for number in numbers {
+        ids.push(id_of(alloc, name(*number))?)?;
+    }
+    Ok(Ids::new(ids))
+}
+
+/// The side of an item's content; `none` where it isn't told of once.
+fn side_of(merged: &Merged, id: &Id) -> &'static str {
+    let mut side = "none";
+    for (other, origin) in &merged.from {
+        if other == id {
+            side = if side == "none" {
+                letter(*origin)
+            } else {
+                "twice"
+            };
+        }
+    }
+    side
+}
+
+/// An item with its title, its parent, the side of its content, and its children.
+fn push_node(
+    alloc: Global,
+    merged: &Merged,
+    node: Node,
+    line: &mut String,
+) -> Result<(), AllocError>
+    requires { is_live node merged.now.tree ≡ true }
+{
+    let tree = &merged.tree;
+    let item = tree.item(node);
+    line.push_str(item.id().as_str())?;
+    line.push_str(if item.content().as_str() == "{}" {
+        "=0<"
+    } else {
+        "=1<"
+    })?;
+    if let Some(parent) = tree.parent(node) {
+        line.push_str(tree.item(parent).id().as_str())?;
+    }
+    line.push(' ')?;
+    line.push_str(side_of(merged, item.id()))?;
+    line.push(':')?;
+    for child in &tree.children(alloc, node)? {
+        line.push(' ')?;
+        line.push_str(tree.item(*child).id().as_str())?;
+    }
+    line.push('\n')?;
+    Ok(())
+}
+
+/// What came of a merge, item by item in the order of the names.
+fn shown_by_id(alloc: Global, merged: &Merged) -> Result<String, Fail> {
+    let mut line = String::new(alloc);
+    for number in 0..NAMES {
+        if name(number) != "places" {
+            if let Some(node) = merged.tree.find(&id_of(alloc, name(number))?) {
+                push_node(alloc, merged, node, &mut line)?;
+            }
+        }
+    }
+    line.push('|')?;
+    for id in merged.gone.as_slice() {
+        line.push_str(format!(in alloc; " {}", id.as_str())?.as_str())?;
+    }
+    line.push('|')?;
+    for (local, remote) in &merged.renamed {
+        line.push_str(format!(in alloc; " {}={}", local.as_str(), remote.as_str())?.as_str())?;
+    }
+    Ok(line)
+}
+
+fn merged_raws(alloc: Global, raws: &Raws) -> Result<Merged, Fail> {
+    let mirror = tree_of(alloc, &raws.mirror)?;
+    let local = tree_of(alloc, &raws.local)?;
+    let remote = tree_of(alloc, &raws.remote)?;
+    let local_dead = ids_of(alloc, &raws.local_dead)?;
+    let remote_dead = ids_of(alloc, &raws.remote_dead)?;
+    Ok(merge(
+        alloc,
+        &Sides {
+            mirror: &mirror,
+            local: &local,
+            remote: &remote,
+            local_dead: &local_dead,
+            remote_dead: &remote_dead,
+        },
+    )?)
+}
+
+/// Whether a merge of a tree with itself leaves it as it is, with nothing gone or renamed, and all of it the same.
+fn stays(alloc: Global, tree: &Tree) -> Result<bool, Fail> {
+    let none = ids_of(alloc, &[])?;
+    let again = merge(
+        alloc,
+        &Sides {
+            mirror: tree,
+            local: tree,
+            remote: tree,
+            local_dead: &none,
+            remote_dead: &none,
+        },
+    )?;
+    let mut before = String::new(alloc);
+    push_children(alloc, tree, 12, Node::new(0), &mut before)?;
+    let mut after = String::new(alloc);
+    push_children(alloc, &again.tree, 12, Node::new(0), &mut after)?;
+    let mut same = again.gone.as_slice().is_empty() && again.renamed.is_empty();
+    for (_, origin) in &again.from {
+        same = same && *origin == Origin::Same;
+    }
+    Ok(same && before.as_str() == after.as_str())
+}
+
+#[test]
+fn random_sides_are_merged_by_the_rules(rt: HostRuntime) -> Result<(), Fail> {
+    let mut dice = Dice::new(7);
+    for round in 0..150u32 {
+        let raws = random_raws(rt.alloc(), &mut dice)?;
+        let merged = merged_raws(rt.alloc(), &raws)?;
+        let expected = shown_by_rules(rt.alloc(), raws)?;
+        assert_eq!(rt;
+            shown_by_id(rt.alloc(), &merged)?.as_str(),
+            expected.as_str(),
+            "round {round}"
+        );
+        assert!(rt; stays(rt.alloc(), &merged.tree)?, "round {round}");
+    }
     Ok(())
 }

@@ -1,0 +1,16 @@
+//! The keeper over SQLite: an account's rows, collections and times in a database of its own.
+//! Its contract: a fault is answered only where the count of refused statements rose. It tells no rows; that what was
+//! committed is loaded again, also after a stop at any write, is tested.
+#![tactic(auto)]
+
+mod faults;
+mod keeper;
+mod numbers;
+mod reading;
+mod tables;
+#[cfg(test)]
+mod tests;
+mod writing;
+
+pub use faults::SqlFault;
+pub use keeper::SqlKeeper;

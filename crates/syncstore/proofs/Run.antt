@@ -1,8 +1,8 @@
 -- What one turn more, and an ending, make of the progress of `answer`.
-use Rattle.std.proofs.Common.{◌≡◌, ◌<◌, ◌≤◌, ◌⊎◌, ℕ, ◌+◌, Bool, true, false, nat_eq, List, [], ◌∷◌, ◌++◌, length, map, Option, None, Some, Ok, suc, refl, sym, ◌∙◌, ap, subst, append_assoc, length-append, inl, inr, arith}
-use Rattle.std.specs.Prelude.{IfSome, IsTrue, IsFalse, ⊤}
+use Rattle.std.proofs.Common.{◌≡◌, ◌<◌, ◌≤◌, ℕ, ◌+◌, Bool, true, false, List, [], ◌∷◌, ◌++◌, length, map, Option, None, Some, Ok, suc, refl, sym, ◌∙◌, ap, subst, append_assoc, length-append, inl, inr, arith}
+use Rattle.std.specs.Prelude.{IfSome, IsFalse}
 use Rattle.std.proofs.lemmas.List.{append-nil, map-append, length-map}
-use Rattle.ss_outside.specs.Told.{Meanings, HasRead, HasWritten}
+use Rattle.ss_outside.specs.Told.{Meanings, HasRead}
 use Rattle.ss_outside.specs.Causes.{Rose}
 use Rattle.ss_outside.proofs.Telling.{HasRead-none, HasRead-append, HasWritten-none, HasWritten-append}
 use Rattle.ss_bso.specs.declared.account.Plain.{Plain}
@@ -21,10 +21,14 @@ use Rattle.ss_http.specs.Reading.{Answers, EndsWith, RisesWith}
 use Rattle.ss_http.specs.Responses.{memory_response}
 use Rattle.ss_http.proofs.MessageLemmas.{reads_append, reads_further}
 use Rattle.ss_route.specs.declared.routed.Local.{Local}
-use Rattle.ss_route.specs.Wire.{wire, local_wire, refusal_of}
+use Rattle.ss_route.specs.Wire.{wire, refusal_of}
 use Rattle.syncstore.specs.declared.answer.Ending.{Ending}
 use Rattle.syncstore.specs.declared.answer.Ending.TheVariants as endings
-use Rattle.syncstore.specs.Turns.{Asked, asks, told, asked, Course, entered, unread, IsCourseOf, left_by, response_to, Turn, AreTurns, closes, account_after, responses, Refused, IsRefused, refusal_response, all_responses, readings, IsReading, AreReadings, GoesOn, EndsIn, Answered, IsTurn, WasSent, WasCut, Progress, ending_of, Refuses, refusal, Stops, clamped}
+use Rattle.syncstore.specs.Turns.{Asked, asks, told, asked, Course, entered, unread, IsCourseOf, left_by, response_to, Turn, AreTurns, closes, account_after, responses, IsRefused, refusal_response, IsReading, AreReadings, GoesOn, Answered, IsTurn, WasSent, WasCut, Progress, ending_of, Refuses, refusal, Stops}
+
+-- a count that stands at 0 never rose
+pub never-rose : Rose 0 0 → ⊥
+never-rose rose = let risen = rose.risen in absurd (omega arith)
 
 -- one turn more
 pub courses_further : (uid : ℕ) (turns : List Turn) (t : Turn) → AreTurns uid turns → IsCourseOf t.course (asked uid t.message) → AreTurns uid (turns ++ t ∷ [])

@@ -1,5 +1,5 @@
 -- What `answer` writes for the messages of its input.
-use Rattle.std.specs.Prelude.{◌≡◌, ◌<◌, ◌≤◌, ◌⊎◌, ℕ, ◌+◌, Bool, true, false, ◌||◌, nat_eq, min, List, [], ◌∷◌, ◌++◌, length, map, Option, None, Some, IsTrue, IsFalse, if◌then◌else◌, ⊤}
+use Rattle.std.specs.Prelude.{◌≡◌, ◌≢◌, ◌<◌, ◌≤◌, ◌⊎◌, ℕ, ◌+◌, Bool, true, ◌||◌, nat_eq, min, List, [], ◌∷◌, ◌++◌, length, map, Option, None, Some, IsTrue, IsFalse, if◌then◌else◌, ⊤}
 use Rattle.std.specs.Option.{option_map_or}
 use Rattle.ss_outside.specs.Told.{Meanings, HasRead, HasWritten, IsUsedUp, TakesFirst}
 use Rattle.ss_outside.specs.Causes.{Rose}
@@ -8,7 +8,7 @@ use Rattle.ss_bso.specs.declared.account.Plain.{Plain}
 use Rattle.ss_bso.specs.Account.{fresh}
 use Rattle.ss_bso.specs.Validity.{IsValid, SameAccount}
 use Rattle.ss_query.specs.declared.replies.Mark.{Mark}
-use Rattle.ss_query.specs.declared.replies.Mark.TheVariants.{Done}
+use Rattle.ss_query.specs.declared.replies.Mark.TheVariants.{Done, Keeper}
 use Rattle.ss_query.specs.declared.replies.Said.TheVariants as words
 use Rattle.ss_query.specs.declared.requests.Request.{Request}
 use Rattle.ss_account.specs.Journals.{marked}
@@ -51,9 +51,9 @@ pub data Course : Type 0 where
   entered : Mark → Course
   unread : Course
 
--- what is told at once isn't entered: it counts as done
+-- the account's keeper never fails, and what is told at once isn't entered: it counts as done
 abbrev pub IsCourseOf : Course → Asked → Type 0
-IsCourseOf (entered mark) (asks request newlines) = ⊤
+IsCourseOf (entered mark) (asks request newlines) = mark ≢ Keeper
 IsCourseOf (entered mark) (told local) = mark ≡ Done
 IsCourseOf unread question = ⊤
 

@@ -1,16 +1,11 @@
 -- The words of the command `answer`, and the statuses.
-use Rattle.std.specs.Prelude.{ℕ, nat_le, nat_eq, if◌then◌else◌, List, [], ◌∷◌, drop, slice_index, Option, None, Some, codes, option_and_then, option_map}
+use Rattle.std.specs.Prelude.{ℕ, nat_eq, if◌then◌else◌, List, [], ◌∷◌, drop, Option, None, Some, codes, option_and_then, option_map}
 use Rattle.std.specs.List.{starts_with}
 use Rattle.std.specs.Str.{bytes_eq}
 use Rattle.ss_text.specs.Numbers.{number_of}
+use Rattle.ss_route.specs.Targets.{uid_of}
 use Rattle.syncstore.specs.declared.answer.Ending.{Ending}
 use Rattle.syncstore.specs.declared.answer.Ending.TheVariants as endings
-
--- an account's number: 1 to 4,294,967,295 in digits without a leading zero
-abbrev pub uid_of : List ℕ → Option ℕ
-uid_of text =
-    if nat_eq (slice_index text 0) 0x30 then None
-    else option_and_then (λ n. if nat_le n 4294967295 then Some n else None) (number_of 10 text)
 
 -- the first reading of the clock: 1 to 12 digits
 abbrev pub first_of : List ℕ → Option ℕ

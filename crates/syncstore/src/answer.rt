@@ -2,6 +2,7 @@
 
 ghost use Rattle.std.specs.Prelude.{◌≡◌, ◌≤◌, ◌<◌, IfSome};
 ghost use Rattle.ss_bso.specs.declared.account.Plain.{Plain};
+ghost use Rattle.ss_bso.specs.Changes.{fresh_kept};
 ghost use Rattle.ss_bso.specs.Validity.{IsValid};
 ghost use Rattle.ss_query.specs.Fit.{IsFitRequest};
 ghost use Rattle.syncstore.specs.Turns.{Answered, IsReading, IsTurn, Stops, asked, asks, told, bytes_of, closes, ending_of};
@@ -10,10 +11,13 @@ ghost use Rattle.syncstore.specs.Words.{status_of};
 use crate::response::Response;
 use crate::words::AnswerCommand;
 use ss_account::Account;
+use ss_bso::{Kept, Rows, Times};
 use ss_http::{Buffer, Message, MsgFault, read_message};
+use ss_keeper::SureKeeper;
 use ss_outside::{Clock, Sink, Source};
 use ss_query::Request;
 use ss_route::{Local, Routed, not_listed, refused, route};
+use ss_text::Stamp;
 use std::alloc::Global;
 
 /// How many messages one run answers.
@@ -86,15 +90,15 @@ fn closes(count: u64, message: &Message) -> bool
 /// Asks the account, and makes the response to its reply.
 fn ask(
     alloc: Global,
-    account: &mut Account,
+    account: &mut Account<SureKeeper>,
     now: u64,
     last: bool,
     request: &Request,
     newlines: bool,
 ) -> Response
     requires { IsFitRequest request.now }
-    ensures turn { IsTurn (asks request.now newlines) now last account.old account.new (bytes_of result) }
-    ensures valid { IsValid account.new }
+    ensures turn { IsTurn (asks request.now newlines) now last account.old.plain account.new.plain (bytes_of result) }
+    ensures valid { IsValid account.new.plain }
 {
     let reply = account.step(alloc, now, request);
     Response::to_reply(alloc, &reply, newlines, last)
@@ -113,12 +117,12 @@ fn respond(
     uid: u32,
     now: u64,
     last: bool,
-    account: &mut Account,
+    account: &mut Account<SureKeeper>,
     message: &Message,
 ) -> Response
-    requires { IsValid account.old }
-    ensures turn { IsTurn (asked uid message.now) now last account.old account.new (bytes_of result) }
-    ensures valid { IsValid account.new }
+    requires { IsValid account.old.plain }
+    ensures turn { IsTurn (asked uid message.now) now last account.old.plain account.new.plain (bytes_of result) }
+    ensures valid { IsValid account.new.plain }
 {
     match route(alloc, message) {
         Routed::Memory => Response::unread(now, last),
@@ -177,6 +181,19 @@ fn stop<T: Sink, C: Clock>(
     }
 }
 
+/// What is kept of an account that nothing was asked of.
+fn fresh_kept(alloc: Global) -> Kept
+    ensures { result ≡ fresh_kept }
+{
+    Kept {
+        rows: Rows::new(Vec::new(alloc)),
+        collections: Times::new(Vec::new(alloc)),
+        store: Stamp::clamp(0),
+        last_delete: Stamp::clamp(0),
+        counter: 0,
+    }
+}
+
 /// Answers the messages of the input for one account, from a fresh one on. The clock counts upwards from the first reading that
 /// is given (hundredths of a second), or is the one that is handed in.
 pub fn answer<S: Source, T: Sink, C: Clock>(
@@ -194,7 +211,10 @@ pub fn answer<S: Source, T: Sink, C: Clock>(
     let Ok(mut buffer) = Buffer::new(alloc) else {
         return Ending::Memory;
     };
-    let mut account = Account::fresh(alloc);
+    let keeper = SureKeeper::new(fresh_kept(alloc));
+    let Ok(mut account) = Account::open(alloc, keeper) else {
+        return Ending::Memory;
+    };
     let mut count: u64 = 0;
     'turns: while count < MOST {
         let message = match read_message(alloc, &mut buffer, input) {

@@ -1,7 +1,8 @@
 //! The words of a command line.
 
 ghost use Rattle.std.specs.Prelude.{◌≡◌, ◌≤◌, map, string_bytes, option_map, IfSome};
-ghost use Rattle.syncstore.specs.Words.{uid_of, account_alone, account_at, value_of, pair_asks, triple_asks, answer_asks, asks};
+ghost use Rattle.ss_route.specs.Targets.{uid_of};
+ghost use Rattle.syncstore.specs.Words.{account_alone, account_at, value_of, pair_asks, triple_asks, answer_asks, asks};
 
 use ss_text::read_number;
 
@@ -16,6 +17,7 @@ pub struct AnswerCommand {
 }
 
 /// An account's number: 1 to 4,294,967,295 in digits without a leading zero.
+#[tactic(auto, unfolding(ss_route::specs::Targets::uid_of, ss_route::specs::Targets::positive_of))]
 fn read_uid(text: &[u8]) -> Option<u32>
     ensures { result ≡ uid_of text.now }
 {

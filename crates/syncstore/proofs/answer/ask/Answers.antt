@@ -5,13 +5,14 @@ use Rattle.ss_query.specs.Marks.{mark_of}
 use Rattle.ss_http.specs.Responses.{memory_response}
 use Rattle.ss_route.specs.Wire.{wire}
 use Rattle.syncstore.specs.Turns.{entered}
+use Rattle.syncstore.proofs.Run.{never-rose}
 use Rattle.syncstore.proofs.answer.ask.Goals as goal
 
 pub returns-clause-turn : goal.returns-clause-turn
 returns-clause-turn c = record {
   course = entered (mark_of c.step-reply.result);
   rendered = c.to_reply.ensures.0;
-  is = tt;
+  is = λ k. never-rose (c.step-reply.ensures.cause k);
   left = c.step-reply.ensures.account;
   sent = c.to_reply.ensures.1
       ∙ ap (λ (reply : Reply). if c.to_reply.ensures.0 then wire reply c.args.newlines c.args.last else memory_response reply.moment c.args.last) c.step-reply.ensures.reply;

@@ -1,4 +1,4 @@
-use Rattle.std.proofs.Common.{◌≡◌, refl, true, false, nat_eq, sym, ◌∙◌, ap, subst, arith}
+use Rattle.std.proofs.Common.{◌≡◌, true, false, nat_eq, sym, ◌∙◌, ap, subst, arith}
 use Rattle.std.proofs.lemmas.Bool.Decides.{nat_tests}
 use Rattle.std.specs.Prelude.{Bool, if◌then◌else◌}
 use Rattle.ss_account.proofs.Reordering.{same-self}
@@ -9,12 +9,12 @@ use Rattle.syncstore.specs.Turns.{Asked, asked, asked_of, asks, told, unread, Is
 use Rattle.syncstore.proofs.answer.respond.Goals as goal
 
 pub returns-in-Memory-clause-turn : goal.returns-in-Memory-clause-turn
-returns-in-Memory-clause-turn c = record { course = unread; rendered = true; is = tt; left = same-self c.args.account.now; sent = c.unread.ensures }
+returns-in-Memory-clause-turn c = record { course = unread; rendered = true; is = tt; left = same-self c.args.account.now.plain; sent = c.unread.ensures }
 
 -- another account is told that it isn't listed
 pub returns-clause-turn : goal.returns-clause-turn
 returns-clause-turn c =
-    let account = c.args.account.now in
+    let account = c.args.account.now.plain in
     let apart = c.if-other-uid.false in
     let other : nat_eq c.in-Ask.other c.args.uid ≡ false = grind (arith, nat_tests) in
     let is : asked c.args.uid c.args.message.now ≡ told not_listed =

@@ -1,0 +1,148 @@
+//! After each message of an exchange a keeper in memory and one over SQLite hold the same. A message is told as its reading of
+//! the clock, its method, its target behind the account's number, and its body.
+
+use sqlite::Connection;
+use ss_account::Account;
+use ss_bso::{Kept, Rows, Times};
+use ss_http::{FieldLines, Message};
+use ss_keep_sql::SqlKeeper;
+use ss_keeper::{Keeper, MemKeeper};
+use ss_route::{Routed, route};
+use ss_text::{Bytes, Stamp};
+use std::alloc::Global;
+use std::process::Abort;
+use std::test::Fail;
+
+/// The message of a line, and its reading.
+fn message(alloc: Global, line: &str) -> Result<(u64, Message), Fail> {
+    let (now, rest) = line.split_once(' ').ok_or("a reading")?;
+    let (method, rest) = rest.split_once(' ').ok_or("a method")?;
+    let (target, body) = rest.split_once(' ').ok_or("a target")?;
+    let target = format!(in alloc; "/1.5/7{target}")?;
+    Ok((
+        now.parse::<u64>()?,
+        Message {
+            method: Bytes::from_slice(alloc, method.as_bytes())?,
+            target: Bytes::from_slice(alloc, target.as_bytes())?,
+            fields: FieldLines::new(Vec::new(alloc)),
+            body: Bytes::from_slice(alloc, body.as_bytes())?,
+            last: false,
+        },
+    ))
+}
+
+/// What is kept as lines, in the order of their texts.
+fn lines(alloc: Global, kept: &Kept) -> Result<Vec<String>, Fail> {
+    let mut lines = Vec::new(alloc);
+    for row in kept.rows.as_slice() {
+        lines.push(format!(in alloc; "{row:?}")?)?;
+    }
+    for entry in kept.collections.as_slice() {
+        lines.push(format!(in alloc; "{entry:?}")?)?;
+    }
+    let about = format!(in alloc;
+        "{} {} {}",
+        kept.store.get(),
+        kept.last_delete.get(),
+        kept.counter
+    )?;
+    lines.push(about)?;
+    lines.sort()?;
+    Ok(lines)
+}
+
+/// Answers the first messages of an exchange, and gives what is then kept, and how often the answer was a success.
+fn kept_after<K: Keeper + Drop>(
+    alloc: Global,
+    keeper: K,
+    exchange: &str,
+    messages: usize,
+) -> Result<(Vec<String>, u64), Fail> {
+    let mut account = match Account::open(alloc, keeper) {
+        Ok(account) => account,
+        Err(_) => return Err("an account".into()),
+    };
+    let mut successes = 0u64;
+    for line in exchange.split('\n').take(messages) {
+        let (now, message) = message(alloc, line)?;
+        if let Routed::Ask { request, .. } = route(alloc, &message) {
+            if account.step(alloc, now, &request).status < 300 {
+                successes += 1;
+            }
+        }
+    }
+    let mut keeper = account.into_keeper();
+    match keeper.load(alloc) {
+        Ok(kept) => Ok((lines(alloc, &kept)?, successes)),
+        Err(_) => Err("what is kept".into()),
+    }
+}
+
+fn nothing(alloc: Global) -> Kept {
+    Kept {
+        rows: Rows::new(Vec::new(alloc)),
+        collections: Times::new(Vec::new(alloc)),
+        store: Stamp::clamp(0),
+        last_delete: Stamp::clamp(0),
+        counter: 0,
+    }
+}
+
+fn in_memory(alloc: Global, exchange: &str, messages: usize) -> Result<(Vec<String>, u64), Fail> {
+    let keeper = MemKeeper::new(nothing(alloc), Vec::new(alloc));
+    kept_after(alloc, keeper, exchange, messages)
+}
+
+fn over_sqlite(alloc: Global, exchange: &str, messages: usize) -> Result<(Vec<String>, u64), Fail> {
+    let keeper = SqlKeeper::adopt(Connection::open_in_memory(alloc)?)?;
+    kept_after(alloc, keeper, exchange, messages)
+}
+
+/// Asserts that after each of so many messages both keepers hold the same, and that so many were a success.
+fn agree(
+    rt: &impl Abort,
+    alloc: Global,
+    exchange: &str,
+    messages: usize,
+    successes: u64,
+) -> Result<(), Fail> {
+    for count in 0..messages {
+        assert_eq!(rt;
+            in_memory(alloc, exchange, count)?,
+            over_sqlite(alloc, exchange, count)?
+        );
+    }
+    let last = over_sqlite(alloc, exchange, messages)?;
+    assert_eq!(rt; in_memory(alloc, exchange, messages)?, last);
+    assert_eq!(rt; last.1, successes);
+    Ok(())
+}
+
+/// A row that ends, and a write after its end.
+const LIVES: &str =
+    "1000 PUT /storage/forms/a {\"payload\":\"x\"}\n1100 PUT /storage/forms/a {\"ttl\":2}\n1299 GET /storage/forms/a \n1300 GET /storage/forms/a \n1301 PUT /storage/forms/b {}";
+
+/// A field that is set and cleared.
+const FIELDS: &str =
+    "1000 PUT /storage/forms/a {\"sortindex\":999999999}\n1000 GET /storage/forms/a \n1001 PUT /storage/forms/a {\"sortindex\":null}\n1001 GET /storage/forms/a ";
+
+/// A batch, seen at its commit.
+const BATCH: &str =
+    "1000 PUT /storage/forms/z {}\n1001 POST /storage/forms?batch=true [{\"id\":\"a\",\"payload\":\"1\"}]\n1002 POST /storage/forms?batch=MQ [{\"id\":\"b\"}]\n1003 GET /storage/forms \n1004 POST /storage/forms?batch=MQ&commit=true []\n1004 GET /storage/forms ";
+
+/// A batch that goes with its collection.
+const DROPPED: &str =
+    "1000 PUT /storage/forms/z {}\n1001 POST /storage/forms?batch=true [{\"id\":\"a\"}]\n1002 DELETE /storage/forms \n1003 POST /storage/forms?batch=MQ&commit=true []\n1003 GET /info/collections ";
+
+/// Deletions of items and of everything.
+const DELETED: &str =
+    "1000 PUT /storage/forms/a {\"payload\":\"xxxxxxxxxxxxxxxxxxxxxxxxxxxxxxxxxxxxxxxxxxxxxxxxxxxxxxxxxxxxxxxxxxxxxxxxxxxxxxxxxxxxxxxxxxxxxxxxxxxx\"}\n1000 GET /info/collections \n1000 GET /info/collection_usage \n1000 GET /info/quota \n1001 DELETE /storage/forms?ids=a,q \n1001 GET /info/collection_counts \n1002 DELETE /storage/ \n1002 GET /info/collections ";
+
+#[test]
+fn both_keepers_hold_the_same_after_each_message(rt: HostRuntime) -> Result<(), Fail> {
+    agree(&rt, rt.alloc(), LIVES, 5, 4)?;
+    agree(&rt, rt.alloc(), FIELDS, 4, 4)?;
+    agree(&rt, rt.alloc(), BATCH, 6, 6)?;
+    agree(&rt, rt.alloc(), DROPPED, 5, 4)?;
+    agree(&rt, rt.alloc(), DELETED, 8, 8)
+}

@@ -7,7 +7,8 @@ use ss_bso::{Kept, Rows, Times};
 use ss_http::{FieldLines, Message};
 use ss_keep_sql::SqlKeeper;
 use ss_keeper::{Keeper, MemKeeper};
-use ss_route::{Routed, route};
+use ss_query::{Body, Reply, Said};
+use ss_route::{Routed, render, route};
 use ss_text::{Bytes, Stamp};
 use std::alloc::Global;
 use std::process::Abort;
@@ -159,4 +160,57 @@ fn both_keepers_hold_the_same_after_each_message(rt: HostRuntime) -> Result<(), 
     agree(&rt, rt.alloc(), BATCH, 6, "6 successes")?;
     agree(&rt, rt.alloc(), DROPPED, 5, "4 successes")?;
     agree(&rt, rt.alloc(), DELETED, 8, "8 successes")
+}
+
+/// The responses to the messages of an exchange, over a keeper in memory whose call of this number fails; the first call is the
+/// one that opens the account, and 0 is none.
+fn responses(alloc: Global, failing: u64, exchange: &str) -> Result<Vec<u8>, Fail> {
+    let keeper = MemKeeper::new(nothing(alloc), vec![in alloc; failing]?);
+    let mut account = match Account::open(alloc, keeper) {
+        Ok(account) => account,
+        Err(_) => return Err("an account".into()),
+    };
+    let mut all = Vec::new(alloc);
+    for line in exchange.split('\n') {
+        let (now, message) = message(alloc, line)?;
+        if let Routed::Ask { request, .. } = route(alloc, &message) {
+            let reply = account.step(alloc, now, &request);
+            all.extend_from_slice(render(alloc, &reply, false, false)?.as_slice())?;
+        }
+    }
+    Ok(all)
+}
+
+const CLOCK: &str =
+    "HTTP/1.1 503 Service Unavailable\r\nX-Weave-Timestamp: 9999999999.99\r\nContent-Type: application/json\r\nContent-Length: 7\r\n\r\n\"clock\"";
+
+const KEEPER: &str =
+    "HTTP/1.1 503 Service Unavailable\r\nX-Weave-Timestamp: 10.00\r\nContent-Type: application/json\r\nContent-Length: 8\r\n\r\n\"keeper\"";
+
+const TERM: &str =
+    "HTTP/1.1 503 Service Unavailable\r\nX-Weave-Timestamp: 10.00\r\nContent-Type: application/json\r\nContent-Length: 6\r\n\r\n\"term\"";
+
+#[test]
+fn a_clock_at_its_end_and_a_keeper_that_fails_are_told(rt: HostRuntime) -> Result<(), Fail> {
+    let ended = "999999999999 PUT /storage/forms/a {}\n999999999999 PUT /storage/forms/a {}";
+    let told = responses(rt.alloc(), 0, ended)?;
+    assert!(rt; told.as_slice().ends_with(CLOCK.as_bytes()));
+    let told = responses(rt.alloc(), 2, "1000 PUT /storage/forms/a {}")?;
+    assert!(rt; told.as_slice() == KEEPER.as_bytes());
+    Ok(())
+}
+
+#[test]
+fn a_full_journal_is_told(rt: HostRuntime) -> Result<(), Fail> {
+    let reply = Reply {
+        status: 503,
+        moment: Stamp::clamp(1000),
+        modified: None,
+        count: None,
+        next: None,
+        body: Body::Said(Said::Term),
+    };
+    let told = render(rt.alloc(), &reply, false, false)?;
+    assert!(rt; told.as_slice() == TERM.as_bytes());
+    Ok(())
 }

@@ -1,10 +1,12 @@
 pub mod Digits
+pub mod Marks
 pub mod NameLemmas
 pub mod NoFloat
 pub mod Pieces
 pub mod Points
 pub mod Printed
-pub mod Rewrapped
+pub mod Scans
+pub mod Strings
 pub mod Whole
 pub mod WholeTokens
 pub mod WholeTrees

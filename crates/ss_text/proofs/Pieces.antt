@@ -1,124 +1,16 @@
--- The pieces at a place of the text.
-use Rattle.std.proofs.Common.{◌≡◌, ℕ, zero, suc, ◌+◌, ◌<◌, ◌≤◌, List, [], ◌∷◌, ◌++◌, length, take, drop, get_or, Bool, true, false, cond, refl, sym, ap, ◌∙◌, subst, ◌-◌, arith, lit<, leb, ◌||◌, ◌==◌, ◌⊎◌, inl, inr, ⊎_elim, append_assoc, filter}
-use Rattle.std.proofs.lemmas.Bool.{true≢false, or_cases, eqb-true, leb-true, and_parts, cases_lt}
+-- The pieces of a text: what stands at its front, that they are the text, and that a text put together of such pieces
+-- is cut into them again.
+use Rattle.std.proofs.Common.{◌≡◌, ℕ, suc, ◌+◌, ◌<◌, ◌≤◌, List, [], ◌∷◌, ◌++◌, length, drop, get_or, Bool, true, false, cond, ◌&&◌, ◌||◌, ◌==◌, ◌⊎◌, inl, inr, ⊎_elim, refl, sym, ap, ap₂, ◌∙◌, subst, arith, lit<, leb, append_assoc, append-nil}
+use Rattle.std.proofs.lemmas.Bool.{true≢false, and_parts, or_cases, eqb-true, leb-true, ne_eqb, cases_lt}
+use Rattle.std.proofs.lemmas.List.{get_or_past}
 use Rattle.std.specs.Char.{is_ascii_digit}
-use Rattle.std.proofs.lemmas.List.Sums.{prefix_len_passes, prefix_len-drop_yes, prefix_len-le-length}
-use Rattle.std.proofs.lemmas.List.{get_or-take, length-drop, length-take, drop-drop, drop_more, drop_all, get_or_past}
+use Rattle.std.specs.Bool.{⊤}
+use Rattle.std.specs.List.{prefix_len, list_all, AllPass, flat_map}
 use Rattle.std.specs.Str.{IsUtf8}
 use Rattle.std.proofs.lemmas.Str.{IsUtf8-from_ascii}
-use Rattle.std.specs.List.{prefix_len, AllPass, flat_map}
-use Rattle.ss_text.specs.Decimals.{is_number_byte, is_in_run, next_place, run, byte, with_front, pieces, wrapped_piece, wrapped_run, is_wrapped, is_decimal}
-use Rattle.ss_text.specs.declared.decimals.Place.{Place}
-use Rattle.ss_text.specs.declared.decimals.Place.TheVariants.{Outside, Inside, Escaped}
+use Rattle.ss_text.specs.Decimals.{is_number_byte, Place, outside, inside, escaped, next_place, Piece, run, text, unended, byte, with_front, with_character, pieces, spelled}
 
-pieces-cons : (place : Place) (x : ℕ) (xs : List ℕ)
-    → pieces place (x ∷ xs) ≡ cond (is_in_run place x) (with_front x (pieces Outside xs)) (byte x ∷ pieces (next_place place x) xs)
-unfolding pieces
-pieces-cons place x xs = refl
-
--- a byte outside a run is a piece
-pub at_byte : (place : Place) (x : ℕ) (xs : List ℕ) → is_in_run place x ≡ false → pieces place (x ∷ xs) ≡ byte x ∷ pieces (next_place place x) xs
-at_byte place x xs e = pieces-cons place x xs ∙ ap (λ b. cond b (with_front x (pieces Outside xs)) (byte x ∷ pieces (next_place place x) xs)) e
-
-none_there : (b : Bool) (n : ℕ) → cond b (1 + n) 0 ≡ 0 → b ≡ false
-none_there true n h = let never : ⊥ = omega arith in absurd never
-none_there false n h = refl
-
--- what does not begin with a run
-alone : (x : ℕ) (xs : List ℕ) → prefix_len is_number_byte xs ≡ 0 → with_front x (pieces Outside xs) ≡ run (x ∷ []) ∷ pieces Outside xs
-unfolding pieces
-alone x [] h = refl
-alone x (y ∷ ys) h = let e = at_byte Outside y ys (none_there (is_number_byte y) _ h) in ap (with_front x) e ∙ ap (λ ps. run (x ∷ []) ∷ ps) (sym e)
-
-Fronts : ℕ → List ℕ → Type 0
-Fronts n xs = 0 < n → pieces Outside xs ≡ run (take n xs) ∷ pieces Outside (drop n xs)
-
-front_step : (b : Bool) (x : ℕ) (xs : List ℕ) (n : ℕ) → is_number_byte x ≡ b → prefix_len is_number_byte xs ≡ n → Fronts n xs → Fronts (cond b (1 + n) 0) (x ∷ xs)
-unfolding Fronts
-front_step false x xs n e k ih = λ h. let never : ⊥ = omega arith in absurd never
-front_step true x xs n e k ih =
-    let one : suc n ≡ 1 + n = omega arith in
-    subst (λ j. Fronts j (x ∷ xs)) one
-    (λ h. pieces-cons Outside x xs ∙ ap (λ b. cond b (with_front x (pieces Outside xs)) (byte x ∷ pieces (next_place Outside x) xs)) e ∙ joined n k ih)
-  where
-    joined : (n : ℕ) → prefix_len is_number_byte xs ≡ n → Fronts n xs → with_front x (pieces Outside xs) ≡ run (x ∷ take n xs) ∷ pieces Outside (drop n xs)
-    joined zero k ih = alone x xs k
-    joined (suc n) k ih = ap (with_front x) (ih (omega arith))
-
-fronts : (xs : List ℕ) → Fronts (prefix_len is_number_byte xs) xs
-unfolding Fronts
-fronts [] = λ h. absurd (omega arith)
-fronts (x ∷ xs) = front_step (is_number_byte x) x xs _ refl refl (fronts xs)
-
--- a run is a piece
-pub at_run : (xs : List ℕ) → 0 < prefix_len is_number_byte xs
-    → pieces Outside xs ≡ run (take (prefix_len is_number_byte xs) xs) ∷ pieces Outside (drop (prefix_len is_number_byte xs) xs)
-unfolding Fronts
-at_run xs h = fronts xs h
-
-was_outside : (place : Place) (x : ℕ) → is_in_run place x ≡ true → place ≡ Outside
-was_outside Outside x e = refl
-was_outside Inside x e = absurd (true≢false (sym e))
-was_outside Escaped x e = absurd (true≢false (sym e))
-
-pub record RunAt (place : Place) (text : List ℕ) (at end : ℕ) : Type 0 where
-  pub later : at < end
-  pub within : end ≤ length text
-  pub pass : AllPass is_number_byte (take (end - at) (drop at text))
-  pub cut : pieces place (drop at text) ≡ run (take (end - at) (drop at text)) ∷ pieces place (drop end text)
-
-passing : (xs : List ℕ) (n : ℕ) → n ≡ prefix_len is_number_byte xs → AllPass is_number_byte (take n xs)
-passing xs n e k d h =
-    let few : k < n = omega (arith, length-take n xs) in
-    ap is_number_byte (get_or-take n xs k d few) ∙ prefix_len_passes is_number_byte xs k d (omega arith)
-
-pub run_at : (place : Place) (text : List ℕ) (at end : ℕ) → at < length text → is_in_run place (get_or text at 0) ≡ true
-    → end ≡ at + prefix_len is_number_byte (drop at text) → RunAt place text at end
-run_at Outside text at end within e is =
-    let some = prefix_len-drop_yes is_number_byte text at 0 within e in
-    let n : end - at ≡ prefix_len is_number_byte (drop at text) = omega arith in
-    let later : at < end = omega arith in
-    let whole : end ≤ length text = omega (arith, prefix_len-le-length is_number_byte (drop at text), length-drop at text) in
-    let piece = at_run (drop at text) (omega arith) in
-    let there : drop (end - at) (drop at text) ≡ drop end text = drop-drop (end - at) at text ∙ ap (λ k. drop k text) (let e : at + (end - at) ≡ end = omega arith in e) in
-    record {
-      later = later;
-      within = whole;
-      pass = passing (drop at text) (end - at) n;
-      cut = piece ∙ rw (← n) (ap (λ t. run (take (end - at) (drop at text)) ∷ pieces Outside t) there);
-    }
-run_at Inside text at end within e is = absurd (true≢false (sym e))
-run_at Escaped text at end within e is = absurd (true≢false (sym e))
-
--- ---- what a step of the loop leaves
-
-pub byte_step : (place : Place) (text out : List ℕ) (at count : ℕ) (all : List ℕ) (total : ℕ) → at < length text → is_in_run place (get_or text at 0) ≡ false
-    → out ++ flat_map wrapped_piece (pieces place (drop at text)) ≡ all → count + length (filter is_wrapped (pieces place (drop at text))) ≡ total
-    → ((out ++ get_or text at 0 ∷ []) ++ flat_map wrapped_piece (pieces (next_place place (get_or text at 0)) (drop (at + 1) text)) ≡ all)
-    × (count + length (filter is_wrapped (pieces (next_place place (get_or text at 0)) (drop (at + 1) text))) ≡ total)
-byte_step place text out at count all total within e bytes counted =
-    let x = get_or text at 0 in
-    let cut : pieces place (drop at text) ≡ byte x ∷ pieces (next_place place x) (drop (at + 1) text) = ap (pieces place) (drop_more text at 0 within) ∙ at_byte place x (drop (at + 1) text) e in (
-      append_assoc out (x ∷ []) _ ∙ ap (λ ps. out ++ flat_map wrapped_piece ps) (sym cut) ∙ bytes,
-      omega (arith, ap (λ ps. length (filter is_wrapped ps)) cut, counted),
-    )
-
-pub run_step : (place : Place) (text out : List ℕ) (at end count : ℕ) (all : List ℕ) (total : ℕ) → RunAt place text at end
-    → out ++ flat_map wrapped_piece (pieces place (drop at text)) ≡ all → count + length (filter is_wrapped (pieces place (drop at text))) ≡ total
-    → ((out ++ wrapped_run (take (end - at) (drop at text))) ++ flat_map wrapped_piece (pieces place (drop end text)) ≡ all)
-    × (is_decimal (take (end - at) (drop at text)) ≡ true → count + 1 + length (filter is_wrapped (pieces place (drop end text))) ≡ total)
-    × (is_decimal (take (end - at) (drop at text)) ≡ false → count + length (filter is_wrapped (pieces place (drop end text))) ≡ total)
-run_step place text out at end count all total r bytes counted =
-    let piece = take (end - at) (drop at text) in
-    let whole = ap (λ ps. length (filter is_wrapped ps)) r.cut in (
-      append_assoc out (wrapped_run piece) _ ∙ ap (λ ps. out ++ flat_map wrapped_piece ps) (sym r.cut) ∙ bytes,
-      (λ e. let more = whole ∙ ap (λ b. length (cond b (run piece ∷ filter is_wrapped (pieces place (drop end text))) (filter is_wrapped (pieces place (drop end text))))) e in omega arith),
-      (λ e. let more = whole ∙ ap (λ b. length (cond b (run piece ∷ filter is_wrapped (pieces place (drop end text))) (filter is_wrapped (pieces place (drop end text))))) e in omega arith),
-    )
-
-pub nothing_left : (place : Place) (text : List ℕ) (at : ℕ) → length text ≤ at → pieces place (drop at text) ≡ []
-unfolding pieces
-nothing_left place text at past = ap (pieces place) (drop_all at text past)
+-- ---- bytes of numbers
 
 -- a byte of a number is ASCII
 pub small_byte : (x : ℕ) → is_number_byte x ≡ true → x < 128
@@ -133,12 +25,11 @@ small_byte x h = last (or_cases (is_ascii_digit x || x == 43 || x == 45 || x == 
     point : (is_ascii_digit x || x == 43 || x == 45 || x == 46) ≡ true → x < 128
     point e = ⊎_elim sign (λ d. let same = eqb-true x 46 d in omega arith) (or_cases ((is_ascii_digit x || x == 43 || x == 45)) ((x == 46)) e)
 
-    letter : (is_ascii_digit x || x == 43 || x == 45 || x == 46 || x == 101) ≡ true → x < 128
-    letter e = ⊎_elim point (λ d. let same = eqb-true x 101 d in omega arith) (or_cases ((is_ascii_digit x || x == 43 || x == 45 || x == 46)) ((x == 101)) e)
+    small_e : (is_ascii_digit x || x == 43 || x == 45 || x == 46 || x == 101) ≡ true → x < 128
+    small_e e = ⊎_elim point (λ d. let same = eqb-true x 101 d in omega arith) (or_cases ((is_ascii_digit x || x == 43 || x == 45 || x == 46)) ((x == 101)) e)
 
     last : ((is_ascii_digit x || x == 43 || x == 45 || x == 46 || x == 101) ≡ true) ⊎ ((x == 69) ≡ true) → x < 128
-    last (inl e) = letter e
-    last (inr e) = let same = eqb-true x 69 e in omega arith
+    last c = ⊎_elim small_e (λ d. let same = eqb-true x 69 d in omega arith) c
 
 all_small : (r : List ℕ) → AllPass is_number_byte r → (i : ℕ) → get_or r i 0 < 128
 all_small r h i = at (cases_lt i (length r))
@@ -149,3 +40,271 @@ all_small r h i = at (cases_lt i (length r))
 
 pub run_is_text : (r : List ℕ) → AllPass is_number_byte r → IsUtf8 r
 run_is_text r h = IsUtf8-from_ascii r (all_small r h)
+
+number_apart : (x c : ℕ) → is_number_byte c ≡ false → is_number_byte x ≡ true → (x == c) ≡ false
+number_apart x c n e = ne_eqb x c (λ k. true≢false (sym e ∙ (ap is_number_byte k ∙ n)))
+
+-- inside a string it changes nothing
+pub number_stays : (x : ℕ) → is_number_byte x ≡ true → next_place inside x ≡ inside
+number_stays x e = ap₂ (λ s t. cond s outside (cond t escaped inside)) (number_apart x 34 refl e) (number_apart x 92 refl e)
+
+-- ---- what stands at the front
+
+-- a byte outside a run and a string is a piece
+pub at_byte : (x : ℕ) (xs : List ℕ) → (x == 34) ≡ false → is_number_byte x ≡ false → pieces outside (x ∷ xs) ≡ byte x ∷ pieces outside xs
+unfolding pieces
+at_byte x xs q n =
+    ap (λ b. cond b (pieces (cond b inside outside) xs) (cond (is_number_byte x) (with_front x (pieces (cond b inside outside) xs)) (byte x ∷ pieces (cond b inside outside) xs))) q
+    ∙ ap (λ b. cond b (with_front x (pieces outside xs)) (byte x ∷ pieces outside xs)) n
+
+at_number : (x : ℕ) (xs : List ℕ) → is_number_byte x ≡ true → pieces outside (x ∷ xs) ≡ with_front x (pieces outside xs)
+unfolding pieces
+at_number x xs n =
+    ap (λ b. cond b (pieces (cond b inside outside) xs) (cond (is_number_byte x) (with_front x (pieces (cond b inside outside) xs)) (byte x ∷ pieces (cond b inside outside) xs))) (number_apart x 34 refl n)
+    ∙ ap (λ b. cond b (with_front x (pieces outside xs)) (byte x ∷ pieces outside xs)) n
+
+abbrev pub begins_run : List Piece → Bool
+begins_run [] = false
+begins_run (run r ∷ ps) = true
+begins_run (text s ∷ ps) = false
+begins_run (unended s ∷ ps) = false
+begins_run (byte b ∷ ps) = false
+
+-- what stands before a piece that is no run begins a run of its own
+new_front : (x : ℕ) (ps : List Piece) → begins_run ps ≡ false → with_front x ps ≡ run (x ∷ []) ∷ ps
+new_front x [] h = refl
+new_front x (run r ∷ ps) h = absurd (true≢false h)
+new_front x (text s ∷ ps) h = refl
+new_front x (unended s ∷ ps) h = refl
+new_front x (byte b ∷ ps) h = refl
+
+-- no run begins a string
+abbrev IsString : Place → List Piece → Type 0
+IsString outside ps = ⊤
+IsString inside ps = begins_run ps ≡ false
+IsString escaped ps = begins_run ps ≡ false
+
+character_no_run : (x : ℕ) (ps : List Piece) → begins_run ps ≡ false → begins_run (with_character x ps) ≡ false
+character_no_run x [] h = refl
+character_no_run x (run r ∷ ps) h = h
+character_no_run x (text s ∷ ps) h = refl
+character_no_run x (unended s ∷ ps) h = refl
+character_no_run x (byte b ∷ ps) h = refl
+
+strings_first : (xs : List ℕ) (place : Place) → IsString place (pieces place xs)
+unfolding pieces
+strings_first [] outside = tt
+strings_first [] inside = refl
+strings_first [] escaped = refl
+strings_first (x ∷ xs) outside = tt
+strings_first (x ∷ xs) inside = go (x == 34) (x == 92) (strings_first xs escaped) (strings_first xs inside)
+  where
+    go : (q b : Bool) → begins_run (pieces escaped xs) ≡ false → begins_run (pieces inside xs) ≡ false
+        → begins_run (cond q (text [] ∷ pieces (cond q outside (cond b escaped inside)) xs) (with_character x (pieces (cond q outside (cond b escaped inside)) xs))) ≡ false
+    go true b h k = refl
+    go false true h k = character_no_run x (pieces escaped xs) h
+    go false false h k = character_no_run x (pieces inside xs) k
+strings_first (x ∷ xs) escaped = character_no_run x (pieces inside xs) (strings_first xs inside)
+
+-- no byte of a number, no run
+no_run : (xs : List ℕ) → prefix_len is_number_byte xs ≡ 0 → begins_run (pieces outside xs) ≡ false
+unfolding pieces
+no_run [] h = refl
+no_run (x ∷ xs) h = go (x == 34) (is_number_byte x) h
+  where
+    go : (q n : Bool) → cond n (1 + prefix_len is_number_byte xs) 0 ≡ 0
+        → begins_run (cond q (pieces (cond q inside outside) xs) (cond n (with_front x (pieces (cond q inside outside) xs)) (byte x ∷ pieces (cond q inside outside) xs))) ≡ false
+    go true n k = strings_first xs inside
+    go false true k = let never : ⊥ = omega arith in absurd never
+    go false false k = refl
+
+-- a run is a piece
+pub run_there : (r rest : List ℕ) → list_all is_number_byte r ≡ true → 0 < length r → prefix_len is_number_byte rest ≡ 0 → pieces outside (r ++ rest) ≡ run r ∷ pieces outside rest
+run_there [] rest h some none = let never : ⊥ = omega arith in absurd never
+run_there (x ∷ []) rest h some none = at_number x rest (and_parts (is_number_byte x) true h).0 ∙ new_front x (pieces outside rest) (no_run rest none)
+run_there (x ∷ y ∷ r) rest h some none =
+    let parts = and_parts (is_number_byte x) (list_all is_number_byte (y ∷ r)) h in
+    at_number x (y ∷ (r ++ rest)) parts.0 ∙ ap (with_front x) (run_there (y ∷ r) rest parts.1 (omega arith) none)
+
+pub front_count : (s rest : List ℕ) → list_all is_number_byte s ≡ true → prefix_len is_number_byte rest ≡ 0 → prefix_len is_number_byte (s ++ rest) ≡ length s
+front_count [] rest h e = e
+front_count (x ∷ s) rest h e =
+    let parts = and_parts (is_number_byte x) (list_all is_number_byte s) h in
+    let ih = front_count s rest parts.1 e in
+    ap (λ b. cond b (1 + prefix_len is_number_byte (s ++ rest)) 0) parts.0 ∙ (let next : 1 + prefix_len is_number_byte (s ++ rest) ≡ suc (length s) = omega arith in next)
+
+-- what stands between the quotes of a string, from a place in it on: no quote that no backslash escapes, and at its end
+-- none is escaped
+abbrev pub Raw : Place → List ℕ → Type 0
+Raw outside xs = ⊥
+Raw inside [] = ⊤
+Raw inside (x ∷ xs) = Raw (next_place inside x) xs
+Raw escaped [] = ⊥
+Raw escaped (x ∷ xs) = Raw inside xs
+
+pub text_there : (s t : List ℕ) (place : Place) → Raw place s → pieces place (s ++ 34 ∷ t) ≡ text s ∷ pieces outside t
+unfolding pieces
+text_there s t outside h = absurd h
+text_there [] t inside h = refl
+text_there [] t escaped h = absurd h
+text_there (x ∷ s) t escaped h = ap (with_character x) (text_there s t inside h)
+text_there (x ∷ s) t inside h = go (x == 34) (x == 92) h (λ p k. text_there s t p k)
+  where
+    go : (q b : Bool) → Raw (cond q outside (cond b escaped inside)) s → ((p : Place) → Raw p s → pieces p (s ++ 34 ∷ t) ≡ text s ∷ pieces outside t)
+        → cond q (text [] ∷ pieces (cond q outside (cond b escaped inside)) (s ++ 34 ∷ t)) (with_character x (pieces (cond q outside (cond b escaped inside)) (s ++ 34 ∷ t))) ≡ text (x ∷ s) ∷ pieces outside t
+    go true b k ih = absurd k
+    go false true k ih = ap (with_character x) (ih escaped k)
+    go false false k ih = ap (with_character x) (ih inside k)
+
+-- a string is a piece
+pub string_there : (s t : List ℕ) → Raw inside s → pieces outside (34 ∷ (s ++ 34 ∷ t)) ≡ text s ∷ pieces outside t
+unfolding pieces
+string_there s t h = text_there s t inside h
+
+pub raw_run : (r : List ℕ) → list_all is_number_byte r ≡ true → Raw inside r
+raw_run [] h = tt
+raw_run (x ∷ r) h = let parts = and_parts (is_number_byte x) (list_all is_number_byte r) h in subst (λ p. Raw p r) (sym (number_stays x parts.0)) (raw_run r parts.1)
+
+-- ---- pieces of a text
+
+abbrev pub Alone : List Piece → Type 0
+Alone [] = ⊤
+Alone (p ∷ ps) = ⊥
+
+-- these are the pieces of a text: no run follows a run
+abbrev pub Cut : List Piece → Type 0
+Cut [] = ⊤
+Cut (run r ∷ ps) = (list_all is_number_byte r ≡ true) × (0 < length r) × (begins_run ps ≡ false) × Cut ps
+Cut (text s ∷ ps) = Raw inside s × Cut ps
+Cut (unended s ∷ ps) = (pieces inside s ≡ unended s ∷ []) × Alone ps
+Cut (byte b ∷ ps) = ((b == 34) ≡ false) × (is_number_byte b ≡ false) × Cut ps
+
+-- the first is a string from that place on
+abbrev StringCut : Place → List Piece → Type 0
+StringCut place [] = ⊥
+StringCut place (run r ∷ ps) = ⊥
+StringCut place (text s ∷ ps) = Raw place s × Cut ps
+StringCut place (unended s ∷ ps) = (pieces place s ≡ unended s ∷ []) × Alone ps
+StringCut place (byte b ∷ ps) = ⊥
+
+abbrev CutAt : Place → List Piece → Type 0
+CutAt outside ps = Cut ps
+CutAt inside ps = StringCut inside ps
+CutAt escaped ps = StringCut escaped ps
+
+string_is_cut : (ps : List Piece) → StringCut inside ps → Cut ps
+string_is_cut [] h = absurd h
+string_is_cut (run r ∷ ps) h = absurd h
+string_is_cut (text s ∷ ps) h = h
+string_is_cut (unended s ∷ ps) h = h
+string_is_cut (byte b ∷ ps) h = absurd h
+
+front_cut : (x : ℕ) (ps : List Piece) → is_number_byte x ≡ true → Cut ps → Cut (with_front x ps)
+front_cut x [] e h = (ap (λ b. b && true) e, lit< tt, refl, tt)
+front_cut x (run r ∷ ps) e h = (ap₂ (λ a b. a && b) e h.0, omega arith, h.2, h.3)
+front_cut x (text s ∷ ps) e h = (ap (λ b. b && true) e, lit< tt, refl, h)
+front_cut x (unended s ∷ ps) e h = (ap (λ b. b && true) e, lit< tt, refl, h)
+front_cut x (byte b ∷ ps) e h = (ap (λ b. b && true) e, lit< tt, refl, h)
+
+escaped_cut : (x : ℕ) (ps : List Piece) → StringCut inside ps → StringCut escaped (with_character x ps)
+unfolding pieces
+escaped_cut x [] h = absurd h
+escaped_cut x (run r ∷ ps) h = absurd h
+escaped_cut x (text s ∷ ps) h = h
+escaped_cut x (unended s ∷ ps) h = (ap (with_character x) h.0, h.1)
+escaped_cut x (byte b ∷ ps) h = absurd h
+
+inside_cut : (x : ℕ) (ps : List Piece) → (x == 34) ≡ false → StringCut (next_place inside x) ps → StringCut inside (with_character x ps)
+unfolding pieces
+inside_cut x [] q h = absurd h
+inside_cut x (run r ∷ ps) q h = absurd h
+inside_cut x (text s ∷ ps) q h = h
+inside_cut x (unended s ∷ ps) q h = (ap (λ b. cond b (text [] ∷ pieces (next_place inside x) s) (with_character x (pieces (next_place inside x) s))) q ∙ ap (with_character x) h.0, h.1)
+inside_cut x (byte b ∷ ps) q h = absurd h
+
+pub cut_pieces : (xs : List ℕ) (place : Place) → CutAt place (pieces place xs)
+unfolding pieces
+cut_pieces [] outside = tt
+cut_pieces [] inside = (refl, tt)
+cut_pieces [] escaped = (refl, tt)
+cut_pieces (x ∷ xs) escaped = escaped_cut x (pieces inside xs) (cut_pieces xs inside)
+cut_pieces (x ∷ xs) outside = go (x == 34) (is_number_byte x) refl refl (cut_pieces xs inside) (cut_pieces xs outside)
+  where
+    go : (q n : Bool) → (x == 34) ≡ q → is_number_byte x ≡ n → StringCut inside (pieces inside xs) → Cut (pieces outside xs)
+        → Cut (cond q (pieces (cond q inside outside) xs) (cond n (with_front x (pieces (cond q inside outside) xs)) (byte x ∷ pieces (cond q inside outside) xs)))
+    go true n e f i o = string_is_cut (pieces inside xs) i
+    go false true e f i o = front_cut x (pieces outside xs) f o
+    go false false e f i o = (e, f, o)
+cut_pieces (x ∷ xs) inside = go (x == 34) (x == 92) refl refl (cut_pieces xs outside) (cut_pieces xs escaped) (cut_pieces xs inside)
+  where
+    there : (b : Bool) → (x == 34) ≡ false → (x == 92) ≡ b → next_place inside x ≡ cond b escaped inside
+    there b q r = ap₂ (λ s t. cond s outside (cond t escaped inside)) q r
+
+    go : (q b : Bool) → (x == 34) ≡ q → (x == 92) ≡ b → Cut (pieces outside xs) → StringCut escaped (pieces escaped xs) → StringCut inside (pieces inside xs)
+        → StringCut inside (cond q (text [] ∷ pieces (cond q outside (cond b escaped inside)) xs) (with_character x (pieces (cond q outside (cond b escaped inside)) xs)))
+    go true b e f o k i = (tt, o)
+    go false true e f o k i = inside_cut x (pieces escaped xs) e (subst (λ p. StringCut p (pieces escaped xs)) (sym (there true e f)) k)
+    go false false e f o k i = inside_cut x (pieces inside xs) e (subst (λ p. StringCut p (pieces inside xs)) (sym (there false e f)) i)
+
+-- ---- the pieces are the text
+
+abbrev SpelledAt : Place → List Piece → List ℕ → Type 0
+SpelledAt outside ps xs = flat_map spelled ps ≡ xs
+SpelledAt inside ps xs = flat_map spelled ps ≡ 34 ∷ xs
+SpelledAt escaped ps xs = flat_map spelled ps ≡ 34 ∷ xs
+
+front_spelled : (x : ℕ) (ps : List Piece) → flat_map spelled (with_front x ps) ≡ x ∷ flat_map spelled ps
+front_spelled x [] = refl
+front_spelled x (run r ∷ ps) = refl
+front_spelled x (text s ∷ ps) = refl
+front_spelled x (unended s ∷ ps) = refl
+front_spelled x (byte b ∷ ps) = refl
+
+character_spelled : (x : ℕ) (ps : List Piece) (xs : List ℕ) (place : Place) → StringCut place ps → flat_map spelled ps ≡ 34 ∷ xs → flat_map spelled (with_character x ps) ≡ 34 ∷ x ∷ xs
+character_spelled x [] xs place h e = absurd h
+character_spelled x (run r ∷ ps) xs place h e = absurd h
+character_spelled x (text s ∷ ps) xs place h e = ap (λ l. 34 ∷ x ∷ drop 1 l) e
+character_spelled x (unended s ∷ ps) xs place h e = ap (λ l. 34 ∷ x ∷ drop 1 l) e
+character_spelled x (byte b ∷ ps) xs place h e = absurd h
+
+spelled_at : (xs : List ℕ) (place : Place) → SpelledAt place (pieces place xs) xs
+unfolding pieces
+spelled_at [] outside = refl
+spelled_at [] inside = refl
+spelled_at [] escaped = refl
+spelled_at (x ∷ xs) escaped = character_spelled x (pieces inside xs) xs inside (cut_pieces xs inside) (spelled_at xs inside)
+spelled_at (x ∷ xs) outside = go (x == 34) (is_number_byte x) refl (spelled_at xs inside) (spelled_at xs outside)
+  where
+    go : (q n : Bool) → (x == 34) ≡ q → flat_map spelled (pieces inside xs) ≡ 34 ∷ xs → flat_map spelled (pieces outside xs) ≡ xs
+        → flat_map spelled (cond q (pieces (cond q inside outside) xs) (cond n (with_front x (pieces (cond q inside outside) xs)) (byte x ∷ pieces (cond q inside outside) xs))) ≡ x ∷ xs
+    go true n e i o = i ∙ ap (λ y. y ∷ xs) (sym (eqb-true x 34 e))
+    go false true e i o = front_spelled x (pieces outside xs) ∙ ap (λ l. x ∷ l) o
+    go false false e i o = ap (λ l. x ∷ l) o
+spelled_at (x ∷ xs) inside = go (x == 34) (x == 92) refl (spelled_at xs outside) (spelled_at xs escaped) (spelled_at xs inside)
+  where
+    go : (q b : Bool) → (x == 34) ≡ q → flat_map spelled (pieces outside xs) ≡ xs → flat_map spelled (pieces escaped xs) ≡ 34 ∷ xs → flat_map spelled (pieces inside xs) ≡ 34 ∷ xs
+        → flat_map spelled (cond q (text [] ∷ pieces (cond q outside (cond b escaped inside)) xs) (with_character x (pieces (cond q outside (cond b escaped inside)) xs))) ≡ 34 ∷ x ∷ xs
+    go true b e o k i = ap (λ l. 34 ∷ 34 ∷ l) o ∙ ap (λ y. 34 ∷ y ∷ xs) (sym (eqb-true x 34 e))
+    go false true e o k i = character_spelled x (pieces escaped xs) xs escaped (cut_pieces xs escaped) k
+    go false false e o k i = character_spelled x (pieces inside xs) xs inside (cut_pieces xs inside) i
+
+pub pieces_text : (t : List ℕ) → flat_map spelled (pieces outside t) ≡ t
+pieces_text t = spelled_at t outside
+
+-- ---- a text of such pieces is cut into them again
+
+pub no_front : (ps : List Piece) → Cut ps → begins_run ps ≡ false → prefix_len is_number_byte (flat_map spelled ps) ≡ 0
+no_front [] h e = refl
+no_front (run r ∷ ps) h e = absurd (true≢false e)
+no_front (text s ∷ ps) h e = refl
+no_front (unended s ∷ ps) h e = refl
+no_front (byte b ∷ ps) h e = ap (λ t. cond t (1 + prefix_len is_number_byte (flat_map spelled ps)) 0) h.1
+
+pub recut : (ps : List Piece) → Cut ps → pieces outside (flat_map spelled ps) ≡ ps
+unfolding pieces
+recut [] h = refl
+recut (run r ∷ ps) h = run_there r (flat_map spelled ps) h.0 h.1 (no_front ps h.3 h.2) ∙ ap (λ qs. run r ∷ qs) (recut ps h.3)
+recut (text s ∷ ps) h = ap (λ t. pieces outside (34 ∷ t)) (append_assoc s (34 ∷ []) (flat_map spelled ps)) ∙ string_there s (flat_map spelled ps) h.0 ∙ ap (λ qs. text s ∷ qs) (recut ps h.1)
+recut (unended s ∷ []) h = ap (pieces inside) (append-nil s) ∙ h.0
+recut (unended s ∷ p ∷ ps) h = absurd h.1
+recut (byte b ∷ ps) h = at_byte b (flat_map spelled ps) h.0 h.1 ∙ ap (λ qs. byte b ∷ qs) (recut ps h.2)

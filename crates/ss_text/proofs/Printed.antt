@@ -8,12 +8,9 @@ use Rattle.json.specs.Lex.{tokens}
 use Rattle.json.specs.Print.{escape_letter, escape_byte, escape, quoted, token_text, ends, separator, print, print_from, ArePrintable, IsPrintable}
 use Rattle.json.specs.Word.{after_number}
 use Rattle.json.proofs.Printed.Strings.{escape_byte_plain}
-use Rattle.ss_text.specs.Decimals.{is_number_byte, next_place, is_in_run, Piece, run, byte, with_front, pieces, is_decimal, is_wrapped, wrapped_piece, wrapped, count_of}
+use Rattle.ss_text.specs.Decimals.{is_number_byte, outside, inside, escaped, Piece, run, text, unended, byte, pieces, spelled, is_decimal, is_wrapped, wrapped_pieces, wrapped, count_of}
 use Rattle.ss_text.specs.Tokens.{IsWhole, AreWhole}
-use Rattle.ss_text.specs.declared.decimals.Place.{Place}
-use Rattle.ss_text.specs.declared.decimals.Place.TheVariants.{Outside, Inside, Escaped}
-use Rattle.ss_text.proofs.Pieces.{at_byte}
-use Rattle.ss_text.proofs.Rewrapped.{run_there}
+use Rattle.ss_text.proofs.Pieces.{at_byte, run_there, Raw, string_there, pieces_text}
 use Rattle.ss_text.proofs.WholeTokens.{Kept, number_bytes, some_front, tokens_are_whole}
 
 -- ---- nothing is wrapped where the count is 0
@@ -25,67 +22,49 @@ kept_there false p ps e h = (e, h)
 kept_pieces : (ps : List Piece) → length (filter is_wrapped ps) ≡ 0 → Kept ps
 kept_pieces [] h = tt
 kept_pieces (run r ∷ ps) h = let parts = kept_there (is_decimal r) (run r) ps refl h in (parts.0, kept_pieces ps parts.1)
+kept_pieces (text s ∷ ps) h = kept_pieces ps h
+kept_pieces (unended s ∷ ps) h = kept_pieces ps h
 kept_pieces (byte b ∷ ps) h = kept_pieces ps h
 
 pub count_from_kept : (ps : List Piece) → Kept ps → length (filter is_wrapped ps) ≡ 0
 count_from_kept [] h = refl
 count_from_kept (run r ∷ ps) h = ap (λ b. length (cond b (run r ∷ filter is_wrapped ps) (filter is_wrapped ps))) h.0 ∙ count_from_kept ps h.1
+count_from_kept (text s ∷ ps) h = count_from_kept ps h
+count_from_kept (unended s ∷ ps) h = count_from_kept ps h
 count_from_kept (byte b ∷ ps) h = count_from_kept ps h
 
-pub kept_from_count : (text : List ℕ) → count_of text ≡ 0 → Kept (pieces Outside text)
-kept_from_count text h = kept_pieces (pieces Outside text) h
+pub kept_from_count : (t : List ℕ) → count_of t ≡ 0 → Kept (pieces outside t)
+kept_from_count t h = kept_pieces (pieces outside t) h
 
-abbrev piece_text : Piece → List ℕ
-piece_text (run r) = r
-piece_text (byte b) = b ∷ []
-
-front_text : (x : ℕ) (ps : List Piece) → flat_map piece_text (with_front x ps) ≡ x ∷ flat_map piece_text ps
-front_text x [] = refl
-front_text x (run r ∷ ps) = refl
-front_text x (byte b ∷ ps) = refl
-
-text_step : (b : Bool) (x : ℕ) (ps qs : List Piece) (xs : List ℕ) → flat_map piece_text ps ≡ xs → flat_map piece_text qs ≡ xs → flat_map piece_text (cond b (with_front x ps) (byte x ∷ qs)) ≡ x ∷ xs
-text_step true x ps qs xs p q = front_text x ps ∙ ap (λ t. x ∷ t) p
-text_step false x ps qs xs p q = ap (λ t. x ∷ t) q
-
--- the pieces are the text
-pieces_text : (place : Place) (text : List ℕ) → flat_map piece_text (pieces place text) ≡ text
-unfolding pieces
-pieces_text place [] = refl
-pieces_text place (x ∷ xs) = text_step (is_in_run place x) x (pieces Outside xs) (pieces (next_place place x) xs) xs (pieces_text Outside xs) (pieces_text (next_place place x) xs)
-
-kept_text : (ps : List Piece) → Kept ps → flat_map wrapped_piece ps ≡ flat_map piece_text ps
+kept_text : (ps : List Piece) → Kept ps → flat_map spelled (flat_map wrapped_pieces ps) ≡ flat_map spelled ps
 kept_text [] h = refl
-kept_text (run r ∷ ps) h = ap₂ (λ b t. cond b (91 ∷ 34 ∷ (r ++ 34 ∷ 93 ∷ [])) r ++ t) h.0 (kept_text ps h.1)
+kept_text (run r ∷ ps) h = ap (λ b. flat_map spelled (cond b (byte 91 ∷ text r ∷ byte 93 ∷ []) (run r ∷ []) ++ flat_map wrapped_pieces ps)) h.0 ∙ ap (λ t. r ++ t) (kept_text ps h.1)
+kept_text (text s ∷ ps) h = ap (λ t. 34 ∷ ((s ++ 34 ∷ []) ++ t)) (kept_text ps h)
+kept_text (unended s ∷ ps) h = ap (λ t. 34 ∷ (s ++ t)) (kept_text ps h)
 kept_text (byte b ∷ ps) h = ap (λ t. b ∷ t) (kept_text ps h)
 
-pub kept_stays : (text : List ℕ) → count_of text ≡ 0 → wrapped text ≡ text
-kept_stays text h = kept_text (pieces Outside text) (kept_from_count text h) ∙ pieces_text Outside text
+pub kept_stays : (t : List ℕ) → count_of t ≡ 0 → wrapped t ≡ t
+kept_stays t h = kept_text (pieces outside t) (kept_from_count t h) ∙ pieces_text t
 
-pub kept_tokens : (text : List ℕ) → count_of text ≡ 0 → AreWhole (tokens text)
-kept_tokens text h = tokens_are_whole text (kept_from_count text h)
+pub kept_tokens : (t : List ℕ) → count_of t ≡ 0 → AreWhole (tokens t)
+kept_tokens t h = tokens_are_whole t (kept_from_count t h)
 
 -- ---- strings
 
 abbrev Out : List ℕ → Type 0
-Out text = Kept (pieces Outside text)
-
-abbrev In : List ℕ → Type 0
-In text = Kept (pieces Inside text)
+Out t = Kept (pieces outside t)
 
 abbrev Passes : List ℕ → Type 0
-Passes bytes = (t : List ℕ) → In t → In (bytes ++ t)
-
-one : (place : Place) (x : ℕ) (t : List ℕ) → is_in_run place x ≡ false → Kept (pieces (next_place place x) t) → Kept (pieces place (x ∷ t))
-one place x t e h = subst Kept (sym (at_byte place x t e)) h
+Passes bytes = (t : List ℕ) → Raw inside t → Raw inside (bytes ++ t)
 
 pair : (l : ℕ) → Passes (92 ∷ l ∷ [])
-pair l t h = one Inside 92 (l ∷ t) refl (one Escaped l t refl h)
+pair l t h = h
 
-plain_byte : (x : ℕ) → (x == 34) ≡ false → (x == 92) ≡ false → (t : List ℕ) → In t → In (x ∷ t)
-plain_byte x q b t h = one Inside x t refl (subst (λ p. Kept (pieces p t)) (sym (ap₂ (λ c d. cond c Outside (cond d Escaped Inside)) q b)) h)
+plain_byte : (x : ℕ) → (x == 34) ≡ false → (x == 92) ≡ false → (t : List ℕ) → Raw inside t → Raw inside (x ∷ t)
+plain_byte x q b t h = subst (λ p. Raw p t) (sym (ap₂ (λ c d. cond c outside (cond d escaped inside)) q b)) h
 
-digit_plain : (d : ℕ) → d < 16 → ((digit_char d == 34) ≡ false) × ((digit_char d == 92) ≡ false)
+-- a digit of an escape is no quote and no backslash
+pub digit_plain : (d : ℕ) → d < 16 → ((digit_char d == 34) ≡ false) × ((digit_char d == 92) ≡ false)
 digit_plain d h = at (cases_lt d 10)
   where
     at : (d < 10) ⊎ (10 ≤ d) → ((digit_char d == 34) ≡ false) × ((digit_char d == 92) ≡ false)
@@ -100,7 +79,7 @@ unicode : (x : ℕ) → x < 32 → Passes (92 ∷ 117 ∷ 48 ∷ 48 ∷ digit_ch
 unicode x h t k =
     let a = digit_plain (x / 16) (omega arith) in
     let b = digit_plain (x % 16) (omega arith) in
-    pair 117 _ (plain_byte 48 refl refl _ (plain_byte 48 refl refl _ (plain_byte (digit_char (x / 16)) a.0 a.1 _ (plain_byte (digit_char (x % 16)) b.0 b.1 t k))))
+    plain_byte (digit_char (x / 16)) a.0 a.1 (digit_char (x % 16) ∷ t) (plain_byte (digit_char (x % 16)) b.0 b.1 t k)
 
 control : (b c : Bool) (l x : ℕ) → x < 32 → c ≡ true → Passes (cond b (92 ∷ l ∷ []) (cond c (92 ∷ 117 ∷ 48 ∷ 48 ∷ digit_char (x / 16) ∷ digit_char (x % 16) ∷ []) (x ∷ [])))
 control true c l x h e = pair l
@@ -117,12 +96,17 @@ escape_passes x = go (cases_eq x 34) (cases_eq x 92) (cases_lt x 32)
     go (inr q) (inr b) (inl c) = control (ltb 0 (escape_letter x)) (ltb x 32) (escape_letter x) x c (lt-ltb x 32 c)
     go (inr q) (inr b) (inr l) = subst Passes (sym (escape_byte_plain x q b l)) (plain_byte x (ne_eqb x 34 q) (ne_eqb x 92 b))
 
-escape_kept : (s r : List ℕ) → Out r → In (escape s ++ 34 ∷ r)
-escape_kept [] r h = one Inside 34 r refl h
-escape_kept (x ∷ s) r h = subst In (sym (append_assoc (escape_byte x) (escape s) (34 ∷ r))) (escape_passes x (escape s ++ 34 ∷ r) (escape_kept s r h))
+-- what a string is written as ends at its own quote
+pub escape_raw : (s : List ℕ) → Raw inside (escape s)
+escape_raw [] = tt
+escape_raw (x ∷ s) = escape_passes x (escape s) (escape_raw s)
+
+-- a written string is a piece
+pub quoted_there : (s r : List ℕ) → pieces outside (quoted s ++ r) ≡ text (escape s) ∷ pieces outside r
+quoted_there s r = ap (λ t. pieces outside (34 ∷ t)) (append_assoc (escape s) (34 ∷ []) r) ∙ string_there (escape s) r (escape_raw s)
 
 quoted_kept : (s r : List ℕ) → Out r → Out (quoted s ++ r)
-quoted_kept s r h = subst (λ t. Out (34 ∷ t)) (sym (append_assoc (escape s) (34 ∷ []) r)) (one Outside 34 (escape s ++ 34 ∷ r) refl (escape_kept s r h))
+quoted_kept s r h = subst Kept (sym (quoted_there s r)) h
 
 -- ---- tokens
 
@@ -134,8 +118,8 @@ abbrev Follows : Bool → List ℕ → Type 0
 Follows true r = Out r × Fresh r
 Follows false r = Out r
 
-mark : (x : ℕ) (r : List ℕ) → is_in_run Outside x ≡ false → next_place Outside x ≡ Outside → Out r → Out (x ∷ r)
-mark x r e p h = one Outside x r e (subst (λ q. Kept (pieces q r)) (sym p) h)
+mark : (x : ℕ) (r : List ℕ) → (x == 34) ≡ false → is_number_byte x ≡ false → Out r → Out (x ∷ r)
+mark x r q n h = subst Kept (sym (at_byte x r q n)) h
 
 number_kept : (s r : List ℕ) → IsWhole (number s) → Out r → Fresh r → Out (s ++ r)
 number_kept s r w h f = subst Kept (sym (run_there s r (number_bytes s w.0) (some_front s w.0) f)) (w.1, h)
@@ -185,4 +169,4 @@ printed c [] p w = nothing c
 printed c (t ∷ ts) p w = placed c t (print_from (ends t) ts) (token_kept t (print_from (ends t) ts) p.0 w.0 (printed (ends t) ts p.1 w.1))
 
 pub printed_stays : (ts : List Token) → ArePrintable ts → AreWhole ts → count_of (print ts) ≡ 0
-printed_stays ts p w = count_from_kept (pieces Outside (print ts)) (printed false ts p w)
+printed_stays ts p w = count_from_kept (pieces outside (print ts)) (printed false ts p w)

@@ -19,7 +19,7 @@ use Rattle.serde_json.specs.Data.{Num, unsigned, negative}
 use Rattle.fast_float.specs.Text.{with_sign}
 use Rattle.serde_json.specs.Read.{number_of, number_from}
 use Rattle.serde_json.specs.Find.{is_float}
-use Rattle.ss_text.specs.Decimals.{is_mark, is_all, is_decimal}
+use Rattle.ss_text.specs.Decimals.{is_point, is_all, is_decimal}
 
 -- ---- a sign and digits are read as a whole number
 
@@ -68,21 +68,21 @@ module _ (m : List ℕ) (all : AllDigits 10 m) (some : 0 < length m) (few : leng
 
 -- ---- the shape of a number without marks
 
-none_in_drop : (k : ℕ) (m : List ℕ) → list_any is_mark m ≡ false → list_any is_mark (drop k m) ≡ false
+none_in_drop : (k : ℕ) (m : List ℕ) → list_any is_point m ≡ false → list_any is_point (drop k m) ≡ false
 none_in_drop zero m h = h
 none_in_drop (suc k) [] h = h
-none_in_drop (suc k) (x ∷ m) h = none_in_drop k m (or_parts (is_mark x) (list_any is_mark m) h).1
+none_in_drop (suc k) (x ∷ m) h = none_in_drop k m (or_parts (is_point x) (list_any is_point m) h).1
 
-unmarked_head : (t : List ℕ) → list_any is_mark t ≡ false → is_mark (head t) ≡ false
+unmarked_head : (t : List ℕ) → list_any is_point t ≡ false → is_point (head t) ≡ false
 unmarked_head [] h = refl
-unmarked_head (x ∷ t) h = (or_parts (is_mark x) (list_any is_mark t) h).0
+unmarked_head (x ∷ t) h = (or_parts (is_point x) (list_any is_point t) h).0
 
-no_fraction : (t : List ℕ) → list_any is_mark t ≡ false → after_fraction t ≡ Some t
+no_fraction : (t : List ℕ) → list_any is_point t ≡ false → after_fraction t ≡ Some t
 no_fraction t h =
     let parts = or_parts (head t == 46 || head t == 101) (head t == 69) (unmarked_head t h) in
     ap (λ b. cond b (after_digits (drop 1 t)) (Some t)) (or_parts (head t == 46) (head t == 101) parts.0).0
 
-no_exponent : (t : List ℕ) → list_any is_mark t ≡ false → after_exponent t ≡ Some t
+no_exponent : (t : List ℕ) → list_any is_point t ≡ false → after_exponent t ≡ Some t
 no_exponent t h =
     let parts = or_parts (head t == 46 || head t == 101) (head t == 69) (unmarked_head t h) in
     let first = (or_parts (head t == 46) (head t == 101) parts.0).1 in
@@ -90,9 +90,9 @@ no_exponent t h =
 
 abbrev unmarked_or_none : Option (List ℕ) → Type 0
 unmarked_or_none None = Unit {0}
-unmarked_or_none (Some t) = list_any is_mark t ≡ false
+unmarked_or_none (Some t) = list_any is_point t ≡ false
 
-whole_left : (m : List ℕ) → list_any is_mark m ≡ false → unmarked_or_none (after_whole m)
+whole_left : (m : List ℕ) → list_any is_point m ≡ false → unmarked_or_none (after_whole m)
 whole_left m h =
     either (head m == 48) (Some (drop 1 m)) (after_digits m) (none_in_drop 1 m h)
     (either (prefix_len is_ascii_digit m == 0) None (Some (drop (prefix_len is_ascii_digit m) m)) tt (none_in_drop (prefix_len is_ascii_digit m) m h))
@@ -192,20 +192,20 @@ unfolding is_decimal after_number
 number_is_whole s number kept n reads = at (head s == 45) refl
   where
     wanted : Bool
-    wanted = list_any is_mark s || ltb 18 (count_by is_ascii_digit s) || bytes_eq s (codes "-0")
+    wanted = list_any is_point s || ltb 18 (count_by is_ascii_digit s) || bytes_eq s (codes "-0")
 
     unwanted : (w : Bool) → (w && true) ≡ false → w ≡ false
     unwanted true h = h
     unwanted false h = refl
 
-    not_wanted : (list_any is_mark s || ltb 18 (count_by is_ascii_digit s) || bytes_eq s (codes "-0")) ≡ false
-    not_wanted = unwanted _ (ap (λ o. (list_any is_mark s || ltb 18 (count_by is_ascii_digit s) || bytes_eq s (codes "-0")) && is_all o) (sym number) ∙ kept)
+    not_wanted : (list_any is_point s || ltb 18 (count_by is_ascii_digit s) || bytes_eq s (codes "-0")) ≡ false
+    not_wanted = unwanted _ (ap (λ o. (list_any is_point s || ltb 18 (count_by is_ascii_digit s) || bytes_eq s (codes "-0")) && is_all o) (sym number) ∙ kept)
 
-    zero_parts : ((list_any is_mark s || ltb 18 (count_by is_ascii_digit s)) ≡ false) × (bytes_eq s (codes "-0") ≡ false)
-    zero_parts = or_parts (list_any is_mark s || ltb 18 (count_by is_ascii_digit s)) (bytes_eq s (codes "-0")) not_wanted
+    zero_parts : ((list_any is_point s || ltb 18 (count_by is_ascii_digit s)) ≡ false) × (bytes_eq s (codes "-0") ≡ false)
+    zero_parts = or_parts (list_any is_point s || ltb 18 (count_by is_ascii_digit s)) (bytes_eq s (codes "-0")) not_wanted
 
-    first_parts : (list_any is_mark s ≡ false) × (ltb 18 (count_by is_ascii_digit s) ≡ false)
-    first_parts = or_parts (list_any is_mark s) (ltb 18 (count_by is_ascii_digit s)) zero_parts.0
+    first_parts : (list_any is_point s ≡ false) × (ltb 18 (count_by is_ascii_digit s) ≡ false)
+    first_parts = or_parts (list_any is_point s) (ltb 18 (count_by is_ascii_digit s)) zero_parts.0
 
     few : count_by is_ascii_digit s ≤ 18
     few = ltb-false 18 (count_by is_ascii_digit s) first_parts.1

@@ -1,8 +1,7 @@
 -- The tokens of a text whose runs are not to be wrapped have no number that is.
 use Rattle.std.proofs.Common.{◌≡◌, ℕ, zero, suc, ◌+◌, ◌-◌, ◌<◌, ◌≤◌, List, [], ◌∷◌, ◌++◌, length, take, drop, Bool, true, false, cond, ◌&&◌, ◌||◌, ◌==◌, Option, Some, None, is_some, option_and_then, refl, sym, ap, ap₂, ◌∙◌, subst, arith, lit<, ◌⊎◌, ⊎_elim, append_assoc, append-nil, length-append}
 use Rattle.std.proofs.lemmas.Bool.{true≢false, false≢true, and_parts, or_cases, eqb-true}
-use Rattle.std.proofs.lemmas.List.{take_at, drop_at}
-use Rattle.std.specs.List.{prefix_len, list_all, starts_with}
+use Rattle.std.specs.List.{prefix_len, flat_map, list_all, starts_with}
 use Rattle.std.specs.Cmp.Lexicographic.{pointwise}
 use Rattle.std.specs.Prelude.{nat_eq}
 use Rattle.std.specs.Char.{is_ascii_digit}
@@ -12,16 +11,26 @@ use Rattle.json.specs.Word.{is_operator, is_space, head, ends_word, after_digits
 use Rattle.json.specs.Lex.{Lexeme, token, comma, colon, Class, quote, backslash, operator, space, other, class, string_token, between, in_word, in_string, in_escape, lex_byte, lex, Place, fresh, after_value, after_comma, after_key, begins_colon, if_allowed, place_token, punctuate, tokens, operator_lexeme}
 use Rattle.json.specs.Print.{IsNumber}
 use Rattle.json.proofs.Printed.Numbers.{number_alone, lex-number, in_word-ended}
-use Rattle.ss_text.specs.Decimals.{is_number_byte, Piece, run, byte, pieces, is_decimal}
-use Rattle.ss_text.specs.declared.decimals.Place.TheVariants as at
-use Rattle.ss_text.proofs.Pieces.{at_run}
+use Rattle.ss_text.specs.Decimals as at
+use Rattle.ss_text.specs.Decimals.{is_number_byte, Piece, run, text, unended, byte, with_character, pieces, is_decimal, wrapped_pieces}
+use Rattle.ss_text.proofs.Pieces.{run_there}
+use Rattle.ss_text.proofs.Marks.{wrapped_pieces_are, marked_pieces, all_marked}
 use Rattle.ss_text.specs.Tokens.{IsWhole, AreWhole}
 
 -- no run is to be wrapped
 abbrev pub Kept : List Piece → Type 0
 Kept [] = Unit {0}
 Kept (run r ∷ ps) = (is_decimal r ≡ false) × Kept ps
+Kept (text s ∷ ps) = Kept ps
+Kept (unended s ∷ ps) = Kept ps
 Kept (byte b ∷ ps) = Kept ps
+
+kept_character : (x : ℕ) (ps : List Piece) → Kept (with_character x ps) → Kept ps
+kept_character x [] h = tt
+kept_character x (run r ∷ ps) h = h
+kept_character x (text s ∷ ps) h = h
+kept_character x (unended s ∷ ps) h = h
+kept_character x (byte b ∷ ps) h = h
 
 -- ---- punctuation
 
@@ -213,67 +222,57 @@ no_part : (rest : List ℕ) → ends_word rest ≡ true → prefix_len is_number
 no_part [] h = refl
 no_part (x ∷ xs) h = ap (λ b. cond b (1 + prefix_len is_number_byte xs) 0) (end_is_no_part x h)
 
-pub front_count : (s rest : List ℕ) → list_all is_number_byte s ≡ true → prefix_len is_number_byte rest ≡ 0 → prefix_len is_number_byte (s ++ rest) ≡ length s
-front_count [] rest h e = e
-front_count (x ∷ s) rest h e =
-    let parts = and_parts (is_number_byte x) (list_all is_number_byte s) h in
-    let ih = front_count s rest parts.1 e in
-    ap (λ b. cond b (1 + prefix_len is_number_byte (s ++ rest)) 0) parts.0 ∙ (let next : 1 + prefix_len is_number_byte (s ++ rest) ≡ suc (length s) = omega arith in next)
-
-run_front : (s rest : List ℕ) → list_all is_number_byte s ≡ true → 0 < length s → ends_word rest ≡ true → pieces at.Outside (s ++ rest) ≡ run s ∷ pieces at.Outside rest
-run_front s rest h some ended =
-    let n = front_count s rest h (no_part rest ended) in
-    at_run (s ++ rest) (omega arith) ∙ ap (λ k. run (take k (s ++ rest)) ∷ pieces at.Outside (drop k (s ++ rest))) n
-    ∙ ap₂ (λ a b. run a ∷ pieces at.Outside b) (take_at s rest (length s) refl) (drop_at s rest (length s) refl)
+run_front : (s rest : List ℕ) → list_all is_number_byte s ≡ true → 0 < length s → ends_word rest ≡ true → pieces at.outside (s ++ rest) ≡ run s ∷ pieces at.outside rest
+run_front s rest h some ended = run_there s rest h some (no_part rest ended)
 
 -- ---- the lexer and the scanner agree
 
 record Lexed (u : List ℕ) : Type 0 where
-  outside : Kept (pieces at.Outside u) → Good (lex between u)
-  inside : Kept (pieces at.Inside u) → Good (lex in_string u)
-  escaped : Kept (pieces at.Escaped u) → Good (lex in_escape u)
+  outside : Kept (pieces at.outside u) → Good (lex between u)
+  inside : Kept (pieces at.inside u) → Good (lex in_string u)
+  escaped : Kept (pieces at.escaped u) → Good (lex in_escape u)
 
 lexed_end : Lexed []
 unfolding lex
 lexed_end = record { outside = λ k. good_end; inside = λ k. good_end; escaped = λ k. good_end }
 
-inside_step : (x : ℕ) (xs : List ℕ) → Lexed xs → Kept (pieces at.Inside (x ∷ xs)) → Good (lex in_string (x ∷ xs))
+inside_step : (x : ℕ) (xs : List ℕ) → Lexed xs → Kept (pieces at.inside (x ∷ xs)) → Good (lex in_string (x ∷ xs))
 unfolding lex pieces
 inside_step x xs l kept = go (x == 34) (x == 92) (is_operator x) (is_space x) kept
   where
-    go : (q b o s : Bool) → Kept (pieces (cond q at.Outside (cond b at.Escaped at.Inside)) xs)
+    go : (q b o s : Bool) → Kept (cond q (text [] ∷ pieces (cond q at.outside (cond b at.escaped at.inside)) xs) (with_character x (pieces (cond q at.outside (cond b at.escaped at.inside)) xs)))
         → Good (lex_byte in_string (cond q quote (cond b backslash (cond o operator (cond s space other)))) x xs (λ m. lex m xs))
     go true b o s k = l.outside k
-    go false true o s k = l.escaped k
-    go false false true s k = l.inside k
-    go false false false true k = l.inside k
-    go false false false false k = l.inside k
+    go false true o s k = l.escaped (kept_character x (pieces at.escaped xs) k)
+    go false false true s k = l.inside (kept_character x (pieces at.inside xs) k)
+    go false false false true k = l.inside (kept_character x (pieces at.inside xs) k)
+    go false false false false k = l.inside (kept_character x (pieces at.inside xs) k)
 
-escaped_step : (x : ℕ) (xs : List ℕ) → Lexed xs → Kept (pieces at.Escaped (x ∷ xs)) → Good (lex in_escape (x ∷ xs))
+escaped_step : (x : ℕ) (xs : List ℕ) → Lexed xs → Kept (pieces at.escaped (x ∷ xs)) → Good (lex in_escape (x ∷ xs))
 unfolding lex pieces
-escaped_step x xs l kept = l.inside kept
+escaped_step x xs l kept = l.inside (kept_character x (pieces at.inside xs) kept)
 
-operator_step : (x : ℕ) (xs : List ℕ) → Lexed xs → is_operator x ≡ true → Kept (pieces at.Outside (x ∷ xs)) → Good (operator_lexeme x ∷ lex between xs)
+operator_step : (x : ℕ) (xs : List ℕ) → Lexed xs → is_operator x ≡ true → Kept (pieces at.outside (x ∷ xs)) → Good (operator_lexeme x ∷ lex between xs)
 unfolding pieces
 operator_step x xs l h =
-    one_of_six (λ y. Kept (pieces at.Outside (y ∷ xs)) → Good (operator_lexeme y ∷ lex between xs))
+    one_of_six (λ y. Kept (pieces at.outside (y ∷ xs)) → Good (operator_lexeme y ∷ lex between xs))
     (λ k. good_token begin_object _ tt (l.outside k)) (λ k. good_token end_object _ tt (l.outside k)) (λ k. good_token begin_array _ tt (l.outside k))
     (λ k. good_token end_array _ tt (l.outside k)) (λ k. good_colon _ (l.outside k)) (λ k. good_comma _ (l.outside k)) x h
 
-space_step : (x : ℕ) (xs : List ℕ) → Lexed xs → is_space x ≡ true → Kept (pieces at.Outside (x ∷ xs)) → Good (lex between xs)
+space_step : (x : ℕ) (xs : List ℕ) → Lexed xs → is_space x ≡ true → Kept (pieces at.outside (x ∷ xs)) → Good (lex between xs)
 unfolding pieces
-space_step x xs l h = one_of_four (λ y. Kept (pieces at.Outside (y ∷ xs)) → Good (lex between xs)) l.outside l.outside l.outside l.outside x h
+space_step x xs l h = one_of_four (λ y. Kept (pieces at.outside (y ∷ xs)) → Good (lex between xs)) l.outside l.outside l.outside l.outside x h
 
-quote_step : (x : ℕ) (xs : List ℕ) → Lexed xs → (x == 34) ≡ true → Kept (pieces at.Outside (x ∷ xs)) → Good (token (string_token (content plain xs)) ∷ lex in_string xs)
+quote_step : (x : ℕ) (xs : List ℕ) → Lexed xs → (x == 34) ≡ true → Kept (pieces at.outside (x ∷ xs)) → Good (token (string_token (content plain xs)) ∷ lex in_string xs)
 unfolding pieces
 quote_step x xs l h kept =
-    let there : Kept (pieces at.Outside (34 ∷ xs)) = subst (λ y. Kept (pieces at.Outside (y ∷ xs))) (eqb-true x 34 h) kept in
+    let there : Kept (pieces at.outside (34 ∷ xs)) = subst (λ y. Kept (pieces at.outside (y ∷ xs))) (eqb-true x 34 h) kept in
     good_string (content plain xs) (lex in_string xs) (l.inside there)
 
 -- a number that is a token is a run
-number_there : (s rest : List ℕ) → IsNumber s → ends_word rest ≡ true → list_all is_number_byte s ≡ true → 0 < length s → Lexed rest → Kept (pieces at.Outside (s ++ rest)) → Good (lex between (s ++ rest))
+number_there : (s rest : List ℕ) → IsNumber s → ends_word rest ≡ true → list_all is_number_byte s ≡ true → 0 < length s → Lexed rest → Kept (pieces at.outside (s ++ rest)) → Good (lex between (s ++ rest))
 number_there s rest number_is ended bytes some l kept =
-    let cut : Kept (run s ∷ pieces at.Outside rest) = subst Kept (run_front s rest bytes some ended) kept in
+    let cut : Kept (run s ∷ pieces at.outside rest) = subst Kept (run_front s rest bytes some ended) kept in
     subst Good (sym (lex-number s rest number_is ended)) (good_token (number s) (lex between rest) (number_is, cut.0) (l.outside cut.1))
 
 -- a number is a run
@@ -299,7 +298,7 @@ literal_step true true t ls h g = good_token t ls h (g refl refl)
 literal_step true false t ls h g = good_bad ls
 literal_step false c t ls h g = good_bad ls
 
-module _ (x : ℕ) (xs : List ℕ) (shorter : (r : List ℕ) → length r ≤ length xs → Lexed r) (kept : Kept (pieces at.Outside (x ∷ xs))) where
+module _ (x : ℕ) (xs : List ℕ) (shorter : (r : List ℕ) → length r ≤ length xs → Lexed r) (kept : Kept (pieces at.outside (x ∷ xs))) where
   abbrev t : List ℕ
   t = x ∷ xs
 
@@ -311,8 +310,8 @@ module _ (x : ℕ) (xs : List ℕ) (shorter : (r : List ℕ) → length r ≤ le
   after_true rest e ended =
       let tail : xs ≡ 114 ∷ 117 ∷ 101 ∷ rest = ap (drop 1) e in
       let short : length rest ≤ length xs = omega (arith, ap length tail) in
-      let whole : Kept (pieces at.Outside (116 ∷ 114 ∷ 117 ∷ 101 ∷ rest)) = subst (λ u. Kept (pieces at.Outside u)) e kept in
-      let cut : Kept (run (101 ∷ []) ∷ pieces at.Outside rest) = subst Kept (run_front (101 ∷ []) rest refl (lit< tt) ended) whole in
+      let whole : Kept (pieces at.outside (116 ∷ 114 ∷ 117 ∷ 101 ∷ rest)) = subst (λ u. Kept (pieces at.outside u)) e kept in
+      let cut : Kept (run (101 ∷ []) ∷ pieces at.outside rest) = subst Kept (run_front (101 ∷ []) rest refl (lit< tt) ended) whole in
       subst Good (sym (ap (lex in_word) tail ∙ in_word-ended rest ended)) ((shorter rest short).outside cut.1)
 
   after_false : (rest : List ℕ) → t ≡ 102 ∷ 97 ∷ 108 ∷ 115 ∷ 101 ∷ rest → ends_word rest ≡ true → Good (lex in_word xs)
@@ -320,8 +319,8 @@ module _ (x : ℕ) (xs : List ℕ) (shorter : (r : List ℕ) → length r ≤ le
   after_false rest e ended =
       let tail : xs ≡ 97 ∷ 108 ∷ 115 ∷ 101 ∷ rest = ap (drop 1) e in
       let short : length rest ≤ length xs = omega (arith, ap length tail) in
-      let whole : Kept (pieces at.Outside (102 ∷ 97 ∷ 108 ∷ 115 ∷ 101 ∷ rest)) = subst (λ u. Kept (pieces at.Outside u)) e kept in
-      let cut : Kept (run (101 ∷ []) ∷ pieces at.Outside rest) = subst Kept (run_front (101 ∷ []) rest refl (lit< tt) ended) whole in
+      let whole : Kept (pieces at.outside (102 ∷ 97 ∷ 108 ∷ 115 ∷ 101 ∷ rest)) = subst (λ u. Kept (pieces at.outside u)) e kept in
+      let cut : Kept (run (101 ∷ []) ∷ pieces at.outside rest) = subst Kept (run_front (101 ∷ []) rest refl (lit< tt) ended) whole in
       subst Good (sym (ap (lex in_word) tail ∙ in_word-ended rest ended)) ((shorter rest short).outside cut.1)
 
   after_null : (rest : List ℕ) → t ≡ 110 ∷ 117 ∷ 108 ∷ 108 ∷ rest → ends_word rest ≡ true → Good (lex in_word xs)
@@ -329,7 +328,7 @@ module _ (x : ℕ) (xs : List ℕ) (shorter : (r : List ℕ) → length r ≤ le
   after_null rest e ended =
       let tail : xs ≡ 117 ∷ 108 ∷ 108 ∷ rest = ap (drop 1) e in
       let short : length rest ≤ length xs = omega (arith, ap length tail) in
-      let whole : Kept (pieces at.Outside (110 ∷ 117 ∷ 108 ∷ 108 ∷ rest)) = subst (λ u. Kept (pieces at.Outside u)) e kept in
+      let whole : Kept (pieces at.outside (110 ∷ 117 ∷ 108 ∷ 108 ∷ rest)) = subst (λ u. Kept (pieces at.outside u)) e kept in
       subst Good (sym (ap (lex in_word) tail ∙ in_word-ended rest ended)) ((shorter rest short).outside whole)
 
   literal_true : Here (literal (116 ∷ 114 ∷ 117 ∷ 101 ∷ []) (boolean true) t)
@@ -366,7 +365,7 @@ module _ (x : ℕ) (xs : List ℕ) (shorter : (r : List ℕ) → length r ≤ le
       let some = some_front eaten.front number_is in
       let short : length r ≤ length xs = omega (arith, ap length eaten.is, length-append eaten.front r) in
       subst (λ u. Good (lex between u)) (sym eaten.is)
-      (number_there eaten.front r number_is ended eaten.bytes some (shorter r short) (subst (λ u. Kept (pieces at.Outside u)) eaten.is kept))
+      (number_there eaten.front r number_is ended eaten.bytes some (shorter r short) (subst (λ u. Kept (pieces at.outside u)) eaten.is kept))
 
   word_step : class x ≡ other → Good (lex between t)
   unfolding lex
@@ -411,5 +410,39 @@ lexed (suc n) (x ∷ xs) h =
     let l = shorter xs (omega arith) in
     record { outside = λ k. outside_step x xs shorter k; inside = inside_step x xs l; escaped = escaped_step x xs l }
 
-pub tokens_are_whole : (u : List ℕ) → Kept (pieces at.Outside u) → AreWhole (tokens u)
+pub tokens_are_whole : (u : List ℕ) → Kept (pieces at.outside u) → AreWhole (tokens u)
 tokens_are_whole u kept = (lexed (length u) u (omega arith)).outside kept fresh
+
+-- ---- what was wrapped has nothing left to wrap
+
+wrapped_kept : (ps : List Piece) → Kept (flat_map wrapped_pieces ps)
+wrapped_kept [] = tt
+wrapped_kept (run r ∷ ps) = go (is_decimal r) refl (wrapped_kept ps)
+  where
+    go : (b : Bool) → is_decimal r ≡ b → Kept (flat_map wrapped_pieces ps) → Kept (cond b (byte 91 ∷ text r ∷ byte 93 ∷ []) (run r ∷ []) ++ flat_map wrapped_pieces ps)
+    go true e ih = ih
+    go false e ih = (e, ih)
+wrapped_kept (text s ∷ ps) = wrapped_kept ps
+wrapped_kept (unended s ∷ ps) = wrapped_kept ps
+wrapped_kept (byte b ∷ ps) = wrapped_kept ps
+
+pub kept_wrapped : (t : List ℕ) → Kept (pieces at.outside (at.wrapped t))
+kept_wrapped t = subst Kept (sym (wrapped_pieces_are t)) (wrapped_kept (pieces at.outside t))
+
+marked_kept : (ps : List Piece) → Kept (all_marked ps)
+marked_kept [] = tt
+marked_kept (run r ∷ ps) = go (is_decimal r) refl (marked_kept ps)
+  where
+    go : (b : Bool) → is_decimal r ≡ b → Kept (all_marked ps) → Kept (cond b (text (at.escape_mark ++ r)) (run r) ∷ all_marked ps)
+    go true e ih = ih
+    go false e ih = (e, ih)
+marked_kept (text s ∷ ps) = go (at.begins_marked s) (marked_kept ps)
+  where
+    go : (b : Bool) → Kept (all_marked ps) → Kept (cond b (text (at.escape_mark ++ s)) (text s) ∷ all_marked ps)
+    go true ih = ih
+    go false ih = ih
+marked_kept (unended s ∷ ps) = marked_kept ps
+marked_kept (byte b ∷ ps) = marked_kept ps
+
+pub kept_marked : (t : List ℕ) → Kept (pieces at.outside (at.marked t))
+kept_marked t = subst Kept (sym (marked_pieces t)) (marked_kept (pieces at.outside t))

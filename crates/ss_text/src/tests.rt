@@ -1,20 +1,93 @@
 //! Texts whose reading is settled by worked values, and each call that allocates, once, with ample memory.
 
-use crate::decimals::wrap_decimals;
+use crate::decimals::{count_decimals, is_decimal, mark_decimals, unmark_decimals, wrap_decimals};
 use crate::json_texts::push_json_text;
 use crate::lines::cut_lines;
 use crate::names::{Id, Ids, Name};
 use crate::stamps::{Stamp, push_stamp, read_stamp};
 use crate::texts::{Bytes, Word};
+use std::alloc::{AllocError, Global};
 use std::test::Fail;
 
+/// Texts, and what they are with their decimals wrapped and marked.
+const DECIMALS: [(&str, &str, &str); 9] = [
+    (
+        r#"[1.5,"1.5",-0,123456789012345678,1234567890123456789]"#,
+        r#"[["1.5"],"1.5",["-0"],123456789012345678,["1234567890123456789"]]"#,
+        r#"["\u00011.5","1.5","\u0001-0",123456789012345678,"\u00011234567890123456789"]"#,
+    ),
+    (
+        r#"[1.5,"\u0001a","b"]"#,
+        r#"[["1.5"],"\u0001a","b"]"#,
+        r#"["\u00011.5","\u0001\u0001a","b"]"#,
+    ),
+    (
+        r#"{"\u0001":"\u0001\u00011.5","\\u0001":"\\\u0001"}"#,
+        r#"{"\u0001":"\u0001\u00011.5","\\u0001":"\\\u0001"}"#,
+        r#"{"\u0001\u0001":"\u0001\u0001\u00011.5","\\u0001":"\\\u0001"}"#,
+    ),
+    (
+        r#"["\"1.5",1e9,"\\",2.5]"#,
+        r#"["\"1.5",["1e9"],"\\",["2.5"]]"#,
+        r#"["\"1.5","\u00011e9","\\","\u00012.5"]"#,
+    ),
+    ("1.5", r#"["1.5"]"#, r#""\u00011.5""#),
+    (
+        "{\"\u{e9}\u{10ffff}\":-1E+2}",
+        "{\"\u{e9}\u{10ffff}\":[\"-1E+2\"]}",
+        "{\"\u{e9}\u{10ffff}\":\"\\u0001-1E+2\"}",
+    ),
+    (
+        "[01.5,1.,-,+1.5,true]",
+        "[01.5,1.,-,+1.5,true]",
+        "[01.5,1.,-,+1.5,true]",
+    ),
+    (r#""\u0001"#, r#""\u0001"#, r#""\u0001"#),
+    (r#"["1.5\"#, r#"["1.5\"#, r#"["1.5\"#),
+];
+
 #[test]
-fn decimals_become_lists_of_one_string(rt: HostRuntime) -> Result<(), Fail> {
-    let text = br#"[1.5,"1.5",-0,123456789012345678,1234567890123456789]"#;
-    let wrapped = wrap_decimals(rt.alloc(), text)?;
-    let want = br#"[["1.5"],"1.5",["-0"],123456789012345678,["1234567890123456789"]]"#;
-    assert_eq!(rt; wrapped.bytes.as_slice(), want.as_slice());
-    assert_eq!(rt; wrapped.count, 3);
+fn decimals_are_wrapped_and_marked(rt: HostRuntime) -> Result<(), Fail> {
+    for (text, wrapped, marked) in DECIMALS {
+        let found = wrap_decimals(rt.alloc(), text.as_bytes())?;
+        assert_eq!(rt; found.bytes.as_slice(), wrapped.as_bytes(), "{text}");
+        let found = mark_decimals(rt.alloc(), text.as_bytes())?;
+        assert_eq!(rt; found.as_slice(), marked.as_bytes(), "{text}");
+        let back = unmark_decimals(rt.alloc(), found.as_slice())?;
+        assert_eq!(rt; back.as_slice(), text.as_bytes(), "{text}");
+    }
+    Ok(())
+}
+
+/// A string of two million backslashes with a decimal inside and one behind it.
+fn backslashes(alloc: Global) -> Result<Vec<u8>, AllocError> {
+    let mut text = Vec::with_capacity(alloc, 2_000_016)?;
+    text.extend_from_slice(b"[\"")?;
+    for _ in 0..2_000_000u32 {
+        text.push(b'\\')?;
+    }
+    text.extend_from_slice(b",1.5\",2.5")?;
+    Ok(text)
+}
+
+#[test]
+fn backslashes_hide_no_quote_and_no_number(rt: HostRuntime) -> Result<(), Fail> {
+    let text = backslashes(rt.alloc())?;
+    assert_eq!(rt; count_decimals(text.as_slice()), 1);
+    assert_eq!(rt;
+        wrap_decimals(rt.alloc(), text.as_slice())?.bytes.len(),
+        text.len() + 4
+    );
+    let marked = mark_decimals(rt.alloc(), text.as_slice())?;
+    assert_eq!(rt; marked.len(), text.len() + 8);
+    assert!(rt; unmark_decimals(rt.alloc(), marked.as_slice())?.as_slice() == text.as_slice());
+    assert!(rt;
+        is_decimal("-0")
+            && is_decimal("1.0")
+            && !is_decimal("0")
+            && !is_decimal("1.")
+            && !is_decimal("\u{1}1.5")
+    );
     Ok(())
 }
 

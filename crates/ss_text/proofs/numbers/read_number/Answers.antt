@@ -1,4 +1,4 @@
-use Rattle.std.proofs.Common.{◌≡◌, ◌≤◌, ◌<◌, ◌^◌, length, arith, lit<}
+use Rattle.std.proofs.Common.{◌≤◌, ◌<◌, ◌^◌, length, arith, lit<}
 use Rattle.std.proofs.Math.Nat.{pow-le-pow_right}
 use Rattle.ss_text.proofs.numbers.read_number.Goals as goal
 

@@ -1,2 +1,8 @@
 pub mod Elements
+pub mod Full
+pub mod Lists
 pub mod Parsing
+pub mod Permutations
+pub mod Reordering
+pub mod SameRows
+pub mod Texts

@@ -3,6 +3,7 @@ pub mod Batches
 pub mod Bodies
 pub mod Changes
 pub mod Limits
+pub mod Lists
 pub mod Members
 pub mod Put
 pub mod Validity

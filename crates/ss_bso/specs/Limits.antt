@@ -1,5 +1,6 @@
 -- The limits of an account and of a batch, and the numbers that they are limits of.
-use Rattle.std.specs.Prelude.{ℕ, List, length, filter, sum_by, bytes_eq}
+use Rattle.std.specs.Prelude.{ℕ, ◌+◌, Bool, ◌||◌, nat_lt, List, length, filter, sum_by, bytes_eq}
+use Rattle.ss_bso.specs.declared.limits.TheConstants.{MOST_PAYLOAD_BYTES, MOST_ROWS_AND_COLLECTIONS, MOST_BATCH_RECORDS, MOST_BATCH_BYTES, MOST_LIVE_BATCHES}
 use Rattle.ss_bso.specs.declared.rows.Row.{Row}
 use Rattle.ss_bso.specs.declared.parts.Part.{Part}
 use Rattle.ss_bso.specs.declared.parts.Field.{Field}
@@ -7,23 +8,23 @@ use Rattle.ss_bso.specs.Put.{field_value}
 
 -- the most payload bytes of an account's rows
 abbrev pub most_payload_bytes : ℕ
-most_payload_bytes = 134217728
+most_payload_bytes = MOST_PAYLOAD_BYTES
 
 -- the most rows and collections of an account, together
 abbrev pub most_rows_and_collections : ℕ
-most_rows_and_collections = 200000
+most_rows_and_collections = MOST_ROWS_AND_COLLECTIONS
 
 -- the most parts of a batch
 abbrev pub most_batch_records : ℕ
-most_batch_records = 20000
+most_batch_records = MOST_BATCH_RECORDS
 
 -- the most payload bytes of a batch
 abbrev pub most_batch_bytes : ℕ
-most_batch_bytes = 16777216
+most_batch_bytes = MOST_BATCH_BYTES
 
 -- the most live batches of an account
 abbrev pub most_live_batches : ℕ
-most_live_batches = 4
+most_live_batches = MOST_LIVE_BATCHES
 
 -- the rows of a collection
 abbrev pub rows_of : List ℕ → List Row → List Row
@@ -32,6 +33,10 @@ rows_of collection rows = filter (λ row. bytes_eq row.collection collection) ro
 -- the payload bytes of rows
 abbrev pub row_bytes : List Row → ℕ
 row_bytes rows = sum_by (λ row. length row.payload) rows
+
+-- whether rows and so many collections are more than an account may have
+abbrev pub is_too_much : List Row → ℕ → Bool
+is_too_much rows collections = nat_lt most_payload_bytes (row_bytes rows) || nat_lt most_rows_and_collections (length rows + collections)
 
 -- the payload bytes that a part brings
 abbrev pub payload_size : Field (List ℕ) → ℕ

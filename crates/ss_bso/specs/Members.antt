@@ -1,11 +1,12 @@
 -- What the members of a JSON object say of a record's fields (SyncStorage API 1.5).
-use Rattle.std.specs.Prelude.{◌≡◌, ℕ, ℤ, pos, negsuc, List, length, ◌&&◌, nat_lt, nat_le, is_some, if◌then◌else◌, Option, Some, None, Result, Ok, Err, option_and_then, codes, ⊤}
+use Rattle.std.specs.Prelude.{◌≡◌, ℕ, ℤ, List, length, ◌&&◌, nat_lt, nat_le, is_some, if◌then◌else◌, Option, Some, None, Result, Ok, Err, option_and_then, codes, ⊤}
 use Rattle.std.specs.Str.{is_utf8}
 use Rattle.std.specs.Int.Signed.{le_z}
 use Rattle.serde_json.specs.Data.{Data}
 use Rattle.serde_json.specs.Read.{read}
 use Rattle.serde_json.specs.Find.{get, as_null, as_str, as_number, as_i64, as_u64, as_object}
 use Rattle.ss_text.specs.Decimals.{wrapped}
+use Rattle.ss_bso.specs.declared.limits.TheConstants.{MOST_PAYLOAD, LEAST_SORTINDEX, MOST_SORTINDEX, MOST_TTL}
 use Rattle.ss_bso.specs.declared.parts.Field.{Field}
 use Rattle.ss_bso.specs.declared.parts.Field.TheVariants.{Keep, Clear, Set}
 use Rattle.ss_bso.specs.declared.parts.Fields.{Fields}
@@ -14,14 +15,13 @@ use Rattle.ss_bso.specs.declared.parts.Reason.TheVariants.{Payload, TooLarge, So
 use Rattle.ss_bso.specs.declared.members.FieldsFault.{FieldsFault}
 use Rattle.ss_bso.specs.declared.members.FieldsFault.TheVariants as fault
 
--- the most bytes of one payload
-abbrev pub most_payload : ℕ
-most_payload = 2097152
+-- the JSON value of bytes as serde_json reads them, of equal members the last; None where they are no JSON
+abbrev pub json_of : List ℕ → Option Data
+json_of bytes = if is_utf8 bytes then read bytes else None
 
--- the JSON value of a text as serde_json reads it, of equal members the last, once its decimals are wrapped;
--- None where it is no JSON
+-- the JSON value of a text once its decimals are wrapped
 unfoldable pub parsed : List ℕ → Option Data
-parsed text = if is_utf8 (wrapped text) then read (wrapped text) else None
+parsed text = json_of (wrapped text)
 
 -- an absent member keeps the field, null clears it, and another value is read
 abbrev pub member_field : {A : Type 0} → (Data → Result (Field A) Reason) → Option Data → Result (Field A) Reason
@@ -31,17 +31,17 @@ member_field value (Some d) = if is_some (as_null d) then Ok Clear else value d
 -- a payload: a string of at most so many bytes
 abbrev pub payload_value : Option (List ℕ) → Result (Field (List ℕ)) Reason
 payload_value None = Err Payload
-payload_value (Some text) = if nat_lt most_payload (length text) then Err TooLarge else Ok (Set text)
+payload_value (Some text) = if nat_lt MOST_PAYLOAD (length text) then Err TooLarge else Ok (Set text)
 
 -- a sortindex: a whole number from -999,999,999 to 999,999,999
 abbrev pub sortindex_value : Option ℤ → Result (Field ℤ) Reason
 sortindex_value None = Err Sortindex
-sortindex_value (Some z) = if le_z (negsuc 999999998) z && le_z z (pos 999999999) then Ok (Set z) else Err Sortindex
+sortindex_value (Some z) = if le_z LEAST_SORTINDEX z && le_z z MOST_SORTINDEX then Ok (Set z) else Err Sortindex
 
 -- a ttl: a whole number from 0 to 999,999,999
 abbrev pub ttl_value : Option ℕ → Result (Field ℕ) Reason
 ttl_value None = Err Ttl
-ttl_value (Some n) = if nat_le n 999999999 then Ok (Set n) else Err Ttl
+ttl_value (Some n) = if nat_le n MOST_TTL then Ok (Set n) else Err Ttl
 
 unfoldable pub payload_of : Option Data → Result (Field (List ℕ)) Reason
 payload_of member = member_field (λ d. payload_value (as_str d)) member

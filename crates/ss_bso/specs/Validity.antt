@@ -1,16 +1,15 @@
 -- When an account is valid, and when two accounts are the same.
-use Rattle.std.specs.Prelude.{◌≡◌, ◌≢◌, ◌+◌, ◌≤◌, length, bytes_eq, IsSomeAnd, IsFalse, All, AllPairs}
+use Rattle.std.specs.Prelude.{◌≡◌, ◌≢◌, ◌≤◌, length, bytes_eq, IsSomeAnd, IsFalse, All, AllPairs}
 use Rattle.ss_text.specs.Texts.{Reordered}
 use Rattle.ss_text.specs.Time.{last_stamp}
 use Rattle.ss_bso.specs.declared.account.Plain.{Plain}
 use Rattle.ss_bso.specs.declared.account.Staged.{Staged}
 use Rattle.ss_bso.specs.Account.{is_at, time_of}
-use Rattle.ss_bso.specs.Limits.{most_payload_bytes, most_rows_and_collections, most_batch_records, most_batch_bytes, most_live_batches, row_bytes, part_bytes}
+use Rattle.ss_bso.specs.Limits.{most_batch_records, most_batch_bytes, most_live_batches, is_too_much, part_bytes}
 
 -- an account's rows and collections are within the limits
 pub record IsWithinLimits (account : Plain) : Type 0 where
-  pub bytes : row_bytes account.rows ≤ most_payload_bytes
-  pub number : length account.rows + length account.collections ≤ most_rows_and_collections
+  pub within : IsFalse (is_too_much account.rows (length account.collections))
 
 -- a batch's number was given out, it began by now, and it is within the limits of a batch
 pub record IsValidBatch (account : Plain) (batch : Staged) : Type 0 where

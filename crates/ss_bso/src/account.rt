@@ -65,6 +65,19 @@ pub struct Staged {
     pub parts: Parts,
 }
 
+impl Staged {
+    pub fn copy(&self, alloc: Global) -> Result<Staged, AllocError>
+        ensures { IfOk result (λ copied. copied ≡ self.now) }
+    {
+        Ok(Staged {
+            number: self.number,
+            collection: self.collection.copy(alloc)?,
+            begun: self.begun,
+            parts: self.parts.copy(alloc)?,
+        })
+    }
+}
+
 /// A list of batches.
 #[derive(Drop, Debug)]
 pub struct Batches {
@@ -93,6 +106,23 @@ impl Batches {
     {
         self.batches.as_slice()
     }
+
+    /// The batches as a vector, which are moved.
+    pub fn into_vec(self) -> Vec<Staged>
+        ensures { result.items ≡ self }
+    {
+        self.batches
+    }
+
+    pub fn copy(&self, alloc: Global) -> Result<Batches, AllocError>
+        ensures { IfOk result (λ copied. copied ≡ self.now) }
+    {
+        let mut batches = Vec::with_capacity(alloc, self.batches.len())?;
+        for batch in &self.batches {
+            batches.push(batch.copy(alloc)?)?;
+        }
+        Ok(Batches { batches })
+    }
 }
 
 /// An account as plain data.
@@ -113,4 +143,20 @@ pub struct Plain {
     /// How many batches were begun.
     pub counter: u64,
     pub batches: Batches,
+}
+
+impl Plain {
+    pub fn copy(&self, alloc: Global) -> Result<Plain, AllocError>
+        ensures { IfOk result (λ copied. copied ≡ self.now) }
+    {
+        Ok(Plain {
+            rows: self.rows.copy(alloc)?,
+            collections: self.collections.copy(alloc)?,
+            store: self.store,
+            last_delete: self.last_delete,
+            moment: self.moment,
+            counter: self.counter,
+            batches: self.batches.copy(alloc)?,
+        })
+    }
 }

@@ -1,15 +1,16 @@
 //! What outlives the process of an account, and what a write changes of it.
 
 ghost use Rattle.std.specs.Prelude.{◌≡◌, IfOk};
+ghost use Rattle.ss_bso.specs.Changes.{fresh_kept};
 
-use crate::account::Times;
+use crate::account::{Batches, Staged, Times};
+use crate::parts::Parts;
 use crate::rows::{Row, Rows};
 use ss_text::{Id, Name, Stamp};
 use std::alloc::{AllocError, Global};
 use std::marker::Model;
 
-/// What a keeper holds of an account: all but its moment and its batches. The counter is kept, so that no number of a batch
-/// comes again.
+/// What a keeper holds of an account: all but its moment. The counter is kept, so that no number of a batch comes again.
 #[derive(Drop, Debug)]
 pub struct Kept {
     pub rows: Rows,
@@ -23,9 +24,26 @@ pub struct Kept {
 
     /// How many batches were begun.
     pub counter: u64,
+
+    /// The batches that aren't committed yet.
+    pub batches: Batches,
 }
 
 impl Kept {
+    /// What is kept of an account that nothing was asked of.
+    pub fn fresh(alloc: Global) -> Kept
+        ensures { result ≡ fresh_kept }
+    {
+        Kept {
+            rows: Rows::new(Vec::new(alloc)),
+            collections: Times::new(Vec::new(alloc)),
+            store: Stamp::clamp(0),
+            last_delete: Stamp::clamp(0),
+            counter: 0,
+            batches: Batches::new(Vec::new(alloc)),
+        }
+    }
+
     pub fn copy(&self, alloc: Global) -> Result<Kept, AllocError>
         ensures { IfOk result (λ copied. copied ≡ self.now) }
     {
@@ -35,6 +53,7 @@ impl Kept {
             store: self.store,
             last_delete: self.last_delete,
             counter: self.counter,
+            batches: self.batches.copy(alloc)?,
         })
     }
 }
@@ -49,6 +68,20 @@ pub enum RowChange {
     Drop { collection: Name, id: Id },
 }
 
+impl RowChange {
+    pub fn copy(&self, alloc: Global) -> Result<RowChange, AllocError>
+        ensures { IfOk result (λ copied. copied ≡ self.now) }
+    {
+        Ok(match self {
+            RowChange::Put(row) => RowChange::Put(row.copy(alloc)?),
+            RowChange::Drop { collection, id } => RowChange::Drop {
+                collection: collection.copy(alloc)?,
+                id: id.copy(alloc)?,
+            },
+        })
+    }
+}
+
 /// What becomes of a collection.
 #[derive(Drop, Debug)]
 pub enum CollectionChange {
@@ -57,6 +90,22 @@ pub enum CollectionChange {
 
     /// It is there no more, nor are its rows.
     Drop { name: Name },
+}
+
+impl CollectionChange {
+    pub fn copy(&self, alloc: Global) -> Result<CollectionChange, AllocError>
+        ensures { IfOk result (λ copied. copied ≡ self.now) }
+    {
+        Ok(match self {
+            CollectionChange::Set { name, time } => CollectionChange::Set {
+                name: name.copy(alloc)?,
+                time: *time,
+            },
+            CollectionChange::Drop { name } => CollectionChange::Drop {
+                name: name.copy(alloc)?,
+            },
+        })
+    }
 }
 
 /// A list of what becomes of rows.
@@ -93,6 +142,16 @@ impl RowChanges {
         ensures { result.items ≡ self }
     {
         self.changes
+    }
+
+    pub fn copy(&self, alloc: Global) -> Result<RowChanges, AllocError>
+        ensures { IfOk result (λ copied. copied ≡ self.now) }
+    {
+        let mut changes = Vec::with_capacity(alloc, self.changes.len())?;
+        for change in &self.changes {
+            changes.push(change.copy(alloc)?)?;
+        }
+        Ok(RowChanges { changes })
     }
 }
 
@@ -131,6 +190,91 @@ impl CollectionChanges {
     {
         self.changes
     }
+
+    pub fn copy(&self, alloc: Global) -> Result<CollectionChanges, AllocError>
+        ensures { IfOk result (λ copied. copied ≡ self.now) }
+    {
+        let mut changes = Vec::with_capacity(alloc, self.changes.len())?;
+        for change in &self.changes {
+            changes.push(change.copy(alloc)?)?;
+        }
+        Ok(CollectionChanges { changes })
+    }
+}
+
+/// What becomes of a batch.
+#[derive(Drop, Debug)]
+pub enum BatchChange {
+    /// It is there no more: it was committed, it ended, or its collection was dropped.
+    End { number: u64 },
+
+    /// It is there, after those that are. No batch of its number is kept, unless it is ended by the same changes.
+    Begin(Staged),
+
+    /// It has these parts too, after those that it has.
+    Append { number: u64, parts: Parts },
+}
+
+impl BatchChange {
+    pub fn copy(&self, alloc: Global) -> Result<BatchChange, AllocError>
+        ensures { IfOk result (λ copied. copied ≡ self.now) }
+    {
+        Ok(match self {
+            BatchChange::End { number } => BatchChange::End { number: *number },
+            BatchChange::Begin(staged) => BatchChange::Begin(staged.copy(alloc)?),
+            BatchChange::Append { number, parts } => BatchChange::Append {
+                number: *number,
+                parts: parts.copy(alloc)?,
+            },
+        })
+    }
+}
+
+/// A list of what becomes of batches.
+#[derive(Drop, Debug)]
+pub struct BatchChanges {
+    changes: Vec<BatchChange>,
+}
+
+impl Model for BatchChanges {
+    ghost use Rattle.std.specs.Prelude.{List};
+    ghost use Rattle.ss_bso.specs.declared.changes.BatchChange.{BatchChange};
+
+    ghost Value = { List BatchChange };
+
+    ghost view = { λ c. c.changes.items };
+}
+
+impl BatchChanges {
+    /// The changes of a vector, which are moved.
+    pub fn new(changes: Vec<BatchChange>) -> BatchChanges
+        ensures { result ≡ changes.items }
+    {
+        BatchChanges { changes }
+    }
+
+    pub fn as_slice(&self) -> &[BatchChange]
+        ensures { result.now ≡ self.now }
+    {
+        self.changes.as_slice()
+    }
+
+    /// The changes as a vector, which are moved.
+    pub fn into_vec(self) -> Vec<BatchChange>
+        ensures { result.items ≡ self }
+    {
+        self.changes
+    }
+
+    pub fn copy(&self, alloc: Global) -> Result<BatchChanges, AllocError>
+        ensures { IfOk result (λ copied. copied ≡ self.now) }
+    {
+        let mut changes = Vec::with_capacity(alloc, self.changes.len())?;
+        for change in &self.changes {
+            changes.push(change.copy(alloc)?)?;
+        }
+        Ok(BatchChanges { changes })
+    }
 }
 
 /// What a step changes of what is kept, all of it at once.
@@ -153,4 +297,24 @@ pub struct Changes {
 
     /// The counter of batches from now on.
     pub counter: u64,
+
+    /// What becomes of batches: first those go that end, then those come that begin, and then parts are appended. A
+    /// collection that is dropped takes no batch with it.
+    pub batches: BatchChanges,
+}
+
+impl Changes {
+    pub fn copy(&self, alloc: Global) -> Result<Changes, AllocError>
+        ensures { IfOk result (λ copied. copied ≡ self.now) }
+    {
+        Ok(Changes {
+            moment: self.moment,
+            rows: self.rows.copy(alloc)?,
+            collections: self.collections.copy(alloc)?,
+            store: self.store,
+            last_delete: self.last_delete,
+            counter: self.counter,
+            batches: self.batches.copy(alloc)?,
+        })
+    }
 }

@@ -2,16 +2,14 @@
 
 ghost use Rattle.std.specs.Prelude.{◌≡◌, IfOk, option_map};
 ghost use Rattle.serde_json.specs.View.{view};
-ghost use Rattle.ss_bso.specs.Members.{parsed, payload_of, sortindex_of, ttl_of, fields_of, fields_of_text, GivesFields};
+ghost use Rattle.ss_bso.specs.Members.{json_of, parsed, payload_of, sortindex_of, ttl_of, fields_of, fields_of_text, GivesFields};
 ghost use Rattle.ss_bso.specs.declared.members.FieldsFault.TheVariants.{Memory};
 
+use crate::limits::{LEAST_SORTINDEX, MOST_PAYLOAD, MOST_SORTINDEX, MOST_TTL};
 use crate::parts::{Field, Fields, Reason};
 use serde_json::Value;
-use ss_text::{Word, wrap_decimals};
+use ss_text::{Word, count_decimals, wrap_decimals};
 use std::alloc::{AllocError, Global};
-
-/// The most bytes of one payload.
-const MOST_PAYLOAD: usize = 2_097_152;
 
 /// Why the body of a PUT gives no fields.
 #[derive(Clone, Copy, Debug, PartialEq, Eq)]
@@ -35,17 +33,27 @@ impl From<AllocError> for FieldsFault {
     }
 }
 
-/// The JSON value of a text, its decimals wrapped first; None exactly where it is no JSON.
-#[tactic(auto, unfolding(crate::specs::Members::parsed))]
-pub(crate) fn parse(alloc: Global, text: &[u8]) -> Result<Option<Value>, AllocError>
-    ensures { IfOk result (λ value. option_map view value ≡ parsed text.now) }
+/// The JSON value of bytes; None exactly where they are no JSON.
+fn read(alloc: Global, bytes: &[u8]) -> Result<Option<Value>, AllocError>
+    ensures { IfOk result (λ value. option_map view value ≡ json_of bytes.now) }
 {
-    let wrapped = wrap_decimals(alloc, text)?;
-    match Value::from_slice(alloc, wrapped.bytes.as_slice()) {
+    match Value::from_slice(alloc, bytes) {
         Ok(value) => Ok(Some(value)),
         Err(error) if error.is_memory() => Err(AllocError),
         Err(_) => Ok(None),
     }
+}
+
+/// The JSON value of a text, its decimals wrapped first; None exactly where it is no JSON. A text without decimals is
+/// read as it is.
+pub(crate) fn parse(alloc: Global, text: &[u8]) -> Result<Option<Value>, AllocError>
+    ensures { IfOk result (λ value. option_map view value ≡ parsed text.now) }
+{
+    if count_decimals(text) == 0 {
+        return read(alloc, text);
+    }
+    let wrapped = wrap_decimals(alloc, text)?;
+    read(alloc, wrapped.bytes.as_slice())
 }
 
 #[tactic(auto, unfolding(crate::specs::Members::payload_of))]
@@ -85,7 +93,7 @@ fn sortindex_in(member: Option<&Value>) -> Result<Field<i32>, Reason>
     }
     match value.as_i64() {
         None => Err(Reason::Sortindex),
-        Some(index) => if -999_999_999 <= index && index <= 999_999_999 {
+        Some(index) => if LEAST_SORTINDEX <= index && index <= MOST_SORTINDEX {
             Ok(Field::Set(index as i32))
         } else {
             Err(Reason::Sortindex)
@@ -106,7 +114,7 @@ fn ttl_in(member: Option<&Value>) -> Result<Field<u32>, Reason>
     }
     match value.as_u64() {
         None => Err(Reason::Ttl),
-        Some(seconds) => if seconds <= 999_999_999 {
+        Some(seconds) => if seconds <= MOST_TTL {
             Ok(Field::Set(seconds as u32))
         } else {
             Err(Reason::Ttl)

@@ -106,6 +106,16 @@ impl Parts {
         self.parts.as_slice()
     }
 
+    pub fn copy(&self, alloc: Global) -> Result<Parts, AllocError>
+        ensures { IfOk result (λ copied. copied ≡ self.now) }
+    {
+        let mut parts = Vec::with_capacity(alloc, self.parts.len())?;
+        for part in &self.parts {
+            parts.push(part.copy(alloc)?)?;
+        }
+        Ok(Parts { parts })
+    }
+
     /// The parts as a vector, which are moved.
     pub fn into_vec(self) -> Vec<Part>
         ensures { result.items ≡ self }
@@ -176,6 +186,16 @@ impl Failures {
     {
         self.failures.as_slice()
     }
+
+    pub fn copy(&self, alloc: Global) -> Result<Failures, AllocError>
+        ensures { IfOk result (λ copied. copied ≡ self.now) }
+    {
+        let mut failures = Vec::with_capacity(alloc, self.failures.len())?;
+        for failure in &self.failures {
+            failures.push((failure.0.copy(alloc)?, failure.1))?;
+        }
+        Ok(Failures { failures })
+    }
 }
 
 /// The records of a POST: those that can be put, in the order of the body, and those that failed.
@@ -183,4 +203,15 @@ impl Failures {
 pub struct Records {
     pub parts: Parts,
     pub failed: Failures,
+}
+
+impl Records {
+    pub fn copy(&self, alloc: Global) -> Result<Records, AllocError>
+        ensures { IfOk result (λ copied. copied ≡ self.now) }
+    {
+        Ok(Records {
+            parts: self.parts.copy(alloc)?,
+            failed: self.failed.copy(alloc)?,
+        })
+    }
 }

@@ -1,6 +1,7 @@
 //! A stored record.
 
 ghost use Rattle.std.specs.Prelude.{◌≡◌, IfOk};
+ghost use Rattle.ss_bso.specs.Account.{is_alive};
 
 use ss_text::{Id, Name, Stamp, Word};
 use std::alloc::{AllocError, Global};
@@ -35,6 +36,16 @@ impl Row {
             payload: self.payload.copy(alloc)?,
             expires: self.expires,
         })
+    }
+
+    /// Whether it is there at a moment: it has no expiry, or a later one.
+    pub fn is_alive(&self, moment: Stamp) -> bool
+        ensures { result ≡ is_alive moment self.now }
+    {
+        match self.expires {
+            None => true,
+            Some(expires) => moment.get() < expires,
+        }
     }
 }
 

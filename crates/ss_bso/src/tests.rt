@@ -1,6 +1,6 @@
 //! Bodies whose reading is settled by worked values, and each call that allocates, once, with ample memory.
 
-use crate::account::Times;
+use crate::account::{Batches, Staged, Times};
 use crate::bodies::{BodyFault, read_parts};
 use crate::changes::Kept;
 use crate::members::{FieldsFault, read_fields};
@@ -183,16 +183,27 @@ fn parts_are_moved_and_what_is_kept_is_copied(rt: HostRuntime) -> Result<(), Fai
         &parts.as_slice()[0],
         Stamp::clamp(1000),
     )?;
+    let batch = Staged {
+        number: 2,
+        collection: forms.copy(alloc)?,
+        begun: Stamp::clamp(1000),
+        parts,
+    };
     let kept = Kept {
         rows: Rows::new(vec![in alloc; row]?),
         collections: Times::new(vec![in alloc; (forms, Stamp::clamp(1000))]?),
         store: Stamp::clamp(1000),
         last_delete: Stamp::clamp(10),
         counter: 3,
+        batches: Batches::new(vec![in alloc; batch]?),
     };
     let copied = kept.copy(alloc)?;
     assert_eq!(rt; copied.rows.as_slice()[0].payload.as_str(), "x");
     assert_eq!(rt; copied.collections.as_slice()[0].1.get(), 1000);
     assert_eq!(rt; copied.counter, 3);
+    assert_eq!(rt;
+        copied.batches.as_slice()[0].parts.as_slice()[0].id.as_str(),
+        "a"
+    );
     Ok(())
 }

@@ -1,12 +1,16 @@
-use Rattle.std.proofs.Common.{sym, ◌∙◌}
-use Rattle.std.proofs.lemmas.Bool.{true≢false}
-use Rattle.ss_bso.proofs.Parsing.{parsed_yes, parsed_no}
+use Rattle.std.proofs.Common.{◌≡◌, sym, ◌∙◌, option_map}
+use Rattle.std.proofs.lemmas.Result.{IfOk-weaker}
+use Rattle.serde_json.specs.View.{view}
+use Rattle.ss_bso.specs.Members.{parsed}
+use Rattle.ss_bso.proofs.Parsing.{parsed_is}
 use Rattle.ss_bso.proofs.members.parse.Goals as goal
 
-pub returns-in-Ok : goal.returns-in-Ok
-returns-in-Ok c = parsed_yes _ _ _ (c.as_slice.ensures.value ∙ c.in_ok-wrapped.ensures.bytes) c.in-Ok.ensures.ok.0 c.in-Ok.ensures.ok.1
+pub returns-then-count_decimals-eq0 : goal.returns-then-count_decimals-eq0
+returns-then-count_decimals-eq0 c =
+    IfOk-weaker c.read.result _ (λ value. option_map view value ≡ parsed c.args.text.now)
+    (λ value e. e ∙ parsed_is c.args.text.now c.args.text.now (sym (c.count_decimals.ensures.same c.if-count_decimals-eq0.true))) c.read.ensures
 
 pub returns : goal.returns
 returns c =
-    parsed_no _ _ (c.as_slice.ensures.value ∙ c.in_ok-wrapped.ensures.bytes)
-    (c.in-Err.ensures.err (λ m. true≢false (sym (c.is_memory.ensures.1 m) ∙ c.if-is_memory.false)))
+    IfOk-weaker c.read-2.result _ (λ value. option_map view value ≡ parsed c.args.text.now)
+    (λ value e. e ∙ parsed_is c.args.text.now c.as_slice.result.now (c.as_slice.ensures.value ∙ c.in_ok-wrapped.ensures.bytes)) c.read-2.ensures

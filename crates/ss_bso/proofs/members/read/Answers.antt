@@ -1,0 +1,10 @@
+use Rattle.std.proofs.Common.{sym, ◌∙◌}
+use Rattle.std.proofs.lemmas.Bool.{true≢false}
+use Rattle.ss_bso.proofs.Parsing.{json_yes, json_no}
+use Rattle.ss_bso.proofs.members.read.Goals as goal
+
+pub returns-in-Ok : goal.returns-in-Ok
+returns-in-Ok c = json_yes _ _ c.in-Ok.ensures.ok.0 c.in-Ok.ensures.ok.1
+
+pub returns-in-Err-2 : goal.returns-in-Err-2
+returns-in-Err-2 c = json_no _ (c.in-Err.ensures.err (λ m. true≢false (sym (c.is_memory.ensures.1 m) ∙ c.if-is_memory.false)))

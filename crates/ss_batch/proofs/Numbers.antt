@@ -1,13 +1,16 @@
--- Batches whose numbers rise, and what a change at one place makes of them.
-use Rattle.std.specs.Prelude.{◌≡◌, ℕ, zero, suc, ◌+◌, ◌-◌, ◌<◌, ◌≤◌, Bool, true, false, not, cond, ◌==◌, nat_lt, List, [], ◌∷◌, ◌++◌, length, get_or, slice_set, remove, position, filter, find, Option, Some, None, IsSome, IsSomeAnd, Ok, Err, bytes_eq, refl}
+-- Batches whose numbers were given out, no two of them one, and what a change at one place makes of them.
+use Rattle.std.specs.Prelude.{◌≡◌, ◌≢◌, ℕ, zero, suc, ◌+◌, ◌-◌, ◌<◌, ◌≤◌, Bool, true, false, not, cond, ◌==◌, nat_lt, List, [], ◌∷◌, ◌++◌, length, get_or, slice_set, remove, position, filter, find, Option, Some, None, IsSome, IsSomeAnd, Ok, Err, bytes_eq, if◌then◌else◌, refl}
 use Rattle.std.specs.List.{position_or_len}
 use Rattle.std.proofs.Common.{sym, ap, subst, ◌∙◌, arith}
 use Rattle.std.proofs.lemmas.Bool.Decides.{nat_tests}
 use Rattle.ss_bso.specs.declared.parts.Part.{Part}
 use Rattle.ss_bso.specs.declared.account.Staged.{Staged}
 use Rattle.ss_batch.specs.declared.faults.StageFault.TheVariants.{OtherCollection}
-use Rattle.ss_batch.specs.Stage.{Rise, StageView, has_number, numbered, reach, reached, with_parts}
+use Rattle.ss_batch.specs.Stage.{AreNumbered, IsGiven, IsOther, StageView, has_number, numbered, reach, reached, with_parts}
 use Rattle.ss_bso.specs.Batches.{batches_without}
+use Rattle.ss_bso.specs.Lists.{Each, Pairs}
+use Rattle.ss_bso.proofs.Lists.{Each-and, Each-append, Each-filter, Each-find, Each-imp, Each-map, Each-passes, Pairs-append, Pairs-filter, Pairs-map, find-passes}
+use Rattle.ss_bso.proofs.Texts.{not_true}
 
 -- the first that passes stands at this place
 abbrev pub IsAt : {X : Type 0} → (X → Bool) → List X → ℕ → Type 0
@@ -61,112 +64,110 @@ found-at p [] i d h = absurd h
 found-at p (x ∷ xs) zero d h = ap (λ v. cond v (Some x) (find p xs)) h
 found-at p (x ∷ xs) (suc i) d h = ap (λ v. cond v (Some x) (find p xs)) h.0 ∙ found-at p xs i d h.1
 
--- numbers that rise
-other_number : (low high : ℕ) → low < high → (high == low) ≡ false
-other_number low high = grind (arith, nat_tests)
-
+-- numbers that were given out, no two of them one
 same_number : (m n : ℕ) → (m == n) ≡ true → m ≡ n
 same_number m n = grind (arith, nat_tests)
 
-pub rise-from_lower : (lower below counter : ℕ) (batches : List Staged) → lower ≤ below → Rise below counter batches → Rise lower counter batches
-rise-from_lower lower below counter [] le r = omega (arith, r)
-rise-from_lower lower below counter (batch ∷ batches) le r = let first : below < batch.number = r.0 in (omega (arith, first), r.1)
+other_number : (m n : ℕ) → m ≢ n → (n == m) ≡ false
+other_number m n other =
+    elim (n == m) as (λ v. (n == m) ≡ v → v ≡ false) [ true ↦ (λ e. absurd (other (sym (same_number n m e)))) | false ↦ (λ e. refl) ] refl
 
-pub rise-within : (below counter : ℕ) (batches : List Staged) → Rise below counter batches → below ≤ counter
-rise-within below counter [] r = r
-rise-within below counter (batch ∷ batches) r =
-    let first : below < batch.number = r.0 in
-    let rest : batch.number ≤ counter = rise-within batch.number counter batches r.1 in
-    omega (arith, first, rest)
+less_number : (n counter : ℕ) → (n == counter) ≡ false → n ≤ counter → n ≤ counter - 1
+less_number n counter e le = grind (arith, nat_tests)
 
-pub rise-filter : (p : Staged → Bool) (below counter : ℕ) (batches : List Staged) → Rise below counter batches → Rise below counter (filter p batches)
-rise-filter p below counter [] r = r
-rise-filter p below counter (batch ∷ batches) r =
-    let rest : Rise batch.number counter (filter p batches) = rise-filter p batch.number counter batches r.1 in
-    let first : below < batch.number = r.0 in
-    elim (p batch) as (λ v. Rise below counter (cond v (batch ∷ filter p batches) (filter p batches)))
-    [ true ↦ (first, rest) | false ↦ rise-from_lower below batch.number counter (filter p batches) (omega (arith, first)) rest ]
+pub numbered-filter : (p : Staged → Bool) (counter : ℕ) (batches : List Staged) → AreNumbered counter batches → AreNumbered counter (filter p batches)
+numbered-filter p counter batches r = record { given = Each-filter (IsGiven counter) p batches r.given; apart = Pairs-filter IsOther p batches r.apart }
 
-pub rise-with_parts : (number : ℕ) (change : List Part → List Part) (below counter : ℕ) (batches : List Staged) → Rise below counter batches → Rise below counter (with_parts number change batches)
-rise-with_parts number change below counter [] r = r
-rise-with_parts number change below counter (batch ∷ batches) r =
-    let rest : Rise batch.number counter (with_parts number change batches) = rise-with_parts number change batch.number counter batches r.1 in
-    elim (has_number number batch) as (λ v. Rise below counter (cond v (record batch { parts = change batch.parts }) batch ∷ with_parts number change batches))
-    [ true ↦ (r.0, rest) | false ↦ (r.0, rest) ]
+pub numbered-with_parts : (number : ℕ) (change : List Part → List Part) (counter : ℕ) (batches : List Staged) → AreNumbered counter batches → AreNumbered counter (with_parts number change batches)
+numbered-with_parts number change counter batches r = record {
+  given = Each-map (IsGiven counter) (IsGiven counter) changed_one (λ batch given. let P : ℕ → Type 0 = λ n. (1 ≤ n) × (n ≤ counter) in subst P (sym (same batch)) given) batches r.given;
+  apart = Pairs-map IsOther IsOther changed_one (λ batch other differ e. differ (sym (same batch) ∙ e ∙ same other)) batches r.apart;
+}
+  where
+    changed_one : Staged → Staged
+    changed_one = λ batch. if has_number number batch then record batch { parts = change batch.parts } else batch
 
-pub rise-push : (below counter : ℕ) (batches : List Staged) (new : Staged) → new.number ≡ counter + 1 → Rise below counter batches → Rise below (counter + 1) (batches ++ new ∷ [])
-rise-push below counter [] new e r = (omega (arith, e, r), omega (arith, e))
-rise-push below counter (batch ∷ batches) new e r = (r.0, rise-push batch.number counter batches new e r.1)
+    same : (batch : Staged) → (if has_number number batch then record batch { parts = change batch.parts } else batch).number ≡ batch.number
+    same batch = elim (has_number number batch) as (λ v. (cond v (record batch { parts = change batch.parts }) batch).number ≡ batch.number) [ true ↦ refl | false ↦ refl ]
 
--- a number that is passed comes no more
-without-passed : (number below counter : ℕ) (batches : List Staged) → number ≤ below → Rise below counter batches → batches_without number batches ≡ batches
-without-passed number below counter [] le r = refl
-without-passed number below counter (batch ∷ batches) le r =
-    let first : below < batch.number = r.0 in
-    ap (λ v. cond (not v) (batch ∷ batches_without number batches) (batches_without number batches)) (other_number number batch.number (omega (arith, first)))
-    ∙ ap (λ rest. batch ∷ rest) (without-passed number batch.number counter batches (omega (arith, first)) r.1)
+pub numbered-push : (counter : ℕ) (batches : List Staged) (new : Staged) → new.number ≡ counter + 1 → AreNumbered counter batches → AreNumbered (counter + 1) (batches ++ new ∷ [])
+numbered-push counter batches new e r = record {
+  given =
+      Each-append (IsGiven (counter + 1)) batches (new ∷ [])
+      (Each-imp (IsGiven counter) (IsGiven (counter + 1)) (λ batch given. let above : 1 ≤ batch.number = given.0 in let within : batch.number ≤ counter = given.1 in (above, omega (arith, within))) batches r.given)
+      ((omega (arith, e), omega (arith, e)), tt);
+  apart =
+      Pairs-append IsOther batches (new ∷ []) r.apart (tt, tt)
+      (Each-imp (IsGiven counter) (λ batch. Each (IsOther batch) (new ∷ [])) (λ batch given. let within : batch.number ≤ counter = given.1 in ((λ same. absurd (omega (arith, within, same, e))), tt)) batches r.given);
+}
 
-with_parts-passed : (number : ℕ) (change : List Part → List Part) (below counter : ℕ) (batches : List Staged) → number ≤ below → Rise below counter batches → with_parts number change batches ≡ batches
-with_parts-passed number change below counter [] le r = refl
-with_parts-passed number change below counter (batch ∷ batches) le r =
-    let first : below < batch.number = r.0 in
-    ap (λ v. cond v (record batch { parts = change batch.parts }) batch ∷ with_parts number change batches) (other_number number batch.number (omega (arith, first)))
-    ∙ ap (λ rest. batch ∷ rest) (with_parts-passed number change batch.number counter batches (omega (arith, first)) r.1)
+-- a number that no batch has
+without-others : (number : ℕ) (batches : List Staged) → Each (λ (other : Staged). number ≢ other.number) batches → batches_without number batches ≡ batches
+without-others number [] others = refl
+without-others number (batch ∷ batches) others =
+    ap (λ v. cond (not v) (batch ∷ batches_without number batches) (batches_without number batches)) (other_number number batch.number others.0)
+    ∙ ap (λ rest. batch ∷ rest) (without-others number batches others.1)
+
+with_parts-others : (number : ℕ) (change : List Part → List Part) (batches : List Staged) → Each (λ (other : Staged). number ≢ other.number) batches → with_parts number change batches ≡ batches
+with_parts-others number change [] others = refl
+with_parts-others number change (batch ∷ batches) others =
+    ap (λ v. cond v (record batch { parts = change batch.parts }) batch ∷ with_parts number change batches) (other_number number batch.number others.0)
+    ∙ ap (λ rest. batch ∷ rest) (with_parts-others number change batches others.1)
+
+renumbered : (m n : ℕ) (batches : List Staged) → m ≡ n → Each (λ (other : Staged). m ≢ other.number) batches → Each (λ (other : Staged). n ≢ other.number) batches
+renumbered m n batches e others = subst (λ k. Each (λ (other : Staged). k ≢ other.number) batches) e others
 
 -- the batch at the place of a number goes, or gets other parts
-pub remove-at : (number below counter : ℕ) (batches : List Staged) (i : ℕ) → Rise below counter batches → IsAt (has_number number) batches i → remove batches i ≡ batches_without number batches
-remove-at number below counter [] i r h = absurd h
-remove-at number below counter (batch ∷ batches) zero r h =
-    let same : batch.number ≡ number = same_number batch.number number h in
-    sym (ap (λ v. cond (not v) (batch ∷ batches_without number batches) (batches_without number batches)) h ∙ without-passed number batch.number counter batches (omega (arith, same)) r.1)
-remove-at number below counter (batch ∷ batches) (suc i) r h =
-    ap (λ rest. batch ∷ rest) (remove-at number batch.number counter batches i r.1 h.1)
+remove-apart : (number : ℕ) (batches : List Staged) (i : ℕ) → Pairs IsOther batches → IsAt (has_number number) batches i → remove batches i ≡ batches_without number batches
+remove-apart number [] i r h = absurd h
+remove-apart number (batch ∷ batches) zero r h =
+    sym (ap (λ v. cond (not v) (batch ∷ batches_without number batches) (batches_without number batches)) h
+    ∙ without-others number batches (renumbered batch.number number batches (same_number batch.number number h) r.0))
+remove-apart number (batch ∷ batches) (suc i) r h =
+    ap (λ rest. batch ∷ rest) (remove-apart number batches i r.1 h.1)
     ∙ sym (ap (λ v. cond (not v) (batch ∷ batches_without number batches) (batches_without number batches)) h.0)
 
-pub set-at : (number : ℕ) (change : List Part → List Part) (below counter : ℕ) (batches : List Staged) (i : ℕ) (d new : Staged) → Rise below counter batches → IsAt (has_number number) batches i
+pub remove-at : (number counter : ℕ) (batches : List Staged) (i : ℕ) → AreNumbered counter batches → IsAt (has_number number) batches i → remove batches i ≡ batches_without number batches
+remove-at number counter batches i r h = remove-apart number batches i r.apart h
+
+set-apart : (number : ℕ) (change : List Part → List Part) (batches : List Staged) (i : ℕ) (d new : Staged) → Pairs IsOther batches → IsAt (has_number number) batches i
     → new ≡ record (get_or batches i d) { parts = change (get_or batches i d).parts } → slice_set batches i new ≡ with_parts number change batches
-set-at number change below counter [] i d new r h e = absurd h
-set-at number change below counter (batch ∷ batches) zero d new r h e =
-    let same : batch.number ≡ number = same_number batch.number number h in
+set-apart number change [] i d new r h e = absurd h
+set-apart number change (batch ∷ batches) zero d new r h e =
     ap (λ first. first ∷ batches) e
     ∙ sym (ap (λ v. cond v (record batch { parts = change batch.parts }) batch ∷ with_parts number change batches) h
-    ∙ ap (λ rest. record batch { parts = change batch.parts } ∷ rest) (with_parts-passed number change batch.number counter batches (omega (arith, same)) r.1))
-set-at number change below counter (batch ∷ batches) (suc i) d new r h e =
-    ap (λ rest. batch ∷ rest) (set-at number change batch.number counter batches i d new r.1 h.1 e)
+    ∙ ap (λ rest. record batch { parts = change batch.parts } ∷ rest) (with_parts-others number change batches (renumbered batch.number number batches (same_number batch.number number h) r.0)))
+set-apart number change (batch ∷ batches) (suc i) d new r h e =
+    ap (λ rest. batch ∷ rest) (set-apart number change batches i d new r.1 h.1 e)
     ∙ sym (ap (λ v. cond v (record batch { parts = change batch.parts }) batch ∷ with_parts number change batches) h.0)
 
+pub set-at : (number : ℕ) (change : List Part → List Part) (counter : ℕ) (batches : List Staged) (i : ℕ) (d new : Staged) → AreNumbered counter batches → IsAt (has_number number) batches i
+    → new ≡ record (get_or batches i d) { parts = change (get_or batches i d).parts } → slice_set batches i new ≡ with_parts number change batches
+set-at number change counter batches i d new r h e = set-apart number change batches i d new r.apart h e
+
 -- a number that is found is above 0
-pub above-found : (number below counter : ℕ) (batches : List Staged) → Rise below counter batches → IsSome (numbered number batches) → below < number
-above-found number below counter [] r h = cc
-above-found number below counter (batch ∷ batches) r h =
-    let first : below < batch.number = r.0 in
-    elim (has_number number batch) as (λ v. has_number number batch ≡ v → IsSome (cond v (Some batch) (numbered number batches)) → below < number) [
-      | true ↦ (λ t k. let same : batch.number ≡ number = same_number batch.number number t in omega (arith, first, same))
-      | false ↦ (λ t k. let rest : batch.number < number = above-found number batch.number counter batches r.1 k in omega (arith, first, rest))
-    ] refl h
+pub above-found : (number counter : ℕ) (batches : List Staged) → AreNumbered counter batches → IsSome (numbered number batches) → 0 < number
+above-found number counter batches r h = by (numbered number batches) refl h
+  where
+    by : (o : Option Staged) → numbered number batches ≡ o → IsSome o → 0 < number
+    by None e some = cc
+    by (Some batch) e some =
+        let given : IsGiven counter batch = Each-find (IsGiven counter) (has_number number) batches batch e r.given in
+        let above : 1 ≤ batch.number = given.0 in
+        let same : batch.number ≡ number = same_number batch.number number (find-passes (has_number number) batches batch e) in
+        omega (arith, above, same)
 
 -- without the last number the numbers are at most the one before it
-pub rise-fewer : (below counter : ℕ) (batches : List Staged) → below < counter → Rise below counter batches → Rise below (counter - 1) (batches_without counter batches)
-rise-fewer below counter [] lt r = omega (arith, lt)
-rise-fewer below counter (batch ∷ batches) lt r =
-    let first : below < batch.number = r.0 in
-    let most : batch.number ≤ counter = rise-within batch.number counter batches r.1 in
-    elim (has_number counter batch) as (λ v. has_number counter batch ≡ v → Rise below (counter - 1) (cond (not v) (batch ∷ batches_without counter batches) (batches_without counter batches))) [
-      | true ↦ (λ t.
-          let same : batch.number ≡ counter = same_number batch.number counter t in
-          subst (Rise below (counter - 1)) (sym (without-passed counter batch.number counter batches (omega (arith, same)) r.1)) (ended batches r.1 (omega (arith, same))))
-      | false ↦ (λ t. (first, rise-fewer batch.number counter batches (less t most) r.1))
-    ] refl
-  where
-    ended : (others : List Staged) → Rise batch.number counter others → counter ≤ batch.number → Rise below (counter - 1) others
-    ended [] k le = omega (arith, lt)
-    ended (other ∷ others) k le =
-        let next : batch.number < other.number = k.0 in
-        let rest : other.number ≤ counter = rise-within other.number counter others k.1 in
-        absurd (omega (arith, next, rest, le))
-
-    less : has_number counter batch ≡ false → batch.number ≤ counter → batch.number < counter
-    less t le = grind (arith, nat_tests)
+pub numbered-fewer : (counter : ℕ) (batches : List Staged) → AreNumbered counter batches → AreNumbered (counter - 1) (batches_without counter batches)
+numbered-fewer counter batches r =
+    let others : Staged → Bool = λ batch. not (batch.number == counter) in
+    record {
+      given =
+          Each-imp (λ (batch : Staged). IsGiven counter batch × (others batch ≡ true)) (IsGiven (counter - 1))
+          (λ batch both. let given : IsGiven counter batch = both.0 in (given.0, less_number batch.number counter (not_true (batch.number == counter) both.1) given.1)) (filter others batches)
+          (Each-and (IsGiven counter) (λ (batch : Staged). others batch ≡ true) (filter others batches) (Each-filter (IsGiven counter) others batches r.given) (Each-passes others batches));
+      apart = Pairs-filter IsOther others batches r.apart;
+    }
 
 -- what a condition on a live batch says of the one at its place
 pub some-at : (P : Staged → Type 0) (number : ℕ) (batches : List Staged) (i : ℕ) (d : Staged) → IsAt (has_number number) batches i → IsSomeAnd (numbered number batches) P → P (get_or batches i d)

@@ -1,10 +1,11 @@
 -- What contracts see of a stage, what its calls make of it, and why they are refused.
-use Rattle.std.specs.Prelude.{ℕ, ◌+◌, ◌-◌, ◌^◌, ◌<◌, ◌≤◌, ◌≡◌, min, Bool, not, ◌||◌, ◌==◌, nat_le, nat_lt, List, [], ◌∷◌, ◌++◌, length, take, map, find, bytes_eq, Option, Some, None, Result, Ok, Err, IfErr, if◌then◌else◌}
+use Rattle.std.specs.Prelude.{ℕ, ◌+◌, ◌-◌, ◌^◌, ◌≤◌, ◌≡◌, ◌≢◌, min, Bool, not, ◌||◌, ◌==◌, nat_le, nat_lt, List, [], ◌∷◌, ◌++◌, length, take, map, find, bytes_eq, Option, Some, None, Result, Ok, Err, IfErr, if◌then◌else◌}
 use Rattle.ss_text.specs.Time.{last_stamp}
 use Rattle.ss_bso.specs.declared.parts.Part.{Part}
 use Rattle.ss_bso.specs.declared.account.Staged.{Staged}
 use Rattle.ss_bso.specs.Limits.{most_batch_bytes, most_batch_records, most_live_batches, part_bytes}
 use Rattle.ss_bso.specs.Batches.{grown}
+use Rattle.ss_bso.specs.Lists.{Each, Pairs}
 use Rattle.ss_batch.specs.declared.faults.StageFault.{StageFault}
 use Rattle.ss_batch.specs.declared.faults.StageFault.TheVariants.{NotLive, OtherCollection, TooManyRecords, TooManyBytes, TooManyBatches, Memory}
 
@@ -13,10 +14,18 @@ pub record StageView : Type 0 where
   pub counter : ℕ
   pub batches : List Staged
 
--- the numbers of batches rise from above one number on, and are at most another
-abbrev pub Rise : ℕ → ℕ → List Staged → Type 0
-Rise below counter [] = below ≤ counter
-Rise below counter (batch ∷ batches) = (below < batch.number) × Rise batch.number counter batches
+-- a batch's number was given out: it is from 1 to the counter
+abbrev pub IsGiven : ℕ → Staged → Type 0
+IsGiven counter batch = (1 ≤ batch.number) × (batch.number ≤ counter)
+
+-- two batches have different numbers
+abbrev pub IsOther : Staged → Staged → Type 0
+IsOther batch other = batch.number ≢ other.number
+
+-- the numbers of batches were given out, and no two batches have one number
+pub record AreNumbered (counter : ℕ) (batches : List Staged) : Type 0 where
+  pub given : Each (IsGiven counter) batches
+  pub apart : Pairs IsOther batches
 
 -- whether a batch has this number
 abbrev pub has_number : ℕ → Staged → Bool

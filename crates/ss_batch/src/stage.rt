@@ -1,30 +1,19 @@
 //! The batches of one account.
 
-ghost use Rattle.std.specs.Prelude.{option_copied, Ok, Err, ◌≡◌, ◌-◌, ◌+◌, ◌++◌, ◌≤◌, ◌==◌, ◌^◌, min, Some, None, IfOk, OnOk, IfErr, OnErr, is_some, IsSome, IfSome, IsSomeAnd, [], length, take, filter, position, bytes_eq, vec_len};
+ghost use Rattle.std.specs.Prelude.{All, AllPairs, option_copied, Ok, Err, ◌≡◌, ◌-◌, ◌+◌, ◌++◌, ◌≤◌, ◌==◌, ◌^◌, min, Some, None, IfOk, OnOk, IfErr, OnErr, is_some, IsSome, IfSome, IsSomeAnd, [], length, take, filter, position, bytes_eq, vec_len};
 ghost use Rattle.ss_bso.specs.Account.{is_open};
 ghost use Rattle.ss_bso.specs.Batches.{batches_elsewhere, batches_without};
 ghost use Rattle.ss_bso.specs.Limits.{part_bytes, payload_size};
-ghost use Rattle.ss_batch.specs.Stage.{Answers, append_fault, appended, begin_fault, begun, has_number, has_room, most_counted, numbered, reached, shortened, size_fault};
+ghost use Rattle.ss_batch.specs.Stage.{Answers, IsGiven, IsOther, append_fault, appended, begin_fault, begun, has_number, has_room, most_counted, numbered, reached, shortened, size_fault};
 
 use crate::faults::StageFault;
+use ss_bso::limits::{BATCH_LIFE, MOST_BATCH_BYTES, MOST_BATCH_RECORDS, MOST_LIVE_BATCHES};
 use ss_bso::{Field, Part, Parts, Staged};
 use ss_text::{LAST, Name, Stamp, Word};
 use std::alloc::{AllocError, Global};
 use std::marker::Model;
 
-/// The most live batches of an account.
-const MOST_LIVE_BATCHES: usize = 4;
-
-/// The most records of one batch.
-const MOST_RECORDS: u64 = 20_000;
-
-/// The most payload bytes of one batch.
-const MOST_BYTES: u64 = 16_777_216;
-
-/// How long a batch lives, in hundredths of a second of account time: two hours.
-const LIFE: u64 = 720_000;
-
-/// The live batches of one account, in the order in which they began, and how many were begun.
+/// The live batches of one account, each new one at the end, and how many were begun.
 #[derive(Drop)]
 pub struct Stage {
     counter: u64,
@@ -32,13 +21,13 @@ pub struct Stage {
 }
 
 impl Model for Stage {
-    ghost use Rattle.ss_batch.specs.Stage.{Rise, StageView};
+    ghost use Rattle.ss_batch.specs.Stage.{AreNumbered, StageView};
 
     ghost Value = { StageView };
 
     ghost view = { λ s. record { counter = s.counter; batches = s.batches.items } };
 
-    ghost invariant = { λ s. Rise 0 s.counter s.batches.items };
+    ghost invariant = { λ s. AreNumbered s.counter s.batches.items };
 }
 
 fn has_number(staged: &Staged, batch: u64) -> bool
@@ -50,7 +39,7 @@ fn has_number(staged: &Staged, batch: u64) -> bool
 fn is_open(staged: &Staged, moment: Stamp) -> bool
     ensures { result ≡ is_open moment staged.now }
 {
-    moment.get() < staged.begun.get() + LIFE
+    moment.get() < staged.begun.get() + BATCH_LIFE
 }
 
 fn is_of(staged: &Staged, collection: &Name) -> bool
@@ -86,11 +75,11 @@ fn check_size(old: &[Part], parts: &[Part]) -> Result<(), StageFault>
     ensures err { IfErr result (λ fault. size_fault (old.now ++ parts.now) ≡ Some fault) }
 {
     let records = old.len() as u64 + parts.len() as u64;
-    if records > MOST_RECORDS {
+    if records > MOST_BATCH_RECORDS {
         return Err(StageFault::TooManyRecords { n: records });
     }
     let bytes = added_bytes(added_bytes(0, old), parts);
-    if bytes > MOST_BYTES {
+    if bytes > MOST_BATCH_BYTES {
         return Err(StageFault::TooManyBytes { n: bytes });
     }
     Ok(())
@@ -124,6 +113,16 @@ impl Stage {
         }
     }
 
+    /// These batches, of so many that were begun. Each number was given out, and no two batches have one number. It takes no
+    /// memory.
+    pub fn from_staged(counter: u64, batches: Vec<Staged>) -> Stage
+        requires given { All (IsGiven counter) batches.items }
+        requires apart { AllPairs IsOther batches.items }
+        ensures { result ≡ record { counter = counter; batches = batches.items } }
+    {
+        Stage { counter, batches }
+    }
+
     /// How many batches were begun.
     pub fn counter(&self) -> u64
         ensures { result ≡ self.now.counter }
@@ -131,7 +130,7 @@ impl Stage {
         self.counter
     }
 
-    /// The live batches, in the order in which they began.
+    /// The live batches, each that began here after those before it.
     pub fn batches(&self) -> &[Staged]
         ensures { result.now ≡ self.now.batches }
     {

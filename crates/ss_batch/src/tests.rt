@@ -2,7 +2,7 @@
 
 use crate::faults::StageFault;
 use crate::stage::Stage;
-use ss_bso::{Field, Fields, Part};
+use ss_bso::{Field, Fields, Part, Parts, Staged};
 use ss_text::{Id, Name, Stamp, Word};
 use std::alloc::Global;
 use std::test::Fail;
@@ -160,5 +160,33 @@ fn what_was_done_is_taken_back(rt: HostRuntime) -> Result<(), Fail> {
         assert_eq!(rt; stage.take(1).len(), 2);
     }
     assert_eq!(rt; stage.batches().len(), 0);
+    Ok(())
+}
+
+#[test]
+fn staged_batches_go_on(rt: HostRuntime) -> Result<(), Fail> {
+    let alloc = rt.alloc();
+    let forms = name(alloc, "forms")?;
+    let later = Staged {
+        number: 3,
+        collection: forms.copy(alloc)?,
+        begun: Stamp::clamp(1000),
+        parts: Parts::new(parts(alloc, 2, "x")?),
+    };
+    let earlier = Staged {
+        number: 1,
+        collection: forms.copy(alloc)?,
+        begun: Stamp::clamp(1000),
+        parts: Parts::new(parts(alloc, 1, "y")?),
+    };
+    let batches = vec![in alloc; later, earlier]?;
+    let mut stage = Stage::from_staged(3, batches);
+    assert_eq!(rt; stage.append(1, &forms, parts(alloc, 3, "z")?), Ok(()));
+    assert_eq!(rt; count(&stage, 1, &forms), Ok(4));
+    assert_eq!(rt; count(&stage, 3, &forms), Ok(2));
+    let begun = stage.begin(alloc, Stamp::clamp(2000), &forms, Vec::new(alloc));
+    assert_eq!(rt; begun, Ok(4));
+    stage.expire(Stamp::clamp(721_000));
+    assert_eq!(rt; stage.batches().len(), 1);
     Ok(())
 }

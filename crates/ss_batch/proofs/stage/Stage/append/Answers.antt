@@ -3,8 +3,8 @@ use Rattle.std.specs.Prelude.{Err, slice_set}
 use Rattle.ss_bso.specs.declared.parts.Part.{Part}
 use Rattle.ss_bso.specs.declared.account.Staged.{Staged}
 use Rattle.ss_batch.specs.declared.faults.StageFault.TheVariants.{NotLive}
-use Rattle.ss_batch.specs.Stage.{Answers, Rise, StageView, append_fault, has_number, more, reach, with_parts}
-use Rattle.ss_batch.proofs.Numbers.{IsAt, placed-in, unplaced-in, set-at, rise-with_parts}
+use Rattle.ss_batch.specs.Stage.{Answers, AreNumbered, StageView, append_fault, has_number, more, reach, with_parts}
+use Rattle.ss_batch.proofs.Numbers.{IsAt, placed-in, unplaced-in, set-at, numbered-with_parts}
 use Rattle.ss_batch.proofs.stage.Stage.append.Goals as goal
 
 pub returns-in_default-clause-cause : goal.returns-in_default-clause-cause
@@ -27,8 +27,8 @@ invariant_of-self-2 c =
     let same = ap (λ (s : StageView). s.batches) c.self.view_is in
     let at : IsAt (has_number number) batches c.in-Some.place = placed-in number batches c.args.self.now.batches c.place.result c.in-Some.place same c.place.ensures c.in-Some.is in
     let left : slice_set batches c.in-Some.place c.extend.new.staged ≡ with_parts number change batches =
-    set-at number change 0 c.self.inside.counter batches c.in-Some.place staged c.extend.new.staged c.self.invariant at (c.in_ok-extend.ensures.ok ∙ ap (λ (one : Staged). record one { parts = change one.parts }) c.index_mut.ensures.value) in
-    subst (Rise 0 c.self.inside.counter) (sym left) (rise-with_parts number change 0 c.self.inside.counter batches c.self.invariant)
+    set-at number change c.self.inside.counter batches c.in-Some.place staged c.extend.new.staged c.self.invariant at (c.in_ok-extend.ensures.ok ∙ ap (λ (one : Staged). record one { parts = change one.parts }) c.index_mut.ensures.value) in
+    subst (AreNumbered c.self.inside.counter) (sym left) (numbered-with_parts number change c.self.inside.counter batches c.self.invariant)
 
 pub returns-clause-ok : goal.returns-clause-ok
 returns-clause-ok c =
@@ -39,7 +39,7 @@ returns-clause-ok c =
     let same = ap (λ (s : StageView). s.batches) c.self.view_is in
     let at : IsAt (has_number number) batches c.in-Some.place = placed-in number batches c.args.self.now.batches c.place.result c.in-Some.place same c.place.ensures c.in-Some.is in
     let left : slice_set batches c.in-Some.place c.extend.new.staged ≡ with_parts number change batches =
-    set-at number change 0 c.self.inside.counter batches c.in-Some.place staged c.extend.new.staged c.self.invariant at (c.in_ok-extend.ensures.ok ∙ ap (λ (one : Staged). record one { parts = change one.parts }) c.index_mut.ensures.value) in
+    set-at number change c.self.inside.counter batches c.in-Some.place staged c.extend.new.staged c.self.invariant at (c.in_ok-extend.ensures.ok ∙ ap (λ (one : Staged). record one { parts = change one.parts }) c.index_mut.ensures.value) in
     let counter = ap (λ (s : StageView). s.counter) c.self.view_is in
     let others = left ∙ ap (with_parts number change) same in
     λ i. record { counter = counter i; batches = others i }

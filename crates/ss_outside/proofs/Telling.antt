@@ -53,6 +53,10 @@ Loses-cursor all got at n p was is = ap Some (sym was ∙ sym (take-append-drop 
 pub front_is : (n : ℕ) (copy into piece : List ℕ) → length copy ≡ n → copy ≡ piece → take n (copy ++ into) ≡ piece
 front_is n copy into piece size same = ap (λ k. take k (copy ++ into)) (sym size) ∙ take-append_seam copy into ∙ same
 
+pub idle_append : (s t : List ℕ) (a b c : Option (List ℕ)) → (s ≡ [] → b ≡ a) → (t ≡ [] → c ≡ b) → s ++ t ≡ [] → c ≡ a
+idle_append [] t a b c first then none = then none ∙ first refl
+idle_append (x ∷ s) t a b c first then none = absurd (let f : x ∷ (s ++ t) ≡ [] = none in cc)
+
 pub HasRead-none : (a : Meanings) → HasRead [] a a
 HasRead-none a = record {
   taken = Takes-none a.taken;
@@ -72,6 +76,7 @@ HasRead-append s t a b c first then = record {
 pub HasWritten-none : (a : Meanings) → HasWritten [] a a
 HasWritten-none a = record {
   written = Writes-none a.written a.written refl;
+  idle = λ _. refl;
   taken = refl;
   left = refl;
   read_faults = refl;
@@ -80,6 +85,7 @@ HasWritten-none a = record {
 pub HasWritten-append : (s t : List ℕ) (a b c : Meanings) → HasWritten s a b → HasWritten t b c → HasWritten (s ++ t) a c
 HasWritten-append s t a b c first then = record {
   written = Writes-append s t a.written b.written c.written first.written then.written;
+  idle = idle_append s t a.written b.written c.written first.idle then.idle;
   taken = then.taken ∙ first.taken;
   left = then.left ∙ first.left;
   read_faults = then.read_faults ∙ first.read_faults;

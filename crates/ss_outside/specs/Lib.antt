@@ -1,3 +1,4 @@
 pub mod Told
 pub mod Causes
+pub mod Plans
 pub mod Memory

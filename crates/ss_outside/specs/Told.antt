@@ -45,9 +45,10 @@ pub record HasRead (got : List ℕ) (old new : Meanings) : Type 0 where
   pub written : new.written ≡ old.written
   pub write_faults : new.write_faults ≡ old.write_faults
 
--- writes took these bytes; nothing that is read changes
+-- writes took these bytes; nothing that is read changes. Where they took none, as a refused write, what is told stays
 pub record HasWritten (sent : List ℕ) (old new : Meanings) : Type 0 where
   pub written : Writes sent old.written new.written
+  pub idle : sent ≡ [] → new.written ≡ old.written
   pub taken : new.taken ≡ old.taken
   pub left : new.left ≡ old.left
   pub read_faults : new.read_faults ≡ old.read_faults

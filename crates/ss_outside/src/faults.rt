@@ -1,17 +1,25 @@
 //! Which calls of an object in memory fail.
 
-ghost use Rattle.std.specs.Prelude.{◌≡◌, ℕ, MatchBool};
+ghost use Rattle.std.specs.Prelude.{◌≡◌, MatchBool};
 ghost use Rattle.ss_outside.specs.Causes.{Rose};
+ghost use Rattle.ss_outside.specs.Plans.{fresh_plan, is_failing, after_call, fault_count};
 
 use std::marker::Model;
 
 /// A plan of the calls that fail, which counts them.
 pub trait Faults {
-    ghost count: { Self → ℕ };
+    ghost use Rattle.std.specs.Prelude.{Option};
+    ghost use Rattle.ss_outside.specs.Plans.{Plan};
+
+    /// Which calls fail, and how many were made; None where none ever fails.
+    ghost plan: { Self → Option Plan };
 
     /// Whether this call is to fail.
     fn fails(&mut self) -> bool
-        ensures { MatchBool result (Rose (count self.old) (count self.new)) (count self.new ≡ count self.old) };
+        ensures answer { result ≡ is_failing (plan self.old) }
+        ensures after { plan self.new ≡ after_call (plan self.old) }
+        ensures cause { MatchBool result (Rose (fault_count (plan self.old)) (fault_count (plan self.new)))
+            (fault_count (plan self.new) ≡ fault_count (plan self.old)) };
 }
 
 /// The calls with these numbers fail; the first call has number 1.
@@ -23,16 +31,17 @@ pub struct Numbered {
 }
 
 impl Model for Numbered {
-    ghost use Rattle.std.specs.Prelude.{ℕ};
+    ghost use Rattle.ss_outside.specs.Plans.{Plan};
 
-    ghost Value = { ℕ };
+    ghost Value = { Plan };
 
-    ghost view = { λ plan. plan.faults };
+    ghost view = { λ plan. record { failing = plan.failing.items; calls = plan.calls; faults = plan.faults } };
 }
 
 impl Numbered {
+    /// A plan by which the calls with these numbers fail, before the first call.
     pub fn new(failing: Vec<u64>) -> Numbered
-        ensures { result ≡ 0 }
+        ensures { result ≡ fresh_plan failing.items }
     {
         Numbered {
             failing,
@@ -43,7 +52,9 @@ impl Numbered {
 }
 
 impl Faults for Numbered {
-    ghost count = { λ faults. faults };
+    ghost use Rattle.std.specs.Prelude.{Some};
+
+    ghost plan = { λ plan. Some plan };
 
     fn fails(&mut self) -> bool {
         self.calls = self.calls.saturating_add(1);
@@ -60,7 +71,9 @@ impl Faults for Numbered {
 pub struct Never;
 
 impl Faults for Never {
-    ghost count = { λ plan. 0 };
+    ghost use Rattle.std.specs.Prelude.{None};
+
+    ghost plan = { λ plan. None };
 
     fn fails(&mut self) -> bool {
         false

@@ -1,6 +1,6 @@
 //! Clocks in memory.
 
-ghost use Rattle.std.specs.Prelude.{◌≡◌, ◌+◌, ◌-◌, ◌^◌, min, None};
+ghost use Rattle.std.specs.Prelude.{◌≡◌, ◌+◌, ◌-◌, ◌^◌, min, [], None};
 ghost use Rattle.ss_outside.specs.Told.{TakesFirst};
 
 use crate::clock::Clock;
@@ -35,7 +35,10 @@ impl Clock for MemClock {
 
     ghost coming = { λ clock. Some clock };
 
-    fn now(&mut self) -> u64 {
+    fn now(&mut self) -> u64
+        ensures told { TakesFirst (Some self.old) (Some self.new) result }
+        ensures used_up { self.old ≡ [] → result ≡ 0 }
+    {
         match self.readings.get(self.next) {
             Some(reading) => {
                 self.next += 1;

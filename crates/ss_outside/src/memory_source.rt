@@ -1,7 +1,10 @@
 //! A source in memory.
 
-ghost use Rattle.std.specs.Prelude.{◌≡◌, [], None, Some};
-ghost use Rattle.ss_outside.specs.Memory.{joined};
+ghost use Rattle.std.specs.Prelude.{◌≡◌, ◌≤◌, [], None, Some, IfOk, IsErr, MatchBool, length, map, if◌then◌else◌};
+ghost use Rattle.ss_outside.specs.Causes.{RisesOnErr};
+ghost use Rattle.ss_outside.specs.Told.{EndsAt, HasRead, received};
+ghost use Rattle.ss_outside.specs.Plans.{fresh_plan, is_failing, after_call};
+ghost use Rattle.ss_outside.specs.Memory.{joined, filled, behind, read_size, source_tells};
 
 use crate::faults::{Faults, Never, Numbered};
 use crate::source::{ReadFault, Source};
@@ -18,18 +21,15 @@ pub struct SourceUnder<F: Faults + Drop> {
 }
 
 impl<F: Faults + Drop> Model for SourceUnder<F> {
-    ghost use Rattle.std.specs.Prelude.{◌++◌, ◌≤◌, take, drop, length, None, Some};
-    ghost use Rattle.ss_outside.specs.Told.{Meanings};
-    ghost use Rattle.ss_outside.specs.Memory.{joined};
+    ghost use Rattle.std.specs.Prelude.{◌++◌, ◌≤◌, take, drop, length, map, None, Some};
+    ghost use Rattle.ss_outside.specs.Memory.{Pieces, joined, filled, behind};
 
-    ghost Value = { Meanings };
+    ghost Value = { Pieces };
 
     ghost view = { λ s. record {
-      taken = Some (joined (take s.piece s.pieces.items) ++ take s.at (joined (drop s.piece s.pieces.items)));
-      left = Some (drop s.at (joined (drop s.piece s.pieces.items)));
-      read_faults = F.Faults.count s.plan;
-      written = None;
-      write_faults = 0;
+      taken = joined (take s.piece s.pieces.items) ++ take s.at (joined (drop s.piece s.pieces.items));
+      pieces = filled (behind s.at (map (λ piece. piece.items) (drop s.piece s.pieces.items)));
+      plan = F.Faults.plan s.plan;
     } };
 
     ghost invariant = { λ s. s.at ≤ length (joined (take 1 (drop s.piece s.pieces.items))) };
@@ -44,7 +44,8 @@ pub type SureSource = SourceUnder<Never>;
 impl SourceUnder<Numbered> {
     /// A source of these pieces; the reads with the numbers `failing` fail, counted from 1.
     pub fn new(pieces: Vec<Vec<u8>>, failing: Vec<u64>) -> MemSource
-        ensures { result ≡ record { taken = Some []; left = Some (joined pieces.items); read_faults = 0; written = None; write_faults = 0 } }
+        ensures value { result ≡ record { taken = []; pieces = filled (map (λ piece. piece.items) pieces.items); plan = Some (fresh_plan failing.items) } }
+        ensures told { source_tells result ≡ record { taken = Some []; left = Some (joined pieces.items); read_faults = 0; written = None; write_faults = 0 } }
     {
         SourceUnder {
             pieces,
@@ -58,7 +59,8 @@ impl SourceUnder<Numbered> {
 impl SourceUnder<Never> {
     /// A source of these pieces.
     pub fn new(pieces: Vec<Vec<u8>>) -> SureSource
-        ensures { result ≡ record { taken = Some []; left = Some (joined pieces.items); read_faults = 0; written = None; write_faults = 0 } }
+        ensures value { result ≡ record { taken = []; pieces = filled (map (λ piece. piece.items) pieces.items); plan = None } }
+        ensures told { source_tells result ≡ record { taken = Some []; left = Some (joined pieces.items); read_faults = 0; written = None; write_faults = 0 } }
     {
         SourceUnder {
             pieces,
@@ -70,11 +72,21 @@ impl SourceUnder<Never> {
 }
 
 impl<F: Faults + Drop> Told for SourceUnder<F> {
-    ghost told = { λ s. s };
+    ghost told = { source_tells };
 }
 
 impl<F: Faults + Drop> Source for SourceUnder<F> {
-    fn read(&mut self, into: &mut [u8]) -> Result<usize, ReadFault> {
+    fn read(&mut self, into: &mut [u8]) -> Result<usize, ReadFault>
+        ensures room { length into.new ≡ length into.old }
+        ensures bound { IfOk result (λ count. count ≤ length into.new) }
+        ensures bytes { HasRead (received result into.new) (source_tells self.old) (source_tells self.new) }
+        ensures ended { EndsAt result (length into.old) (source_tells self.old) }
+        ensures cause { RisesOnErr (source_tells self.old).read_faults (source_tells self.new).read_faults result }
+        ensures answer { MatchBool (is_failing self.old.plan) (IsErr result) (result ≡ Ok (read_size (length into.old) self.old.pieces)) }
+        ensures pieces { self.new.pieces ≡ (if is_failing self.old.plan then self.old.pieces
+            else filled (behind (read_size (length into.old) self.old.pieces) self.old.pieces)) }
+        ensures plan { self.new.plan ≡ after_call self.old.plan }
+    {
         if self.plan.fails() {
             return Err(ReadFault);
         }

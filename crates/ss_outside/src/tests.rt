@@ -44,15 +44,26 @@ fn a_sink_tells_what_fits_its_room_and_fails_by_number(rt: HostRuntime) -> Resul
     let mut sure = SureSink::new(rt.alloc(), 2)?;
     assert_eq!(rt; write_all(&mut sure, b"ef"), Ok(()));
     assert_eq!(rt; sure.written(), Some(b"ef".as_slice()));
-    let mut standard = StdSink::new(Vec::new(rt.alloc()));
+    Ok(())
+}
+
+#[test]
+fn a_standard_sink_hands_its_bytes_on(rt: HostRuntime) -> Result<(), Fail> {
+    let mut bytes = Vec::new(rt.alloc());
+    let mut standard = StdSink::new(&mut bytes);
     assert_eq!(rt; write_all(&mut standard, b"gh"), Ok(()));
+    drop(standard);
+    assert_eq!(rt; bytes.as_slice(), b"gh".as_slice());
     Ok(())
 }
 
 #[test]
 fn clocks_read_what_is_to_come(rt: HostRuntime) -> Result<(), Fail> {
     let mut clock = MemClock::new(vec![in rt.alloc(); 5, 3]?);
-    assert_eq!(rt; (clock.now(), clock.now(), clock.now()), (5, 3, 0));
+    assert_eq!(rt;
+        (clock.now(), clock.now(), clock.now(), clock.now()),
+        (5, 3, 0, 0)
+    );
     let mut count = CountClock::new(u64::MAX - 1);
     assert_eq!(rt;
         (count.now(), count.now(), count.now()),

@@ -1,7 +1,6 @@
-use Rattle.std.proofs.Common.{◌≡◌, ◌<◌, ◌≤◌, ◌+◌, ◌-◌, ◌++◌, length, take, drop, get_or, rules, arith, sym, ◌∙◌, ap, length-drop}
+use Rattle.std.proofs.Common.{◌≡◌, ◌<◌, ◌≤◌, ◌+◌, ◌-◌, ◌++◌, length, take, drop, get_or, rules, arith, ◌∙◌, ap, length-drop}
 use Rattle.std.proofs.lemmas.List.{length-take-le}
-use Rattle.ss_outside.specs.Memory.{joined}
-use Rattle.ss_outside.proofs.Pieces.{piece_first, HasRead-front}
+use Rattle.ss_outside.proofs.Pieces.{pieces_after, HasRead-piece}
 use Rattle.ss_outside.proofs.Telling.{front_is}
 use Rattle.ss_outside.proofs.memory_source.SourceUnderSource.read.Goals as goal
 
@@ -11,7 +10,6 @@ returns-then-self-piece-clause-bytes g c =
     let s = c.pieces.self-inside in
     let n = c.min-count.result in
     let piece = c.index.result.now in
-    let all = joined (drop s.piece s.pieces.items) in
     let into = c.pieces.into in
     let copy = c.copy_from_slice.new.self in
     let inside : s.piece < length s.pieces.items = search (c.pieces-test.true, c.len.ensures, rules) in
@@ -24,6 +22,16 @@ returns-then-self-piece-clause-bytes g c =
     ∙ ap (λ k. take k (drop s.at c.as_slice-piece.result.now)) within
     ∙ ap (λ bytes. take n (drop s.at bytes)) c.as_slice-piece.ensures.value in
     let size : length copy ≡ n = ap length here ∙ length-take-le n (drop s.at piece.items) (omega (arith, length-drop s.at piece.items)) in
-    HasRead-front (joined (take s.piece s.pieces.items)) all (take n (copy ++ drop n into)) s.at n (g.F.Faults.count s.plan) c.args.self.now
-    c.pieces.invariant.taken c.pieces.invariant.left (ap (λ m. m.written) (sym c.self.view_is)) (ap (λ m. m.write_faults) (sym c.self.view_is))
-    (front_is n copy (drop n into) (take n (drop s.at piece.items)) size here ∙ piece_first s.pieces.items s.piece s.at n piece inside is fits)
+    HasRead-piece c.args.self.now s.pieces.items s.piece s.at n piece (take n (copy ++ drop n into)) (g.F.Faults.plan s.plan) inside is fits
+    c.pieces.invariant.taken c.pieces.invariant.left (front_is n copy (drop n into) (take n (drop s.at piece.items)) size here)
+
+pub returns-then-self-piece-clause-pieces : goal.returns-then-self-piece-clause-pieces
+returns-then-self-piece-clause-pieces g c =
+    let s = c.pieces.self-inside in
+    let n = c.min-count.result in
+    let piece = c.index.result.now in
+    let inside : s.piece < length s.pieces.items = search (c.pieces-test.true, c.len.ensures, rules) in
+    let same : length c.as_slice-piece.result.now ≡ length piece.items = ap length c.as_slice-piece.ensures.value in
+    let within : s.at < length piece.items = omega (arith, c.if-self-piece.true, same) in
+    let after = pieces_after c.args.self.now.pieces s.pieces.items s.piece s.at n (length c.args.into.now) piece inside c.index.ensures within (omega arith) c.pieces.invariant.left in
+    rw c.pieces.invariant.sure (after.1)

@@ -5,14 +5,18 @@ use Rattle.std.proofs.Common.{sym, ap, ◌∙◌, append_assoc}
 use Rattle.std.proofs.lemmas.List.{append-nil}
 use Rattle.std.proofs.lemmas.List.Elements.{filter-append}
 use Rattle.ss_bso.specs.declared.rows.Row.{Row}
+use Rattle.ss_bso.specs.declared.account.Staged.{Staged}
+use Rattle.ss_bso.specs.declared.changes.Kept.{Kept}
+use Rattle.ss_bso.specs.declared.changes.Changes.{Changes}
 use Rattle.ss_bso.specs.declared.changes.RowChange.{RowChange}
 use Rattle.ss_bso.specs.declared.changes.RowChange.TheVariants as row
 use Rattle.ss_bso.specs.declared.changes.CollectionChange.{CollectionChange}
 use Rattle.ss_bso.specs.declared.changes.CollectionChange.TheVariants as collection
 use Rattle.ss_bso.specs.Account.{is_alive}
-use Rattle.ss_bso.specs.Changes.{drops, row_changed, rows_but, time_changed}
+use Rattle.ss_bso.specs.Changes.{batches_changed, changed, drops, row_changed, rows_but, time_changed}
 use Rattle.ss_bso.specs.Write.{times_without}
-use Rattle.ss_keeper.specs.Together.{collection_of, id_of, is_set, is_touched, last_puts, last_times, touches}
+use Rattle.ss_keeper.specs.Memory.{after_commits}
+use Rattle.ss_keeper.specs.Together.{collection_of, id_of, is_set, is_spared, is_time_spared, is_touched, last_puts, last_times, spared_puts, spared_times, spares, spares_time, touches}
 
 -- two filters are one
 pub filter-both : {X : Type 0} (p q r : X → Bool) → ((x : X) → r x ≡ (q x && p x)) → (xs : List X) → filter p (filter q xs) ≡ filter r xs
@@ -36,8 +40,8 @@ neither true q = refl
 neither false q = refl
 
 -- what is left of one thing that is put
-last-one : {X : Type 0} (p : X → Bool) (x : X) (later : List X) → filter (λ y. not (p y)) (x ∷ []) ++ later ≡ cond (p x) later (x ∷ later)
-last-one p x later = elim (p x) as (λ v. cond (not v) (x ∷ []) [] ++ later ≡ cond v later (x ∷ later)) [ true ↦ refl | false ↦ refl ]
+last-one : {X : Type 0} (p : X → Bool) (x : X) (later : List X) → filter (λ y. not (p y)) (x ∷ []) ++ later ≡ cond (not (p x)) (x ∷ later) later
+last-one p x later = elim (p x) as (λ v. cond (not v) (x ∷ []) [] ++ later ≡ cond (not v) (x ∷ later) later) [ true ↦ refl | false ↦ refl ]
 
 rows_left : (change : RowChange) (changes : List RowChange) (rows : List Row) → filter (λ row. not (is_touched changes row)) (rows_but (collection_of change) (id_of change) rows) ≡ filter (λ row. not (is_touched (change ∷ changes) row)) rows
 rows_left change changes rows =
@@ -76,26 +80,66 @@ fold-times times (collection.Set name time ∷ changes) =
         (λ entry. neither (bytes_eq entry.0 name) (is_set changes entry.0)) times
 fold-times times (collection.Drop name ∷ changes) = fold-times times changes
 
--- the rows after the changes of a commit
-pub rows-changed : (rows : List Row) (moment : ℕ) (collections : List CollectionChange) (changes : List RowChange) (dropped : List ℕ → Bool) (touched : Row → Bool)
-    → ((name : List ℕ) → dropped name ≡ list_any (drops name) collections) → ((row : Row) → touched row ≡ is_touched changes row)
-    → filter (λ row. is_alive moment row && (not (dropped row.collection) && not (touched row))) rows ++ last_puts changes
-    ≡ fold row_changed (filter (λ row. not (list_any (drops row.collection) collections)) (filter (is_alive moment) rows)) changes
-rows-changed rows moment collections changes dropped touched drop touch =
-    sym (fold-rows (filter (λ row. not (list_any (drops row.collection) collections)) (filter (is_alive moment) rows)) changes
-    ∙ ap (λ left. left ++ last_puts changes) (
-    filter-both (λ row. not (is_touched changes row)) (λ row. not (list_any (drops row.collection) collections))
-    (λ row. not (dropped row.collection) && not (touched row)) (λ row i. not (drop row.collection i) && not (touch row i)) (filter (is_alive moment) rows)
-    ∙ filter-both (λ row. not (dropped row.collection) && not (touched row)) (is_alive moment)
-    (λ row. is_alive moment row && (not (dropped row.collection) && not (touched row))) (λ row. refl) rows))
+-- the rows after one commit
+rows-after_one : (rows : List Row) (commit : Changes)
+    → fold row_changed (filter (λ row. not (list_any (drops row.collection) commit.collections)) (filter (is_alive commit.moment) rows)) commit.rows ≡ filter (spares commit) rows ++ last_puts commit.rows
+rows-after_one rows commit =
+    fold-rows (filter (λ row. not (list_any (drops row.collection) commit.collections)) (filter (is_alive commit.moment) rows)) commit.rows
+    ∙ ap (λ left. left ++ last_puts commit.rows) (
+    filter-both (λ row. not (is_touched commit.rows row)) (λ row. not (list_any (drops row.collection) commit.collections))
+    (λ row. not (list_any (drops row.collection) commit.collections) && not (is_touched commit.rows row)) (λ row. refl) (filter (is_alive commit.moment) rows)
+    ∙ filter-both (λ row. not (list_any (drops row.collection) commit.collections) && not (is_touched commit.rows row)) (is_alive commit.moment) (spares commit) (λ row. refl) rows)
+
+-- the collections after it
+times-after_one : (times : List (List ℕ × ℕ)) (commit : Changes)
+    → fold time_changed (filter (λ entry. not (list_any (drops entry.0) commit.collections)) times) commit.collections ≡ filter (λ entry. spares_time commit entry.0) times ++ last_times commit.collections
+times-after_one times commit =
+    fold-times (filter (λ entry. not (list_any (drops entry.0) commit.collections)) times) commit.collections
+    ∙ ap (λ left. left ++ last_times commit.collections)
+    (filter-both (λ entry. not (is_set commit.collections entry.0)) (λ entry. not (list_any (drops entry.0) commit.collections)) (λ entry. spares_time commit entry.0) (λ entry. refl) times)
+
+-- one step more of a fold that leaves some of what was there and brings something
+one-more : {X : Type 0} (later now all : X → Bool) → ((x : X) → all x ≡ (now x && later x)) → (old brought more left : List X)
+    → left ≡ filter now old ++ brought → filter later left ++ more ≡ filter all old ++ (filter later brought ++ more)
+one-more later now all h old brought more left e =
+    ap (λ xs. filter later xs ++ more) e
+    ∙ ap (λ xs. xs ++ more) (filter-append later (filter now old) brought)
+    ∙ append_assoc (filter later (filter now old)) (filter later brought) more
+    ∙ ap (λ xs. xs ++ (filter later brought ++ more)) (filter-both later now all h old)
+
+-- the rows after the changes of commits
+pub rows-after : (kept : Kept) (commits : List Changes) → (after_commits kept commits).rows ≡ filter (is_spared commits) kept.rows ++ spared_puts commits
+rows-after kept [] = sym (append-nil (filter (λ _. true) kept.rows) ∙ filter-all kept.rows)
+rows-after kept (commit ∷ commits) =
+    rows-after (changed kept commit) commits
+    ∙ one-more (is_spared commits) (spares commit) (is_spared (commit ∷ commits)) (λ row. refl) kept.rows (last_puts commit.rows) (spared_puts commits) (changed kept commit).rows (rows-after_one kept.rows commit)
 
 -- the collections after them
-pub times-changed : (times : List (List ℕ × ℕ)) (collections : List CollectionChange) (dropped set : List ℕ → Bool)
-    → ((name : List ℕ) → dropped name ≡ list_any (drops name) collections) → ((name : List ℕ) → set name ≡ is_set collections name)
-    → filter (λ entry. not (dropped entry.0) && not (set entry.0)) times ++ last_times collections
-    ≡ fold time_changed (filter (λ entry. not (list_any (drops entry.0) collections)) times) collections
-times-changed times collections dropped set drop is =
-    sym (fold-times (filter (λ entry. not (list_any (drops entry.0) collections)) times) collections
-    ∙ ap (λ left. left ++ last_times collections)
-    (filter-both (λ entry. not (is_set collections entry.0)) (λ entry. not (list_any (drops entry.0) collections))
-    (λ entry. not (dropped entry.0) && not (set entry.0)) (λ entry i. not (drop entry.0 i) && not (is entry.0 i)) times))
+pub times-after : (kept : Kept) (commits : List Changes) → (after_commits kept commits).collections ≡ filter (λ entry. is_time_spared commits entry.0) kept.collections ++ spared_times commits
+times-after kept [] = sym (append-nil (filter (λ _. true) kept.collections) ∙ filter-all kept.collections)
+times-after kept (commit ∷ commits) =
+    times-after (changed kept commit) commits
+    ∙ one-more (λ (entry : List ℕ × ℕ). is_time_spared commits entry.0) (λ entry. spares_time commit entry.0) (λ entry. is_time_spared (commit ∷ commits) entry.0) (λ entry. refl)
+    kept.collections (last_times commit.collections) (spared_times commits) (changed kept commit).collections (times-after_one kept.collections commit)
+
+-- the rest after them
+pub store-after : (kept : Kept) (commits : List Changes) → (after_commits kept commits).store ≡ fold (λ _ commit. commit.store) kept.store commits
+store-after kept [] = refl
+store-after kept (commit ∷ commits) = store-after (changed kept commit) commits
+
+pub last_delete-after : (kept : Kept) (commits : List Changes) → (after_commits kept commits).last_delete ≡ fold (λ _ commit. commit.last_delete) kept.last_delete commits
+last_delete-after kept [] = refl
+last_delete-after kept (commit ∷ commits) = last_delete-after (changed kept commit) commits
+
+pub counter-after : (kept : Kept) (commits : List Changes) → (after_commits kept commits).counter ≡ fold (λ _ commit. commit.counter) kept.counter commits
+counter-after kept [] = refl
+counter-after kept (commit ∷ commits) = counter-after (changed kept commit) commits
+
+pub batches-after : (kept : Kept) (commits : List Changes) → (after_commits kept commits).batches ≡ fold (λ held commit. batches_changed held commit.batches) kept.batches commits
+batches-after kept [] = refl
+batches-after kept (commit ∷ commits) = batches-after (changed kept commit) commits
+
+-- one more commit
+pub fold-push : {A B : Type 0} (f : B → A → B) (start : B) (xs : List A) (x : A) → fold f start (xs ++ x ∷ []) ≡ f (fold f start xs) x
+fold-push f start [] x = refl
+fold-push f start (y ∷ xs) x = fold-push f (f start y) xs x

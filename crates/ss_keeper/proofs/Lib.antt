@@ -1,2 +1,3 @@
-pub mod Sets
 pub mod Folds
+pub mod Gathering
+pub mod Sets

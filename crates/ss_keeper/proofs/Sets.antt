@@ -6,34 +6,17 @@ use Rattle.std.specs.List.{list_any}
 use Rattle.std.specs.List.Sorted.{IsPermutation}
 use Rattle.ss_bso.specs.declared.rows.Row.{Row}
 use Rattle.ss_bso.specs.Account.{is_at}
+use Rattle.ss_bso.proofs.Texts.{same_text, bytes_eq-same, bytes_eq-flip, both_left, both_right}
 use Rattle.ss_keeper.specs.declared.row_edits.Place.{Place}
 use Rattle.std.proofs.Common.{sym, ap, ◌∙◌}
-use Rattle.std.proofs.lemmas.Slice.Eq.{bytes_eq-Decides}
 use Rattle.std.proofs.lemmas.List.Sorted.{list_any-IsPermutation}
-
-pub same_text : (x y : List ℕ) → bytes_eq x y ≡ true → x ≡ y
-same_text x y e = (bytes_eq-Decides x y).0 e
-
-pub text_same : (x y : List ℕ) → x ≡ y → bytes_eq x y ≡ true
-text_same x y e = (bytes_eq-Decides x y).1 e
 
 pub bytes_eq-turn : (x y : List ℕ) → bytes_eq x y ≡ bytes_eq y x
 bytes_eq-turn x y =
     elim (bytes_eq x y) as (λ v. bytes_eq x y ≡ v → v ≡ bytes_eq y x) [
-      | true ↦ (λ e. sym (text_same y x (sym (same_text x y e))))
-      | false ↦ (λ e. elim (bytes_eq y x) as (λ w. bytes_eq y x ≡ w → false ≡ w) [
-        | true ↦ (λ f. sym e ∙ text_same x y (sym (same_text y x f)))
-        | false ↦ (λ f. refl)
-      ] refl)
+      | true ↦ (λ e. sym (bytes_eq-same y x (sym (same_text x y e))))
+      | false ↦ (λ e. sym (bytes_eq-flip x y e))
     ] refl
-
-pub both_left : (p q : Bool) → (p && q) ≡ true → p ≡ true
-both_left true q e = refl
-both_left false q e = e
-
-pub both_right : (p q : Bool) → (p && q) ≡ true → q ≡ true
-both_right true q e = e
-both_right false q e = cc
 
 -- a test that a key's equals pass finds something where the key is found
 found : {K : Type 0} (eq : K → K → Bool) (p : K → Bool) (k : K) → ((x : K) → eq k x ≡ true → p x ≡ true) → (ks : List K) → list_any (eq k) ks ≡ true → list_any p ks ≡ true
@@ -65,7 +48,7 @@ pub name-put : (name : List ℕ) (k : Bor (List ℕ)) (old new : List (Bor (List
     → list_any (λ held. bytes_eq name held.now) new ≡ (bytes_eq name k.now || list_any (λ held. bytes_eq name held.now) old)
 name-put name k old new added e m =
     any-put (λ one other. bytes_eq one.now other.now) (λ held. bytes_eq name held.now) k old new added
-    (λ x t f. text_same name x.now (same_text name k.now t ∙ same_text k.now x.now f)) e m
+    (λ x t f. bytes_eq-same name x.now (same_text name k.now t ∙ same_text k.now x.now f)) e m
 
 -- a place was put into a set of places
 pub place-put : (row : Row) (k : Place) (old new : List Place) (added : Bool)

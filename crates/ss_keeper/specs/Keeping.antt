@@ -16,7 +16,8 @@ IsTold kept told = (x : Kept) → told ≡ Some x → kept ≡ x
 abbrev pub changed_by : Changes → Option Kept → Option Kept
 changed_by changes told = option_map (λ kept. changed kept changes) told
 
--- the count of faults doesn't fall, and a fault is answered only where it rose
+-- the count of faults doesn't fall, it rose where a fault is answered, and it stands where none is
 pub record HasCause {T : Type 0} (before now : ℕ) (result : Result T KeepFault) : Type 0 where
   pub later : before ≤ now
   pub fault : result ≡ Err Fault → Rose before now
+  pub quiet : (result ≡ Err Fault → ⊥) → now ≡ before

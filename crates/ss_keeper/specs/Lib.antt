@@ -1,3 +1,4 @@
+pub mod Batches
 pub mod Keeping
 pub mod Memory
 pub mod Together

@@ -1,12 +1,15 @@
-//! Keepers: what holds an account's rows, collections and times beyond the process that serves it.
-//! Their contracts: a commit is whole or not at all, what is loaded is what the keeper tells, and a fault is answered only
-//! where its count rose.
+//! Keepers: what holds an account's rows, collections, times and batches beyond the process that serves it.
+//! Their contracts: a commit is whole or not at all, what is loaded is what the keeper tells, and the count of faults rises
+//! where a fault is answered and nowhere else. Of those in memory it is said which calls fail.
 #![tactic(auto)]
 
+mod batch_edits;
 mod faults;
+mod history;
 mod keeper;
 mod making;
 mod memory;
+mod names;
 mod row_edits;
 #[cfg(test)]
 mod tests;

@@ -1,16 +1,15 @@
-//! What changes of rows come to together, so that they are made in one pass over the rows.
+//! What the changes of commits come to for rows, so that they are made in one pass over the rows.
 
-ghost use Rattle.std.specs.Prelude.{◌≡◌, ◌+◌, ◌<◌, IfOk, OnOk, drop, false, length, reverse};
+ghost use Rattle.std.specs.Prelude.{◌≡◌, ◌&&◌, ◌||◌, ◌++◌, max, not, IfOk, OnOk, Some, None, true, [], filter, reverse};
+ghost use Rattle.std.specs.Option.{option_map_or};
 ghost use Rattle.ss_bso.specs.declared.rows.Row.{Row};
-ghost use Rattle.ss_keeper.specs.Together.{collection_of, id_of, touches, is_touched, touched_by, with_put, last_puts};
+ghost use Rattle.ss_keeper.specs.Together.{collection_of, id_of, is_held, is_spared, is_touched, last_puts, leaves, spared_puts, spares, touches, with_put};
 
-use ss_bso::{Row, RowChange};
-use ss_text::{Id, Name};
+use crate::names::{has_name, note_drops};
+use ss_bso::{Changes, Row, RowChange};
+use ss_text::{Id, Name, Stamp};
 use std::alloc::{AllocError, Global};
 use std::collections::HashSet;
-
-/// So many changes are gone through for each row; what more of them name is looked up.
-pub(crate) const FEW: usize = 4;
 
 /// Where a row is: its collection and its id.
 #[derive(Clone, Copy, PartialEq, Eq, Hash)]
@@ -32,104 +31,121 @@ fn place_of(change: &RowChange) -> Place<'_>
     }
 }
 
-fn touches(change: &RowChange, row: &Row) -> bool
-    ensures { result ≡ touches row.now change.now }
+/// Notes the place of a change.
+fn touch<'a>(touched: &mut HashSet<Place<'a>>, change: &'a RowChange) -> Result<(), AllocError>
+    ensures { OnOk result ((row : Row) → is_held touched.new row ≡ (touches row change.now || is_held touched.old row)) }
 {
-    let place = place_of(change);
-    row.collection == *place.collection && row.id == *place.id
-}
-
-fn are_touching(changes: &[RowChange], row: &Row) -> bool
-    ensures { result ≡ is_touched changes.now row.now }
-{
-    changes.iter().any(|change| touches(change, row))
-}
-
-/// The places that changes touch.
-#[derive(Drop)]
-pub(crate) enum Touched<'a> {
-    Few(&'a [RowChange]),
-    Many(HashSet<Place<'a>>),
-}
-
-impl<'a> Touched<'a> {
-    /// No place yet; the changes are those that are to come.
-    fn none(alloc: Global, changes: &'a [RowChange]) -> Touched<'a>
-        ensures { (row : Row) → touched_by result row ≡ false }
-    {
-        if changes.len() <= FEW {
-            Touched::Few(&changes[changes.len()..])
-        } else {
-            Touched::Many(HashSet::new(alloc))
-        }
-    }
-
-    /// The places of the changes from `at` on, given those of the changes after that.
-    fn with(self, changes: &'a [RowChange], at: usize) -> Result<Touched<'a>, AllocError>
-        requires within { at < length changes.now }
-        requires later { (row : Row) → touched_by self row ≡ is_touched (drop (at + 1) changes.now) row }
-        ensures { IfOk result (λ touched. (row : Row) → touched_by touched row ≡ is_touched (drop at changes.now) row) }
-    {
-        match self {
-            Touched::Few(_later) => Ok(Touched::Few(&changes[at..])),
-            Touched::Many(mut places) => {
-                let _added = places.insert(place_of(&changes[at]))?;
-                Ok(Touched::Many(places))
-            }
-        }
-    }
-
-    /// Whether a row's place is among them.
-    pub(crate) fn holds(&self, row: &Row) -> bool
-        ensures { result ≡ touched_by self.now row.now }
-    {
-        match self {
-            Touched::Few(changes) => are_touching(changes, row),
-            Touched::Many(places) => places.contains(&Place {
-                collection: &row.collection,
-                id: &row.id,
-            }),
-        }
-    }
-}
-
-/// Takes a copy of the row that is put, unless a later change touches its place.
-fn push_put(
-    alloc: Global,
-    puts: &mut Vec<Row>,
-    change: &RowChange,
-    later: &Touched<'_>,
-) -> Result<(), AllocError>
-    ensures { OnOk result (reverse puts.new.items ≡ with_put (touched_by later.now) change.now (reverse puts.old.items)) }
-{
-    match change {
-        RowChange::Put(row) if !later.holds(row) => puts.push(row.copy(alloc)?)?,
-        RowChange::Put(_) | RowChange::Drop { .. } => (),
-    }
+    let _added = touched.insert(place_of(change))?;
     Ok(())
 }
 
-/// What changes of rows come to: the places that they touch, and the rows that are put there in the end.
+/// The later of a moment and one that was noted.
+fn later_of(noted: Option<Stamp>, moment: Stamp) -> Option<Stamp>
+    ensures { result ≡ Some (option_map_or (λ old. max moment old) noted moment) }
+{
+    match noted {
+        Some(old) if moment.get() < old.get() => Some(old),
+        Some(_) | None => Some(moment),
+    }
+}
+
+/// What commits come to for rows: when rows must be alive, which collections go, which places are touched, and which rows are
+/// put there in the end. They are gathered from the last commit to the first, and the rows that are put stand in that order.
 #[derive(Drop)]
 pub(crate) struct RowEdits<'a> {
-    pub(crate) touched: Touched<'a>,
+    moment: Option<Stamp>,
+    dropped: HashSet<&'a Name>,
+    touched: HashSet<Place<'a>>,
     pub(crate) puts: Vec<Row>,
 }
 
 impl<'a> RowEdits<'a> {
-    pub(crate) fn of(alloc: Global, changes: &'a [RowChange]) -> Result<RowEdits<'a>, AllocError>
-        ensures touched { IfOk result (λ edits. (row : Row) → touched_by edits.touched row ≡ is_touched changes.now row) }
-        ensures puts { IfOk result (λ edits. edits.puts.items ≡ last_puts changes.now) }
+    fn none(alloc: Global) -> RowEdits<'a>
+        ensures leaves { (row : Row) → leaves result row ≡ true }
+        ensures puts { result.puts.items ≡ [] }
     {
-        let mut touched = Touched::none(alloc, changes);
-        let mut puts = Vec::new(alloc);
+        RowEdits {
+            moment: None,
+            dropped: HashSet::new(alloc),
+            touched: HashSet::new(alloc),
+            puts: Vec::new(alloc),
+        }
+    }
+
+    /// Whether a row stays as it is.
+    pub(crate) fn leaves(&self, row: &Row) -> bool
+        ensures { result ≡ leaves self.now row.now }
+    {
+        let is_alive = match self.moment {
+            None => true,
+            Some(moment) => row.is_alive(moment),
+        };
+        is_alive
+            && (!has_name(&self.dropped, &row.collection)
+                && !self.touched.contains(&Place {
+                    collection: &row.collection,
+                    id: &row.id,
+                }))
+    }
+
+    /// Takes a copy of the row that is put, unless it goes again.
+    fn push_put(&mut self, alloc: Global, change: &RowChange) -> Result<(), AllocError>
+        ensures puts { OnOk result (reverse self.new.puts.items ≡ with_put (leaves self.old) change.now (reverse self.old.puts.items)) }
+        ensures same { OnOk result ((row : Row) → leaves self.new row ≡ leaves self.old row) }
+    {
+        match change {
+            RowChange::Put(row) if self.leaves(row) => self.puts.push(row.copy(alloc)?)?,
+            RowChange::Put(_) | RowChange::Drop { .. } => (),
+        }
+        Ok(())
+    }
+
+    /// Gathers a change before those that were gathered.
+    fn add_change(&mut self, alloc: Global, change: &'a RowChange) -> Result<(), AllocError>
+        ensures puts { OnOk result (reverse self.new.puts.items ≡ with_put (leaves self.old) change.now (reverse self.old.puts.items)) }
+        ensures leaves { OnOk result ((row : Row) → leaves self.new row ≡ (not (touches row change.now) && leaves self.old row)) }
+    {
+        self.push_put(alloc, change)?;
+        touch(&mut self.touched, change)?;
+        Ok(())
+    }
+
+    /// Gathers the changes of a commit's rows before those that were gathered.
+    fn add_changes(&mut self, alloc: Global, changes: &'a [RowChange]) -> Result<(), AllocError>
+        ensures puts { OnOk result (reverse self.new.puts.items ≡ filter (leaves self.old) (last_puts changes.now) ++ reverse self.old.puts.items) }
+        ensures leaves { OnOk result ((row : Row) → leaves self.new row ≡ (not (is_touched changes.now row) && leaves self.old row)) }
+    {
         let mut at = changes.len();
         'changes: while at > 0 {
             at -= 1;
-            push_put(alloc, &mut puts, &changes[at], &touched)?;
-            touched = touched.with(changes, at)?;
+            self.add_change(alloc, &changes[at])?;
         }
-        puts.reverse();
-        Ok(RowEdits { touched, puts })
+        Ok(())
+    }
+
+    /// Gathers a commit before those that were gathered.
+    fn add(&mut self, alloc: Global, commit: &'a Changes) -> Result<(), AllocError>
+        ensures puts { OnOk result (reverse self.new.puts.items ≡ filter (leaves self.old) (last_puts commit.now.rows) ++ reverse self.old.puts.items) }
+        ensures leaves { OnOk result ((row : Row) → leaves self.new row ≡ (spares commit.now row && leaves self.old row)) }
+    {
+        self.add_changes(alloc, commit.rows.as_slice())?;
+        note_drops(&mut self.dropped, commit.collections.as_slice())?;
+        self.moment = later_of(self.moment, commit.moment);
+        Ok(())
+    }
+
+    /// What commits come to, each made after the one before it.
+    pub(crate) fn of(alloc: Global, commits: &'a [Changes]) -> Result<RowEdits<'a>, AllocError>
+        ensures leaves { IfOk result (λ edits. (row : Row) → leaves edits row ≡ is_spared commits.now row) }
+        ensures puts { IfOk result (λ edits. edits.puts.items ≡ spared_puts commits.now) }
+    {
+        let mut edits = RowEdits::none(alloc);
+        let mut at = commits.len();
+        'commits: while at > 0 {
+            at -= 1;
+            edits.add(alloc, &commits[at])?;
+        }
+        edits.puts.reverse();
+        Ok(edits)
     }
 }

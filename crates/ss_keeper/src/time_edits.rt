@@ -1,90 +1,13 @@
-//! What changes of collections come to together, so that they are made in one pass over the collections.
+//! What the changes of commits come to for the times of collections, so that they are made in one pass over the collections.
 
-ghost use Rattle.std.specs.Prelude.{◌≡◌, ◌||◌, ℕ, List, IfOk, OnOk, reverse};
-ghost use Rattle.std.specs.List.{list_any};
-ghost use Rattle.ss_bso.specs.Changes.{drops};
-ghost use Rattle.ss_keeper.specs.Together.{dropped_by, is_named, is_set, last_times, sets, with_time};
+ghost use Rattle.std.specs.Prelude.{◌≡◌, ◌&&◌, ◌||◌, ◌++◌, not, true, ℕ, List, [], IfOk, OnOk, filter, reverse};
+ghost use Rattle.ss_keeper.specs.Together.{is_named, is_set, is_time_spared, last_times, leaves_time, sets, spared_times, spares_time, with_time};
 
-use crate::row_edits::FEW;
-use ss_bso::CollectionChange;
+use crate::names::{has_name, note_drops};
+use ss_bso::{Changes, CollectionChange};
 use ss_text::{Name, Stamp};
 use std::alloc::{AllocError, Global};
 use std::collections::HashSet;
-
-fn drops(change: &CollectionChange, name: &Name) -> bool
-    ensures { result ≡ drops name.now change.now }
-{
-    match change {
-        CollectionChange::Drop { name: dropped } => *dropped == *name,
-        CollectionChange::Set { .. } => false,
-    }
-}
-
-fn are_dropping(changes: &[CollectionChange], name: &Name) -> bool
-    ensures { result ≡ list_any (drops name.now) changes.now }
-{
-    changes.iter().any(|change| drops(change, name))
-}
-
-/// The collections that changes drop.
-#[derive(Drop)]
-pub(crate) enum Dropped<'a> {
-    Few(&'a [CollectionChange]),
-    Many(HashSet<&'a Name>),
-}
-
-fn has_name(names: &HashSet<&Name>, name: &Name) -> bool
-    ensures { result ≡ is_named names.now name.now }
-{
-    names.contains(&name)
-}
-
-/// Notes the collection that a change drops.
-fn note_drop<'a>(
-    names: &mut HashSet<&'a Name>,
-    change: &'a CollectionChange,
-) -> Result<(), AllocError>
-    ensures { OnOk result ((name : List ℕ) → is_named names.new name ≡ (drops name change.now || is_named names.old name)) }
-{
-    if let CollectionChange::Drop { name } = change {
-        let _added = names.insert(name)?;
-    }
-    Ok(())
-}
-
-fn dropped_names(alloc: Global, changes: &[CollectionChange]) -> Result<HashSet<&Name>, AllocError>
-    ensures { IfOk result (λ names. (name : List ℕ) → is_named names name ≡ list_any (drops name) changes.now) }
-{
-    let mut names = HashSet::new(alloc);
-    for change in changes {
-        note_drop(&mut names, change)?;
-    }
-    Ok(names)
-}
-
-impl<'a> Dropped<'a> {
-    pub(crate) fn of(
-        alloc: Global,
-        changes: &'a [CollectionChange],
-    ) -> Result<Dropped<'a>, AllocError>
-        ensures { IfOk result (λ dropped. (name : List ℕ) → dropped_by dropped name ≡ list_any (drops name) changes.now) }
-    {
-        if changes.len() <= FEW {
-            Ok(Dropped::Few(changes))
-        } else {
-            Ok(Dropped::Many(dropped_names(alloc, changes)?))
-        }
-    }
-
-    pub(crate) fn holds(&self, name: &Name) -> bool
-        ensures { result ≡ dropped_by self.now name.now }
-    {
-        match self {
-            Dropped::Few(changes) => are_dropping(changes, name),
-            Dropped::Many(names) => has_name(names, name),
-        }
-    }
-}
 
 /// Notes the collection that a change sets.
 fn note_set<'a>(
@@ -99,55 +22,97 @@ fn note_set<'a>(
     Ok(())
 }
 
-/// Takes a copy of the time that is set, unless a later change sets the same collection's.
-fn push_time(
-    alloc: Global,
-    times: &mut Vec<(Name, Stamp)>,
-    change: &CollectionChange,
-    later: &HashSet<&Name>,
-) -> Result<(), AllocError>
-    ensures { OnOk result (reverse times.new.items ≡ with_time (is_named later.now) change.now (reverse times.old.items)) }
-{
-    match change {
-        CollectionChange::Set { name, time } if !has_name(later, name) => {
-            times.push((name.copy(alloc)?, *time))?;
-        }
-        CollectionChange::Set { .. } | CollectionChange::Drop { .. } => (),
-    }
-    Ok(())
-}
-
-/// What changes of collections come to: those that are set, and their times in the end.
+/// What commits come to for collections: which are dropped, which are set, and their times in the end. They are gathered from
+/// the last commit to the first, and the times stand in that order.
 #[derive(Drop)]
 pub(crate) struct TimeEdits<'a> {
-    names: HashSet<&'a Name>,
+    dropped: HashSet<&'a Name>,
+    set: HashSet<&'a Name>,
     pub(crate) times: Vec<(Name, Stamp)>,
 }
 
 impl<'a> TimeEdits<'a> {
-    pub(crate) fn of(
+    fn none(alloc: Global) -> TimeEdits<'a>
+        ensures leaves { (name : List ℕ) → leaves_time result name ≡ true }
+        ensures times { result.times.items ≡ [] }
+    {
+        TimeEdits {
+            dropped: HashSet::new(alloc),
+            set: HashSet::new(alloc),
+            times: Vec::new(alloc),
+        }
+    }
+
+    /// Whether a collection's time stays as it is.
+    pub(crate) fn leaves(&self, name: &Name) -> bool
+        ensures { result ≡ leaves_time self.now name.now }
+    {
+        !has_name(&self.dropped, name) && !has_name(&self.set, name)
+    }
+
+    /// Takes a copy of the time that is set, unless it goes again.
+    fn push_time(&mut self, alloc: Global, change: &CollectionChange) -> Result<(), AllocError>
+        ensures times { OnOk result (reverse self.new.times.items ≡ with_time (leaves_time self.old) change.now (reverse self.old.times.items)) }
+        ensures same { OnOk result ((name : List ℕ) → leaves_time self.new name ≡ leaves_time self.old name) }
+    {
+        match change {
+            CollectionChange::Set { name, time } if self.leaves(name) => {
+                self.times.push((name.copy(alloc)?, *time))?;
+            }
+            CollectionChange::Set { .. } | CollectionChange::Drop { .. } => (),
+        }
+        Ok(())
+    }
+
+    /// Gathers a change before those that were gathered.
+    fn add_change(&mut self, alloc: Global, change: &'a CollectionChange) -> Result<(), AllocError>
+        ensures times { OnOk result (reverse self.new.times.items ≡ with_time (leaves_time self.old) change.now (reverse self.old.times.items)) }
+        ensures leaves { OnOk result ((name : List ℕ) → leaves_time self.new name ≡ (not (sets name change.now) && leaves_time self.old name)) }
+    {
+        self.push_time(alloc, change)?;
+        note_set(&mut self.set, change)?;
+        Ok(())
+    }
+
+    /// Gathers the times that a commit sets before those that were gathered.
+    fn add_changes(
+        &mut self,
         alloc: Global,
         changes: &'a [CollectionChange],
-    ) -> Result<TimeEdits<'a>, AllocError>
-        ensures names { IfOk result (λ edits. (name : List ℕ) → is_named edits.names name ≡ is_set changes.now name) }
-        ensures times { IfOk result (λ edits. edits.times.items ≡ last_times changes.now) }
+    ) -> Result<(), AllocError>
+        ensures times { OnOk result (reverse self.new.times.items ≡ filter (λ entry. leaves_time self.old entry.0) (last_times changes.now) ++ reverse self.old.times.items) }
+        ensures leaves { OnOk result ((name : List ℕ) → leaves_time self.new name ≡ (not (is_set changes.now name) && leaves_time self.old name)) }
     {
-        let mut names = HashSet::new(alloc);
-        let mut times = Vec::new(alloc);
         let mut at = changes.len();
         'changes: while at > 0 {
             at -= 1;
-            push_time(alloc, &mut times, &changes[at], &names)?;
-            note_set(&mut names, &changes[at])?;
+            self.add_change(alloc, &changes[at])?;
         }
-        times.reverse();
-        Ok(TimeEdits { names, times })
+        Ok(())
     }
 
-    /// Whether the collection's time is set.
-    pub(crate) fn set(&self, name: &Name) -> bool
-        ensures { result ≡ is_named self.now.names name.now }
+    /// Gathers a commit before those that were gathered.
+    fn add(&mut self, alloc: Global, commit: &'a Changes) -> Result<(), AllocError>
+        ensures times { OnOk result (reverse self.new.times.items ≡ filter (λ entry. leaves_time self.old entry.0) (last_times commit.now.collections) ++ reverse self.old.times.items) }
+        ensures leaves { OnOk result ((name : List ℕ) → leaves_time self.new name ≡ (spares_time commit.now name && leaves_time self.old name)) }
     {
-        has_name(&self.names, name)
+        self.add_changes(alloc, commit.collections.as_slice())?;
+        note_drops(&mut self.dropped, commit.collections.as_slice())?;
+        Ok(())
+    }
+
+    /// What commits come to, each made after the one before it.
+    pub(crate) fn of(alloc: Global, commits: &'a [Changes]) -> Result<TimeEdits<'a>, AllocError>
+        ensures leaves { IfOk result (λ edits. (name : List ℕ) → leaves_time edits name ≡ is_time_spared commits.now name) }
+        ensures times { IfOk result (λ edits. edits.times.items ≡ spared_times commits.now) }
+    {
+        let mut edits = TimeEdits::none(alloc);
+        let mut at = commits.len();
+        'commits: while at > 0 {
+            at -= 1;
+            edits.add(alloc, &commits[at])?;
+        }
+        edits.times.reverse();
+        Ok(edits)
     }
 }

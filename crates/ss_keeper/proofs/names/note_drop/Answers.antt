@@ -2,7 +2,7 @@ use Rattle.std.proofs.Common.{sym, ap, ◌∙◌, ◌||◌}
 use Rattle.ss_bso.specs.Changes.{drops}
 use Rattle.ss_keeper.specs.Together.{is_named}
 use Rattle.ss_keeper.proofs.Sets.{bytes_eq-turn, name-put}
-use Rattle.ss_keeper.proofs.time_edits.note_drop.Goals as goal
+use Rattle.ss_keeper.proofs.names.note_drop.Goals as goal
 
 pub returns-in_ok-_added : goal.returns-in_ok-_added
 returns-in_ok-_added c = λ name.

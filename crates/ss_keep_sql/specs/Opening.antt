@@ -1,13 +1,18 @@
--- Why a database isn't taken as an account's.
-use Rattle.std.specs.Prelude.{◌≢◌, ℤ, pos, ⊤}
+-- Which databases are taken as an account's, and why others aren't.
+use Rattle.std.specs.Prelude.{◌≡◌, ◌≢◌, ◌⊎◌, ℤ, ⊤}
+use Rattle.ss_keep_sql.specs.declared.tables.TheConstants.{VERSION, VERSION_WITHOUT_BATCHES}
 use Rattle.ss_keep_sql.specs.declared.faults.SqlFault.{SqlFault}
 use Rattle.ss_keep_sql.specs.declared.faults.SqlFault.TheVariants.{Version}
 
--- the version of the tables that this crate reads and writes
-abbrev pub our_version : ℤ
-our_version = pos 1
+-- the versions of tables that are taken: the one that this crate writes, and the one without batches
+abbrev pub IsTaken : ℤ → Type 0
+IsTaken found = (found ≡ VERSION) ⊎ (found ≡ VERSION_WITHOUT_BATCHES)
+
+-- the others
+abbrev pub IsOther : ℤ → Type 0
+IsOther found = (found ≢ VERSION) × (found ≢ VERSION_WITHOUT_BATCHES)
 
 -- a version is refused only where it is another one
 abbrev pub HasVersion : SqlFault → Type 0
-HasVersion (Version found) = found ≢ our_version
+HasVersion (Version found) = IsOther found
 HasVersion _ = ⊤

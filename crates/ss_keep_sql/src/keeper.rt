@@ -1,12 +1,12 @@
 //! The keeper over SQLite.
 
-ghost use Rattle.std.specs.Prelude.{◌≡◌, ◌≤◌, IfOk, IfErr, None};
+ghost use Rattle.std.specs.Prelude.{◌≡◌, ◌≢◌, ◌≤◌, IfOk, IfErr, None};
 ghost use Rattle.ss_outside.specs.Causes.{Rose};
 ghost use Rattle.ss_keep_sql.specs.Opening.{HasVersion};
 
-use crate::faults::{SqlFault, fault_of, is_memory};
+use crate::faults::{SqlFault, fault_of, is_memory, taken};
 use crate::reading::read;
-use crate::tables::{VERSION, ready};
+use crate::tables::ready;
 use crate::writing::write;
 use sqlite::{Alter, Connection, Error, File, FileStore};
 use ss_bso::{Changes, Kept};
@@ -43,19 +43,17 @@ impl SqlKeeper {
 }
 
 impl<S: Alter + Drop> SqlKeeper<S> {
-    /// Takes the database of a connection. One without tables gets them; one with tables of another version is refused.
+    /// Takes the database of a connection. One without tables gets them; one with tables of version 1 gets those of version 2,
+    /// and one with tables of another version is refused.
     pub fn adopt(mut connection: Connection<S>) -> Result<SqlKeeper<S>, SqlFault>
         ensures count { IfOk result (λ keeper. keeper ≡ 0) }
         ensures cause { IfErr result HasVersion }
     {
-        match ready(&mut connection) {
-            Ok(found) if found == VERSION => Ok(SqlKeeper {
-                connection,
-                faults: 0,
-            }),
-            Ok(found) => Err(SqlFault::Version { found }),
-            Err(error) => Err(fault_of(error)),
-        }
+        taken(ready(&mut connection))?;
+        Ok(SqlKeeper {
+            connection,
+            faults: 0,
+        })
     }
 
     /// The connection, for instance to close it.
@@ -71,6 +69,7 @@ impl<S: Alter + Drop> SqlKeeper<S> {
     fn refused(&mut self, error: Error) -> KeepFault
         ensures later { self.old ≤ self.new }
         ensures fault { result ≡ KeepFault.Fault → Rose self.old self.new }
+        ensures quiet { result ≢ KeepFault.Fault → self.new ≡ self.old }
     {
         if is_memory(error) {
             return KeepFault::Memory;

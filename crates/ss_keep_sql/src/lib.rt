@@ -1,4 +1,4 @@
-//! The keeper over SQLite: an account's rows, collections and times in a database of its own.
+//! The keeper over SQLite: an account's rows, collections, times and batches in a database of its own.
 //! Its contract: a fault is answered only where the count of refused statements rose. It tells no rows; that what was
 //! committed is loaded again, also after a stop at any write, is tested.
 #![tactic(auto)]

@@ -1,8 +1,8 @@
 //! What an account's database holds. A value out of form is a failure like any other.
 
-use crate::numbers::number;
-use sqlite::{Alter, Connection, Error, ErrorCode, Row as Values};
-use ss_bso::{Kept, Row, Rows, Times};
+use crate::numbers::{integer, number};
+use sqlite::{Alter, Connection, Error, ErrorCode, Row as Values, params};
+use ss_bso::{Batches, Field, Fields, Kept, Part, Parts, Row, Rows, Staged, Times};
 use ss_text::{Id, Name, Stamp, Word};
 use std::alloc::Global;
 
@@ -11,6 +11,11 @@ const READ_ABOUT: &str = "SELECT store, last_delete, counter FROM about";
 const READ_COLLECTIONS: &str = "SELECT name, time FROM collections";
 
 const READ_ROWS: &str = "SELECT collection, id, modified, sortindex, payload, expires FROM rows";
+
+const READ_BATCHES: &str = "SELECT number, collection, begun FROM batches ORDER BY number";
+
+const READ_PARTS: &str =
+    "SELECT id, has_payload, payload, has_sortindex, sortindex, has_ttl, ttl FROM parts WHERE number = ?1 ORDER BY place";
 
 const NO_MEMORY: Error = Error::SqliteFailure(ErrorCode::OutOfMemory);
 
@@ -82,6 +87,90 @@ fn read_times<S: Alter>(
     Ok(times)
 }
 
+/// A field of a part: whether it is given, and then its value, where it isn't cleared.
+fn field<T: Drop>(is_given: bool, value: Option<T>) -> Field<T> {
+    match (is_given, value) {
+        (false, _) => Field::Keep,
+        (true, None) => Field::Clear,
+        (true, Some(value)) => Field::Set(value),
+    }
+}
+
+fn read_fields(values: &Values) -> Result<Fields, Error> {
+    let payload: Option<String> = values.get(2)?;
+    Ok(Fields {
+        payload: field(values.get(1)?, payload.map(Word::new)),
+        sortindex: field(values.get(3)?, values.get(4)?),
+        ttl: field(values.get(5)?, values.get(6)?),
+    })
+}
+
+fn read_part(alloc: Global, values: &Values) -> Result<Part, Error> {
+    Ok(Part {
+        id: read_id(alloc, values, 0)?,
+        fields: read_fields(values)?,
+    })
+}
+
+fn read_parts<S: Alter>(
+    alloc: Global,
+    connection: &mut Connection<S>,
+    batch: u64,
+) -> Result<Parts, Error> {
+    let mut parts = Vec::new(alloc);
+    let mut answer = connection.query(READ_PARTS, params![integer(batch)])?;
+    for _ in 0..u64::MAX {
+        let Some(values) = answer.next()? else {
+            break;
+        };
+        parts
+            .push(read_part(alloc, &values)?)
+            .map_err(|_| NO_MEMORY)?;
+    }
+    Ok(Parts::new(parts))
+}
+
+/// A batch, without its parts.
+fn read_batch(alloc: Global, values: &Values) -> Result<Staged, Error> {
+    let held: i64 = values.get(0)?;
+    Ok(Staged {
+        number: number(held),
+        collection: read_name(alloc, values, 1)?,
+        begun: read_stamp(values, 2)?,
+        parts: Parts::new(Vec::new(alloc)),
+    })
+}
+
+/// The batches, without their parts.
+fn read_begun<S: Alter>(
+    alloc: Global,
+    connection: &mut Connection<S>,
+) -> Result<Vec<Staged>, Error> {
+    let mut batches = Vec::new(alloc);
+    let mut answer = connection.query(READ_BATCHES, &[])?;
+    for _ in 0..u64::MAX {
+        let Some(values) = answer.next()? else {
+            break;
+        };
+        batches
+            .push(read_batch(alloc, &values)?)
+            .map_err(|_| NO_MEMORY)?;
+    }
+    Ok(batches)
+}
+
+fn read_batches<S: Alter>(
+    alloc: Global,
+    connection: &mut Connection<S>,
+) -> Result<Vec<Staged>, Error> {
+    let mut batches = Vec::new(alloc);
+    for mut batch in read_begun(alloc, connection)? {
+        batch.parts = read_parts(alloc, connection, batch.number)?;
+        batches.push(batch).map_err(|_| NO_MEMORY)?;
+    }
+    Ok(batches)
+}
+
 /// All that is held.
 pub(crate) fn read<S: Alter>(alloc: Global, connection: &mut Connection<S>) -> Result<Kept, Error> {
     let about = connection.query_row(READ_ABOUT, &[])?;
@@ -92,5 +181,6 @@ pub(crate) fn read<S: Alter>(alloc: Global, connection: &mut Connection<S>) -> R
         store: read_stamp(&about, 0)?,
         last_delete: read_stamp(&about, 1)?,
         counter: number(counter),
+        batches: Batches::new(read_batches(alloc, connection)?),
     })
 }

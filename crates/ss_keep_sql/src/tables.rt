@@ -2,21 +2,34 @@
 //!
 //! `about` has one row: the version of the tables, the time of the last write to the store, that of the last deletion, and
 //! the counter of batches. `collections` has the collections with the time of each one's last write, and `rows` the stored
-//! records. Times are hundredths of a second since 1970. `counter` and `expires` are numbers without sign: from 2^63 on
-//! they stand as the number less 2^64.
+//! records. `batches` has the batches that aren't committed yet, and `parts` their parts, each at its place in its batch,
+//! counted from 1: of each field whether it is given, and then its value, or NULL where it is cleared. Times are hundredths
+//! of a second since 1970. `counter`, `expires` and the numbers of batches are numbers without sign: from 2^63 on they stand
+//! as the number less 2^64.
+//!
+//! Version 1 has no batches. Its tables are those of version 2 without `batches` and `parts`.
 
 use sqlite::{Alter, Connection, Error, ErrorCode, Transaction};
 
 /// The version of the tables that this crate reads and writes.
-pub(crate) const VERSION: i64 = 1;
+pub(crate) const VERSION: i64 = 2;
 
-/// The tables, and the one row of `about` as it is at first.
-const MAKE: &str = "\
+/// The version without batches, whose tables are taken over.
+pub(crate) const VERSION_WITHOUT_BATCHES: i64 = 1;
+
+/// The tables of version 1, and the one row of `about` as it is at first there.
+pub(crate) const MAKE: &str = "\
 CREATE TABLE about (version INTEGER NOT NULL, store INTEGER NOT NULL, last_delete INTEGER NOT NULL, counter INTEGER NOT NULL) STRICT;
 CREATE TABLE collections (name TEXT NOT NULL PRIMARY KEY, time INTEGER NOT NULL) STRICT;
 CREATE TABLE rows (collection TEXT NOT NULL, id TEXT NOT NULL, modified INTEGER NOT NULL, sortindex INTEGER, payload TEXT NOT NULL, expires INTEGER, PRIMARY KEY (collection, id)) STRICT;
 CREATE INDEX rows_by_expiry ON rows (expires);
 INSERT INTO about (version, store, last_delete, counter) VALUES (1, 0, 0, 0);";
+
+/// What version 2 has besides.
+const ADD_BATCHES: &str = "\
+CREATE TABLE batches (number INTEGER NOT NULL PRIMARY KEY, collection TEXT NOT NULL, begun INTEGER NOT NULL) STRICT;
+CREATE TABLE parts (number INTEGER NOT NULL, place INTEGER NOT NULL, id TEXT NOT NULL, has_payload INTEGER NOT NULL, payload TEXT, has_sortindex INTEGER NOT NULL, sortindex INTEGER, has_ttl INTEGER NOT NULL, ttl INTEGER, PRIMARY KEY (number, place)) STRICT;
+UPDATE about SET version = 2;";
 
 const COUNT_OBJECTS: &str = "SELECT count(*) FROM sqlite_schema";
 
@@ -34,7 +47,17 @@ fn version<S: Alter>(transaction: &mut Transaction<'_, S>) -> Result<i64, Error>
     transaction.query_row(READ_VERSION, &[])?.get(0)
 }
 
-/// The version of the tables. A database without tables gets them first, all of them or none.
+/// Adds what version 2 has besides to tables of version 1, and tells the version that was found.
+fn found<S: Alter>(transaction: &mut Transaction<'_, S>) -> Result<i64, Error> {
+    let found = version(transaction)?;
+    if found == VERSION_WITHOUT_BATCHES {
+        transaction.execute_batch(ADD_BATCHES)?;
+    }
+    Ok(found)
+}
+
+/// The version of the tables that was found. A database without tables gets them first, and one of version 1 is then made one of
+/// version 2: all of it or nothing.
 pub(crate) fn ready<S: Alter>(connection: &mut Connection<S>) -> Result<i64, Error> {
     if !connection.is_autocommit() {
         return Err(IN_TRANSACTION);
@@ -43,7 +66,7 @@ pub(crate) fn ready<S: Alter>(connection: &mut Connection<S>) -> Result<i64, Err
     if is_blank(&mut transaction)? {
         transaction.execute_batch(MAKE)?;
     }
-    let found = version(&mut transaction)?;
+    let found = found(&mut transaction)?;
     transaction.commit()?;
     Ok(found)
 }

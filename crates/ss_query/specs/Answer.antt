@@ -1,5 +1,5 @@
 -- The answer of a query over the rows of one collection (SyncStorage API 1.5, GET of a collection).
-use Rattle.std.specs.Prelude.{ℕ, ◌+◌, pos, Bool, ◌&&◌, nat_lt, true, List, length, take, drop, filter, Option, Some, None, unwrap_or, if◌then◌else◌}
+use Rattle.std.specs.Prelude.{ℕ, ◌+◌, pos, Bool, ◌&&◌, nat_lt, true, List, length, take, drop, filter, map, Option, Some, None, unwrap_or, if◌then◌else◌}
 use Rattle.std.specs.Option.{option_map_or}
 use Rattle.std.specs.declared.cmp.Ordering.{Ordering}
 use Rattle.std.specs.Ordering.{nat_cmp, int_cmp, ordering_then, is_lt}
@@ -10,6 +10,7 @@ use Rattle.ss_query.specs.declared.requests.Query.{Query}
 use Rattle.ss_query.specs.declared.requests.Sort.{Sort}
 use Rattle.ss_query.specs.declared.requests.Sort.TheVariants.{Newest, Oldest, Index}
 use Rattle.ss_query.specs.declared.replies.Picked.{Picked}
+use Rattle.ss_query.specs.declared.replies.PickedIds.{PickedIds}
 
 -- whether a query asks for a row: by its id, by a time strictly later and by a time strictly earlier
 abbrev pub is_asked : Query → Row → Bool
@@ -41,8 +42,16 @@ abbrev pub next_offset : Option ℕ → ℕ → ℕ → Option ℕ
 next_offset None offset count = None
 next_offset (Some limit) offset count = if nat_lt (offset + limit) count then Some (offset + limit) else None
 
+-- the answer over the rows that are asked for: order, drop, take
+abbrev pub answer_of : List Row → Query → Picked
+answer_of asked query =
+    let found = sorted (comes_before query.sort) asked in
+    record { rows = limited query.limit (drop query.offset found); next = next_offset query.limit query.offset (length found) }
+
 -- filter, order, drop, take
 abbrev pub answer : List Row → Query → Picked
-answer rows query =
-    let found = sorted (comes_before query.sort) (filter (is_asked query) rows) in
-    record { rows = limited query.limit (drop query.offset found); next = next_offset query.limit query.offset (length found) }
+answer rows query = answer_of (filter (is_asked query) rows) query
+
+-- the ids alone of what is picked
+abbrev pub picked_ids : Picked → PickedIds
+picked_ids picked = record { ids = map (λ row. row.id) picked.rows; next = picked.next }

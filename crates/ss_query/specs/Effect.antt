@@ -1,11 +1,11 @@
 -- What each request that isn't refused does to the account.
-use Rattle.std.specs.Prelude.{ℕ, ◌+◌, Bool, true, false, not, ◌||◌, nat_lt, is_some, List, [], ◌∷◌, ◌++◌, map, filter, length, bytes_eq, if◌then◌else◌}
+use Rattle.std.specs.Prelude.{ℕ, ◌+◌, Bool, true, false, not, is_some, List, [], ◌∷◌, ◌++◌, map, filter, length, bytes_eq, if◌then◌else◌}
 use Rattle.ss_bso.specs.declared.parts.Part.{Part}
 use Rattle.ss_bso.specs.declared.account.Plain.{Plain}
 use Rattle.ss_bso.specs.declared.account.Staged.{Staged}
 use Rattle.ss_bso.specs.Account.{time_of}
 use Rattle.ss_bso.specs.Batches.{grown, batches_without, batches_elsewhere}
-use Rattle.ss_bso.specs.Limits.{most_payload_bytes, most_rows_and_collections, row_bytes}
+use Rattle.ss_bso.specs.Limits.{is_too_much}
 use Rattle.ss_text.specs.Time.{write_stamp}
 use Rattle.ss_bso.specs.Write.{write, stamped, rows_without, times_without}
 use Rattle.ss_query.specs.declared.requests.Request.{Request}
@@ -94,5 +94,4 @@ effect account (Delete collection id cond) =
 
 -- whether rows and collections pass the limits of an account
 abbrev pub is_over : Plain → Bool
-is_over account =
-    nat_lt most_payload_bytes (row_bytes account.rows) || nat_lt most_rows_and_collections (length account.rows + length account.collections)
+is_over account = is_too_much account.rows (length account.collections)

@@ -9,6 +9,7 @@ use Rattle.ss_text.specs.Time.{stamp_of}
 use Rattle.ss_query.specs.declared.requests.Query.{Query}
 use Rattle.ss_query.specs.declared.requests.Sort.{Sort}
 use Rattle.ss_query.specs.declared.requests.Sort.TheVariants.{Newest, Oldest, Index}
+use Rattle.ss_bso.specs.declared.limits.TheConstants.{MOST_IDS}
 use Rattle.ss_query.specs.declared.queries.QueryFault.{QueryFault}
 use Rattle.ss_query.specs.declared.queries.QueryFault.TheVariants as fault
 
@@ -27,7 +28,7 @@ parameter name query = first_in name (raw_pairs query)
 
 -- how many ids one query may name
 abbrev pub most_ids : ℕ
-most_ids = 100
+most_ids = MOST_IDS
 
 -- ids between commas, none empty; at most so many
 unfoldable pub ids_in : List ℕ → Result (List (List ℕ)) QueryFault

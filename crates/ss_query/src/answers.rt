@@ -4,9 +4,9 @@ ghost use Rattle.std.specs.Prelude.{◌≡◌, IfOk, true, nat_lt, map, filter, 
 ghost use Rattle.std.specs.Option.{option_map_or};
 ghost use Rattle.ss_bso.specs.Write.{is_among};
 ghost use Rattle.ss_text.specs.Texts.{sorted};
-ghost use Rattle.ss_query.specs.Answer.{is_asked, row_cmp, comes_before, limited, next_offset, answer};
+ghost use Rattle.ss_query.specs.Answer.{is_asked, row_cmp, comes_before, limited, next_offset, answer_of, answer, picked_ids};
 
-use crate::replies::Picked;
+use crate::replies::{Picked, PickedIds};
 use crate::requests::{Query, Sort};
 use ss_bso::{Row, Rows};
 use ss_text::{Id, Ids, Stamp};
@@ -38,7 +38,7 @@ fn is_earlier(time: Stamp, older: Option<Stamp>) -> bool
 }
 
 /// Whether a query asks for a row.
-fn asks_for(query: &Query, row: &Row) -> bool
+pub fn asks_for(query: &Query, row: &Row) -> bool
     ensures { result ≡ is_asked query.now row.now }
 {
     let named = match &query.ids {
@@ -109,15 +109,44 @@ fn copies(alloc: Global, rows: &[&Row]) -> Result<Rows, AllocError>
     Ok(Rows::new(copied))
 }
 
-/// The answer of a query over the rows of one collection: those that it asks for, in its order with ties by id, from
-/// its offset on and up to its limit (SyncStorage API 1.5).
-pub fn answer_query(alloc: Global, rows: &[Row], query: &Query) -> Result<Picked, AllocError>
-    ensures { IfOk result (λ picked. picked ≡ answer rows.now query.now) }
+fn copied_ids(alloc: Global, rows: &[&Row]) -> Result<Ids, AllocError>
+    ensures { IfOk result (λ ids. ids ≡ map (λ row. row.id) (map (λ row. row.now) rows.now)) }
 {
-    let ordered = in_order(rows_asked(alloc, rows, query)?, query.sort)?;
+    let mut ids = Vec::with_capacity(alloc, rows.len())?;
+    for row in rows {
+        ids.push(row.id.copy(alloc)?)?;
+    }
+    Ok(Ids::new(ids))
+}
+
+/// The answer of a query over the rows that it asks for, lent in whatever order. Only the rows of the page are copied.
+pub fn answer_found(alloc: Global, found: Vec<&Row>, query: &Query) -> Result<Picked, AllocError>
+    ensures { IfOk result (λ picked. picked ≡ answer_of (map (λ row. row.now) found.entry.items) query.now) }
+{
+    let ordered = in_order(found, query.sort)?;
     let page = page(ordered.as_slice(), query.offset, query.limit);
     Ok(Picked {
         rows: copies(alloc, page)?,
         next: next_page(query.limit, query.offset, ordered.len()),
     })
+}
+
+/// The ids alone of that answer. No payload is copied.
+pub fn ids_found(alloc: Global, found: Vec<&Row>, query: &Query) -> Result<PickedIds, AllocError>
+    ensures { IfOk result (λ picked. picked ≡ picked_ids (answer_of (map (λ row. row.now) found.entry.items) query.now)) }
+{
+    let ordered = in_order(found, query.sort)?;
+    let page = page(ordered.as_slice(), query.offset, query.limit);
+    Ok(PickedIds {
+        ids: copied_ids(alloc, page)?,
+        next: next_page(query.limit, query.offset, ordered.len()),
+    })
+}
+
+/// The answer of a query over the rows of one collection: those that it asks for, in its order with ties by id, from
+/// its offset on and up to its limit (SyncStorage API 1.5).
+pub fn answer_query(alloc: Global, rows: &[Row], query: &Query) -> Result<Picked, AllocError>
+    ensures { IfOk result (λ picked. picked ≡ answer rows.now query.now) }
+{
+    answer_found(alloc, rows_asked(alloc, rows, query)?, query)
 }

@@ -10,8 +10,8 @@ mod requests;
 #[cfg(test)]
 mod tests;
 
-pub use answers::answer_query;
+pub use answers::{answer_found, answer_query, asks_for, ids_found};
 pub use queries::{QueryFault, read_ids, read_parameter, read_query};
-pub use replies::{Body, Mark, Numbers, Picked, Reply, Said};
+pub use replies::{Body, Mark, Numbers, Picked, PickedIds, Reply, Said};
 pub use requests::{Info, Mode, Query, Request, Sort};
 pub use ss_text::Cond;

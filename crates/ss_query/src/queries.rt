@@ -9,12 +9,10 @@ ghost use Rattle.ss_query.specs.declared.requests.Sort.TheVariants as order;
 ghost use Rattle.ss_query.specs.declared.queries.QueryFault.TheVariants.{Memory};
 
 use crate::requests::{Query, Sort};
+use ss_bso::limits::MOST_IDS;
 use ss_text::{Id, Ids, Stamp, read_number, read_stamp};
 use std::alloc::{AllocError, Global};
 use thiserror::Error;
-
-/// How many ids one query may name.
-const MOST_IDS: usize = 100;
 
 /// Why a text is no query.
 #[derive(Clone, Copy, Debug, PartialEq, Eq, Error)]

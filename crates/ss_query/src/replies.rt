@@ -153,6 +153,15 @@ pub struct Picked {
     pub next: Option<u64>,
 }
 
+/// The ids of what a query finds.
+#[derive(Drop, Debug)]
+pub struct PickedIds {
+    pub ids: Ids,
+
+    /// Where the next page begins, if rows are left.
+    pub next: Option<u64>,
+}
+
 /// How a request was entered in the journal.
 #[derive(Clone, Copy, Debug, PartialEq, Eq)]
 pub enum Mark {

@@ -1,7 +1,10 @@
 //! What a client asks of one account (SyncStorage API 1.5).
 
+ghost use Rattle.std.specs.Prelude.{◌≡◌, IfOk};
+
 use ss_bso::{Fields, Records};
 use ss_text::{Cond, Id, Ids, Name, Stamp};
+use std::alloc::{AllocError, Global};
 
 /// How the records of a POST are taken.
 #[derive(Clone, Copy, Debug, PartialEq, Eq)]
@@ -74,6 +77,31 @@ pub struct Query {
     pub full: bool,
 }
 
+fn copy_of(alloc: Global, ids: &Option<Ids>) -> Result<Option<Ids>, AllocError>
+    ensures { IfOk result (λ copied. copied ≡ ids.now) }
+{
+    match ids {
+        Some(ids) => Ok(Some(ids.copy(alloc)?)),
+        None => Ok(None),
+    }
+}
+
+impl Query {
+    pub fn copy(&self, alloc: Global) -> Result<Query, AllocError>
+        ensures { IfOk result (λ copied. copied ≡ self.now) }
+    {
+        Ok(Query {
+            ids: copy_of(alloc, &self.ids)?,
+            newer: self.newer,
+            older: self.older,
+            limit: self.limit,
+            offset: self.offset,
+            sort: self.sort,
+            full: self.full,
+        })
+    }
+}
+
 /// What a client asks of one account.
 #[derive(Drop, Debug)]
 pub enum Request {
@@ -120,4 +148,80 @@ pub enum Request {
         id: Id,
         cond: Cond,
     },
+}
+
+impl Request {
+    pub fn copy(&self, alloc: Global) -> Result<Request, AllocError>
+        ensures { IfOk result (λ copied. copied ≡ self.now) }
+    {
+        match self {
+            Request::Info { what, cond } => Ok(Request::Info {
+                what: *what,
+                cond: *cond,
+            }),
+            Request::DeleteAll { cond } => Ok(Request::DeleteAll { cond: *cond }),
+            Request::List {
+                collection,
+                query,
+                cond,
+            } => Ok(Request::List {
+                collection: collection.copy(alloc)?,
+                query: query.copy(alloc)?,
+                cond: *cond,
+            }),
+            Request::Post {
+                collection,
+                records,
+                mode,
+                cond,
+            } => Ok(Request::Post {
+                collection: collection.copy(alloc)?,
+                records: records.copy(alloc)?,
+                mode: *mode,
+                cond: *cond,
+            }),
+            Request::DeleteCollection { collection, cond } => Ok(Request::DeleteCollection {
+                collection: collection.copy(alloc)?,
+                cond: *cond,
+            }),
+            Request::DeleteIds {
+                collection,
+                ids,
+                cond,
+            } => Ok(Request::DeleteIds {
+                collection: collection.copy(alloc)?,
+                ids: ids.copy(alloc)?,
+                cond: *cond,
+            }),
+            Request::Get {
+                collection,
+                id,
+                cond,
+            } => Ok(Request::Get {
+                collection: collection.copy(alloc)?,
+                id: id.copy(alloc)?,
+                cond: *cond,
+            }),
+            Request::Put {
+                collection,
+                id,
+                fields,
+                cond,
+            } => Ok(Request::Put {
+                collection: collection.copy(alloc)?,
+                id: id.copy(alloc)?,
+                fields: fields.copy(alloc)?,
+                cond: *cond,
+            }),
+            Request::Delete {
+                collection,
+                id,
+                cond,
+            } => Ok(Request::Delete {
+                collection: collection.copy(alloc)?,
+                id: id.copy(alloc)?,
+                cond: *cond,
+            }),
+        }
+    }
 }

@@ -1,12 +1,12 @@
 //! Queries whose reading and answers are settled by worked values, and each call that allocates, once, with ample
 //! memory.
 
-use crate::answers::answer_query;
+use crate::answers::{answer_query, asks_for, ids_found};
 use crate::queries::{QueryFault, read_ids, read_query};
 use crate::replies::{Body, Mark, Reply, Said};
 use crate::requests::Sort;
 use ss_bso::{Row, Rows};
-use ss_text::{Id, Name, Stamp, Word};
+use ss_text::{Id, Ids, Name, Stamp, Word};
 use std::alloc::Global;
 use std::test::Fail;
 
@@ -112,6 +112,15 @@ fn letters(alloc: Global, rows: &Rows) -> Result<String, Fail> {
     Ok(text)
 }
 
+/// Ids, joined.
+fn joined(alloc: Global, ids: &Ids) -> Result<String, Fail> {
+    let mut text = String::new(alloc);
+    for id in ids.as_slice() {
+        text.push_str(id.as_str())?;
+    }
+    Ok(text)
+}
+
 #[test]
 fn answers_are_filtered_ordered_and_cut(rt: HostRuntime) -> Result<(), Fail> {
     let alloc = rt.alloc();
@@ -143,6 +152,13 @@ fn answers_are_filtered_ordered_and_cut(rt: HostRuntime) -> Result<(), Fail> {
         };
         let picked = answer_query(alloc, rows.as_slice(), &query)?;
         assert_eq!(rt; letters(alloc, &picked.rows)?.as_str(), want, "{text}");
+        assert_eq!(rt; picked.next, next, "{text}");
+        let found = rows
+            .iter()
+            .filter(|row| asks_for(&query, row))
+            .collect(alloc)?;
+        let picked = ids_found(alloc, found, &query)?;
+        assert_eq!(rt; joined(alloc, &picked.ids)?.as_str(), want, "{text}");
         assert_eq!(rt; picked.next, next, "{text}");
     }
     Ok(())

@@ -1,0 +1,15 @@
+pub mod Commit
+pub mod CommitLaw
+pub mod InOrder
+pub mod Induction
+pub mod JournalOrder
+pub mod Journals
+pub mod Reading
+pub mod SameApi
+pub mod SameValid
+pub mod Shown
+pub mod Staging
+pub mod Stamps
+pub mod Times
+pub mod Valid
+pub mod Written

@@ -1,0 +1,49 @@
+-- Legal journals, and the reply at each place of one.
+use Rattle.std.specs.Prelude.{ℕ, ◌≤◌, List, length, take, map, fold, slice_get, Option, None, option_map, All}
+use Rattle.std.specs.List.Sorted.{IsStrictlyIncreasing}
+use Rattle.ss_bso.specs.declared.account.Plain.{Plain}
+use Rattle.ss_bso.specs.Account.{tick}
+use Rattle.ss_bso.specs.Validity.{IsValid}
+use Rattle.ss_query.specs.declared.replies.Mark.{Mark}
+use Rattle.ss_query.specs.declared.replies.Mark.TheVariants.{Done, Keeper, Memory}
+use Rattle.ss_query.specs.declared.replies.Reply.{Reply}
+use Rattle.ss_query.specs.declared.replies.Body.TheVariants.{Said}
+use Rattle.ss_query.specs.declared.replies.Said.{Said as Word}
+use Rattle.ss_query.specs.declared.replies.Said.TheVariants.{Keeper as KeeperWord, Memory as MemoryWord}
+use Rattle.ss_query.specs.declared.requests.Request.{Request}
+use Rattle.ss_query.specs.Api.{api, Outcome}
+use Rattle.ss_laws.specs.declared.journal.Entry.{Entry}
+use Rattle.ss_laws.specs.declared.journal.Journal.{Journal}
+use Rattle.ss_query.specs.Fit.{IsFitRequest}
+
+-- a request that ended for want of memory or by its keeper's failure: the clock alone has moved
+abbrev pub failed : Plain → ℕ → ℕ → Word → Outcome
+failed account now status word = record {
+  account = tick account now;
+  reply = record { status = status; moment = (tick account now).moment; modified = None; count = None; next = None; body = Said word };
+}
+
+-- what a request gives, by its mark
+abbrev pub marked : Plain → ℕ → Request → Mark → Outcome
+marked account now request Done = api account now request
+marked account now request Keeper = failed account now 503 KeeperWord
+marked account now request Memory = failed account now 507 MemoryWord
+
+abbrev pub entered : Plain → Entry → Outcome
+entered account entry = marked account entry.now entry.request entry.mark
+
+-- the account that entries leave
+abbrev pub account_after : Plain → List Entry → Plain
+account_after opening entries = fold (λ account entry. (entered account entry).account) opening entries
+
+-- the reply at a place of a journal
+abbrev pub reply_at : Journal → ℕ → Option Reply
+reply_at journal place =
+    option_map (λ entry. (entered (account_after journal.opening (take place journal.entries)) entry).reply) (slice_get journal.entries place)
+
+-- a legal journal
+pub record IsLegal (journal : Journal) : Type 0 where
+  pub opening : IsValid journal.opening
+  pub requests : All (λ entry. IsFitRequest entry.request) journal.entries
+  pub tickets : IsStrictlyIncreasing (map (λ entry. entry.ticket) journal.entries)
+  pub within : length journal.entries ≤ journal.most

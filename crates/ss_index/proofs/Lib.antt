@@ -1,0 +1,12 @@
+pub mod Drawers
+pub mod Walks
+pub mod Shelves
+pub mod Picks
+pub mod Changing
+pub mod Filling
+pub mod Dropping
+pub mod Sweeping
+pub mod SweepingAll
+pub mod Tidying
+pub mod Counting
+pub mod Rising

@@ -1,0 +1,15 @@
+use Rattle.std.proofs.Common.{length, sym, ap, ◌∙◌}
+use Rattle.ss_bso.specs.declared.rows.Row.{Row}
+use Rattle.std.specs.Prelude.{List}
+use Rattle.ss_index.proofs.Shelves.{rows_of-there, rows_of-none}
+use Rattle.ss_index.proofs.shelf.Shelf.count_of.Goals as goal
+
+pub returns-in-Some : goal.returns-in-Some
+returns-in-Some c =
+    let rows = rows_of-there c.args.collection.now c.in-Some.drawer.now c.self.inside.drawers.entries c.self.invariant.named c.self.invariant.names (sym c.in-Some.ensures.value) in
+    rw (← c.self.view_is) (c.from.ensures ∙ c.len.ensures ∙ sym (ap (λ (l : List Row). length l) rows))
+
+pub returns-in-None : goal.returns-in-None
+returns-in-None c =
+    let rows = rows_of-none c.args.collection.now c.self.inside.drawers.entries c.self.invariant.named (sym c.in-None.ensures.value) in
+    rw (← c.self.view_is) (sym (ap (λ (l : List Row). length l) rows))

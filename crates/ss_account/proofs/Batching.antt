@@ -25,7 +25,8 @@ use Rattle.ss_query.specs.Refused.{Refusal, NoItem, NoMoreBatches, NoBatch, Batc
 use Rattle.ss_query.specs.Effect.{effect, is_empty, is_over, is_write, stamp_in}
 use Rattle.ss_query.specs.Api.{condition_cause, first_some, lacks_room, misses_batch, misses_item, outcome, overfills_batch, refusal, where_so, why_stopped}
 use Rattle.ss_account.specs.Steps.{batch_cause, committed, fault_body, late_refusal, plain_reply, stage_of}
-use Rattle.ss_account.proofs.Lists.{Each, Pairs, Pairs-from_AllPairs}
+use Rattle.ss_bso.proofs.Lists.{Pairs-from_AllPairs}
+use Rattle.ss_bso.specs.Lists.{Each, Pairs}
 
 -- a batch is of a number and a collection, where no other has the number
 abbrev chosen : List ℕ → Option Staged → Option Staged

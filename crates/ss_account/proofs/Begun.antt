@@ -1,17 +1,19 @@
 -- A begin, and what takes it back.
-use Rattle.std.specs.Prelude.{◌≡◌, ℕ, ◌+◌, ◌-◌, ◌≤◌, Bool, true, false, not, cond, ◌==◌, List, [], ◌∷◌, ◌++◌, filter, find, is_some, IsSome, Some, refl}
+use Rattle.std.specs.Prelude.{◌≡◌, ℕ, ◌+◌, ◌-◌, ◌≤◌, Bool, true, false, not, cond, ◌==◌, List, [], ◌∷◌, ◌++◌, filter, find, length, map, take, is_some, IsSome, IsSomeAnd, Option, Some, None, refl}
 use Rattle.std.proofs.Common.{subst, sym, ap, ◌∙◌, arith}
 use Rattle.std.proofs.lemmas.Bool.Decides.{nat_tests}
-use Rattle.std.proofs.lemmas.List.{append-nil}
+use Rattle.std.proofs.Math.Seq.{take-append_seam}
+use Rattle.std.proofs.lemmas.List.{append-nil, length-append}
 use Rattle.std.proofs.lemmas.List.Elements.{filter-append}
 use Rattle.ss_bso.specs.declared.parts.Part.{Part}
 use Rattle.ss_bso.specs.declared.account.Plain.{Plain}
 use Rattle.ss_bso.specs.declared.account.Staged.{Staged}
-use Rattle.ss_bso.specs.Batches.{batches_without}
+use Rattle.ss_bso.specs.Batches.{batches_without, grown}
 use Rattle.ss_bso.specs.Validity.{IsValid, IsValidBatch}
-use Rattle.ss_batch.specs.Stage.{begun, has_number, numbered}
+use Rattle.ss_batch.specs.Stage.{append_fault, appended, begun, has_number, more, numbered, reach, shortened}
 use Rattle.ss_account.specs.Steps.{stage_of, with_stage}
-use Rattle.ss_account.proofs.Lists.{Each, Each-imp, Each-from_All}
+use Rattle.ss_bso.proofs.Lists.{Each-imp, Each-from_All}
+use Rattle.ss_bso.specs.Lists.{Each}
 
 same_number : (n : ℕ) → (n == n) ≡ true
 same_number n = grind (arith, nat_tests)
@@ -52,3 +54,72 @@ begun-back account left back collection parts valid e b =
     let counter : account.counter + 1 - 1 ≡ account.counter = omega arith in
     b ∙ ap (λ (a : Plain). with_stage a (record { counter = a.counter - 1; batches = batches_without a.counter a.batches })) e
     ∙ (λ i. record account { counter = counter i; batches = batches i })
+
+-- an append, and what takes it back
+named-grown : (number : ℕ) (parts : List Part) (batch : Staged) → (grown number parts batch).number ≡ batch.number
+named-grown number parts batch = elim (batch.number == number) as (λ v. (cond v (record batch { parts = batch.parts ++ parts }) batch).number ≡ batch.number) [ true ↦ refl | false ↦ refl ]
+
+long-grown : (number : ℕ) (parts : List Part) (batch : Staged) → (batch.number == number) ≡ true → length parts ≤ length (grown number parts batch).parts
+long-grown number parts batch e =
+    let whole : length (batch.parts ++ parts) ≡ length batch.parts + length parts = length-append batch.parts parts in
+    let le : length parts ≤ length (batch.parts ++ parts) = omega (arith, whole) in
+    subst (λ v. length parts ≤ length (cond v (record batch { parts = batch.parts ++ parts }) batch).parts) (sym e) le
+
+-- the batch holds at least those parts
+long-appended : (number : ℕ) (parts : List Part) (batches : List Staged) → IsSome (numbered number batches) → IsSomeAnd (numbered number (map (grown number parts) batches)) (λ staged. length parts ≤ length staged.parts)
+long-appended number parts [] h = cc
+long-appended number parts (batch ∷ batches) h = by (batch.number == number) refl (λ rest. long-appended number parts batches rest)
+  where
+    test : (grown number parts batch).number == number ≡ (batch.number == number)
+    test = ap (λ n. n == number) (named-grown number parts batch)
+
+    by : (v : Bool) → (batch.number == number) ≡ v → (IsSome (numbered number batches) → IsSomeAnd (numbered number (map (grown number parts) batches)) (λ staged. length parts ≤ length staged.parts))
+        → IsSomeAnd (numbered number (map (grown number parts) (batch ∷ batches))) (λ staged. length parts ≤ length staged.parts)
+    by true e others =
+        subst (λ v. IsSomeAnd (cond v (Some (grown number parts batch)) (numbered number (map (grown number parts) batches))) (λ (staged : Staged). length parts ≤ length staged.parts)) (sym (test ∙ e))
+        (long-grown number parts batch e)
+    by false e others =
+        subst (λ v. IsSomeAnd (cond v (Some (grown number parts batch)) (numbered number (map (grown number parts) batches))) (λ (staged : Staged). length parts ≤ length staged.parts)) (sym (test ∙ e))
+        (others (subst (λ v. IsSome (cond v (Some batch) (numbered number batches))) e h))
+
+fault-live : (account : Plain) (number : ℕ) (collection : List ℕ) (parts : List Part) → append_fault (stage_of account) number collection parts ≡ None → IsSome (numbered number account.batches)
+fault-live account number collection parts e = by (numbered number account.batches) e
+  where
+    by : (o : Option Staged) → more parts (reach collection o) ≡ None → IsSome o
+    by None h = cc
+    by (Some batch) h = refl
+
+pub appended-long : (account left : Plain) (number : ℕ) (collection : List ℕ) (parts : List Part) → append_fault (stage_of account) number collection parts ≡ None → left ≡ with_stage account (appended (stage_of account) number parts)
+    → IsSomeAnd (numbered number left.batches) (λ staged. length parts ≤ length staged.parts)
+appended-long account left number collection parts fits e =
+    subst (λ (a : Plain). IsSomeAnd (numbered number a.batches) (λ (staged : Staged). length parts ≤ length staged.parts)) (sym e) (long-appended number parts account.batches (fault-live account number collection parts fits))
+
+-- the parts before the last ones
+before-last : (xs ys : List Part) → take (length (xs ++ ys) - length ys) (xs ++ ys) ≡ xs
+before-last xs ys =
+    let whole : length (xs ++ ys) ≡ length xs + length ys = length-append xs ys in
+    let left : length (xs ++ ys) - length ys ≡ length xs = omega (arith, whole) in
+    ap (λ n. take n (xs ++ ys)) left ∙ take-append_seam xs ys
+
+-- a batch without the last so many parts
+abbrev cut_back : ℕ → ℕ → Staged → Staged
+cut_back number parts batch = cond (batch.number == number) (record batch { parts = take (length batch.parts - parts) batch.parts }) batch
+
+one-back : (number : ℕ) (parts : List Part) (batch : Staged) → cut_back number (length parts) (grown number parts batch) ≡ batch
+one-back number parts batch = by (batch.number == number) refl
+  where
+    by : (v : Bool) → (batch.number == number) ≡ v → cut_back number (length parts) (cond v (record batch { parts = batch.parts ++ parts }) batch) ≡ batch
+    by true e =
+        ap (λ w. cond w (record batch { parts = take (length (batch.parts ++ parts) - length parts) (batch.parts ++ parts) }) (record batch { parts = batch.parts ++ parts })) e
+        ∙ ap (λ (ps : List Part). record batch { parts = ps }) (before-last batch.parts parts)
+    by false e = ap (λ w. cond w (record batch { parts = take (length batch.parts - length parts) batch.parts }) batch) e
+
+all-back : (number : ℕ) (parts : List Part) (batches : List Staged) → map (cut_back number (length parts)) (map (grown number parts) batches) ≡ batches
+all-back number parts [] = refl
+all-back number parts (batch ∷ batches) = λ i. one-back number parts batch i ∷ all-back number parts batches i
+
+-- the last append taken back leaves the account as it was
+pub appended-back : (account left back : Plain) (number : ℕ) (parts : List Part) → left ≡ with_stage account (appended (stage_of account) number parts)
+    → back ≡ with_stage left (shortened (stage_of left) number (length parts)) → back ≡ account
+appended-back account left back number parts e b =
+    b ∙ ap (λ (a : Plain). with_stage a (shortened (stage_of a) number (length parts))) e ∙ (λ i. record account { batches = all-back number parts account.batches i })

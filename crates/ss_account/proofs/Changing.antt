@@ -10,10 +10,10 @@ use Rattle.ss_bso.specs.declared.changes.CollectionChange.TheVariants.{Drop as D
 use Rattle.ss_bso.specs.Account.{is_at}
 use Rattle.ss_bso.specs.Changes.{row_changed, time_changed}
 use Rattle.ss_bso.specs.Write.{is_among, rows_without}
-use Rattle.ss_account.proofs.Lists.{Each, Pairs}
-use Rattle.ss_account.proofs.Texts.{same_text, bytes_eq-same, bytes_eq-flip}
-use Rattle.ss_account.proofs.Written.{Apart, and_false}
-use Rattle.ss_account.proofs.SameValid.{apart_flip}
+use Rattle.ss_bso.proofs.Texts.{same_text, bytes_eq-same, bytes_eq-flip}
+use Rattle.ss_bso.specs.Lists.{Each, Pairs, Apart}
+use Rattle.ss_laws.proofs.Written.{and_false}
+use Rattle.ss_laws.proofs.SameValid.{apart_flip}
 
 -- filters
 pub filter-true : {X : Type 0} (xs : List X) → filter (λ x. true) xs ≡ xs

@@ -11,10 +11,12 @@ use Rattle.ss_bso.specs.Account.{is_at, row_at}
 use Rattle.ss_bso.specs.Put.{put}
 use Rattle.ss_bso.specs.Write.{ids_of, is_among, parts_of, put_all}
 use Rattle.ss_account.specs.Steps.{is_target, or_else, with_id, with_part_id, with_row}
-use Rattle.ss_account.proofs.Lists.{Each, Each-imp, Pairs}
-use Rattle.ss_account.proofs.Texts.{same_text, bytes_eq-same, bytes_eq-flip, once_by-distinct}
+use Rattle.ss_bso.proofs.Lists.{Each-imp}
+use Rattle.ss_bso.proofs.Texts.{same_text, bytes_eq-same, bytes_eq-flip}
+use Rattle.ss_bso.specs.Lists.{Each, Pairs}
+use Rattle.ss_laws.proofs.Times.{once_by-distinct}
 use Rattle.ss_account.proofs.Making.{ids-more}
-use Rattle.ss_account.proofs.Reading.{among-once, none_named, put_all-append, parts_of-append}
+use Rattle.ss_laws.proofs.Reading.{among-once, none_named, put_all-append, parts_of-append}
 
 -- a fold over one list and then another, and over one element more
 pub fold-append : {X Y : Type 0} (f : Y → X → Y) (xs ys : List X) (y : Y) → fold f y (xs ++ ys) ≡ fold f (fold f y xs) ys

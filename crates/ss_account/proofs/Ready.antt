@@ -10,10 +10,12 @@ use Rattle.ss_bso.specs.Put.{put}
 use Rattle.ss_bso.specs.Write.{ids_of, is_among, parts_of, put_all}
 use Rattle.ss_batch.specs.Stage.{numbered}
 use Rattle.ss_account.specs.Pending.{IsPutReady}
-use Rattle.ss_account.proofs.Lists.{Each, Each-imp, Each-filter_map, Pairs-filter_map, All-from_Each, AllPairs-from_Pairs}
-use Rattle.ss_account.proofs.Texts.{bytes_eq-same, once_by-distinct}
-use Rattle.ss_account.proofs.Written.{Apart, Each-any, made, made_named, and_false}
-use Rattle.ss_account.proofs.Reading.{among-once}
+use Rattle.ss_bso.proofs.Lists.{Each-imp, Each-filter_map, Pairs-filter_map, All-from_Each, AllPairs-from_Pairs, Each-any}
+use Rattle.ss_bso.proofs.Texts.{bytes_eq-same}
+use Rattle.ss_bso.specs.Lists.{Each, Apart}
+use Rattle.ss_laws.proofs.Times.{once_by-distinct}
+use Rattle.ss_laws.proofs.Written.{made, made_named, and_false}
+use Rattle.ss_laws.proofs.Reading.{among-once}
 
 put_all-some : (collection : List ℕ) (parts : List Part) (time : ℕ) (row : Row) → IsSome (put_all collection parts time (Some row))
 put_all-some collection [] time row = refl

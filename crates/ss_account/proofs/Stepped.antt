@@ -14,11 +14,11 @@ use Rattle.ss_query.specs.Marks.{mark_of}
 use Rattle.ss_bso.specs.Validity.{IsValid, SameAccount}
 use Rattle.ss_query.specs.Fit.{IsFitRequest}
 use Rattle.ss_query.specs.Api.{api, outcome, refusal}
-use Rattle.ss_account.specs.Journals.{marked}
+use Rattle.ss_laws.specs.Journals.{marked}
 use Rattle.ss_account.specs.Steps.{plain_reply}
-use Rattle.ss_account.proofs.Reordering.{same-self}
+use Rattle.ss_bso.proofs.Reordering.{same-self}
 use Rattle.ss_account.proofs.Stepping.{api-mark}
-use Rattle.ss_account.proofs.Valid.{valid-tick, valid-api}
+use Rattle.ss_laws.proofs.Valid.{valid-tick, valid-api}
 
 -- told and counted before and after
 pub record Sides : Type 0 where

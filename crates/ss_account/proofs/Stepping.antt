@@ -11,7 +11,8 @@ use Rattle.ss_query.specs.declared.requests.Mode.TheVariants.{Plain as PlainPost
 use Rattle.ss_query.specs.declared.replies.Mark.TheVariants.{Done}
 use Rattle.ss_query.specs.Marks.{mark_of}
 use Rattle.ss_bso.specs.Write.{is_among, rows_without}
-use Rattle.ss_bso.specs.Limits.{rows_of, row_bytes}
+use Rattle.ss_bso.specs.Limits.{most_payload_bytes, most_rows_and_collections, rows_of, row_bytes}
+use Rattle.ss_bso.proofs.Full.{within-both, within-bytes, within-number}
 use Rattle.ss_bso.specs.Validity.{IsWithinLimits}
 use Rattle.ss_query.specs.Refused.{Refusal, NoItem, NotModified, WasModified, NoMoreBatches, NoBatch, BatchFull, ClockEnded, AccountFull, target_time}
 use Rattle.ss_query.specs.Effect.{effect, is_over, is_write, stamp_in}
@@ -24,8 +25,8 @@ use Rattle.ss_account.specs.declared.sizes.Size.{Size}
 use Rattle.ss_account.specs.declared.pending.Pending.{Pending}
 use Rattle.ss_account.specs.Pending.{Settles, Tells}
 use Rattle.ss_account.specs.Steps.{IsSize, counted, late_refusal, number_of, plain_reply}
-use Rattle.ss_account.proofs.Lists.{length-filter_le, sum_by-filter_le}
-use Rattle.ss_account.proofs.CommitLaw.{over_test}
+use Rattle.ss_bso.proofs.Lists.{length-filter_le, sum_by-filter_le}
+use Rattle.ss_laws.proofs.CommitLaw.{over_test}
 
 -- a write that is ready, with what is told of it
 pub tells-from : (account after : Plain) (time : ℕ) (body : Body) (found : Option Pending) → Settles account time after found → Tells account time after body (option_map (λ pending. (pending, body)) found)
@@ -81,17 +82,19 @@ over-deleted account collection within =
     let bytes : row_bytes left.rows ≤ row_bytes account.rows = sum_by-filter_le (λ (row : Row). not (bytes_eq row.collection collection)) (λ (row : Row). length row.payload) account.rows in
     let rows : length left.rows ≤ length account.rows = length-filter_le (λ (row : Row). not (bytes_eq row.collection collection)) account.rows in
     let names : length left.collections ≤ length account.collections = length-filter_le (λ (entry : List ℕ × ℕ). not (bytes_eq entry.0 collection)) account.collections in
-    over_test true left (λ e. record { bytes = omega (arith, bytes, within.bytes); number = omega (arith, rows, names, within.number) })
+    let light : row_bytes account.rows ≤ most_payload_bytes = within-bytes account.rows (length account.collections) within.within in
+    let few : length account.rows + length account.collections ≤ most_rows_and_collections = within-number account.rows (length account.collections) within.within in
+    over_test true left (λ e. record { within = within-both left.rows (length left.collections) (omega (arith, bytes, light)) (omega (arith, rows, names, few)) })
 
 -- a count within the limits is exact
 pub counted-exact : (measure : Measure) (account : Plain) (name : List ℕ) → IsWithinLimits account → counted measure (rows_of name account.rows) ≡ number_of measure (rows_of name account.rows)
 counted-exact Records account name within =
     let rows : length (rows_of name account.rows) ≤ length account.rows = length-filter_le (λ (row : Row). bytes_eq row.collection name) account.rows in
-    let all : length account.rows + length account.collections ≤ 200000 = within.number in
+    let all : length account.rows + length account.collections ≤ most_rows_and_collections = within-number account.rows (length account.collections) within.within in
     omega (arith, rows, all)
 counted-exact Bytes account name within =
     let bytes : row_bytes (rows_of name account.rows) ≤ row_bytes account.rows = sum_by-filter_le (λ (row : Row). bytes_eq row.collection name) (λ (row : Row). length row.payload) account.rows in
-    let all : row_bytes account.rows ≤ 134217728 = within.bytes in
+    let all : row_bytes account.rows ≤ most_payload_bytes = within-bytes account.rows (length account.collections) within.within in
     omega (arith, bytes, all)
 
 pub numbers-exact : (measure : Measure) (account : Plain) → IsWithinLimits account
@@ -101,7 +104,7 @@ numbers-exact measure account within = λ i. map (λ (entry : List ℕ × ℕ). 
 pub used-exact : (account : Plain) (size : Size) → IsWithinLimits account → IsSize account.rows size → size.bytes ≡ row_bytes account.rows
 used-exact account size within is =
     let bytes = is.bytes in
-    let all : row_bytes account.rows ≤ 134217728 = within.bytes in
+    let all : row_bytes account.rows ≤ most_payload_bytes = within-bytes account.rows (length account.collections) within.within in
     omega (arith, bytes, all)
 
 pub none-from : (o : Option ℕ) → ((x : ℕ) → o ≡ Some x → ⊥) → o ≡ None

@@ -1,7 +1,5 @@
 pub mod Held
-pub mod Journals
 pub mod Keeping
-pub mod Laws
 pub mod Opening
 pub mod Pending
 pub mod Places

@@ -1,6 +1,7 @@
 -- A write that is ready: what it makes of the account, and what a keeper is told of it.
-use Rattle.std.specs.Prelude.{◌≡◌, ℕ, ◌+◌, true, false, List, [], ◌∷◌, ◌++◌, map, filter, not, bytes_eq, Option, Some, None, IfSome, IsSome, IsFalse, All, AllPairs, vec_len, ⊤}
+use Rattle.std.specs.Prelude.{◌≡◌, ℕ, ◌+◌, option_to_list, true, false, List, [], ◌∷◌, ◌++◌, map, filter, not, bytes_eq, Option, Some, None, IfSome, IsSome, IsFalse, All, AllPairs, vec_len, ⊤}
 use Rattle.ss_bso.specs.declared.rows.Row.{Row}
+use Rattle.ss_bso.specs.declared.parts.Part.{Part}
 use Rattle.ss_bso.specs.declared.account.Plain.{Plain}
 use Rattle.ss_bso.specs.declared.account.Staged.{Staged}
 use Rattle.ss_bso.specs.declared.changes.Changes.{Changes}
@@ -8,6 +9,8 @@ use Rattle.ss_bso.specs.declared.changes.RowChange.{RowChange}
 use Rattle.ss_bso.specs.declared.changes.RowChange.TheVariants.{Put as PutRow, Drop as DropRow}
 use Rattle.ss_bso.specs.declared.changes.CollectionChange.{CollectionChange}
 use Rattle.ss_bso.specs.declared.changes.CollectionChange.TheVariants.{Set as SetTime, Drop as DropName}
+use Rattle.ss_bso.specs.declared.changes.BatchChange.{BatchChange}
+use Rattle.ss_bso.specs.declared.changes.BatchChange.TheVariants.{End as EndBatch, Begin as BeginBatch, Append as AppendParts}
 use Rattle.ss_bso.specs.Account.{is_at}
 use Rattle.ss_bso.specs.Batches.{batches_without, batches_elsewhere}
 use Rattle.ss_bso.specs.Write.{rows_without, times_with, times_without}
@@ -80,27 +83,48 @@ collection_changes time (Cut collection targets) times = SetTime collection time
 collection_changes time (DropCollection collection) times = DropName collection ∷ []
 collection_changes time DropAll times = map (λ entry. DropName entry.0) times
 
--- what a keeper is told of a write at a time
-abbrev pub changes_to : Plain → ℕ → Pending → Changes
-changes_to account time pending = record {
-  moment = time;
+-- the numbers of batches
+abbrev pub numbers_of : List Staged → List ℕ
+numbers_of batches = map (λ batch. batch.number) batches
+
+-- the numbers of the batches that a write ends
+abbrev pub ended_by : Pending → List Staged → List ℕ
+ended_by (Put collection targets made batch) batches = option_to_list batch
+ended_by (Cut collection targets) batches = []
+ended_by (DropCollection collection) batches = numbers_of (filter (λ batch. bytes_eq batch.collection collection) batches)
+ended_by DropAll batches = numbers_of batches
+
+-- what a keeper is told of a write at a time, and of the batches that ended before it
+abbrev pub changes_to : Plain → List ℕ → ℕ → Pending → Changes
+changes_to account ended time pending = record {
+  moment = account.moment;
   rows = row_changes pending;
   collections = collection_changes time pending account.collections;
   store = time;
   last_delete = deletion_left time pending account.last_delete;
   counter = account.counter;
+  batches = map EndBatch (ended ++ ended_by pending account.batches);
 }
 
--- what a keeper is told of a begin: the counter alone is another
-abbrev pub begin_changes : Plain → Changes
-begin_changes account = record {
+-- what a keeper is told of a begin, an append and the end of a batch, and of the batches that ended before it
+abbrev pub batch_changes : Plain → List ℕ → ℕ → BatchChange → Changes
+batch_changes account ended counter change = record {
   moment = account.moment;
   rows = [];
   collections = [];
   store = account.store;
   last_delete = account.last_delete;
-  counter = account.counter + 1;
+  counter = counter;
+  batches = map EndBatch ended ++ change ∷ [];
 }
+
+-- what a keeper is told of a begin, and of an append
+abbrev pub begin_changes : Plain → List ℕ → List ℕ → List Part → Changes
+begin_changes account ended collection parts =
+    batch_changes account ended (account.counter + 1) (BeginBatch (record { number = account.counter + 1; collection = collection; begun = account.moment; parts = parts }))
+
+abbrev pub append_changes : Plain → List ℕ → ℕ → List Part → Changes
+append_changes account ended number parts = batch_changes account ended account.counter (AppendParts number parts)
 
 -- how many rows a write makes
 abbrev pub count_made : Pending → ℕ

@@ -22,7 +22,7 @@ use Rattle.ss_query.specs.declared.replies.Body.{Body}
 use Rattle.ss_query.specs.declared.replies.Body.TheVariants.{Code, Said, Staged}
 use Rattle.ss_query.specs.declared.replies.Said.TheVariants.{Batch}
 use Rattle.ss_query.specs.declared.replies.Reply.{Reply}
-use Rattle.ss_bso.specs.Limits.{most_payload_bytes, most_rows_and_collections, row_bytes}
+use Rattle.ss_bso.specs.Limits.{row_bytes}
 use Rattle.ss_query.specs.Refused.{Refusal, NoMoreBatches, NoBatch, BatchFull, ClockEnded, AccountFull, staged_parts}
 use Rattle.ss_query.specs.Effect.{effect, is_write, is_over}
 use Rattle.ss_query.specs.Told.{first_failures, rows_body}
@@ -39,10 +39,6 @@ is_target collection ids row = bytes_eq row.collection collection && is_among id
 pub record IsSize (rows : List Row) (size : Size) : Type 0 where
   pub number : size.rows ≡ min (length rows) most_counted
   pub bytes : size.bytes ≡ min (row_bytes rows) most_counted
-
--- whether rows and a number of collections pass the limits
-abbrev pub is_full : List Row → ℕ → Bool
-is_full rows collections = nat_lt most_payload_bytes (row_bytes rows) || nat_lt most_rows_and_collections (length rows + collections)
 
 -- what is counted of rows, as far as it can be counted
 abbrev pub counted : Measure → List Row → ℕ

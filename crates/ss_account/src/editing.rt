@@ -2,7 +2,6 @@
 
 ghost use Rattle.std.specs.Prelude.{◌≡◌, ◌<◌, ◌≤◌, ◌^◌, ◌+◌, ◌++◌, IfOk, filter, map, not, bytes_eq, length, vec_len, vec_capacity};
 ghost use Rattle.ss_bso.specs.Account.{is_alive};
-ghost use Rattle.ss_bso.specs.Limits.{rows_of};
 ghost use Rattle.ss_bso.specs.Write.{rows_without, times_with, times_without};
 
 use crate::finding::{is_alive, is_in, is_named};
@@ -77,22 +76,6 @@ pub(crate) fn count_others(times: &[(Name, Stamp)], collection: &Name) -> usize
         .count()
 }
 
-pub(crate) fn rows_in(
-    alloc: Global,
-    rows: &[Row],
-    collection: &Name,
-) -> Result<Vec<Row>, AllocError>
-    ensures { IfOk result (λ copied. copied.items ≡ rows_of collection.now rows.now) }
-{
-    let mut copied = Vec::new(alloc);
-    for row in rows {
-        if is_in(row, collection) {
-            copied.push(row.copy(alloc)?)?;
-        }
-    }
-    Ok(copied)
-}
-
 pub(crate) fn copy_rows(alloc: Global, rows: &[Row]) -> Result<Vec<Row>, AllocError>
     ensures { IfOk result (λ copied. copied.items ≡ rows.now) }
 {
@@ -101,16 +84,6 @@ pub(crate) fn copy_rows(alloc: Global, rows: &[Row]) -> Result<Vec<Row>, AllocEr
         copied.push(row.copy(alloc)?)?;
     }
     Ok(copied)
-}
-
-pub(crate) fn ids_of_rows(alloc: Global, rows: &[Row]) -> Result<Vec<Id>, AllocError>
-    ensures { IfOk result (λ ids. ids.items ≡ map (λ row. row.id) rows.now) }
-{
-    let mut ids = Vec::with_capacity(alloc, rows.len())?;
-    for row in rows {
-        ids.push(row.id.copy(alloc)?)?;
-    }
-    Ok(ids)
 }
 
 pub(crate) fn copy_parts(alloc: Global, parts: &[Part]) -> Result<Vec<Part>, AllocError>

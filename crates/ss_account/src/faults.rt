@@ -23,6 +23,11 @@ pub enum OpenFault {
     #[error("row {n} is doubled, without a collection, too late or one too many")]
     BadRow { n: u64 },
 
+    /// The batch of this number, counted from 1, is the first that is the fifth or later, has the number of one before it, the
+    /// number 0 or one that wasn't given out, or more than 20,000 records or 16,777,216 payload bytes.
+    #[error("batch {n} is one too many, doubled, of no number that was given out, or too large")]
+    BadBatch { n: u64 },
+
     #[error("out of memory")]
     Memory,
 }

@@ -1,21 +1,26 @@
 //! Whether an account can be opened from what a keeper holds.
 
-ghost use Rattle.std.specs.Prelude.{◌≡◌, ◌≤◌, ◌&&◌, ◌||◌, ℕ, List, not, is_none, None, Some, Err, IfOk, OnOk, IfErr, IfSome, bytes_eq, nat_le, nat_lt, false, if◌then◌else◌};
+ghost use Rattle.std.specs.Prelude.{◌≡◌, ◌≤◌, ◌&&◌, ◌||◌, ◌==◌, ℕ, List, not, is_none, None, Some, Err, IfOk, OnOk, IfErr, IfSome, bytes_eq, length, take, nat_le, nat_lt, false, if◌then◌else◌};
 ghost use Rattle.std.specs.HashMap.{get};
+ghost use Rattle.std.specs.List.{list_any};
 ghost use Rattle.std.specs.Option.{option_map_or};
+ghost use Rattle.ss_bso.specs.Batches.{fit};
 ghost use Rattle.ss_outside.specs.Causes.{Rose};
 ghost use Rattle.ss_bso.specs.declared.rows.Row.{Row as RowValue};
 ghost use Rattle.ss_bso.specs.Account.{time_of};
+ghost use Rattle.ss_bso.specs.Changes.{latest};
+ghost use Rattle.ss_bso.specs.Limits.{is_too_much, most_live_batches, most_rows_and_collections};
 ghost use Rattle.ss_keeper.specs.Keeping.{IsTold};
 ghost use Rattle.ss_account.specs.declared.faults.OpenFault.TheVariants.{Keeper as OpenKeeper};
-ghost use Rattle.ss_account.specs.Opening.{IsFaultOf, IsGood, IsRowsFault, IsTimesFault, first_bad, is_bad_collection, is_bad_row};
+ghost use Rattle.ss_account.specs.Opening.{IsBatchesFault, IsFaultOf, IsGood, IsRowsFault, IsTimesFault, first_bad, is_bad_batch, is_bad_collection, is_bad_row};
 ghost use Rattle.ss_account.specs.Places.{is_placed};
-ghost use Rattle.ss_account.specs.Steps.{IsSize, is_full, or_else};
+ghost use Rattle.ss_account.specs.Steps.{IsSize, or_else};
 
 use crate::faults::OpenFault;
 use crate::places::Place;
-use crate::sizes::{MOST_ROWS_AND_COLLECTIONS, Size};
-use ss_bso::{Kept, Row};
+use crate::sizes::{Size, is_fit};
+use ss_bso::limits::{MOST_LIVE_BATCHES, MOST_ROWS_AND_COLLECTIONS};
+use ss_bso::{Kept, Row, Staged};
 use ss_keeper::{KeepFault, Keeper};
 use ss_text::{Name, Stamp};
 use std::alloc::{AllocError, Global};
@@ -39,7 +44,7 @@ fn add_time(
 
 /// Whether the collection of this number, counted from 1, is bad.
 fn is_bad_time(is_first: bool, n: u64, time: Stamp, last: u64) -> bool
-    ensures { result ≡ (not is_first || (nat_lt last time || nat_lt 200000 n)) }
+    ensures { result ≡ (not is_first || (nat_lt last time || nat_lt most_rows_and_collections n)) }
 {
     !is_first || time.get() > last || n > MOST_ROWS_AND_COLLECTIONS
 }
@@ -106,7 +111,7 @@ fn is_bad(
     collections: usize,
 ) -> bool
     ensures { (rows : List RowValue) → IsSize rows size
-        → result ≡ (not is_first || (not (option_map_or (λ time. nat_le row.now.modified time) (get bytes_eq times.now row.now.collection) false) || is_full rows collections)) }
+        → result ≡ (not is_first || (not (option_map_or (λ time. nat_le row.now.modified time) (get bytes_eq times.now row.now.collection) false) || is_too_much rows collections)) }
 {
     !is_first || is_astray(times, row) || size.is_full(collections)
 }
@@ -136,6 +141,69 @@ fn check_rows(
     Ok(())
 }
 
+/// Whether a batch has this number.
+fn has_number(staged: &Staged, number: u64) -> bool
+    ensures { result ≡ (staged.now.number == number) }
+{
+    staged.number == number
+}
+
+/// Whether one of the batches has this number.
+fn is_numbered(batches: &[Staged], number: u64) -> bool
+    ensures { result ≡ list_any (λ other. other.number == number) batches.now }
+{
+    batches.iter().any(|other| has_number(other, number))
+}
+
+/// Whether a batch of this number is one too many behind those before it, or has the number of one of them.
+fn is_crowded(before: &[Staged], number: u64) -> bool
+    ensures { result ≡ (nat_le most_live_batches (length before.now) || list_any (λ other. other.number == number) before.now) }
+{
+    before.len() >= MOST_LIVE_BATCHES || is_numbered(before, number)
+}
+
+/// Whether a batch has a number that wasn't given out, or is larger than a batch may be.
+fn is_amiss(staged: &Staged, counter: u64) -> bool
+    ensures { result ≡ ((staged.now.number == 0 || nat_lt counter staged.now.number) || not (fit staged.now.parts)) }
+{
+    (staged.number == 0 || counter < staged.number) || !is_fit(staged.parts.as_slice())
+}
+
+/// Whether a batch is bad behind so many before it.
+fn is_bad_batch(batches: &[Staged], place: usize, staged: &Staged, counter: u64) -> bool
+    requires { place ≤ length batches.now }
+    ensures { result ≡ is_bad_batch counter (take place batches.now) staged.now }
+{
+    is_crowded(&batches[..place], staged.number) || is_amiss(staged, counter)
+}
+
+/// Whether none of the batches is bad, where so many were begun.
+fn check_batches(batches: &[Staged], counter: u64) -> Result<(), OpenFault>
+    ensures good { OnOk result (first_bad (is_bad_batch counter) batches.now ≡ None) }
+    ensures bad { IfErr result (λ fault. IsBatchesFault counter batches.now fault) }
+{
+    let mut place = 0;
+    for staged in batches {
+        if is_bad_batch(batches, place, staged, counter) {
+            let n = place as u64 + 1;
+            return Err(OpenFault::BadBatch { n });
+        }
+        place += 1;
+    }
+    Ok(())
+}
+
+/// The latest of a time and of the begins of batches.
+pub(crate) fn latest(time: Stamp, batches: &[Staged]) -> Stamp
+    ensures { result ≡ latest time batches.now }
+{
+    let mut moment = time;
+    for staged in batches {
+        moment = moment.max(staged.begun);
+    }
+    moment
+}
+
 /// Whether an account can be opened from what is kept.
 fn check(alloc: Global, kept: &Kept) -> Result<(), OpenFault>
     ensures good { OnOk result (IsGood kept.now) }
@@ -145,7 +213,8 @@ fn check(alloc: Global, kept: &Kept) -> Result<(), OpenFault>
 {
     let collections = kept.collections.as_slice();
     let times = times_of(alloc, collections, kept.store)?;
-    check_rows(alloc, kept.rows.as_slice(), collections, &times)
+    check_rows(alloc, kept.rows.as_slice(), collections, &times)?;
+    check_batches(kept.batches.as_slice(), kept.counter)
 }
 
 /// What a keeper holds, where an account can be opened from it.
@@ -156,6 +225,7 @@ pub(crate) fn load<K: Keeper>(alloc: Global, keeper: &mut K) -> Result<Kept, Ope
     ensures bad { IfErr result (λ fault. IfSome (K.told keeper.old) (λ kept. IsFaultOf kept fault)) }
     ensures left { K.told keeper.new ≡ K.told keeper.old }
     ensures cause { result ≡ Err OpenKeeper → Rose (K.keep_faults keeper.old) (K.keep_faults keeper.new) }
+    ensures quiet { (result ≡ Err OpenKeeper → ⊥) → K.keep_faults keeper.new ≡ K.keep_faults keeper.old }
     ensures faults { K.keep_faults keeper.old ≤ K.keep_faults keeper.new }
 {
     let kept = match keeper.load(alloc) {

@@ -1,15 +1,17 @@
 //! A write that is ready: what is to become of the account, and what a keeper is told of it.
 
-ghost use Rattle.std.specs.Prelude.{◌≡◌, ◌≤◌, ◌+◌, ◌∷◌, [], map, option_map, IfOk, IfSome, IsSome, vec_len, vec_capacity};
+ghost use Rattle.std.specs.Prelude.{◌≡◌, ◌≤◌, ◌+◌, ◌∷◌, ◌++◌, [], map, filter, bytes_eq, option_map, IfOk, OnOk, IfSome, IsSome, vec_len, vec_capacity};
+ghost use Rattle.ss_bso.specs.declared.changes.BatchChange.TheVariants.{End as EndChange};
 ghost use Rattle.ss_bso.specs.declared.changes.RowChange.TheVariants.{Put as PutChange};
 ghost use Rattle.ss_bso.specs.declared.changes.CollectionChange.TheVariants.{Drop as DropChange, Set};
 ghost use Rattle.ss_batch.specs.Stage.{numbered};
-ghost use Rattle.ss_account.specs.Pending.{batch_ended, batches_but, batches_left, collection_changes, count_made, deletion_left, row_changes, rows_left, times_left};
+ghost use Rattle.ss_account.specs.Pending.{batch_ended, batches_but, batches_left, collection_changes, count_made, deletion_left, ended_by, numbers_of, row_changes, rows_left, times_left};
 
 use crate::editing::{cut_rows, remove_collection, remove_time, replace_rows, set_time};
+use crate::ended::Ended;
 use crate::targets::Targets;
 use ss_batch::Stage;
-use ss_bso::{CollectionChange, Row, RowChange};
+use ss_bso::{BatchChange, CollectionChange, Row, RowChange, Staged};
 use ss_query::Body;
 use ss_text::{Name, Stamp};
 use std::alloc::{AllocError, Global};
@@ -83,6 +85,40 @@ fn drop_each(
     Ok(changes)
 }
 
+/// Adds the end of a batch.
+fn push_end(changes: &mut Vec<BatchChange>, number: u64) -> Result<(), AllocError>
+    ensures { OnOk result (changes.new.items ≡ changes.old.items ++ EndChange number ∷ []) }
+{
+    changes.push(BatchChange::End { number })?;
+    Ok(())
+}
+
+/// Adds the ends of batches.
+fn push_ends(changes: &mut Vec<BatchChange>, batches: &[Staged]) -> Result<(), AllocError>
+    ensures { OnOk result (changes.new.items ≡ changes.old.items ++ map EndChange (numbers_of batches.now)) }
+{
+    for staged in batches {
+        push_end(changes, staged.number)?;
+    }
+    Ok(())
+}
+
+/// Adds the ends of the batches of a collection.
+fn push_ends_of(
+    changes: &mut Vec<BatchChange>,
+    batches: &[Staged],
+    collection: &Name,
+) -> Result<(), AllocError>
+    ensures { OnOk result (changes.new.items ≡ changes.old.items ++ map EndChange (numbers_of (filter (λ batch. bytes_eq batch.collection collection.now) batches.now))) }
+{
+    for staged in batches {
+        if staged.collection == *collection {
+            push_end(changes, staged.number)?;
+        }
+    }
+    Ok(())
+}
+
 /// Ends a live batch, if one is named.
 fn end_batch(stage: &mut Stage, batch: Option<u64>)
     requires { IfSome batch (λ number. IsSome (numbered number stage.old.batches)) }
@@ -134,6 +170,30 @@ impl Pending {
             Pending::DropCollection { collection } => drop_one(alloc, collection),
             Pending::DropAll => drop_each(alloc, collections),
         }
+    }
+
+    /// What becomes of batches, where those that ended before are noted.
+    pub(crate) fn batch_changes(
+        &self,
+        alloc: Global,
+        ended: &Ended,
+        batches: &[Staged],
+    ) -> Result<Vec<BatchChange>, AllocError>
+        ensures { IfOk result (λ changes. changes.items ≡ map EndChange (ended.now ++ ended_by self.now batches.now)) }
+    {
+        let mut changes = ended.ends(alloc)?;
+        match self {
+            Pending::Put {
+                batch: Some(number),
+                ..
+            } => push_end(&mut changes, *number)?,
+            Pending::Put { batch: None, .. } | Pending::Cut { .. } => (),
+            Pending::DropCollection { collection } => {
+                push_ends_of(&mut changes, batches, collection)?
+            }
+            Pending::DropAll => push_ends(&mut changes, batches)?,
+        }
+        Ok(changes)
     }
 
     /// The time of the last deletion, where the write has this time.

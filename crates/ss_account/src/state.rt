@@ -1,13 +1,14 @@
 //! An account over plain lists, and what each request makes of it.
 
-ghost use Rattle.std.specs.Prelude.{◌≡◌, ◌≤◌, ◌<◌, ◌+◌, ◌-◌, ℕ, None, Some, IfOk, OnOk, OnErr, IfErr, IfSome, IsSome, true, false, ◌++◌, is_none, option_map, map, if◌then◌else◌};
-ghost use Rattle.ss_bso.specs.Account.{tick, row_at};
+ghost use Rattle.std.specs.Prelude.{◌≡◌, ◌≤◌, ◌<◌, ◌+◌, ◌-◌, ℕ, None, Some, Err, IfOk, OnOk, OnErr, IfErr, IfSome, IsSome, IsSomeAnd, true, false, [], ◌++◌, is_none, not, option_map, map, filter, length, if◌then◌else◌};
+ghost use Rattle.ss_bso.specs.Account.{is_open, tick, row_at};
+ghost use Rattle.ss_bso.specs.declared.changes.BatchChange.TheVariants.{End as EndChange};
 ghost use Rattle.ss_bso.specs.Batches.{batches_without};
-ghost use Rattle.ss_bso.specs.Changes.{opened};
-ghost use Rattle.ss_bso.specs.Limits.{row_bytes};
+ghost use Rattle.ss_bso.specs.Changes.{plain_of};
+ghost use Rattle.ss_bso.specs.Limits.{most_live_batches, row_bytes};
 ghost use Rattle.ss_bso.specs.Validity.{IsValid, IsWithinLimits};
 ghost use Rattle.ss_bso.specs.Write.{ids_of, rows_without, rows_written, stamped, write};
-ghost use Rattle.ss_batch.specs.Stage.{append_fault, appended, begin_fault, begun, numbered};
+ghost use Rattle.ss_batch.specs.Stage.{append_fault, appended, begin_fault, begun, numbered, shortened};
 ghost use Rattle.ss_keeper.specs.Keeping.{HasCause};
 ghost use Rattle.ss_query.specs.declared.replies.Body.TheVariants.{Posted, Said as Word};
 ghost use Rattle.ss_query.specs.declared.replies.Said.TheVariants.{Keeper as KeeperWord, Memory};
@@ -16,28 +17,35 @@ ghost use Rattle.ss_query.specs.Refused.{target_time, collection_time, said_by, 
 ghost use Rattle.ss_query.specs.Effect.{effect, is_over, is_write, stamp_in};
 ghost use Rattle.ss_query.specs.Told.{body_of, first_failures, info_body, per_collection, picked};
 ghost use Rattle.ss_query.specs.Api.{refusal, outcome, done, misses_item};
-ghost use Rattle.ss_account.specs.Laws.{is_of_batch};
-ghost use Rattle.ss_account.specs.Keeping.{IsKeptBy, is_begin, is_for_keeper};
-ghost use Rattle.ss_account.specs.Pending.{IsReady, Settles, Tells, applied, begin_changes, changes_to, without_batch};
+ghost use Rattle.ss_laws.specs.Laws.{is_of_batch};
+ghost use Rattle.ss_account.specs.Keeping.{IsHeldBy, IsKeptBesideBy, IsOpened, IsSwept, is_for_keeper};
+ghost use Rattle.ss_account.specs.Opening.{IsFaultOf, IsGood};
+ghost use Rattle.ss_account.specs.declared.faults.OpenFault.TheVariants.{Keeper as OpenKeeper};
+ghost use Rattle.ss_outside.specs.Causes.{Rose};
+ghost use Rattle.ss_account.specs.Pending.{IsReady, Settles, Tells, applied, append_changes, batch_changes, begin_changes, changes_to, numbers_of, without_batch};
 ghost use Rattle.ss_account.specs.Steps.{batch_cause, committed, fault_body, late_refusal, list_reply, number_of, one_part, plain_reply, stage_of, staged_reply, with_stage};
 
-use crate::editing::{copy_batches, copy_parts, copy_rows, count_others, drop_dead, rows_in};
-use crate::finding::{find_row, find_time};
+use crate::editing::{copy_batches, copy_parts, copy_rows, count_others, drop_dead};
+use crate::ended::Ended;
+use crate::faults::OpenFault;
+use crate::finding::{find_row, find_time, rows_found};
 use crate::infos::{Measure, by_name, copies, per_collection};
+use crate::ledger::Ledger;
+use crate::opening::{latest, load};
 use crate::pending::{Pending, with_body};
 use crate::sizes::{Size, would_be_full};
 use crate::targets::Targets;
 use crate::telling::{
-    condition_of, fault_body, is_of_batch, posted, rows_body, staged, stop_body, told_of,
+    Page, condition_of, fault_body, is_of_batch, page_of, posted, staged, stop_body, told_of,
 };
 use crate::writing::made_rows;
 use ss_batch::{Stage, StageFault};
 use ss_bso::{
-    Batches, Changes, CollectionChanges, Fields, Kept, Part, Plain, Records, Row, RowChanges, Rows,
-    Times,
+    BatchChange, BatchChanges, Batches, Changes, CollectionChanges, Fields, Kept, Part, Parts,
+    Plain, Records, Row, RowChanges, Rows, Staged, Times,
 };
 use ss_keeper::{KeepFault, Keeper};
-use ss_query::{Body, Info, Mode, Numbers, Picked, Query, Reply, Request, Said, answer_query};
+use ss_query::{Body, Info, Mode, Numbers, Query, Reply, Request, Said};
 use ss_text::{Id, LAST, Name, Stamp};
 use std::alloc::{AllocError, Global};
 use std::marker::Model;
@@ -69,27 +77,49 @@ impl Model for State {
     } };
 }
 
+/// The account that a keeper holds, and those of its batches that have ended.
+pub(crate) fn prepare<K: Keeper>(alloc: Global, keeper: &mut K) -> Result<(State, Ended), OpenFault>
+    ensures opened { IfOk result (λ made. IsOpened (K.told keeper.old) made.0 made.1) }
+    ensures bad { IfErr result (λ fault. IfSome (K.told keeper.old) (λ kept. IsFaultOf kept fault)) }
+    ensures left { K.told keeper.new ≡ K.told keeper.old }
+    ensures cause { result ≡ Err OpenKeeper → Rose (K.keep_faults keeper.old) (K.keep_faults keeper.new) }
+    ensures quiet { (result ≡ Err OpenKeeper → ⊥) → K.keep_faults keeper.new ≡ K.keep_faults keeper.old }
+    ensures faults { K.keep_faults keeper.old ≤ K.keep_faults keeper.new }
+{
+    let kept = load(alloc, keeper)?;
+    let mut ended = Ended::new(alloc)?;
+    let mut state = State::of(kept);
+    state.tick(0, &mut ended);
+    Ok((state, ended))
+}
+
 impl State {
-    /// The account that is opened from what is kept: without batches, at the store's time.
-    pub(crate) fn open(alloc: Global, kept: Kept) -> State
-        ensures { result ≡ opened kept }
+    /// The account that what is kept stands for: its moment is the latest of the store's time and the begins of the batches.
+    pub(crate) fn of(kept: Kept) -> State
+        requires { IsGood kept }
+        ensures account { result ≡ plain_of kept }
+        ensures moment { result.moment ≤ 999999999999 }
     {
+        let moment = latest(kept.store, kept.batches.as_slice());
         State {
             rows: kept.rows.into_vec(),
             collections: kept.collections.into_vec(),
             store: kept.store,
             last_delete: kept.last_delete,
-            moment: kept.store,
-            stage: Stage::new(alloc, kept.counter),
+            moment,
+            stage: Stage::from_staged(kept.counter, kept.batches.into_vec()),
         }
     }
 
-    /// Reads the clock: the moment doesn't fall, and what has ended by then goes.
-    pub(crate) fn tick(&mut self, now: u64)
-        ensures { self.new ≡ tick self.old now }
+    /// Reads the clock: the moment doesn't fall, and what has ended by then goes. The numbers of the batches among that are noted.
+    pub(crate) fn tick(&mut self, now: u64, ended: &mut Ended)
+        requires { length ended.old + length self.old.batches ≤ most_live_batches }
+        ensures account { self.new ≡ tick self.old now }
+        ensures ended { ended.new ≡ ended.old ++ numbers_of (filter (λ batch. not (is_open self.new.moment batch)) self.old.batches) }
     {
         self.moment = self.moment.max(Stamp::clamp(now));
         drop_dead(&mut self.rows, self.moment);
+        ended.note(self.stage.batches(), self.moment);
         self.stage.expire(self.moment);
     }
 
@@ -234,6 +264,7 @@ impl State {
         ensures batch { OnOk result (batch_cause self.now request.now ≡ None) }
         ensures reply { IfErr result (λ reply. reply ≡ (outcome self.now request.now (refusal self.now request.now)).reply) }
         ensures account { OnErr result ((outcome self.now request.now (refusal self.now request.now)).account ≡ self.now) }
+        ensures refused { OnErr result (is_none (refusal self.now request.now) ≡ false) }
     {
         let Some(time) = self.target_time(request) else {
             return Err(self.refuse(404, None, Body::Said(Said::Item)));
@@ -251,26 +282,31 @@ impl State {
     pub(crate) fn answer<K: Keeper>(
         &mut self,
         alloc: Global,
-        keeper: &mut K,
+        ledger: &mut Ledger<K>,
         request: &Request,
     ) -> Result<Reply, KeepFault>
         requires valid { IsValid self.old }
+        requires swept { IsSwept self.old }
+        requires told { IsKeptBesideBy ledger.old.ended (K.told ledger.old.keeper) self.old }
         requires fits { IsFitRequest request.now }
         ensures reply { IfOk result (λ reply. reply ≡ (outcome self.old request.now (refusal self.old request.now)).reply) }
         ensures account { OnOk result (self.new ≡ (outcome self.old request.now (refusal self.old request.now)).account) }
         ensures err { OnErr result (self.new ≡ self.old) }
-        ensures kept { IsKeptBy (K.told keeper.old) self.old → IsKeptBy (K.told keeper.new) self.new }
-        ensures refused { OnErr result (K.told keeper.new ≡ K.told keeper.old) }
-        ensures cause { HasCause (K.keep_faults keeper.old) (K.keep_faults keeper.new) result }
-        ensures unasked { is_for_keeper self.old request.now ≡ false → keeper.new ≡ keeper.old }
+        ensures cleared { is_for_keeper self.old request.now ≡ true → OnOk result (ledger.new.ended ≡ []) }
+        ensures refused { OnErr result (K.told ledger.new.keeper ≡ K.told ledger.old.keeper) }
+        ensures left { OnErr result (ledger.new.ended ≡ ledger.old.ended) }
+        ensures cause { HasCause (K.keep_faults ledger.old.keeper) (K.keep_faults ledger.new.keeper) result }
+        ensures unasked { is_for_keeper self.old request.now ≡ false → ledger.new ≡ ledger.old }
+        ensures quiet { is_for_keeper self.old request.now ≡ false → self.new ≡ self.old }
+        ensures held { is_for_keeper self.old request.now ≡ true → OnOk result (IsHeldBy (K.told ledger.new.keeper) self.new) }
     {
         match self.admit(request) {
             Err(reply) => Ok(reply),
             Ok(time) => {
                 if self.is_write(request) {
-                    self.write(alloc, keeper, request)
+                    self.write(alloc, ledger, request)
                 } else if is_of_batch(request) {
-                    self.stage_parts(alloc, keeper, request, time)
+                    self.stage_parts(alloc, ledger, request, time)
                 } else {
                     Ok(self.read(alloc, request, time)?)
                 }
@@ -282,19 +318,24 @@ impl State {
     fn write<K: Keeper>(
         &mut self,
         alloc: Global,
-        keeper: &mut K,
+        ledger: &mut Ledger<K>,
         request: &Request,
     ) -> Result<Reply, KeepFault>
         requires write { is_write self.old request.now ≡ true }
         requires batch { batch_cause self.old request.now ≡ None }
         requires valid { IsValid self.old }
+        requires swept { IsSwept self.old }
+        requires told { IsKeptBesideBy ledger.old.ended (K.told ledger.old.keeper) self.old }
         ensures reply { IfOk result (λ reply. reply ≡ (outcome self.old request.now (late_refusal self.old request.now)).reply) }
         ensures account { OnOk result (self.new ≡ (outcome self.old request.now (late_refusal self.old request.now)).account) }
         ensures err { OnErr result (self.new ≡ self.old) }
-        ensures kept { IsKeptBy (K.told keeper.old) self.old → IsKeptBy (K.told keeper.new) self.new }
-        ensures refused { OnErr result (K.told keeper.new ≡ K.told keeper.old) }
-        ensures cause { HasCause (K.keep_faults keeper.old) (K.keep_faults keeper.new) result }
-        ensures unasked { is_none (late_refusal self.old request.now) ≡ false → keeper.new ≡ keeper.old }
+        ensures cleared { is_none (late_refusal self.old request.now) ≡ true → OnOk result (ledger.new.ended ≡ []) }
+        ensures refused { OnErr result (K.told ledger.new.keeper ≡ K.told ledger.old.keeper) }
+        ensures left { OnErr result (ledger.new.ended ≡ ledger.old.ended) }
+        ensures cause { HasCause (K.keep_faults ledger.old.keeper) (K.keep_faults ledger.new.keeper) result }
+        ensures unasked { is_none (late_refusal self.old request.now) ≡ false → ledger.new ≡ ledger.old }
+        ensures quiet { is_none (late_refusal self.old request.now) ≡ false → self.new ≡ self.old }
+        ensures held { is_none (late_refusal self.old request.now) ≡ true → OnOk result (IsHeldBy (K.told ledger.new.keeper) self.new) }
     {
         if self.store.get() == LAST {
             return Ok(self.refuse(503, None, Body::Said(Said::Clock)));
@@ -303,7 +344,7 @@ impl State {
         let Some((pending, body)) = self.prepare(alloc, request, stamp)? else {
             return Ok(self.refuse(403, None, Body::Code(14)));
         };
-        self.keep(alloc, keeper, pending, stamp)?;
+        self.keep(alloc, ledger, pending, stamp)?;
         Ok(Reply {
             status: 200,
             moment: stamp,
@@ -494,19 +535,28 @@ impl State {
     }
 
     /// What a keeper is told of a write.
-    fn changes(&self, alloc: Global, pending: &Pending, stamp: Stamp) -> Result<Changes, AllocError>
-        ensures { IfOk result (λ changes. changes ≡ changes_to self.now stamp pending.now) }
+    fn changes(
+        &self,
+        alloc: Global,
+        ended: &Ended,
+        pending: &Pending,
+        stamp: Stamp,
+    ) -> Result<Changes, AllocError>
+        ensures { IfOk result (λ changes. changes ≡ changes_to self.now ended.now stamp pending.now) }
     {
         let rows = pending.row_changes(alloc)?;
         let times = self.collections.as_slice();
         let collections = pending.collection_changes(alloc, times, stamp)?;
+        let batches = pending.batch_changes(alloc, ended, self.stage.batches())?;
+        let moment = self.moment;
         Ok(Changes {
-            moment: stamp,
+            moment,
             rows: RowChanges::new(rows),
             collections: CollectionChanges::new(collections),
             store: stamp,
             last_delete: pending.last_delete(self.last_delete, stamp),
             counter: self.stage.counter(),
+            batches: BatchChanges::new(batches),
         })
     }
 
@@ -514,23 +564,26 @@ impl State {
     fn keep<K: Keeper>(
         &mut self,
         alloc: Global,
-        keeper: &mut K,
+        ledger: &mut Ledger<K>,
         pending: Pending,
         stamp: Stamp,
     ) -> Result<(), KeepFault>
-        requires later { self.old.moment ≤ stamp }
         requires valid { IsValid self.old }
+        requires swept { IsSwept self.old }
+        requires told { IsKeptBesideBy ledger.old.ended (K.told ledger.old.keeper) self.old }
         requires ready { IsReady self.old pending }
         ensures ok { OnOk result (self.new ≡ applied self.old stamp pending) }
         ensures err { OnErr result (self.new ≡ self.old) }
-        ensures kept { IsKeptBy (K.told keeper.old) self.old → IsKeptBy (K.told keeper.new) self.new }
-        ensures refused { OnErr result (K.told keeper.new ≡ K.told keeper.old) }
-        ensures cause { HasCause (K.keep_faults keeper.old) (K.keep_faults keeper.new) result }
+        ensures held { OnOk result (IsHeldBy (K.told ledger.new.keeper) self.new) }
+        ensures cleared { OnOk result (ledger.new.ended ≡ []) }
+        ensures refused { OnErr result (K.told ledger.new.keeper ≡ K.told ledger.old.keeper) }
+        ensures left { OnErr result (ledger.new.ended ≡ ledger.old.ended) }
+        ensures cause { HasCause (K.keep_faults ledger.old.keeper) (K.keep_faults ledger.new.keeper) result }
     {
-        let changes = self.changes(alloc, &pending, stamp)?;
+        let changes = self.changes(alloc, &ledger.ended, &pending, stamp)?;
         self.rows.reserve(pending.made())?;
         self.collections.reserve(1)?;
-        keeper.commit(alloc, &changes)?;
+        ledger.commit(alloc, &changes)?;
         pending.apply(
             &mut self.rows,
             &mut self.collections,
@@ -547,7 +600,7 @@ impl State {
     fn stage_parts<K: Keeper>(
         &mut self,
         alloc: Global,
-        keeper: &mut K,
+        ledger: &mut Ledger<K>,
         request: &Request,
         time: Stamp,
     ) -> Result<Reply, KeepFault>
@@ -556,14 +609,17 @@ impl State {
         requires of_batch { is_of_batch request.now ≡ true }
         requires batch { batch_cause self.old request.now ≡ None }
         requires valid { IsValid self.old }
+        requires swept { IsSwept self.old }
+        requires told { IsKeptBesideBy ledger.old.ended (K.told ledger.old.keeper) self.old }
         requires fits { IsFitRequest request.now }
         ensures reply { IfOk result (λ reply. reply ≡ (done self.old request.now).reply) }
         ensures account { OnOk result (self.new ≡ (done self.old request.now).account) }
         ensures err { OnErr result (self.new ≡ self.old) }
-        ensures kept { IsKeptBy (K.told keeper.old) self.old → IsKeptBy (K.told keeper.new) self.new }
-        ensures refused { OnErr result (K.told keeper.new ≡ K.told keeper.old) }
-        ensures cause { HasCause (K.keep_faults keeper.old) (K.keep_faults keeper.new) result }
-        ensures unasked { is_begin request.now ≡ false → keeper.new ≡ keeper.old }
+        ensures cleared { OnOk result (ledger.new.ended ≡ []) }
+        ensures refused { OnErr result (K.told ledger.new.keeper ≡ K.told ledger.old.keeper) }
+        ensures left { OnErr result (ledger.new.ended ≡ ledger.old.ended) }
+        ensures cause { HasCause (K.keep_faults ledger.old.keeper) (K.keep_faults ledger.new.keeper) result }
+        ensures held { OnOk result (IsHeldBy (K.told ledger.new.keeper) self.new) }
     {
         match request {
             Request::Post {
@@ -573,54 +629,110 @@ impl State {
                 ..
             } => match mode {
                 Mode::Plain => unreachable!(),
-                Mode::Begin => self.begin(alloc, keeper, collection, records, time),
+                Mode::Begin => self.begin(alloc, ledger, collection, records, time),
                 Mode::Append { batch } => {
-                    Ok(self.append(alloc, collection, records, *batch, time)?)
+                    self.append(alloc, ledger, collection, records, *batch, time)
                 }
-                Mode::Commit { batch } => Ok(self.end(alloc, records, *batch, time)?),
+                Mode::Commit { batch } => self.end(alloc, ledger, records, *batch, time),
             },
             _ => unreachable!(),
         }
     }
 
-    /// What a keeper is told of a begin.
-    fn begin_changes(&self, alloc: Global) -> Changes
-        requires { self.now.counter < 999999999999 }
-        ensures { result ≡ begin_changes self.now }
+    /// What a keeper is told of a begin, an append or the end of a batch.
+    fn batch_changes(
+        &self,
+        alloc: Global,
+        ended: &Ended,
+        counter: u64,
+        change: BatchChange,
+    ) -> Result<Changes, AllocError>
+        ensures { IfOk result (λ changes. changes ≡ batch_changes self.now ended.now counter change) }
     {
-        Changes {
+        let mut batches = ended.ends(alloc)?;
+        batches.push(change)?;
+        Ok(Changes {
             moment: self.moment,
             rows: RowChanges::new(Vec::new(alloc)),
             collections: CollectionChanges::new(Vec::new(alloc)),
             store: self.store,
             last_delete: self.last_delete,
-            counter: self.stage.counter() + 1,
-        }
+            counter,
+            batches: BatchChanges::new(batches),
+        })
+    }
+
+    /// What a keeper is told of a begin.
+    fn begin_changes(
+        &self,
+        alloc: Global,
+        ended: &Ended,
+        collection: &Name,
+        parts: &[Part],
+    ) -> Result<Changes, AllocError>
+        requires { self.now.counter < 999999999999 }
+        ensures { IfOk result (λ changes. changes ≡ begin_changes self.now ended.now collection.now parts.now) }
+    {
+        let number = self.stage.counter() + 1;
+        let new = Staged {
+            number,
+            collection: collection.copy(alloc)?,
+            begun: self.moment,
+            parts: Parts::new(copy_parts(alloc, parts)?),
+        };
+        self.batch_changes(alloc, ended, number, BatchChange::Begin(new))
+    }
+
+    /// What a keeper is told of an append.
+    fn append_changes(
+        &self,
+        alloc: Global,
+        ended: &Ended,
+        number: u64,
+        parts: &[Part],
+    ) -> Result<Changes, AllocError>
+        ensures { IfOk result (λ changes. changes ≡ append_changes self.now ended.now number parts.now) }
+    {
+        let parts = Parts::new(copy_parts(alloc, parts)?);
+        let counter = self.stage.counter();
+        self.batch_changes(alloc, ended, counter, BatchChange::Append { number, parts })
+    }
+
+    /// What a keeper is told of the end of a batch.
+    fn end_changes(&self, alloc: Global, ended: &Ended, number: u64) -> Result<Changes, AllocError>
+        ensures { IfOk result (λ changes. changes ≡ batch_changes self.now ended.now self.now.counter (EndChange number)) }
+    {
+        let counter = self.stage.counter();
+        self.batch_changes(alloc, ended, counter, BatchChange::End { number })
     }
 
     /// Begins a batch, for which there is room, and takes it back where the keeper fails.
     fn begin<K: Keeper>(
         &mut self,
         alloc: Global,
-        keeper: &mut K,
+        ledger: &mut Ledger<K>,
         collection: &Name,
         records: &Records,
         time: Stamp,
     ) -> Result<Reply, KeepFault>
         requires room { begin_fault (stage_of self.old) records.now.parts ≡ None }
         requires valid { IsValid self.old }
+        requires swept { IsSwept self.old }
+        requires told { IsKeptBesideBy ledger.old.ended (K.told ledger.old.keeper) self.old }
         ensures reply { IfOk result (λ reply. reply ≡ staged_reply self.old.moment time (self.old.counter + 1) records.now) }
         ensures account { OnOk result (self.new ≡ with_stage self.old (begun (stage_of self.old) self.old.moment collection.now records.now.parts)) }
         ensures err { OnErr result (self.new ≡ self.old) }
-        ensures kept { IsKeptBy (K.told keeper.old) self.old → IsKeptBy (K.told keeper.new) self.new }
-        ensures refused { OnErr result (K.told keeper.new ≡ K.told keeper.old) }
-        ensures cause { HasCause (K.keep_faults keeper.old) (K.keep_faults keeper.new) result }
+        ensures held { OnOk result (IsHeldBy (K.told ledger.new.keeper) self.new) }
+        ensures cleared { OnOk result (ledger.new.ended ≡ []) }
+        ensures refused { OnErr result (K.told ledger.new.keeper ≡ K.told ledger.old.keeper) }
+        ensures left { OnErr result (ledger.new.ended ≡ ledger.old.ended) }
+        ensures cause { HasCause (K.keep_faults ledger.old.keeper) (K.keep_faults ledger.new.keeper) result }
     {
         let told = told_of(alloc, records)?;
         let parts = copy_parts(alloc, records.parts.as_slice())?;
-        let changes = self.begin_changes(alloc);
+        let changes = self.begin_changes(alloc, &ledger.ended, collection, parts.as_slice())?;
         let batch = self.open_batch(alloc, collection, parts)?;
-        match keeper.commit(alloc, &changes) {
+        match ledger.commit(alloc, &changes) {
             Ok(()) => Ok(self.told_reply(202, time, staged(batch, told))),
             Err(fault) => {
                 self.unbegin();
@@ -656,43 +768,94 @@ impl State {
         self.stage.unbegin();
     }
 
-    /// Moves a copy of the parts to the end of a live batch, into which they fit.
-    fn append(
+    /// Moves a copy of the parts to the end of a live batch, into which they fit, and takes them back where the keeper fails.
+    fn append<K: Keeper>(
         &mut self,
         alloc: Global,
+        ledger: &mut Ledger<K>,
         collection: &Name,
         records: &Records,
         batch: u64,
         time: Stamp,
-    ) -> Result<Reply, AllocError>
+    ) -> Result<Reply, KeepFault>
         requires room { append_fault (stage_of self.old) batch collection.now records.now.parts ≡ None }
+        requires valid { IsValid self.old }
+        requires swept { IsSwept self.old }
+        requires told { IsKeptBesideBy ledger.old.ended (K.told ledger.old.keeper) self.old }
         ensures reply { IfOk result (λ reply. reply ≡ staged_reply self.old.moment time batch records.now) }
         ensures account { OnOk result (self.new ≡ with_stage self.old (appended (stage_of self.old) batch records.now.parts)) }
         ensures err { OnErr result (self.new ≡ self.old) }
+        ensures held { OnOk result (IsHeldBy (K.told ledger.new.keeper) self.new) }
+        ensures cleared { OnOk result (ledger.new.ended ≡ []) }
+        ensures refused { OnErr result (K.told ledger.new.keeper ≡ K.told ledger.old.keeper) }
+        ensures left { OnErr result (ledger.new.ended ≡ ledger.old.ended) }
+        ensures cause { HasCause (K.keep_faults ledger.old.keeper) (K.keep_faults ledger.new.keeper) result }
     {
         let told = told_of(alloc, records)?;
-        let parts = copy_parts(alloc, records.parts.as_slice())?;
-        match self.stage.append(batch, collection, parts) {
+        let parts = records.parts.as_slice();
+        let changes = self.append_changes(alloc, &ledger.ended, batch, parts)?;
+        let copied = copy_parts(alloc, parts)?;
+        self.add_parts(batch, collection, copied)?;
+        match ledger.commit(alloc, &changes) {
             Ok(()) => Ok(self.told_reply(202, time, staged(batch, told))),
+            Err(fault) => {
+                self.shorten(batch, parts);
+                Err(fault)
+            }
+        }
+    }
+
+    /// Moves parts to the end of a live batch, into which they fit.
+    fn add_parts(
+        &mut self,
+        batch: u64,
+        collection: &Name,
+        parts: Vec<Part>,
+    ) -> Result<(), AllocError>
+        requires { append_fault (stage_of self.old) batch collection.now parts.items ≡ None }
+        ensures ok { OnOk result (self.new ≡ with_stage self.old (appended (stage_of self.old) batch parts.items)) }
+        ensures err { OnErr result (self.new ≡ self.old) }
+    {
+        match self.stage.append(batch, collection, parts) {
+            Ok(()) => Ok(()),
             Err(StageFault::Memory) => Err(AllocError),
             Err(_) => unreachable!(),
         }
     }
 
-    /// Ends a live batch without parts.
-    fn end(
+    /// Takes back the last append, of so many parts.
+    fn shorten(&mut self, batch: u64, parts: &[Part])
+        requires { IsSomeAnd (numbered batch self.old.batches) (λ staged. length parts.now ≤ length staged.parts) }
+        ensures { self.new ≡ with_stage self.old (shortened (stage_of self.old) batch (length parts.now)) }
+    {
+        self.stage.shorten(batch, parts.len());
+    }
+
+    /// Ends a live batch without parts, once the keeper has it.
+    fn end<K: Keeper>(
         &mut self,
         alloc: Global,
+        ledger: &mut Ledger<K>,
         records: &Records,
         batch: u64,
         time: Stamp,
-    ) -> Result<Reply, AllocError>
-        requires { IsSome (numbered batch self.old.batches) }
+    ) -> Result<Reply, KeepFault>
+        requires live { IsSome (numbered batch self.old.batches) }
+        requires valid { IsValid self.old }
+        requires swept { IsSwept self.old }
+        requires told { IsKeptBesideBy ledger.old.ended (K.told ledger.old.keeper) self.old }
         ensures reply { IfOk result (λ reply. reply ≡ plain_reply self.old.moment 200 (Some time) (Posted time (ids_of records.now.parts) (first_failures records.now.failed))) }
         ensures account { OnOk result (self.new ≡ record self.old { batches = batches_without batch self.old.batches }) }
         ensures err { OnErr result (self.new ≡ self.old) }
+        ensures held { OnOk result (IsHeldBy (K.told ledger.new.keeper) self.new) }
+        ensures cleared { OnOk result (ledger.new.ended ≡ []) }
+        ensures refused { OnErr result (K.told ledger.new.keeper ≡ K.told ledger.old.keeper) }
+        ensures left { OnErr result (ledger.new.ended ≡ ledger.old.ended) }
+        ensures cause { HasCause (K.keep_faults ledger.old.keeper) (K.keep_faults ledger.new.keeper) result }
     {
         let told = told_of(alloc, records)?;
+        let ending = self.end_changes(alloc, &ledger.ended, batch)?;
+        ledger.commit(alloc, &ending)?;
         self.finish(batch);
         Ok(self.told_reply(200, time, posted(time, told)))
     }
@@ -798,10 +961,8 @@ impl State {
     ) -> Result<Reply, AllocError>
         ensures { IfOk result (λ reply. reply ≡ list_reply self.now.moment time (picked self.now collection.now query.now) query.now.full) }
     {
-        let rows = rows_in(alloc, self.rows.as_slice(), collection)?;
-        let Picked { rows: found, next } = answer_query(alloc, rows.as_slice(), query)?;
-        let count = found.as_slice().len() as u64;
-        let body = rows_body(alloc, query.full, found)?;
+        let found = rows_found(alloc, self.rows.as_slice(), collection, query)?;
+        let Page { body, count, next } = page_of(alloc, found, query)?;
         Ok(Reply {
             status: 200,
             moment: self.moment,

@@ -1,20 +1,22 @@
 //! What requests ask in common, and the bodies that tell of them.
 
-ghost use Rattle.std.specs.Prelude.{◌≡◌, IfOk};
+ghost use Rattle.std.specs.Prelude.{◌≡◌, IfOk, length, map};
+ghost use Rattle.ss_query.specs.Answer.{answer_of};
 ghost use Rattle.ss_bso.specs.Write.{ids_of};
 ghost use Rattle.ss_query.specs.declared.replies.Body.TheVariants.{Posted, Staged as StagedBody};
 ghost use Rattle.ss_query.specs.Api.{why_stopped};
 ghost use Rattle.ss_query.specs.Refused.{condition_of, said_by};
 ghost use Rattle.ss_query.specs.Told.{first_failures, rows_body};
-ghost use Rattle.ss_account.specs.Laws.{is_of_batch};
+ghost use Rattle.ss_laws.specs.Laws.{is_of_batch};
 ghost use Rattle.ss_account.specs.Steps.{fault_body};
 
-use crate::editing::ids_of_rows;
 use crate::targets::Targets;
 use crate::writing::first_failures;
 use ss_batch::StageFault;
-use ss_bso::{Failures, Records, Rows};
-use ss_query::{Body, Cond, Mode, Request, Said};
+use ss_bso::{Failures, Records, Row};
+use ss_query::{
+    Body, Cond, Mode, Picked, PickedIds, Query, Request, Said, answer_found, ids_found,
+};
 use ss_text::{Ids, Stamp};
 use std::alloc::{AllocError, Global};
 
@@ -104,13 +106,29 @@ pub(crate) fn staged(batch: u64, told: Told) -> Body
     }
 }
 
-/// The body of a list: whole rows, or their ids alone.
-pub(crate) fn rows_body(alloc: Global, full: bool, found: Rows) -> Result<Body, AllocError>
-    ensures { IfOk result (λ body. body ≡ rows_body full found) }
+/// A list as it is told: whole rows or their ids alone, how many, and where the next page begins.
+#[derive(Drop)]
+pub(crate) struct Page {
+    pub(crate) body: Body,
+    pub(crate) count: u64,
+    pub(crate) next: Option<u64>,
+}
+
+/// The page of a query over the rows that it asks for. No payload is copied for a list of ids.
+pub(crate) fn page_of(alloc: Global, found: Vec<&Row>, query: &Query) -> Result<Page, AllocError>
+    ensures body { IfOk result (λ page. page.body ≡ rows_body query.now.full (answer_of (map (λ row. row.now) found.entry.items) query.now).rows) }
+    ensures count { IfOk result (λ page. page.count ≡ length (answer_of (map (λ row. row.now) found.entry.items) query.now).rows) }
+    ensures next { IfOk result (λ page. page.next ≡ (answer_of (map (λ row. row.now) found.entry.items) query.now).next) }
 {
-    if full {
-        Ok(Body::Rows(found))
+    if query.full {
+        let Picked { rows, next } = answer_found(alloc, found, query)?;
+        let count = rows.as_slice().len() as u64;
+        let body = Body::Rows(rows);
+        Ok(Page { body, count, next })
     } else {
-        Ok(Body::Ids(Ids::new(ids_of_rows(alloc, found.as_slice())?)))
+        let PickedIds { ids, next } = ids_found(alloc, found, query)?;
+        let count = ids.as_slice().len() as u64;
+        let body = Body::Ids(ids);
+        Ok(Page { body, count, next })
     }
 }

@@ -7,7 +7,8 @@ ghost use Rattle.ss_query.specs.Fit.{IsFitRequest};
 use crate::account::Account;
 use crate::faults::OpenFault;
 use ss_bso::{
-    Failures, Field, Fields, Kept, Part, Parts, Plain, Reason, Records, Row, Rows, Times,
+    Batches, Failures, Field, Fields, Kept, Part, Parts, Plain, Reason, Records, Row, Rows, Staged,
+    Times,
 };
 use ss_keeper::{Keeper, MemKeeper, SureKeeper};
 use ss_query::{Body, Cond, Info, Mode, Numbers, Query, Reply, Request, Sort};
@@ -382,19 +383,13 @@ fn run<K: Keeper>(
 }
 
 /// What is kept of rows and collections, the latest of which has the store's time.
-fn kept_with(rows: Vec<Row>, collections: Vec<(Name, Stamp)>, store: u64) -> Kept {
+fn kept_with(alloc: Global, rows: Vec<Row>, collections: Vec<(Name, Stamp)>, store: u64) -> Kept {
     Kept {
         rows: Rows::new(rows),
         collections: Times::new(collections),
         store: Stamp::clamp(store),
-        last_delete: Stamp::clamp(0),
-        counter: 0,
+        ..Kept::fresh(alloc)
     }
-}
-
-/// What is kept of an account that nothing was asked of.
-fn fresh_kept(alloc: Global) -> Kept {
-    kept_with(Vec::new(alloc), Vec::new(alloc), 0)
 }
 
 fn opened<K: Keeper + Drop>(alloc: Global, keeper: K) -> Result<Account<K>, Fail> {
@@ -406,7 +401,7 @@ fn opened<K: Keeper + Drop>(alloc: Global, keeper: K) -> Result<Account<K>, Fail
 
 /// An account that nothing was asked of, over a keeper that never fails.
 fn fresh(alloc: Global) -> Result<Account<SureKeeper>, Fail> {
-    opened(alloc, SureKeeper::new(fresh_kept(alloc)))
+    opened(alloc, SureKeeper::new(Kept::fresh(alloc)))
 }
 
 /// A fresh account that such requests are made of.
@@ -721,7 +716,7 @@ fn payloads_of_134_217_728_bytes(rt: HostRuntime) -> Result<(), Fail> {
 /// An account over a keeper whose call of this number fails; the first call is the one that opens the account.
 fn fails(rt: &impl Abort, alloc: Global, call: u64, steps: &[Step]) -> Result<(), Fail> {
     let failing = vec![in alloc; call]?;
-    let mut account = opened(alloc, MemKeeper::new(fresh_kept(alloc), failing))?;
+    let mut account = opened(alloc, MemKeeper::new(Kept::fresh(alloc), failing))?;
     run(rt, alloc, &mut account, steps)
 }
 
@@ -760,6 +755,19 @@ fn a_failed_commit_leaves_the_last_value(rt: HostRuntime) -> Result<(), Fail> {
     fails(&rt, alloc, 4, THE_THIRD_COMMIT_FAILS)
 }
 
+#[test]
+fn a_failed_load_opens_no_account(rt: HostRuntime) -> Result<(), Fail> {
+    let alloc = rt.alloc();
+    let keeper = MemKeeper::new(Kept::fresh(alloc), vec![in alloc; 1]?);
+    match Account::open(alloc, keeper) {
+        Ok(_) => Err("a refusal".into()),
+        Err((keeper, fault)) => {
+            assert_eq!(&rt; fault, OpenFault::Keeper);
+            run(&rt, alloc, &mut opened(alloc, keeper)?, A_STAMP_IS_AN_END)
+        }
+    }
+}
+
 const A_FAILED_BEGIN_TAKES_NO_NUMBER: &[Step] = &[
     (1000, Post(&["a"], BEGIN), "503 -: Keeper"),
     (1001, Post(&["a"], COMMIT), "400 -: Batch"),
@@ -771,6 +779,159 @@ const A_FAILED_BEGIN_TAKES_NO_NUMBER: &[Step] = &[
 #[test]
 fn a_failed_begin_takes_no_number(rt: HostRuntime) -> Result<(), Fail> {
     fails(&rt, rt.alloc(), 2, A_FAILED_BEGIN_TAKES_NO_NUMBER)
+}
+
+const AN_APPEND_FAILS: &[Step] = &[
+    (1000, Of(Put("z")), "200 1000: at 1000"),
+    (1001, Post(&["a"], BEGIN), "202 1000: batch 1 a"),
+    (1002, Post(&["b"], APPEND), "503 -: Keeper"),
+    (1003, Post(&[], COMMIT), "200 1003: posted 1003"),
+    (1003, List, "200 1003: a z"),
+];
+
+const THE_END_OF_A_BATCH_FAILS: &[Step] = &[
+    (1000, Of(Put("z")), "200 1000: at 1000"),
+    (1001, Post(&[], BEGIN), "202 1000: batch 1"),
+    (1002, Post(&[], COMMIT), "503 -: Keeper"),
+    (1003, Post(&["a"], APPEND), "202 1000: batch 1 a"),
+    (1004, Post(&[], COMMIT), "200 1004: posted 1004"),
+    (1004, List, "200 1004: a z"),
+];
+
+#[test]
+fn a_failed_append_or_commit_leaves_the_batch(rt: HostRuntime) -> Result<(), Fail> {
+    fails(&rt, rt.alloc(), 4, AN_APPEND_FAILS)?;
+    fails(&rt, rt.alloc(), 4, THE_END_OF_A_BATCH_FAILS)
+}
+
+const A_BATCH_BEGINS: &[Step] = &[
+    (1000, Of(Put("z")), "200 1000: at 1000"),
+    (1001, Post(&["a"], BEGIN), "202 1000: batch 1 a"),
+    (1002, Post(&["b"], APPEND), "202 1000: batch 1 b"),
+];
+
+const IT_IS_COMMITTED: &[Step] = &[
+    (1003, Post(&[], COMMIT), "200 1003: posted 1003"),
+    (1003, List, "200 1003: a b z"),
+    (1004, PostTabs(BEGIN), "202 0: batch 2"),
+];
+
+const IT_IS_COMMITTED_AT_ITS_LAST_MOMENT: &[Step] = &[
+    (721_000, Post(&[], COMMIT), "200 721000: posted 721000"),
+    (721_000, List, "200 721000: a b z"),
+];
+
+const IT_HAS_ENDED: &[Step] = &[
+    (721_001, Post(&[], COMMIT), "400 -: Batch"),
+    (721_001, List, "200 1000: z"),
+];
+
+/// Makes requests of an account, and more of one that is opened from what its keeper then tells.
+fn goes_on(rt: &impl Abort, alloc: Global, before: &[Step], after: &[Step]) -> Result<(), Fail> {
+    let mut account = fresh(alloc)?;
+    run(rt, alloc, &mut account, before)?;
+    match account.told(alloc) {
+        Ok(kept) => run(rt, alloc, &mut opened(alloc, SureKeeper::new(kept))?, after),
+        Err(_) => Err("what is kept".into()),
+    }
+}
+
+#[test]
+fn a_batch_outlives_its_account(rt: HostRuntime) -> Result<(), Fail> {
+    let alloc = rt.alloc();
+    goes_on(&rt, alloc, A_BATCH_BEGINS, IT_IS_COMMITTED)?;
+    goes_on(
+        &rt,
+        alloc,
+        A_BATCH_BEGINS,
+        IT_IS_COMMITTED_AT_ITS_LAST_MOMENT,
+    )?;
+    goes_on(&rt, alloc, A_BATCH_BEGINS, IT_HAS_ENDED)
+}
+
+/// A batch of the collection `forms` that began at 1000.
+fn staged(alloc: Global, number: u64, parts: Vec<Part>) -> Result<Staged, Fail> {
+    Ok(Staged {
+        number,
+        collection: name(alloc, "forms")?,
+        begun: Stamp::clamp(1000),
+        parts: Parts::new(parts),
+    })
+}
+
+/// Why an account isn't opened from these batches, where five were begun.
+fn refused(alloc: Global, batches: Vec<Staged>) -> Result<Option<OpenFault>, Fail> {
+    let kept = Kept {
+        counter: 5,
+        batches: Batches::new(batches),
+        ..Kept::fresh(alloc)
+    };
+    match Account::open(alloc, SureKeeper::new(kept)) {
+        Ok(_) => Ok(None),
+        Err((_, fault)) => Ok(Some(fault)),
+    }
+}
+
+/// Batches of these numbers, each empty.
+fn empty(alloc: Global, numbers: &[u64]) -> Result<Vec<Staged>, Fail> {
+    let mut batches = Vec::new(alloc);
+    for number in numbers {
+        batches.push(staged(alloc, *number, Vec::new(alloc))?)?;
+    }
+    Ok(batches)
+}
+
+/// One batch of so many records with this payload, and one more with another.
+fn filled(alloc: Global, records: u32, payload: &str, last: &str) -> Result<Vec<Staged>, Fail> {
+    let mut parts = Vec::new(alloc);
+    for _ in 0..records {
+        parts.push(Part {
+            id: id_of(alloc, "a")?,
+            fields: fields(alloc, payload, Field::Keep)?,
+        })?;
+    }
+    parts.push(Part {
+        id: id_of(alloc, "b")?,
+        fields: fields(alloc, last, Field::Keep)?,
+    })?;
+    Ok(vec![in alloc; staged(alloc, 1, parts)?]?)
+}
+
+const BAD_NUMBERS: &[(&[u64], u64)] = &[
+    (&[1, 2, 3, 4, 5], 5),
+    (&[3, 3], 2),
+    (&[2, 1, 2], 3),
+    (&[1, 0], 2),
+    (&[6], 1),
+];
+
+#[test]
+fn batches_that_are_kept_amiss_are_not_opened(rt: HostRuntime) -> Result<(), Fail> {
+    let alloc = rt.alloc();
+    for (numbers, n) in BAD_NUMBERS {
+        let fault = refused(alloc, empty(alloc, numbers)?)?;
+        assert_eq!(&rt; fault, Some(OpenFault::BadBatch { n: *n }));
+    }
+    assert_eq!(&rt; refused(alloc, empty(alloc, &[5, 1, 2, 4])?)?, None);
+    Ok(())
+}
+
+#[test]
+fn batches_that_are_too_large_are_not_opened(rt: HostRuntime) -> Result<(), Fail> {
+    let alloc = rt.alloc();
+    let bad = Some(OpenFault::BadBatch { n: 1 });
+    assert_eq!(&rt; refused(alloc, filled(alloc, 20_000, "", "")?)?, bad);
+    assert_eq!(&rt; refused(alloc, filled(alloc, 19_999, "", "")?)?, None);
+    let payload = "x".repeat(alloc, 2_097_152)?;
+    assert_eq!(&rt;
+        refused(alloc, filled(alloc, 8, payload.as_str(), "x")?)?,
+        bad
+    );
+    assert_eq!(&rt;
+        refused(alloc, filled(alloc, 8, payload.as_str(), "")?)?,
+        None
+    );
+    Ok(())
 }
 
 /// A row of the collection `forms` without a payload.
@@ -793,7 +954,7 @@ fn refusal(
     store: u64,
 ) -> Result<Option<OpenFault>, Fail> {
     let collections = vec![in alloc; (name(alloc, "forms")?, Stamp::clamp(forms))]?;
-    let keeper = SureKeeper::new(kept_with(rows, collections, store));
+    let keeper = SureKeeper::new(kept_with(alloc, rows, collections, store));
     match Account::open(alloc, keeper) {
         Ok(_) => Ok(None),
         Err((_, fault)) => Ok(Some(fault)),
@@ -844,7 +1005,7 @@ fn two_hundred_thousand_rows_and_collections(rt: HostRuntime) -> Result<(), Fail
     let alloc = rt.alloc();
     let rows = kept_rows(alloc, 199_999)?;
     let collections = vec![in alloc; (name(alloc, "forms")?, Stamp::clamp(1000))]?;
-    let keeper = SureKeeper::new(kept_with(rows, collections, 1000));
+    let keeper = SureKeeper::new(kept_with(alloc, rows, collections, 1000));
     let mut account = opened(alloc, keeper)?;
     run(&rt, alloc, &mut account, NO_ROW_MORE)
 }
@@ -872,14 +1033,35 @@ fn has_time(kept: &Kept, entry: &(Name, Stamp)) -> bool {
         .any(|other| other.0 == entry.0 && other.1 == entry.1)
 }
 
-/// Whether what is kept is the account, whatever the order of rows and collections.
+fn is_same_batch(batch: &Staged, other: &Staged) -> bool {
+    let parts = batch.parts.as_slice();
+    let others = other.parts.as_slice();
+    batch.number == other.number
+        && batch.collection == other.collection
+        && batch.begun == other.begun
+        && parts.len() == others.len()
+        && parts
+            .iter()
+            .zip(others)
+            .all(|(part, other)| part.id == other.id)
+}
+
+fn is_staged(kept: &Kept, batch: &Staged) -> bool {
+    let batches = kept.batches.as_slice();
+    batches.iter().any(|other| is_same_batch(batch, other))
+}
+
+/// Whether what is kept is the account, whatever the order of rows, collections and batches.
 fn is_account(kept: &Kept, plain: &Plain) -> bool {
     let rows = plain.rows.as_slice();
     let times = plain.collections.as_slice();
+    let batches = plain.batches.as_slice();
     kept.rows.as_slice().len() == rows.len()
         && kept.collections.as_slice().len() == times.len()
         && rows.iter().all(|row| is_kept(kept, row))
         && times.iter().all(|entry| has_time(kept, entry))
+        && kept.batches.as_slice().len() == batches.len()
+        && batches.iter().all(|batch| is_staged(kept, batch))
         && kept.store == plain.store
         && kept.last_delete == plain.last_delete
         && kept.counter == plain.counter
@@ -902,7 +1084,7 @@ const EACH_STEP_IS_KEPT: &[Step] = &[
 
 /// Makes the first so many requests of an account, and looks at what is then kept.
 fn keeps(rt: &impl Abort, alloc: Global, steps: &[Step]) -> Result<(), Fail> {
-    let keeper = MemKeeper::new(fresh_kept(alloc), Vec::new(alloc));
+    let keeper = MemKeeper::new(Kept::fresh(alloc), Vec::new(alloc));
     let mut account = opened(alloc, keeper)?;
     run(rt, alloc, &mut account, steps)?;
     let plain = account.plain(alloc)?;
@@ -914,10 +1096,17 @@ fn keeps(rt: &impl Abort, alloc: Global, steps: &[Step]) -> Result<(), Fail> {
     Ok(())
 }
 
+/// The last write's stamp is a row's end, and the moment before it isn't: the row stays in the account.
+const A_STAMP_IS_AN_END: &[Step] = &[
+    (1000, Of(PutTtl("a", 1)), "200 1000: at 1000"),
+    (1099, Of(Put("b")), "200 1099: at 1099"),
+    (1099, Of(Put("c")), "200 1100: at 1100"),
+];
+
 #[test]
 fn each_step_is_kept(rt: HostRuntime) -> Result<(), Fail> {
     for n in 0..=EACH_STEP_IS_KEPT.len() {
         keeps(&rt, rt.alloc(), &EACH_STEP_IS_KEPT[..n])?;
     }
-    Ok(())
+    keeps(&rt, rt.alloc(), A_STAMP_IS_AN_END)
 }

@@ -1,5 +1,6 @@
 use Rattle.std.proofs.Common.{◌≡◌, not, ◌&&◌, ◌||◌, bytes_eq, sym, ◌∙◌}
-use Rattle.ss_keeper.proofs.Sets.{any-put, same_text, both_left, both_right}
+use Rattle.ss_bso.proofs.Texts.{same_text, both_left, both_right}
+use Rattle.ss_keeper.proofs.Sets.{any-put}
 use Rattle.ss_account.specs.Places.{is_placed}
 use Rattle.ss_account.specs.declared.places.Place.{Place}
 use Rattle.ss_account.proofs.opening.add_place.Goals as goal

@@ -2,7 +2,7 @@ use Rattle.std.proofs.Common.{sym, ap, subst, ◌∙◌}
 use Rattle.ss_bso.specs.declared.account.Plain.{Plain}
 use Rattle.ss_bso.specs.Validity.{SameAccount}
 use Rattle.ss_account.specs.Held.{Held}
-use Rattle.ss_account.proofs.Reordering.{same-self}
+use Rattle.ss_bso.proofs.Reordering.{same-self}
 use Rattle.ss_account.proofs.account.Account.plain.Goals as goal
 
 pub returns : goal.returns

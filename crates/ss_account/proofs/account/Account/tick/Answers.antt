@@ -1,22 +1,23 @@
-use Rattle.std.proofs.Common.{sym, subst}
-use Rattle.ss_bso.specs.declared.account.Plain.{Plain}
-use Rattle.ss_bso.specs.Validity.{IsValid}
-use Rattle.ss_account.specs.Keeping.{IsKeptBy}
-use Rattle.ss_account.proofs.Keeping.{kept_by-tick}
-use Rattle.ss_account.proofs.Valid.{valid-tick}
+use Rattle.ss_account.proofs.Keeping.{kept_by-beside}
+use Rattle.ss_account.proofs.Sound.{sound-tick}
 use Rattle.ss_account.proofs.account.Account.tick.Goals as goal
+
+pub tick-requires : goal.tick-requires
+tick-requires g c = c.self.invariant.few
 
 pub invariant_of-self : goal.invariant_of-self
 invariant_of-self g c =
-    let told = g.K.Keeper.told c.self.inside.keeper in (
-      subst IsValid (sym c.tick.ensures) (valid-tick c.self.inside.state c.args.now c.self.invariant.0),
-      subst (λ (a : Plain). IsKeptBy told a) (sym c.tick.ensures) (kept_by-tick told c.self.inside.state c.args.now c.self.invariant.1),
-    )
+    sound-tick (g.K.Keeper.told c.self.inside.ledger.keeper) c.self.inside.state c.tick.new.self c.self.inside.ledger.ended c.tick.new.ended c.args.now c.tick.ensures.account c.tick.ensures.ended c.self.invariant
 
 pub returns-clause-valid : goal.returns-clause-valid
-returns-clause-valid g c = subst IsValid (sym c.tick.ensures) (valid-tick c.self.inside.state c.args.now c.self.invariant.0)
+returns-clause-valid g c =
+    (sound-tick (g.K.Keeper.told c.self.inside.ledger.keeper) c.self.inside.state c.tick.new.self c.self.inside.ledger.ended c.tick.new.ended c.args.now c.tick.ensures.account c.tick.ensures.ended c.self.invariant).valid
 
 pub returns-clause-kept : goal.returns-clause-kept
 returns-clause-kept g c =
-    let told = g.K.Keeper.told c.self.inside.keeper in
-    subst (λ (a : Plain). IsKeptBy told a) (sym c.tick.ensures) (kept_by-tick told c.self.inside.state c.args.now c.self.invariant.1)
+    let told = g.K.Keeper.told c.self.inside.ledger.keeper in
+    kept_by-beside c.tick.new.ended told c.tick.new.self
+    (sound-tick told c.self.inside.state c.tick.new.self c.self.inside.ledger.ended c.tick.new.ended c.args.now c.tick.ensures.account c.tick.ensures.ended c.self.invariant).kept
+
+pub returns-clause-again : goal.returns-clause-again
+returns-clause-again g c = c.self.invariant.again

@@ -1,5 +1,0 @@
-use Rattle.ss_account.proofs.JournalOrder.{reply_at-reordered}
-use Rattle.ss_account.proofs.laws.journal_order_law.Goals as goal
-
-pub returns : goal.returns
-returns c = reply_at-reordered

@@ -1,5 +1,0 @@
-use Rattle.ss_account.proofs.Stamps.{quiet_law}
-use Rattle.ss_account.proofs.laws.quiet_law.Goals as goal
-
-pub returns : goal.returns
-returns c = quiet_law

@@ -1,5 +1,0 @@
-use Rattle.ss_account.proofs.InOrder.{sort_law}
-use Rattle.ss_account.proofs.laws.sort_law.Goals as goal
-
-pub returns : goal.returns
-returns c = sort_law

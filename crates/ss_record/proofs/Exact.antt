@@ -1,22 +1,14 @@
--- What is read of an unmarked text is plain; the parts of a reading that is an item.
-use Rattle.std.proofs.Common.{◌≡◌, ◌≢◌, ℕ, ◌≤◌, List, [], ◌∷◌, ◌++◌, Bool, true, false, not, cond, ◌&&◌, ◌||◌, ◌==◌, nat_le, refl, sym, ap, ap₂, ◌∙◌, subst, arith, Option, Some, None, option_map, option_and_then, unwrap_or, bytes_eq, codes, filter, string_bytes, append_assoc, Less, Equal, Greater, nat_cmp, Ordering}
+-- The parts of a reading that is an item.
+use Rattle.std.proofs.Common.{is_some, ◌≡◌, ◌≢◌, ℕ, ◌≤◌, List, [], ◌∷◌, Bool, true, false, not, cond, ◌&&◌, ◌||◌, nat_le, refl, sym, ap, ap₂, ◌∙◌, subst, arith, Option, Some, None, option_map, option_and_then, unwrap_or, bytes_eq, codes, filter, string_bytes, Less, Equal, Greater, nat_cmp, Ordering}
 use Rattle.std.specs.Ordering.{match_ordering, is_eq}
 use Rattle.std.specs.Cmp.Lexicographic.{slice_cmp, nat_list_cmp_total}
-use Rattle.std.proofs.lemmas.Bool.{and_parts, and_from, false≢true, leb-true, eqb-true}
+use Rattle.std.proofs.lemmas.Bool.{and_parts, and_from, false≢true, leb-true}
 use Rattle.std.proofs.lemmas.Map.Text.{is_eq-slice_cmp}
-use Rattle.json.specs.Token as token
-use Rattle.json.specs.Json as json
-use Rattle.json.specs.Lex.{tokens}
-use Rattle.json.specs.Word.{after_number}
-use Rattle.ss_text.specs.Decimals.{is_decimal, is_all, count_of}
-use Rattle.ss_text.specs.Tokens.{IsWhole, AreWhole}
-use Rattle.ss_text.proofs.Printed.{kept_tokens}
-use Rattle.json.specs.Tree as tree
-use Rattle.json.proofs.Unique.Spelling.{value-json_tokens_back}
-use Rattle.serde_json.specs.Data.{Num, unsigned, negative, float, Data, null, boolean, number, string, array, object, Items, no_items, item, Members, no_members, member, put, depth, members_depth}
-use Rattle.serde_json.specs.Read.{read, number_of, of_json, of_items, of_members, max_depth}
-use Rattle.serde_json.specs.Find.{get_member, as_object, as_str}
-use Rattle.serde_json.specs.Written.{compact_text, has_float, items_have_float, members_have_float}
+use Rattle.ss_text.specs.Decimals.{marked}
+use Rattle.serde_json.specs.Data.{unsigned, negative, float, Data, null, boolean, number, string, array, object, Items, no_items, item, Members, no_members, member, depth, members_depth}
+use Rattle.serde_json.specs.Read.{read}
+use Rattle.serde_json.specs.Find.{get_member, as_object}
+use Rattle.serde_json.specs.Written.{has_float, items_have_float, members_have_float}
 use Rattle.ss_record.specs.declared.kinds.Kind.{Kind}
 use Rattle.ss_record.specs.declared.kinds.Kind.TheVariants.{Bookmark, Query, Folder, Livemark, Separator}
 use Rattle.ss_record.specs.Items.{ItemView, names_of}
@@ -28,75 +20,16 @@ use Rattle.ss_record.specs.Ids.{has, places, roots}
 use Rattle.ss_record.specs.Kinds.{is_folder, kind_of}
 use Rattle.ss_record.specs.Payloads.{without, lacks, is_string, is_true, payload_members}
 use Rattle.ss_record.specs.Records.{parentid_of, children_of, item_of, members_reading, reading}
-use Rattle.ss_record.proofs.Plain.{is_marked, is_plain_number, is_plain, items_plain, members_plain}
+use Rattle.ss_record.specs.Marks.{said_text, string_of, is_plain_number, is_plain, items_plain, members_plain, plain_text}
 use Rattle.ss_record.proofs.IdLists.{same_id}
 use Rattle.ss_record.proofs.OfId.{and_then_some}
-use Rattle.ss_record.proofs.Sorted.{map_some, Below, MembersSorted}
-use Rattle.ss_record.proofs.Unmarked.{plain-put}
-use Rattle.ss_record.proofs.Digits.{unmarked_plain}
-
-good_tail : (t : token.Token) (ts : List token.Token) → AreWhole (t ∷ ts) → AreWhole ts
-good_tail t ts g = g.1
-
-number_plain : (s : List ℕ) (n : Num) → IsWhole (token.number s) → number_of s ≡ Some n → is_plain_number n ≡ true
-unfolding is_decimal is_marked
-number_plain s n g e = unmarked_plain s n g.0 (go (is_marked s) refl) e
-  where
-    go : (b : Bool) → is_marked s ≡ b → is_marked s ≡ false
-    go true q = absurd (false≢true (sym g.1 ∙ (ap (λ b. b && is_all (after_number s)) q ∙ ap is_all g.0)))
-    go false q = q
-
-good_number : (s : List ℕ) (ts : List token.Token) (n : Num) → AreWhole (token.number s ∷ ts) → number_of s ≡ Some n → is_plain_number n ≡ true
-good_number s ts n g e = number_plain s n g.0 e
-
-mutual
-  plain_json : (j : json.Json) (d : Data) (ts : List token.Token) → AreWhole (tree.json_tokens j ++ ts) → of_json j ≡ Some d → (is_plain d ≡ true) × AreWhole ts
-  plain_json json.null d ts g e = let q : null ≡ d = cc in (ap is_plain (sym q), good_tail token.null ts g)
-  plain_json (json.boolean b) d ts g e = let q : boolean b ≡ d = cc in (ap is_plain (sym q), good_tail (token.boolean b) ts g)
-  plain_json (json.number s) d ts g e = let r = map_some number (number_of s) d e in (ap is_plain (sym r.2) ∙ good_number s ts r.0 g r.1, good_tail (token.number s) ts g)
-  plain_json (json.string s) d ts g e = let q : string s ≡ d = cc in (ap is_plain (sym q), good_tail (token.string s) ts g)
-  plain_json (json.array js) d ts g e =
-      let r = map_some array (of_items js) d e in
-      let p = plain_items js r.0 ts (good_tail token.begin_array (tree.items_tokens js ++ ts) g) r.1 in
-      (ap is_plain (sym r.2) ∙ p.0, p.1)
-  plain_json (json.object ms) d ts g e =
-      let r = map_some object (of_members ms no_members) d e in
-      let p = plain_members ms no_members r.0 ts (good_tail token.begin_object (tree.members_tokens ms ++ ts) g) refl r.1 in
-      (ap is_plain (sym r.2) ∙ p.0, p.1)
-
-  plain_items : (js : json.Items) (ds : Items) (ts : List token.Token) → AreWhole (tree.items_tokens js ++ ts) → of_items js ≡ Some ds → (items_plain ds ≡ true) × AreWhole ts
-  plain_items json.no_items ds ts g e = let q : no_items ≡ ds = cc in (ap items_plain (sym q), good_tail token.end_array ts g)
-  plain_items (json.item j js) ds ts g e =
-      let r = and_then_some (λ d. option_map (item d) (of_items js)) (of_json j) ds e in
-      let s = map_some (item r.0) (of_items js) ds r.2 in
-      let p = plain_json j r.0 (tree.items_tokens js ++ ts) (subst AreWhole (append_assoc (tree.json_tokens j) (tree.items_tokens js) ts) g) r.1 in
-      let q = plain_items js s.0 ts p.1 s.1 in
-      (ap items_plain (sym s.2) ∙ and_from (is_plain r.0) (items_plain s.0) p.0 q.0, q.1)
-
-  plain_members : (ms : json.Members) (found all : Members) (ts : List token.Token) → AreWhole (tree.members_tokens ms ++ ts) → members_plain found ≡ true → of_members ms found ≡ Some all → (members_plain all ≡ true) × AreWhole ts
-  plain_members json.no_members found all ts g h e = let q : found ≡ all = cc in (ap members_plain (sym q) ∙ h, good_tail token.end_object ts g)
-  plain_members (json.member k j ms) found all ts g h e =
-      let r = and_then_some (λ d. of_members ms (put k d found)) (of_json j) all e in
-      let p = plain_json j r.0 (tree.members_tokens ms ++ ts) (subst AreWhole (append_assoc (tree.json_tokens j) (tree.members_tokens ms) ts) (good_tail (token.key k) ((tree.json_tokens j ++ tree.members_tokens ms) ++ ts) g)) r.1 in
-      plain_members ms (put k r.0 found) all ts p.1 (plain-put k r.0 found p.0 h) r.2
-
-last_token : (j i : json.Json) (ts : List token.Token) → json.if_last i ts ≡ Some j → (i ≡ j) × (ts ≡ [])
-last_token j i [] e = (cc, refl)
-last_token j i (t ∷ ts) e = cc
-
-pub plain_read : (text : List ℕ) (d : Data) → count_of text ≡ 0 → read text ≡ Some d → is_plain d ≡ true
-plain_read text d none e =
-    let r = and_then_some of_json (option_and_then (λ p. json.if_last p.0 p.1) (json.value max_depth (tokens text))) d e in
-    let v = and_then_some (λ p. json.if_last p.0 p.1) (json.value max_depth (tokens text)) r.0 r.1 in
-    let l = last_token r.0 v.0.0 v.0.1 v.2 in
-    let spelled : tokens text ≡ tree.json_tokens r.0 ++ [] = value-json_tokens_back max_depth (tokens text) v.0.1 v.0.0 v.1 ∙ ap₂ (λ j ts. tree.json_tokens j ++ ts) l.0 l.1 in
-    (plain_json r.0 d [] (subst AreWhole spelled (kept_tokens text none)) r.2).0
+use Rattle.ss_record.proofs.Sorted.{Below, MembersSorted}
 
 -- ---- the parts of a reading that is an item
 
-pub payload_parts : (text : List ℕ) (ms : Members) → payload_members text ≡ Some ms → (count_of text ≡ 0) × (read text ≡ Some (object ms)) × (depth (object ms) ≤ 126)
+pub payload_parts : (text : List ℕ) (ms : Members) → payload_members text ≡ Some ms → (read (marked text) ≡ Some (object ms)) × (depth (object ms) ≤ 126) × (members_plain ms ≡ true)
 unfolding payload_members
-payload_parts text ms e = go (count_of text == 0) refl e
+payload_parts text ms e = (r.1 ∙ ap Some l.0, l.1, l.2)
   where
     object_of : (d : Data) → as_object d ≡ Some ms → d ≡ object ms
     object_of null f = cc
@@ -106,23 +39,22 @@ payload_parts text ms e = go (count_of text == 0) refl e
     object_of (array ds) f = cc
     object_of (object ns) f = let same : ns ≡ ms = cc in ap object same
 
-    low : (d : Data) (b : Bool) → nat_le (depth d) 126 ≡ b → cond b (as_object d) None ≡ Some ms → (d ≡ object ms) × (depth d ≤ 126)
-    low d true q f = (object_of d f, leb-true (depth d) 126 q)
-    low d false q f = cc
+    low : (d : Data) (b c : Bool) → nat_le (depth d) 126 ≡ b → is_plain d ≡ c → cond (b && c) (as_object d) None ≡ Some ms → (d ≡ object ms) × (depth (object ms) ≤ 126) × (members_plain ms ≡ true)
+    low d true true q k f = let same = object_of d f in (same, subst (λ w. depth w ≤ 126) same (leb-true (depth d) 126 q), subst (λ w. is_plain w ≡ true) same k)
+    low d true false q k f = cc
+    low d false c q k f = cc
 
-    go : (b : Bool) → (count_of text == 0) ≡ b → cond b (option_and_then (λ d. cond (nat_le (depth d) 126) (as_object d) None) (read text)) None ≡ Some ms
-        → (count_of text ≡ 0) × (read text ≡ Some (object ms)) × (depth (object ms) ≤ 126)
-    go true q f =
-        let r = and_then_some (λ d. cond (nat_le (depth d) 126) (as_object d) None) (read text) ms f in
-        let l = low r.0 (nat_le (depth r.0) 126) refl r.2 in
-        (eqb-true (count_of text) 0 q, r.1 ∙ ap Some l.0, subst (λ d. depth d ≤ 126) l.0 l.1)
-    go false q f = cc
+    r : (d : Data) × (read (marked text) ≡ Some d) × (cond (nat_le (depth d) 126 && is_plain d) (as_object d) None ≡ Some ms)
+    r = and_then_some (λ d. cond (nat_le (depth d) 126 && is_plain d) (as_object d) None) (read (marked text)) ms e
+
+    l : (r.0 ≡ object ms) × (depth (object ms) ≤ 126) × (members_plain ms ≡ true)
+    l = low r.0 (nat_le (depth r.0) 126) (is_plain r.0) refl refl r.2
 
 pub item_parts : (id : List ℕ) (ms : Members) (i : ItemView) (p : Option (List ℕ)) (cs : List (List ℕ)) → item_of id ms ≡ Some (Item i p cs)
-    → (compact_text (object (without (names_of i.kind) ms)) ≡ i.content) × ((not (has id roots) || is_folder i.kind) ≡ true)
+    → (plain_text (object (without (names_of i.kind) ms)) ≡ i.content) × ((not (has id roots) || is_folder i.kind) ≡ true)
 unfolding item_of
 item_parts id ms i p cs e =
-    let k = and_then_some _ (option_and_then kind_of (option_and_then as_str (get_member (codes "type") ms))) (Item i p cs) e in
+    let k = and_then_some _ (option_and_then kind_of (option_and_then string_of (get_member (codes "type") ms))) (Item i p cs) e in
     let q = and_then_some _ (parentid_of (get_member (codes "parentid") ms)) (Item i p cs) k.2 in
     let c = and_then_some _ (children_of (is_folder k.0) (get_member (codes "children") ms)) (Item i p cs) q.2 in
     go k.0 q.0 c.0 (has id roots) (is_folder k.0) refl refl c.2
@@ -133,15 +65,15 @@ item_parts id ms i p cs e =
     item_is : (j : ItemView) (p1 p2 : Option (List ℕ)) (c1 c2 : List (List ℕ)) → Item j p1 c1 ≡ Item i p2 c2 → j ≡ i
     item_is j p1 p2 c1 c2 f = cc
 
-    told : (kind : Kind) (p2 : Option (List ℕ)) (c2 : List (List ℕ)) → (not (has id roots) || is_folder kind) ≡ true → Some (Item (record { id = id; kind = kind; content = compact_text (object (without (names_of kind) ms)) }) p2 c2) ≡ Some (Item i p cs)
-        → (compact_text (object (without (names_of i.kind) ms)) ≡ i.content) × ((not (has id roots) || is_folder i.kind) ≡ true)
+    told : (kind : Kind) (p2 : Option (List ℕ)) (c2 : List (List ℕ)) → (not (has id roots) || is_folder kind) ≡ true → Some (Item (record { id = id; kind = kind; content = plain_text (object (without (names_of kind) ms)) }) p2 c2) ≡ Some (Item i p cs)
+        → (plain_text (object (without (names_of i.kind) ms)) ≡ i.content) × ((not (has id roots) || is_folder i.kind) ≡ true)
     told kind p2 c2 h f =
-        let same = item_is (record { id = id; kind = kind; content = compact_text (object (without (names_of kind) ms)) }) p2 p c2 cs (some_is _ _ f) in
-        (ap (λ w. compact_text (object (without (names_of w.kind) ms))) (sym same) ∙ ap (λ w. w.content) same, ap (λ w. not (has id roots) || is_folder w.kind) (sym same) ∙ h)
+        let same = item_is (record { id = id; kind = kind; content = plain_text (object (without (names_of kind) ms)) }) p2 p c2 cs (some_is _ _ f) in
+        (ap (λ w. plain_text (object (without (names_of w.kind) ms))) (sym same) ∙ ap (λ w. w.content) same, ap (λ w. not (has id roots) || is_folder w.kind) (sym same) ∙ h)
 
     go : (kind : Kind) (p2 : Option (List ℕ)) (c2 : List (List ℕ)) (a b : Bool) → has id roots ≡ a → is_folder kind ≡ b
-        → cond (a && not b) None (Some (Item (record { id = id; kind = kind; content = compact_text (object (without (names_of kind) ms)) }) p2 c2)) ≡ Some (Item i p cs)
-        → (compact_text (object (without (names_of i.kind) ms)) ≡ i.content) × ((not (has id roots) || is_folder i.kind) ≡ true)
+        → cond (a && not b) None (Some (Item (record { id = id; kind = kind; content = plain_text (object (without (names_of kind) ms)) }) p2 c2)) ≡ Some (Item i p cs)
+        → (plain_text (object (without (names_of i.kind) ms)) ≡ i.content) × ((not (has id roots) || is_folder i.kind) ≡ true)
     go kind p2 c2 true true r f e2 = told kind p2 c2 (ap₂ (λ x y. not x || y) r f) e2
     go kind p2 c2 true false r f e2 = cc
     go kind p2 c2 false b r f e2 = told kind p2 c2 (ap (λ x. not x || is_folder kind) r) e2
@@ -183,14 +115,17 @@ without_lacks names (member k d ms) = go (has k names) refl (without_lacks names
 
 pub without_plain : (names : List (List ℕ)) (ms : Members) → members_plain ms ≡ true → members_plain (without names ms) ≡ true
 without_plain names no_members h = refl
-without_plain names (member k d ms) h = go (has k names) (without_plain names ms parts.1)
+without_plain names (member k d ms) h = go (has k names) (without_plain names ms rest.1)
   where
-    parts : (is_plain d ≡ true) × (members_plain ms ≡ true)
-    parts = and_parts (is_plain d) (members_plain ms) h
+    parts : (is_some (said_text k) ≡ true) × ((is_plain d && members_plain ms) ≡ true)
+    parts = and_parts (is_some (said_text k)) (is_plain d && members_plain ms) h
+
+    rest : (is_plain d ≡ true) × (members_plain ms ≡ true)
+    rest = and_parts (is_plain d) (members_plain ms) parts.1
 
     go : (b : Bool) → members_plain (without names ms) ≡ true → members_plain (cond b (without names ms) (member k d (without names ms))) ≡ true
     go true ih = ih
-    go false ih = and_from (is_plain d) (members_plain (without names ms)) parts.0 ih
+    go false ih = and_from _ _ parts.0 (and_from _ _ rest.0 ih)
 
 pub without_depth : (names : List (List ℕ)) (ms : Members) (n : ℕ) → members_depth ms ≤ n → members_depth (without names ms) ≤ n
 without_depth names no_members n h = h
@@ -247,6 +182,8 @@ deleted_kept Separator = refl
 -- ---- a payload has no float
 
 mutual
+  unfolding is_plain_number
+
   float_plain : (d : Data) → is_plain d ≡ true → has_float d ≡ false
   float_plain null h = refl
   float_plain (boolean b) h = refl
@@ -263,10 +200,10 @@ mutual
 
   pub float_members : (ms : Members) → members_plain ms ≡ true → members_have_float ms ≡ false
   float_members no_members h = refl
-  float_members (member k d ms) h = let p = and_parts (is_plain d) (members_plain ms) h in ap₂ (λ a b. a || b) (float_plain d p.0) (float_members ms p.1)
+  float_members (member k d ms) h = let p = and_parts (is_plain d) (members_plain ms) (and_parts (is_some (said_text k)) (is_plain d && members_plain ms) h).1 in ap₂ (λ a b. a || b) (float_plain d p.0) (float_members ms p.1)
 
 pub payload_plain : (text : List ℕ) (ms : Members) → payload_members text ≡ Some ms → members_plain ms ≡ true
-payload_plain text ms e = let p = payload_parts text ms e in plain_read text (object ms) p.0 p.1
+payload_plain text ms e = (payload_parts text ms e).2
 
 pub no_float : (text : List ℕ) (ms : Members) → payload_members text ≡ Some ms → members_have_float ms ≡ false
 no_float text ms e = float_members ms (payload_plain text ms e)

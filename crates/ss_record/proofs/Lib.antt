@@ -1,10 +1,12 @@
 pub mod IdLists
-pub mod Plain
+pub mod Strings
+pub mod Numbers
+pub mod Back
 pub mod OfId
 pub mod Texts
 pub mod Sorted
 pub mod Unmarked
-pub mod Digits
+pub mod Tombs
 pub mod Exact
 pub mod Fit
 pub mod Literals

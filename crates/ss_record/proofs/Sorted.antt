@@ -1,5 +1,5 @@
 -- Values whose members are in order, as reading gives them, are read back from their text.
-use Rattle.std.proofs.Common.{◌≡◌, ℕ, suc, ◌^◌, ◌<◌, max, pos, negsuc, List, true, nat_lt, refl, sym, ap, ap₂, ◌∙◌, subst, arith, Option, Some, None, option_map, option_and_then, Ordering, Less, Equal, Greater, nat_cmp}
+use Rattle.std.proofs.Common.{◌&&◌, is_some, ◌≡◌, ℕ, suc, ◌^◌, ◌<◌, max, pos, negsuc, List, true, nat_lt, refl, sym, ap, ap₂, ◌∙◌, subst, arith, Option, Some, None, option_map, option_and_then, Ordering, Less, Equal, Greater, nat_cmp}
 use Rattle.std.specs.Bool.{⊤}
 use Rattle.std.specs.Ordering.{match_ordering, ordering_reverse}
 use Rattle.std.specs.Cmp.Lexicographic.{slice_cmp, nat_list_cmp_total}
@@ -13,7 +13,8 @@ use Rattle.serde_json.specs.Data.{Num, unsigned, negative, float, Data, null, bo
 use Rattle.serde_json.specs.Read.{read, number_of, of_json, of_items, of_members, max_depth}
 use Rattle.serde_json.specs.Written.{outline, items_outline, members_outline, number_text}
 use Rattle.serde_json.proofs.Numbers.{number_of-decimal, number_of-negative}
-use Rattle.ss_record.proofs.Plain.{is_plain_number, is_plain, items_plain, members_plain}
+use Rattle.std.specs.Int.Signed.{lt_z}
+use Rattle.ss_record.specs.Marks.{said_text, is_plain_number, is_plain, items_plain, members_plain}
 use Rattle.ss_record.proofs.OfId.{and_then_some}
 
 abbrev cmp : List ℕ → List ℕ → Ordering
@@ -98,19 +99,29 @@ Sorted-read text d e = let r = and_then_some of_json (option_and_then (λ p. jso
 
 -- ---- plain numbers
 
-pub plain_below : (n : ℕ) → nat_lt n (10 ^ 18) ≡ true → n < 10 ^ 18
-plain_below n e = ltb-true n (10 ^ 18) e
+pub plain_below : (n : ℕ) → nat_lt n 1000000000000000000 ≡ true → n < 10 ^ 18
+plain_below n e = let below : n < 1000000000000000000 = ltb-true n 1000000000000000000 e in omega arith
 
-HasNumbers-number : (n : Num) → is_plain_number n ≡ true → IsNumber (number_text n)
+pub no_positive : (n : ℕ) → is_plain_number (negative (pos n)) ≡ true → ⊥
+unfolding is_plain_number
+no_positive n e = let below : n < 0 = ltb-true n 0 (and_parts (lt_z (negsuc 999999999999999999) (pos n)) (lt_z (pos n) (pos 0)) e).1 in let never : ⊥ = omega arith in never
+
+pub negative_below : (n : ℕ) → is_plain_number (negative (negsuc n)) ≡ true → suc n < 10 ^ 18
+unfolding is_plain_number
+negative_below n e = let below : n < 999999999999999999 = ltb-true n 999999999999999999 (and_parts (lt_z (negsuc 999999999999999999) (negsuc n)) (lt_z (negsuc n) (pos 0)) e).0 in omega arith
+
+pub HasNumbers-number : (n : Num) → is_plain_number n ≡ true → IsNumber (number_text n)
+unfolding is_plain_number
 HasNumbers-number (unsigned n) h = let lt : n < 10 ^ 18 = plain_below n h in IsNumber-decimal n (omega arith)
-HasNumbers-number (negative (pos n)) h = absurd (false≢true h)
-HasNumbers-number (negative (negsuc n)) h = let lt : suc n < 10 ^ 18 = plain_below (suc n) h in IsNumber-signed_decimal (negsuc n) (omega arith)
+HasNumbers-number (negative (pos n)) h = absurd (no_positive n h)
+HasNumbers-number (negative (negsuc n)) h = let lt : suc n < 10 ^ 18 = negative_below n h in IsNumber-signed_decimal (negsuc n) (omega arith)
 HasNumbers-number (float x) h = absurd (false≢true h)
 
 number_back : (n : Num) → is_plain_number n ≡ true → number_of (number_text n) ≡ Some n
+unfolding is_plain_number
 number_back (unsigned n) h = let lt : n < 10 ^ 18 = plain_below n h in number_of-decimal n (omega arith)
-number_back (negative (pos n)) h = absurd (false≢true h)
-number_back (negative (negsuc n)) h = let lt : suc n < 10 ^ 18 = plain_below (suc n) h in number_of-negative n (omega arith)
+number_back (negative (pos n)) h = absurd (no_positive n h)
+number_back (negative (negsuc n)) h = let lt : suc n < 10 ^ 18 = negative_below n h in number_of-negative n (omega arith)
 number_back (float x) h = absurd (false≢true h)
 
 mutual
@@ -128,7 +139,7 @@ mutual
 
   MembersHaveNumbers-outline : (ms : Members) → members_plain ms ≡ true → tree.MembersHaveNumbers (members_outline ms)
   MembersHaveNumbers-outline no_members h = tt
-  MembersHaveNumbers-outline (member k d ms) h = let p = and_parts (is_plain d) (members_plain ms) h in (HasNumbers-outline d p.0, MembersHaveNumbers-outline ms p.1)
+  MembersHaveNumbers-outline (member k d ms) h = let p = and_parts (is_plain d) (members_plain ms) (and_parts (is_some (said_text k)) (is_plain d && members_plain ms) h).1 in (HasNumbers-outline d p.0, MembersHaveNumbers-outline ms p.1)
 
 mutual
   pub depth-outline : (d : Data) → tree.depth (outline d) ≡ depth d
@@ -201,7 +212,7 @@ mutual
   of_members-outline : (ms found : Members) → MembersSorted (joined found ms) → members_plain ms ≡ true → of_members (members_outline ms) found ≡ Some (joined found ms)
   of_members-outline no_members found s h = ap Some (sym (joined_nil found))
   of_members-outline (member k d ms) found s h =
-      let p = and_parts (is_plain d) (members_plain ms) h in
+      let p = and_parts (is_plain d) (members_plain ms) (and_parts (is_some (said_text k)) (is_plain d && members_plain ms) h).1 in
       ap (option_and_then (λ e. of_members (members_outline ms) (put k e found))) (of_json-outline d (sorted_at found k d ms s) p.0)
       ∙ (ap (of_members (members_outline ms)) (put_last found k d d ms s)
       ∙ (of_members-outline ms (joined found (member k d no_members)) (subst MembersSorted (sym (joined_more found k d ms)) s) p.1

@@ -2,14 +2,14 @@
 use Rattle.std.specs.Prelude.{◌&&◌, ◌||◌, ℕ, List, [], ◌∷◌, Bool, false, not, if◌then◌else◌, option_map, unwrap_or, codes, bytes_eq}
 use Rattle.serde_json.specs.Data.{object, Members}
 use Rattle.serde_json.specs.Find.{get_member}
-use Rattle.serde_json.specs.Written.{compact_text}
 use Rattle.ss_record.specs.declared.kinds.Kind.{Kind}
 use Rattle.ss_record.specs.declared.kinds.Kind.TheVariants.{Folder}
 use Rattle.ss_record.specs.Ids.{has, places, roots}
 use Rattle.ss_record.specs.Kinds.{is_folder}
+use Rattle.ss_record.specs.Marks.{plain_text}
 use Rattle.ss_record.specs.Payloads.{payload_members, lacks, is_true}
 
--- an item: its id, its kind, and its content as compact JSON
+-- an item: its id, its kind, and its content as compact JSON, numbers with the characters that they had
 pub record ItemView : Type 0 where
   pub id : List ℕ
   pub kind : Kind
@@ -23,10 +23,10 @@ empty_folder x = record { id = x; kind = Folder; content = codes "{}" }
 unfoldable pub names_of : Kind → List (List ℕ)
 names_of kind = codes "id" ∷ codes "type" ∷ codes "parentid" ∷ (if is_folder kind then codes "children" ∷ [] else [])
 
--- the text is the compact one of these members, and with the item's place they read as the item
+-- the text is the compact one of these members, marked numbers as they were, and with the item's place they read as the item
 unfoldable pub are_content : ItemView → Members → Bool
 are_content i ms =
-    bytes_eq (compact_text (object ms)) i.content
+    bytes_eq (plain_text (object ms)) i.content
     && (lacks (names_of i.kind) ms
     && (not (is_true (get_member (codes "deleted") ms))
     && (not (has i.id roots) || is_folder i.kind)))

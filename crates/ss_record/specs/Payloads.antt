@@ -1,17 +1,16 @@
 -- Payloads as JSON: which are read, and what stands in their members.
-use Rattle.std.specs.Prelude.{◌&&◌, ◌==◌, nat_le, ℕ, List, [], ◌∷◌, Bool, true, false, not, if◌then◌else◌, Option, Some, None, option_map, option_and_then, unwrap_or, bytes_eq}
+use Rattle.std.specs.Prelude.{◌&&◌, nat_le, ℕ, List, [], ◌∷◌, Bool, true, false, not, if◌then◌else◌, Option, Some, None, option_map, option_and_then, unwrap_or, bytes_eq}
 use Rattle.serde_json.specs.Data.{Data, null, boolean, number, string, array, object, Items, no_items, item, Members, no_members, member, depth}
 use Rattle.serde_json.specs.Read.{read}
-use Rattle.serde_json.specs.Find.{as_object, as_str}
-use Rattle.ss_text.specs.Decimals.{count_of}
+use Rattle.serde_json.specs.Find.{as_object}
+use Rattle.ss_text.specs.Decimals.{marked}
 use Rattle.ss_record.specs.Ids.{has}
+use Rattle.ss_record.specs.Marks.{string_of, is_plain}
 
--- the members of a text that is a JSON object of at most 126 levels, and in which no number is a decimal: has a point,
--- an exponent or more than 18 digits, or is `-0`
+-- the members of a text that is a JSON object of at most 126 levels, as its marked text is read: a number that would be
+-- rounded is kept as its characters, behind a mark
 unfoldable pub payload_members : List ℕ → Option Members
-payload_members text =
-    if count_of text == 0 then option_and_then (λ d. if nat_le (depth d) 126 then as_object d else None) (read text)
-    else None
+payload_members text = option_and_then (λ d. if nat_le (depth d) 126 && is_plain d then as_object d else None) (read (marked text))
 
 -- ---- members
 
@@ -28,7 +27,7 @@ lacks names (member k d ms) = not (has k names) && lacks names ms
 -- the strings of a list of strings
 abbrev pub strings : Items → Option (List (List ℕ))
 strings no_items = Some []
-strings (item d ds) = option_and_then (λ s. option_map (λ ss. s ∷ ss) (strings ds)) (as_str d)
+strings (item d ds) = option_and_then (λ s. option_map (λ ss. s ∷ ss) (strings ds)) (string_of d)
 
 -- the list of strings that a value is
 abbrev pub string_list : Data → Option (List (List ℕ))
@@ -42,7 +41,7 @@ string_list (object ms) = None
 -- a member that is this string
 abbrev pub is_string : List ℕ → Option Data → Bool
 is_string s None = false
-is_string s (Some d) = unwrap_or (option_map (bytes_eq s) (as_str d)) false
+is_string s (Some d) = unwrap_or (option_map (bytes_eq s) (string_of d)) false
 
 -- a member that is `true`
 abbrev pub is_true : Option Data → Bool

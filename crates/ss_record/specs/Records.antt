@@ -3,14 +3,15 @@ use Rattle.std.specs.Prelude.{◌≡◌, ◌⊎◌, ◌&&◌, ℕ, List, [], Boo
 use Rattle.serde_json.specs.Data.{Data, boolean, string, array, object, Items, Members, no_members, member, put}
 use Rattle.serde_json.specs.Read.{read}
 use Rattle.serde_json.specs.View.{items_of}
-use Rattle.serde_json.specs.Find.{get_member, as_object, as_str}
-use Rattle.serde_json.specs.Written.{compact_text}
+use Rattle.serde_json.specs.Find.{get_member, as_object}
+use Rattle.ss_text.specs.Decimals.{marked}
 use Rattle.ss_record.specs.declared.kinds.Kind.{Kind}
 use Rattle.ss_record.specs.declared.kinds.Kind.TheVariants.{Folder}
 use Rattle.ss_record.specs.declared.readings.Reading.{Reading}
 use Rattle.ss_record.specs.declared.readings.Reading.TheVariants.{Item, Tombstone, Skipped}
 use Rattle.ss_record.specs.Ids.{has, places, roots}
 use Rattle.ss_record.specs.Kinds.{is_folder, kind_name, kind_of}
+use Rattle.ss_record.specs.Marks.{string_of, marked_string, plain_text}
 use Rattle.ss_record.specs.Payloads.{payload_members, without, string_list, is_string, is_true}
 use Rattle.ss_record.specs.Items.{ItemView, names_of}
 
@@ -18,12 +19,12 @@ use Rattle.ss_record.specs.Items.{ItemView, names_of}
 
 -- the kind that `type` names
 abbrev pub kind_in : Members → Option Kind
-kind_in ms = option_and_then kind_of (option_and_then as_str (get_member (codes "type") ms))
+kind_in ms = option_and_then kind_of (option_and_then string_of (get_member (codes "type") ms))
 
 -- absent, or a string
 abbrev pub parentid_of : Option Data → Option (Option (List ℕ))
 parentid_of None = Some None
-parentid_of (Some d) = option_map (λ s. Some s) (as_str d)
+parentid_of (Some d) = option_map (λ s. Some s) (string_of d)
 
 -- of a folder: absent, or a list of strings
 abbrev pub children_of : Bool → Option Data → Option (List (List ℕ))
@@ -38,7 +39,7 @@ item_of id ms =
     option_and_then (λ parentid.
     option_and_then (λ children.
     if has id roots && not (is_folder kind) then None
-    else Some (Item (record { id = id; kind = kind; content = compact_text (object (without (names_of kind) ms)) }) parentid children))
+    else Some (Item (record { id = id; kind = kind; content = plain_text (object (without (names_of kind) ms)) }) parentid children))
     (children_of (is_folder kind) (get_member (codes "children") ms)))
     (parentid_of (get_member (codes "parentid") ms)))
     (kind_in ms)
@@ -60,26 +61,26 @@ reading id payload =
 
 -- a list of strings
 abbrev pub string_items : List (List ℕ) → Items
-string_items ss = items_of (map string ss)
+string_items ss = items_of (map (λ s. string (marked_string s)) ss)
 
 -- the members of an item's record, over those of its content
 unfoldable pub record_members : List ℕ → Kind → Members → List ℕ → List (List ℕ) → Members
 record_members id kind ms parent children =
-    let told = put (codes "id") (string id) (put (codes "type") (string (kind_name kind)) (put (codes "parentid") (string parent) ms)) in
+    let told = put (codes "id") (string (marked_string id)) (put (codes "type") (string (kind_name kind)) (put (codes "parentid") (string (marked_string parent)) ms)) in
     if is_folder kind then put (codes "children") (array (string_items children)) told else told
 
 -- the record of an item under a parent and with children; empty where its content is no object
 unfoldable pub record_of : ItemView → List ℕ → List (List ℕ) → List ℕ
 record_of i parent children =
-    unwrap_or (option_map (λ ms. compact_text (object (record_members i.id i.kind ms parent children))) (option_and_then as_object (read i.content))) []
+    unwrap_or (option_map (λ ms. plain_text (object (record_members i.id i.kind ms parent children))) (option_and_then as_object (read (marked i.content)))) []
 
 -- the members of a deleted item's record
 unfoldable pub tombstone_members : List ℕ → Members
-tombstone_members id = member (codes "deleted") (boolean true) (member (codes "id") (string id) no_members)
+tombstone_members id = member (codes "deleted") (boolean true) (member (codes "id") (string (marked_string id)) no_members)
 
 -- the record of a deleted item
 unfoldable pub tombstone_of : List ℕ → List ℕ
-tombstone_of id = compact_text (object (tombstone_members id))
+tombstone_of id = plain_text (object (tombstone_members id))
 
 -- ---- fitness
 

@@ -1,8 +1,6 @@
 //! Bookmark items without their places.
 
-ghost use Rattle.std.specs.Prelude.{◌≡◌, ◌&&◌, true, false, not, bytes_eq, string_bytes, codes, if◌then◌else◌, IfOk, OnOk, IsErrOf};
-ghost use Rattle.serde_json.specs.Data.{object};
-ghost use Rattle.serde_json.specs.Written.{compact_text, members_have_float};
+ghost use Rattle.std.specs.Prelude.{◌≡◌, Some, ◌&&◌, true, false, not, bytes_eq, string_bytes, codes, if◌then◌else◌, IfOk, OnOk, IsErrOf};
 ghost use Rattle.serde_json.specs.View.{members_view};
 ghost use Rattle.ss_record.specs.Items.{empty_folder, has_content, is_fit, names_of};
 ghost use Rattle.ss_record.specs.Ids.{has};
@@ -11,6 +9,7 @@ ghost use Rattle.ss_record.specs.declared.items.ItemFault.TheVariants.{Unfit, Me
 
 use crate::ids::{is_places, is_root};
 use crate::kinds::Kind;
+use crate::marks::plain_text;
 use crate::payloads::{is_true, member, members_of};
 use serde_json::{Map, Value};
 use ss_text::{Id, Word};
@@ -73,14 +72,6 @@ fn lacks_place(kind: Kind, members: &Map<String, Value>) -> bool
     true
 }
 
-/// The compact text of an object without floats.
-pub(crate) fn compact(alloc: Global, members: Map<String, Value>) -> Result<Word, AllocError>
-    requires { members_have_float (members_view members.entries) ≡ false }
-    ensures { IfOk result (λ text. text ≡ compact_text (object (members_view members.entries))) }
-{
-    Ok(Word::new(Value::Object(members).to_string(alloc)?))
-}
-
 /// Whether an item with this content is fit, where it isn't `places`.
 #[tactic(auto, unfolding(crate::specs::Items::has_content, crate::specs::Items::are_content))]
 fn has_content(alloc: Global, id: &Id, kind: Kind, content: &str) -> Result<bool, AllocError>
@@ -93,7 +84,7 @@ fn has_content(alloc: Global, id: &Id, kind: Kind, content: &str) -> Result<bool
     if !in_place || (is_root(id) && !kind.is_folder()) {
         return Ok(false);
     }
-    Ok(compact(alloc, members)?.as_str() == content)
+    Ok(plain_text(alloc, members)?.as_str() == content)
 }
 
 #[tactic(auto, unfolding(crate::specs::Items::is_fit))]
@@ -163,6 +154,18 @@ impl Item {
         ensures fit { is_fit self.now ≡ true }
     {
         &self.content
+    }
+
+    /// The members of the content, as its marked text has them: a number that serde_json would round is a string of
+    /// U+0001 and its characters, which `string_of` takes for no string.
+    pub fn members(&self, alloc: Global) -> Result<Map<String, Value>, AllocError>
+        ensures members { IfOk result (λ members. payload_members self.now.content ≡ Some (members_view members.entries)) }
+        ensures fit { is_fit self.now ≡ true }
+    {
+        match members_of(alloc, self.content().as_str())? {
+            Some(members) => Ok(members),
+            None => unreachable!(),
+        }
     }
 
     pub fn copy(&self, alloc: Global) -> Result<Item, AllocError>

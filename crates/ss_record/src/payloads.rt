@@ -5,10 +5,12 @@ ghost use Rattle.serde_json.specs.Data.{depth, items_depth, members_depth};
 ghost use Rattle.serde_json.specs.Find.{get_member, as_object};
 ghost use Rattle.serde_json.specs.Read.{read};
 ghost use Rattle.serde_json.specs.View.{view, items_view, members_view};
+ghost use Rattle.ss_text.specs.Decimals.{marked};
 ghost use Rattle.ss_record.specs.Payloads.{payload_members, strings, string_list, is_string, is_true};
 
+use crate::marks::{is_plain, string_of};
 use serde_json::{Map, Value};
-use ss_text::{Word, wrap_decimals};
+use ss_text::{Word, mark_decimals};
 use std::alloc::{AllocError, Global};
 
 /// How many levels a payload may have; its line in a device's file has one more.
@@ -50,11 +52,12 @@ fn members_fit(members: &Map<String, Value>, levels: usize) -> bool
     true
 }
 
-/// The value that a text is as JSON.
+/// The value that a text is as JSON, its decimals marked first.
 fn read(alloc: Global, text: &str) -> Result<Option<Value>, AllocError>
-    ensures { IfOk result (λ found. option_map view found ≡ read text.now) }
+    ensures { IfOk result (λ found. option_map view found ≡ read (marked text.now)) }
 {
-    match Value::from_str(alloc, text) {
+    let marked = mark_decimals(alloc, text.as_bytes())?;
+    match Value::from_slice(alloc, marked.as_slice()) {
         Ok(value) => Ok(Some(value)),
         Err(error) => {
             if error.is_memory() {
@@ -84,17 +87,14 @@ pub(crate) fn members_of(
 ) -> Result<Option<Map<String, Value>>, AllocError>
     ensures { IfOk result (λ found. option_map (λ m. members_view m.entries) found ≡ payload_members text.now) }
 {
-    if wrap_decimals(alloc, text.as_bytes())?.count > 0 {
-        return Ok(None);
-    }
     match read(alloc, text)? {
-        Some(value) if fits(&value, LEVELS) => Ok(into_members(value)),
+        Some(value) if fits(&value, LEVELS) && is_plain(&value) => Ok(into_members(value)),
         _ => Ok(None),
     }
 }
 
-/// The member of a name.
-pub(crate) fn member<'a>(members: &'a Map<String, Value>, name: &str) -> Option<&'a Value>
+/// The member of a name. Names are those of the marked text.
+pub fn member<'a>(members: &'a Map<String, Value>, name: &str) -> Option<&'a Value>
     ensures { option_map (λ v. view v.now) result ≡ get_member name.now (members_view members.now.entries) }
 {
     members.get(name)
@@ -104,9 +104,9 @@ pub(crate) fn member<'a>(members: &'a Map<String, Value>, name: &str) -> Option<
 pub(crate) fn is_string(text: &str, member: Option<&Value>) -> bool
     ensures { result ≡ is_string text.now (option_map (λ v. view v.now) member.entry) }
 {
-    match member {
-        Some(Value::String(string)) => text == string.as_str(),
-        _ => false,
+    match member.and_then(string_of) {
+        Some(string) => text == string,
+        None => false,
     }
 }
 
@@ -123,9 +123,9 @@ fn strings(alloc: Global, items: &Vec<Value>) -> Result<Option<Vec<Word>>, Alloc
 {
     let mut words = Vec::with_capacity(alloc, items.len())?;
     for item in items {
-        match item {
-            Value::String(text) => words.push(Word::new(text.clone()?))?,
-            _ => return Ok(None),
+        match string_of(item) {
+            Some(text) => words.push(Word::new(String::from_str(alloc, text)?))?,
+            None => return Ok(None),
         }
     }
     Ok(Some(words))

@@ -2,7 +2,7 @@
 
 ghost use Rattle.std.specs.Prelude.{◌≡◌, ◌&&◌, Some, true, false, not, bytes_eq, option_map, codes, IfOk};
 ghost use Rattle.serde_json.specs.Data.{Members};
-ghost use Rattle.serde_json.specs.Find.{get_member, as_str};
+ghost use Rattle.serde_json.specs.Find.{get_member};
 ghost use Rattle.serde_json.specs.View.{view, members_view};
 ghost use Rattle.ss_record.specs.Ids.{has, places, roots};
 ghost use Rattle.ss_record.specs.Kinds.{is_folder, kind_of};
@@ -11,8 +11,9 @@ ghost use Rattle.ss_record.specs.Payloads.{payload_members, without, is_true};
 ghost use Rattle.ss_record.specs.Records.{children_of, item_of, kind_in, members_reading, parentid_of, reading};
 
 use crate::ids::{is_places, is_root};
-use crate::items::{Item, compact, tells_place};
+use crate::items::{Item, tells_place};
 use crate::kinds::Kind;
+use crate::marks::{plain_text, string_of};
 use crate::payloads::{is_string, is_true, member, members_of, string_list};
 use crate::readings::{Reading, Sheet, Words};
 use serde_json::{Map, Value};
@@ -23,10 +24,9 @@ use std::alloc::{AllocError, Global};
 fn kind_in(members: &Map<String, Value>) -> Option<Kind>
     ensures { result ≡ kind_in (members_view members.now.entries) }
 {
-    match member(members, "type") {
-        Some(Value::String(name)) => Kind::from_name(name.as_str()),
-        _ => None,
-    }
+    member(members, "type")
+        .and_then(string_of)
+        .and_then(Kind::from_name)
 }
 
 /// `parentid`, which may be absent; None where it is no string.
@@ -35,8 +35,10 @@ fn parentid_of(alloc: Global, value: Option<&Value>) -> Result<Option<Option<Wor
 {
     match value {
         None => Ok(Some(None)),
-        Some(Value::String(text)) => Ok(Some(Some(Word::new(text.clone()?)))),
-        Some(_) => Ok(None),
+        Some(value) => match string_of(value) {
+            Some(text) => Ok(Some(Some(Word::new(String::from_str(alloc, text)?)))),
+            None => Ok(None),
+        },
     }
 }
 
@@ -93,7 +95,7 @@ fn read_item(
     if is_leaf_root(&sheet.id, kind) {
         return Ok(None);
     }
-    let content = compact(alloc, content_of(kind, members))?;
+    let content = plain_text(alloc, content_of(kind, members))?;
     let item = Item::fit(sheet.id.copy(alloc)?, kind, content);
     Ok(Some(Reading::Item {
         item,

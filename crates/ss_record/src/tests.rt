@@ -49,7 +49,7 @@ fn read(alloc: Global, name: &str, payload: &str) -> Result<String, Fail> {
 }
 
 /// Ids, payloads, and what they say.
-const PAYLOADS: [(&str, &str, &str); 12] = [
+const PAYLOADS: [(&str, &str, &str); 20] = [
     (
         "b1",
         "{\"title\":\"T\", \"type\":\"bookmark\",\"parentid\":\"menu\",\"id\":\"b1\",\"n\":12}",
@@ -57,12 +57,44 @@ const PAYLOADS: [(&str, &str, &str); 12] = [
     ),
     (
         "b1",
-        "{\"id\":\"b1\",\"type\":\"bookmark\",\"w\":1.5}",
-        "skipped",
+        "{\"id\":\"b1\",\"w\":1.50,\"v\":[-0,1e999,1234567890123456789],\"type\":\"bookmark\"}",
+        "bookmark {\"v\":[-0,1e999,1234567890123456789],\"w\":1.50} under nobody",
     ),
     (
         "b1",
         "{\"id\":\"b1\",\"type\":\"bookmark\",\"w\":1.5,\"w\":1}",
+        "bookmark {\"w\":1} under nobody",
+    ),
+    (
+        "b1",
+        "{\"id\":\"b1\",\"type\":\"bookmark\",\"u\":[\"1.5\"],\"v\":\"1.5\",\"w\":1.5}",
+        "bookmark {\"u\":[\"1.5\"],\"v\":\"1.5\",\"w\":1.5} under nobody",
+    ),
+    (
+        "b1",
+        "{\"id\":\"b1\",\"type\":\"bookmark\",\"\\u0001\":\"\\u00011.5\",\"title\":\"\\u0001\\u0001\"}",
+        "bookmark {\"\\u0001\":\"\\u00011.5\",\"title\":\"\\u0001\\u0001\"} under nobody",
+    ),
+    (
+        "b1",
+        "{\"id\":\"b1\",\"type\":\"bookmark\",\"parentid\":\"\\u00011.5\"}",
+        "bookmark {} under \u{1}1.5",
+    ),
+    (
+        "b1",
+        "{\"id\":\"b1\",\"type\":\"bookmark\",1.5:2}",
+        "skipped",
+    ),
+    ("b1", "{\"id\":\"b1\",\"type\":1.5}", "skipped"),
+    ("1.5", "{\"id\":1.5,\"type\":\"bookmark\"}", "skipped"),
+    (
+        "b1",
+        "{\"id\":\"b1\",\"type\":\"bookmark\",\"parentid\":1.5}",
+        "skipped",
+    ),
+    (
+        "f1",
+        "{\"id\":\"f1\",\"type\":\"folder\",\"children\":[\"b1\",1.5]}",
         "skipped",
     ),
     ("b1", "{\"id\":\"b2\",\"type\":\"bookmark\"}", "skipped"),
@@ -104,7 +136,7 @@ fn payloads_are_read(rt: HostRuntime) -> Result<(), Fail> {
 /// Contents that no bookmark has.
 const UNFIT: [&str; 5] = [
     "{\"n\": 1}",
-    "{\"n\":1.5}",
+    "{\"n\":\\u00011.5}",
     "{\"n\":1,\"m\":1}",
     "{\"parentid\":\"menu\"}",
     "{\"deleted\":true}",
@@ -135,13 +167,13 @@ fn folder_record(alloc: Global, content: &str) -> Result<Word, Fail> {
 
 /// The record of a folder, and what it says.
 const RECORD: (&str, &str) = (
-    "{\"children\":[\"b1\"],\"id\":\"f1\",\"parentid\":\"menu\",\"title\":\"T\",\"type\":\"folder\"}",
-    "folder {\"title\":\"T\"} under menu b1",
+    "{\"children\":[\"b1\"],\"id\":\"f1\",\"parentid\":\"menu\",\"title\":\"T\",\"type\":\"folder\",\"w\":1.50}",
+    "folder {\"title\":\"T\",\"w\":1.50} under menu b1",
 );
 
 #[test]
 fn a_record_is_written_and_read_back(rt: HostRuntime) -> Result<(), Fail> {
-    let record = folder_record(rt.alloc(), "{\"title\":\"T\"}")?;
+    let record = folder_record(rt.alloc(), "{\"title\":\"T\",\"w\":1.50}")?;
     assert_eq!(rt; record.as_str(), RECORD.0);
     let found = read(rt.alloc(), "f1", record.as_str())?;
     assert_eq!(rt; found.as_str(), RECORD.1);

@@ -5,11 +5,12 @@ ghost use Rattle.serde_json.specs.Data.{string, array, put};
 ghost use Rattle.serde_json.specs.View.{view, items_view, members_view};
 ghost use Rattle.ss_record.specs.Ids.{has, places, roots};
 ghost use Rattle.ss_record.specs.Kinds.{is_folder, kind_name};
+ghost use Rattle.ss_record.specs.Marks.{marked_string};
 ghost use Rattle.ss_record.specs.Records.{reading, record_members, record_of, string_items, tombstone_members, tombstone_of};
 ghost use Rattle.ss_record.specs.declared.readings.Reading.TheVariants.{Item as Reads, Tombstone};
 
-use crate::items::{Item, compact};
-use crate::payloads::members_of;
+use crate::items::Item;
+use crate::marks::{marked_string, plain_text};
 use serde_json::{Map, Value};
 use ss_text::{Id, Word};
 use std::alloc::{AllocError, Global};
@@ -27,10 +28,11 @@ fn with_member(
     Ok(members)
 }
 
+/// A string, as a marked text has it.
 fn text(alloc: Global, text: &str) -> Result<Value, AllocError>
-    ensures { IfOk result (λ v. view v ≡ string text.now) }
+    ensures { IfOk result (λ v. view v ≡ string (marked_string text.now)) }
 {
-    Ok(Value::String(String::from_str(alloc, text)?))
+    Ok(Value::String(marked_string(alloc, text)?))
 }
 
 /// A list of ids.
@@ -51,10 +53,11 @@ fn told(
     content: Map<String, Value>,
     parent: &Id,
 ) -> Result<Map<String, Value>, AllocError>
-    ensures { IfOk result (λ m. members_view m.entries ≡ put (codes "id") (string item.now.id) (put (codes "type") (string (kind_name item.now.kind)) (put (codes "parentid") (string parent.now) (members_view content.entries)))) }
+    ensures { IfOk result (λ m. members_view m.entries ≡ put (codes "id") (string (marked_string item.now.id)) (put (codes "type") (string (kind_name item.now.kind)) (put (codes "parentid") (string (marked_string parent.now)) (members_view content.entries)))) }
 {
     let members = with_member(alloc, content, "parentid", text(alloc, parent.as_str())?)?;
-    let members = with_member(alloc, members, "type", text(alloc, item.kind().name())?)?;
+    let kind = Value::String(String::from_str(alloc, item.kind().name())?);
+    let members = with_member(alloc, members, "type", kind)?;
     with_member(alloc, members, "id", text(alloc, item.id().as_str())?)
 }
 
@@ -88,11 +91,9 @@ pub fn write_record(
     ensures text { IfOk result (λ record_text. record_text ≡ record_of item.now parent.now children.now) }
     ensures reads_back { item.now.id ≢ places → IfOk result (λ record_text. reading item.now.id record_text ≡ Reads item.now (Some parent.now) (if is_folder item.now.kind then children.now else [])) }
 {
-    let Some(content) = members_of(alloc, item.content().as_str())? else {
-        unreachable!();
-    };
+    let content = item.members(alloc)?;
     let members = placed(alloc, item, content, parent, children)?;
-    compact(alloc, members)
+    plain_text(alloc, members)
 }
 
 /// The members of a deleted item's record.
@@ -111,5 +112,5 @@ pub fn write_tombstone(alloc: Global, id: &Id) -> Result<Word, AllocError>
     ensures reads_back { id.now ≢ places → has id.now roots ≡ false → IfOk result (λ record_text. reading id.now record_text ≡ Tombstone) }
 {
     let members = dead_members(alloc, id)?;
-    compact(alloc, members)
+    plain_text(alloc, members)
 }

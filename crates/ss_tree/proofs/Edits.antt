@@ -1,11 +1,12 @@
 -- What a list of entries with one more, or one less, says of each node.
-use Rattle.std.proofs.Common.{◌≡◌, ◌≢◌, ℕ, ◌==◌, List, [], ◌∷◌, ◌++◌, map, Bool, true, false, not, cond, ◌||◌, refl, sym, ap, ◌∙◌, filter, bytes_eq, Option, Some, None, option_map, unwrap_or, arith}
+use Rattle.std.proofs.Common.{◌≡◌, ◌≢◌, ℕ, ◌==◌, List, [], ◌∷◌, ◌++◌, map, Bool, true, false, not, cond, ◌||◌, refl, sym, ap, ◌∙◌, filter, bytes_eq, Option, Some, None, option_map, unwrap_or, is_some, arith}
 use Rattle.std.proofs.lemmas.Bool.{false≢true, eqb-true, or_parts}
 use Rattle.ss_record.specs.Ids.{has, Apart}
+use Rattle.ss_record.specs.Items.{is_fit}
 use Rattle.ss_record.proofs.IdLists.{same_id, bytes_eq-refl, has-cons, Apart-cons, Apart-head, Apart-tail}
 use Rattle.ss_tree.specs.declared.entries.Entry.{Entry}
-use Rattle.ss_tree.specs.Entries.{entry, stands_under, kids, kid_ids, entry_ids, NodesApart, put_before, without_node, is_place}
-use Rattle.ss_tree.specs.Lists.{put_entry, without_entry}
+use Rattle.ss_tree.specs.Entries.{entry, stands_under, kids, kid_ids, entry_ids, NodesApart, put_before, without_node, is_place, is_live, is_fit_with}
+use Rattle.ss_tree.proofs.Lists.{put_entry, without_entry}
 
 -- ---- numbers
 
@@ -344,3 +345,13 @@ id_is_free k (f ∷ fs) e n a q = go (k == f.node) (sym (entry-cons k f fs) ∙ 
             pick : (b : Bool) → bytes_eq e.item.id f.item.id ≡ b → b ≡ false
             pick true s = absurd (false≢true (sym h ∙ (ap (λ w. has w (entry_ids fs)) (sym (same_id e.item.id f.item.id s)) ∙ entry_has k fs e c2)))
             pick false s = refl
+
+-- ---- a content that is fit
+
+pub live_entry : (k : ℕ) (es : List Entry) (content : List ℕ) → is_fit_with content k es ≡ true → is_live k es ≡ true
+unfolding is_fit_with
+live_entry k es content h = go (entry k es) h
+  where
+    go : (o : Option Entry) → unwrap_or (option_map (λ e. is_fit (record { id = e.item.id; kind = e.item.kind; content = content })) o) false ≡ true → is_some o ≡ true
+    go None q = absurd (false≢true q)
+    go (Some e) q = refl

@@ -11,11 +11,11 @@ use Rattle.ss_tree.specs.declared.faults.MoveFault.TheVariants.{Root, NotFolder 
 use Rattle.ss_tree.specs.declared.faults.RemoveFault.TheVariants.{Root as Fixed, NotEmpty}
 use Rattle.ss_tree.specs.Trees.{steps, Reaches, empty_tree, places_node}
 use Rattle.ss_tree.specs.Entries.{entry, is_live, stands_under, kids, kid_ids, up, placed, tree, NodesApart, entry_ids, top_entry, IsTree, IsKept, under, revised, put_before, without_node, first_of, is_below, takes_children, is_fixed, is_place, insert_fault, is_node, move_fault, remove_fault, new_entries, is_fit_with, preorder}
-use Rattle.ss_tree.specs.Lists.{put_entry, without_entry, revise_entry}
+use Rattle.ss_tree.proofs.Lists.{put_entry, without_entry, revise_entry}
 use Rattle.ss_tree.proofs.Edits.{same_number, other_number, number_sym, entry-nil, entry-cons, entry_put, entry_without, kids-cons, kids_put, kids_without, kid_ids-cons, kid_ids_put, kid_ids_without, nodes_put, nodes_without, ids_put, ids_without, id_is_free}
 use Rattle.ss_tree.proofs.Changes.{some_same, onward, up_of, live_steps, changed_tree, leafless_tree, revised_tree}
 use Rattle.ss_tree.proofs.Ways.{never_met}
-use Rattle.ss_tree.proofs.Places.{live_entry}
+use Rattle.ss_tree.proofs.Edits.{live_entry}
 use Rattle.ss_tree.proofs.Valid.{In, entry_in}
 
 none_some : {X : Type 0} {x : X} → None ≡ Some x → ⊥
@@ -23,11 +23,11 @@ none_some f = cc
 
 -- ---- what no fault means
 
-record Free (es : List Entry) (p : ℕ) (b : Option ℕ) : Type 0 where
-  takes : takes_children p es ≡ true
-  place : is_place p b es ≡ true
+pub record Free (es : List Entry) (p : ℕ) (b : Option ℕ) : Type 0 where
+  pub takes : takes_children p es ≡ true
+  pub place : is_place p b es ≡ true
 
-insert_free : (es : List Entry) (p : ℕ) (b : Option ℕ) (x : List ℕ) → insert_fault es p b x ≡ None → Free es p b × (has x (entry_ids es) ≡ false)
+pub insert_free : (es : List Entry) (p : ℕ) (b : Option ℕ) (x : List ℕ) → insert_fault es p b x ≡ None → Free es p b × (has x (entry_ids es) ≡ false)
 unfolding insert_fault
 insert_free es p b x h = go (takes_children p es) (has x (entry_ids es)) (is_place p b es) refl refl refl h
   where
@@ -37,15 +37,15 @@ insert_free es p b x h = go (takes_children p es) (has x (entry_ids es)) (is_pla
     go true false false q r s k = cc
     go true false true q r s k = (record { takes = q; place = s }, r)
 
-record MoveFree (es : List Entry) (k p : ℕ) (b : Option ℕ) : Type 0 where
-  loose : is_fixed k es ≡ false
-  takes : takes_children p es ≡ true
-  apart : (k == p) ≡ false
-  above : is_below es k p ≡ false
-  place : is_place p b es ≡ true
-  other : is_node k b ≡ false
+pub record MoveFree (es : List Entry) (k p : ℕ) (b : Option ℕ) : Type 0 where
+  pub loose : is_fixed k es ≡ false
+  pub takes : takes_children p es ≡ true
+  pub apart : (k == p) ≡ false
+  pub above : is_below es k p ≡ false
+  pub place : is_place p b es ≡ true
+  pub other : is_node k b ≡ false
 
-move_free : (es : List Entry) (k p : ℕ) (b : Option ℕ) → move_fault es k p b ≡ None → MoveFree es k p b
+pub move_free : (es : List Entry) (k p : ℕ) (b : Option ℕ) → move_fault es k p b ≡ None → MoveFree es k p b
 unfolding move_fault
 move_free es k p b h = go (is_fixed k es) (takes_children p es) (k == p) (is_below es k p) (is_place p b es) (is_node k b) refl refl refl refl refl refl h
   where
@@ -59,7 +59,7 @@ move_free es k p b h = go (is_fixed k es) (takes_children p es) (k == p) (is_bel
     go false true false false true true a1 a2 a3 a4 a5 a6 q = cc
     go false true false false true false a1 a2 a3 a4 a5 a6 q = record { loose = a1; takes = a2; apart = a3; above = a4; place = a5; other = a6 }
 
-remove_free : (es : List Entry) (k : ℕ) → remove_fault es k ≡ None → (is_fixed k es ≡ false) × (is_some (first_of (kids k es)) ≡ false)
+pub remove_free : (es : List Entry) (k : ℕ) → remove_fault es k ≡ None → (is_fixed k es ≡ false) × (is_some (first_of (kids k es)) ≡ false)
 unfolding remove_fault
 remove_free es k h = go (is_fixed k es) (is_some (first_of (kids k es))) refl refl h
   where
@@ -74,7 +74,7 @@ loose_parts k es h =
     let p = or_parts (k == 0) (unwrap_or (option_map (stands_under 0) (entry k es)) false) h in
     (p.0, λ f q. sym (ap (λ o. unwrap_or (option_map (stands_under 0) o) false) q) ∙ p.1)
 
-takes_parts : (p : ℕ) (es : List Entry) → takes_children p es ≡ true → ((p == 0) ≡ false) × ((f : Entry) × (entry p es ≡ Some f) × (is_folder f.item.kind ≡ true))
+pub takes_parts : (p : ℕ) (es : List Entry) → takes_children p es ≡ true → ((p == 0) ≡ false) × ((f : Entry) × (entry p es ≡ Some f) × (is_folder f.item.kind ≡ true))
 unfolding takes_children
 takes_parts p es h =
     let a = and_parts (not (p == 0)) (unwrap_or (option_map (λ e. is_folder e.item.kind) (entry p es)) false) h in

@@ -14,16 +14,16 @@ use Rattle.ss_tree.proofs.Changes.{up_top, live_steps}
 none_some : {X : Type 0} {x : X} → None ≡ Some x → ⊥
 none_some f = cc
 
-walk : (ℕ → ℕ) → ℕ → ℕ → List ℕ
+pub walk : (ℕ → ℕ) → ℕ → ℕ → List ℕ
 walk step zero x = []
 walk step (suc n) x = x ∷ walk step n (step x)
 
-length-walk : (step : ℕ → ℕ) (n x : ℕ) → length (walk step n x) ≡ n
+pub length-walk : (step : ℕ → ℕ) (n x : ℕ) → length (walk step n x) ≡ n
 unfolding walk
 length-walk step zero x = refl
 length-walk step (suc n) x = ap suc (length-walk step n (step x))
 
-member_walk : (step : ℕ → ℕ) (n x z : ℕ) → is_member nat_eq (walk step n x) z ≡ true → (i : ℕ) × (i < n) × (steps step i x ≡ z)
+pub member_walk : (step : ℕ → ℕ) (n x z : ℕ) → is_member nat_eq (walk step n x) z ≡ true → (i : ℕ) × (i < n) × (steps step i x ≡ z)
 unfolding walk steps
 member_walk step zero x z h = absurd (false≢true h)
 member_walk step (suc n) x z h = go (z == x) refl h (member_walk step n (step x) z)
@@ -32,13 +32,13 @@ member_walk step (suc n) x z h = go (z == x) refl h (member_walk step n (step x)
     go true q k ih = (zero, omega arith, sym (eqb-true z x q))
     go false q k ih = let r = ih k in (suc r.0, (let lt : r.0 < n = r.1 in omega arith), r.2)
 
-steps_add : (step : ℕ → ℕ) (a b x : ℕ) → steps step (a + b) x ≡ steps step b (steps step a x)
+pub steps_add : (step : ℕ → ℕ) (a b x : ℕ) → steps step (a + b) x ≡ steps step b (steps step a x)
 unfolding steps
 steps_add step zero b x = let e : 0 + b ≡ b = omega arith in ap (λ n. steps step n x) e
 steps_add step (suc a) b x = let e : suc a + b ≡ suc (a + b) = omega arith in ap (λ n. steps step n x) e ∙ steps_add step a b (step x)
 
 -- the first time that the top is met
-first_zero : (step : ℕ → ℕ) (n x : ℕ) → steps step n x ≡ 0 → (m : ℕ) × (steps step m x ≡ 0) × ((i : ℕ) → i < m → steps step i x ≢ 0)
+pub first_zero : (step : ℕ → ℕ) (n x : ℕ) → steps step n x ≡ 0 → (m : ℕ) × (steps step m x ≡ 0) × ((i : ℕ) → i < m → steps step i x ≢ 0)
 unfolding steps
 first_zero step zero x e = (zero, e, λ i l. absurd (omega arith))
 first_zero step (suc n) x e = go (x == 0) refl (first_zero step n (step x) e)
@@ -51,12 +51,12 @@ first_zero step (suc n) x e = go (x == 0) refl (first_zero step n (step x) e)
         not_yet zero l = other_number x 0 q
         not_yet (suc i) l = r.2 i (omega arith)
 
-all_apart : (x : ℕ) (ys : List ℕ) → is_member nat_eq ys x ≡ false → AllByRecursion (λ y. nat_eq x y ≡ false) ys
+pub all_apart : (x : ℕ) (ys : List ℕ) → is_member nat_eq ys x ≡ false → AllByRecursion (λ y. nat_eq x y ≡ false) ys
 all_apart x [] h = tt
 all_apart x (y ∷ ys) h = let p = or_parts (nat_eq x y) (is_member nat_eq ys x) h in (p.0, all_apart x ys p.1)
 
 -- until then no node is met twice
-distinct_walk : (step : ℕ → ℕ) (n x : ℕ) → steps step n x ≡ 0 → ((i : ℕ) → i < n → steps step i x ≢ 0) → IsDistinct nat_eq (walk step n x)
+pub distinct_walk : (step : ℕ → ℕ) (n x : ℕ) → steps step n x ≡ 0 → ((i : ℕ) → i < n → steps step i x ≢ 0) → IsDistinct nat_eq (walk step n x)
 unfolding walk steps IsDistinct
 distinct_walk step zero x e far = tt
 distinct_walk step (suc n) x e far = (all_apart x (walk step n (step x)) (fresh (is_member nat_eq (walk step n (step x)) x) refl), distinct_walk step n (step x) e (λ i l. far (suc i) (omega arith)))
@@ -74,7 +74,7 @@ distinct_walk step (suc n) x e far = (all_apart x (walk step n (step x)) (fresh 
             sooner : steps step (suc n - suc r.0) x ≡ steps step n (step x)
             sooner = ap (steps step (suc n - suc r.0)) (sym r.2) ∙ (sym (steps_add step (suc r.0) (suc n - suc r.0) x) ∙ ap (λ m. steps step m x) split)
 
-live_member : (j : ℕ) (es : List Entry) → is_some (entry j es) ≡ true → is_member nat_eq (map (λ e. e.node) es) j ≡ true
+pub live_member : (j : ℕ) (es : List Entry) → is_some (entry j es) ≡ true → is_member nat_eq (map (λ e. e.node) es) j ≡ true
 live_member j [] l = absurd (false≢true (sym (ap is_some (entry-nil j)) ∙ l))
 live_member j (f ∷ fs) l = go (j == f.node) (sym (ap is_some (entry-cons j f fs)) ∙ l) (live_member j fs)
   where
@@ -82,7 +82,7 @@ live_member j (f ∷ fs) l = go (j == f.node) (sym (ap is_some (entry-cons j f f
     go true h ih = refl
     go false h ih = ih h
 
-length-nodes : (es : List Entry) → length (map (λ e. e.node) es) ≡ length es
+pub length-nodes : (es : List Entry) → length (map (λ e. e.node) es) ≡ length es
 length-nodes [] = refl
 length-nodes (e ∷ es) = ap suc (length-nodes es)
 
@@ -98,12 +98,12 @@ within es t j e q =
     let b : length (map (λ d. d.node) es) ≡ length es = length-nodes es in
     (f.0, f.1, omega arith)
 
-stays : (es : List Entry) → IsTree es → (n : ℕ) → steps (up es) n 0 ≡ 0
+pub stays : (es : List Entry) → IsTree es → (n : ℕ) → steps (up es) n 0 ≡ 0
 unfolding steps
 stays es t zero = refl
 stays es t (suc n) = ap (steps (up es) n) (up_top es t) ∙ stays es t n
 
-up_some : (es : List Entry) (x j : ℕ) → above es x ≡ Some j → up es x ≡ j
+pub up_some : (es : List Entry) (x j : ℕ) → above es x ≡ Some j → up es x ≡ j
 unfolding up
 up_some es x j q = ap (λ o. unwrap_or o 0) q
 

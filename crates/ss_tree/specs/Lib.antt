@@ -1,3 +1,5 @@
 pub mod Trees
 pub mod Entries
-pub mod Lists
+pub mod Cells
+pub mod Built
+pub mod Walks

@@ -3,9 +3,11 @@
 //! Its contracts: every tree is valid, each call changes exactly what it says, and a refused call changes nothing.
 #![tactic(auto)]
 
+mod building;
+mod cells;
 mod entries;
 mod faults;
-mod list;
+mod index;
 mod sides;
 #[cfg(test)]
 mod tests;

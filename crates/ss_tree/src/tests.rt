@@ -3,7 +3,10 @@
 ghost use Rattle.std.specs.Prelude.{◌≡◌, true, IfOk, IfSome};
 ghost use Rattle.ss_tree.specs.Entries.{is_live};
 
+mod plain;
+
 use crate::{MoveFault, Node, RemoveFault, Tree, TreeFault};
+use plain::{Row, inserted, listed, moved, removed};
 use ss_record::{Item, Kind};
 use ss_text::{Id, Stamp, Word};
 use std::alloc::{AllocError, Global};
@@ -36,7 +39,7 @@ fn add(
         .ok()
         .ok_or("unfit")?;
     let under = find(alloc, tree, parent)?.ok_or("no parent")?;
-    Ok(tree.insert(under, None, item, Stamp::clamp(7)).err())
+    Ok(tree.insert(alloc, under, None, item, Stamp::clamp(7)).err())
 }
 
 /// Moves an item under another one, before a third one or last.
@@ -159,5 +162,231 @@ fn relatives_are_found(rt: HostRuntime) -> Result<(), Fail> {
     let tree = sample(rt.alloc())?;
     let found = relatives(rt.alloc(), &tree, "f1", "b1")?;
     assert!(rt; found == (2, 7, true));
+    Ok(())
+}
+
+#[test]
+fn freed_and_moved_nodes_keep_their_links(rt: HostRuntime) -> Result<(), Fail> {
+    let mut tree = sample(rt.alloc())?;
+    assert!(rt; add(rt.alloc(), &mut tree, "f2", "f3")?.is_none());
+    assert!(rt; add(rt.alloc(), &mut tree, "f3", "b4")?.is_none());
+    assert!(rt; shift(rt.alloc(), &mut tree, "f3", "toolbar", None)?.is_none());
+    assert!(rt; shift(rt.alloc(), &mut tree, "b1", "toolbar", Some("f3"))?.is_none());
+    assert!(rt; shift(rt.alloc(), &mut tree, "b2", "toolbar", Some("f3"))?.is_none());
+    assert!(rt; cut(rt.alloc(), &mut tree, "b1")?.is_none());
+    assert!(rt; cut(rt.alloc(), &mut tree, "f2")?.is_none());
+    assert!(rt; add(rt.alloc(), &mut tree, "f1", "b1")?.is_none());
+    assert_eq!(rt;
+        ids(rt.alloc(), &tree)?.as_str(),
+        "places menu f1 b1 toolbar b2 f3 b4 unfiled mobile "
+    );
+    Ok(())
+}
+
+#[test]
+fn a_deep_chain_is_walked(rt: HostRuntime) -> Result<(), Fail> {
+    let mut tree = Tree::new(rt.alloc())?;
+    let mut above = String::from_str(rt.alloc(), "menu")?;
+    for level in 0..20000 {
+        let name = format!(in rt.alloc(); "f{level}")?;
+        assert!(rt; add(rt.alloc(), &mut tree, above.as_str(), name.as_str())?.is_none());
+        above = name;
+    }
+    assert!(rt; tree.walk(rt.alloc())?.len() == 20005);
+    assert!(rt; shift(rt.alloc(), &mut tree, "f0", "f19999", None)? == Some(MoveFault::Under));
+    assert!(rt; shift(rt.alloc(), &mut tree, "f10000", "toolbar", None)?.is_none());
+    assert!(rt; tree.copy(rt.alloc())?.walk(rt.alloc())?.len() == 20005);
+    Ok(())
+}
+
+/// Numbers that look random.
+#[derive(Drop)]
+struct Dice {
+    state: u32,
+}
+
+impl Dice {
+    /// A number below a bound.
+    fn below(&mut self, bound: u32) -> u32 {
+        self.state = self
+            .state
+            .wrapping_mul(1_664_525)
+            .wrapping_add(1_013_904_223);
+        if bound == 0 {
+            0
+        } else {
+            (self.state >> 8) % bound
+        }
+    }
+}
+
+/// The id of a number; every third item is a folder.
+fn name_of(alloc: Global, number: u32) -> Result<String, Fail> {
+    let text = match number {
+        0 => String::from_str(alloc, "menu")?,
+        1 => String::from_str(alloc, "toolbar")?,
+        2 => String::from_str(alloc, "unfiled")?,
+        3 => String::from_str(alloc, "mobile")?,
+        _ => {
+            if number % 3 == 0 {
+                format!(in alloc; "f{number}")?
+            } else {
+                format!(in alloc; "b{number}")?
+            }
+        }
+    };
+    Ok(text)
+}
+
+/// A place that a call asks for: a parent, and the child before which an item is to stand.
+#[derive(Clone, Copy)]
+struct Place {
+    parent: u32,
+    before: Option<u32>,
+}
+
+/// A random place: before some item, or last under a number.
+fn place_of(dice: &mut Dice, rows: &[Row]) -> Place {
+    let chosen = dice.below(400);
+    match rows.get(chosen as usize) {
+        Some(row) => Place {
+            parent: row.parent,
+            before: Some(row.id),
+        },
+        None => Place {
+            parent: dice.below(304),
+            before: None,
+        },
+    }
+}
+
+/// Inserts an item into the tree, and tells whether it was refused.
+fn insert_one(alloc: Global, tree: &mut Tree, number: u32, place: Place) -> Result<bool, Fail> {
+    let name = name_of(alloc, number)?;
+    let kind = if name.as_str().starts_with('f') {
+        Kind::Folder
+    } else {
+        Kind::Bookmark
+    };
+    let content = Word::new(String::from_str(alloc, "{}")?);
+    let item = Item::new(alloc, id(alloc, name.as_str())?, kind, content)
+        .ok()
+        .ok_or("unfit")?;
+    let before = match place.before {
+        Some(other) => find(alloc, tree, name_of(alloc, other)?.as_str())?,
+        None => None,
+    };
+    match find(alloc, tree, name_of(alloc, place.parent)?.as_str())? {
+        Some(parent) => Ok(
+            tree.insert(alloc, parent, before, item, Stamp::clamp(7))
+                .is_err(),
+        ),
+        None => Ok(true),
+    }
+}
+
+/// Moves an item of the tree, and tells whether that was refused.
+fn move_one(alloc: Global, tree: &mut Tree, number: u32, place: Place) -> Result<bool, Fail> {
+    let before = match place.before {
+        Some(other) => find(alloc, tree, name_of(alloc, other)?.as_str())?,
+        None => None,
+    };
+    let Some(parent) = find(alloc, tree, name_of(alloc, place.parent)?.as_str())? else {
+        return Ok(true);
+    };
+    match find(alloc, tree, name_of(alloc, number)?.as_str())? {
+        Some(node) => Ok(tree.move_to(node, parent, before).is_err()),
+        None => Ok(true),
+    }
+}
+
+fn remove_one(alloc: Global, tree: &mut Tree, number: u32) -> Result<bool, Fail> {
+    match find(alloc, tree, name_of(alloc, number)?.as_str())? {
+        Some(node) => Ok(tree.remove(node).is_err()),
+        None => Ok(true),
+    }
+}
+
+/// The rows after a change, where the tree refused it exactly if the rows did.
+fn agreed(refused: bool, rows: Vec<Row>, changed: Option<Vec<Row>>) -> Option<Vec<Row>> {
+    match changed {
+        Some(changed) => {
+            drop(rows);
+            if refused {
+                drop(changed);
+                None
+            } else {
+                Some(changed)
+            }
+        }
+        None => {
+            if refused {
+                Some(rows)
+            } else {
+                drop(rows);
+                None
+            }
+        }
+    }
+}
+
+/// Makes one random change in the tree and in the rows, and gives the rows; None where one refuses it and the other
+/// doesn't.
+fn change(
+    alloc: Global,
+    tree: &mut Tree,
+    rows: Vec<Row>,
+    dice: &mut Dice,
+) -> Result<Option<Vec<Row>>, Fail> {
+    let number = dice.below(300).saturating_add(4);
+    let place = place_of(dice, &rows);
+    let (refused, changed) = match dice.below(4) {
+        0 => (
+            move_one(alloc, tree, number, place)?,
+            moved(alloc, &rows, number, place.parent, place.before)?,
+        ),
+        1 => (
+            remove_one(alloc, tree, number)?,
+            removed(alloc, &rows, number)?,
+        ),
+        _ => {
+            let row = Row {
+                id: number,
+                parent: place.parent,
+                folder: number % 3 == 0,
+            };
+            (
+                insert_one(alloc, tree, number, place)?,
+                inserted(alloc, &rows, row, place.before)?,
+            )
+        }
+    };
+    Ok(agreed(refused, rows, changed))
+}
+
+/// The ids of rows in preorder, as the tree gives them.
+fn ids_of_rows(alloc: Global, rows: &[Row]) -> Result<String, Fail> {
+    let mut line = String::from_str(alloc, "places ")?;
+    for number in &listed(alloc, rows)? {
+        line.push_str(name_of(alloc, *number)?.as_str())?;
+        line.push(' ')?;
+    }
+    Ok(line)
+}
+
+#[test]
+fn random_changes_are_those_of_a_plain_list(rt: HostRuntime) -> Result<(), Fail> {
+    let mut tree = Tree::new(rt.alloc())?;
+    let mut rows = Vec::new(rt.alloc());
+    let mut dice = Dice { state: 5 };
+    for round in 0..20_000u32 {
+        rows = change(rt.alloc(), &mut tree, rows, &mut dice)?.ok_or("refused by one alone")?;
+        if round % 100 == 99 {
+            let told = ids(rt.alloc(), &tree)?;
+            let wanted = ids_of_rows(rt.alloc(), &rows)?;
+            assert_eq!(rt; told.as_str(), wanted.as_str(), "round {round}");
+        }
+    }
+    assert!(rt; rows.len() > 50);
     Ok(())
 }

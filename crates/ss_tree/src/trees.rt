@@ -1,41 +1,51 @@
 //! Trees of items.
 
-ghost use Rattle.std.specs.Prelude.{◌≡◌, ◌==◌, ◌<◌, ◌++◌, ◌⊎◌, ◌↔◌, ℕ, Some, None, true, false, IfOk, OnOk, OnErr, MatchResult, IfSome, IsTrue, option_map, option_and_then, vec_len, length, if◌then◌else◌};
+ghost use Rattle.ss_tree.specs.Built.{ArePlaced};
+ghost use Rattle.ss_list.specs.Chain.{times};
+ghost use Rattle.ss_tree.specs.Walks.{after, follower};
+ghost use Rattle.std.specs.HashMap.{get};
+ghost use Rattle.std.specs.Prelude.{List, bytes_eq, ◌^◌, ◌-◌, ◌≡◌, ◌==◌, ◌<◌, ◌⊎◌, ◌↔◌, ℕ, Some, None, true, false, IfOk, OnOk, OnErr, MatchResult, IfSome, IsTrue, option_map, option_and_then, is_some, length, if◌then◌else◌};
 ghost use Rattle.std.specs.List.{All};
+ghost use Rattle.ss_record.specs.Ids.{has};
+ghost use Rattle.ss_tree.specs.declared.faults.TreeFault.TheVariants.{Memory};
 ghost use Rattle.ss_text.specs.Names.{is_id};
 ghost use Rattle.ss_record.specs.Items.{empty_folder};
-ghost use Rattle.ss_tree.specs.declared.faults.TreeFault.TheVariants.{Memory};
 ghost use Rattle.ss_tree.specs.Trees.{IsSame, IsValidTree, empty_tree};
-ghost use Rattle.ss_tree.specs.Entries.{IsBelow, IsTree, above, entry, first_of, insert_fault, is_below, is_fit_with, is_live, kids, move_fault, new_entries, next_after, node_of, preorder, put_before, remove_fault, revised, top_entry, tree, under, without_node};
+ghost use Rattle.ss_tree.specs.Entries.{preorder, new_entries, top_entry, tree, IsBelow, IsTree, above, entry, entry_ids, first_of, insert_fault, is_below, is_fit_with, is_fixed, is_live, is_node, is_place, kids, move_fault, next_after, node_of, put_before, remove_fault, revised, takes_children, under, without_node};
 
+use crate::building::{add, blanks, place};
+use crate::cells::{
+    Cell, END, attach, copy_cells, detach, first_at, item_at, link_of, next_at, of_link, parent_at,
+    revise, set_parent, vacate,
+};
 use crate::entries::{Entry, Node};
 use crate::faults::{MoveFault, RemoveFault, TreeFault};
-use crate::list::{
-    children, copy_entries, find_entry, first, insert_fault, is_below, move_fault, next, node_of,
-    parent, put, remove_fault, revise, take, visit,
-};
+use crate::index::{enter, leave};
 use ss_record::Item;
 use ss_text::{Id, Stamp, Word};
 use std::alloc::{AllocError, Global};
+use std::collections::HashMap;
 use std::marker::Model;
 
 /// A tree of bookmark items: `places`, the four roots under it, and items below. It is valid by its type.
 #[derive(Drop, Debug)]
 pub struct Tree {
-    entries: Vec<Entry>,
-    next: usize,
+    cells: Vec<Cell>,
+    index: HashMap<Id, Node>,
 }
 
 impl Model for Tree {
-    ghost use Rattle.std.specs.Prelude.{List};
+    ghost use Rattle.std.specs.Prelude.{List, ℕ, ◌≡◌, bytes_eq};
+    ghost use Rattle.std.specs.HashMap.{get};
+    ghost use Rattle.ss_tree.specs.Entries.{node_of};
     ghost use Rattle.ss_tree.specs.declared.entries.Entry.{Entry as Seat};
-    ghost use Rattle.ss_tree.specs.Entries.{IsKept};
+    ghost use Rattle.ss_tree.specs.Cells.{IsLinked, listing};
 
     ghost Value = { List Seat };
 
-    ghost view = { λ t. t.entries.items };
+    ghost view = { λ t. listing t.cells.items };
 
-    ghost invariant = { λ t. IsKept t.entries.items t.next };
+    ghost invariant = { λ t. IsLinked t.cells.items × ((x : List ℕ) → get bytes_eq t.index x ≡ node_of x (listing t.cells.items)) };
 }
 
 /// The entry of an empty folder in a new tree.
@@ -76,7 +86,6 @@ fn top(alloc: Global) -> Result<Entry, AllocError>
 
 fn new_entries(alloc: Global) -> Result<Vec<Entry>, AllocError>
     ensures entries { IfOk result (λ entries. entries.items ≡ new_entries) }
-    ensures len { IfOk result (λ entries. vec_len entries ≡ 5) }
 {
     let mut entries = Vec::with_capacity(alloc, 5)?;
     entries.push(top(alloc)?)?;
@@ -92,45 +101,58 @@ impl Tree {
     pub fn new(alloc: Global) -> Result<Tree, AllocError>
         ensures { IfOk result (λ t. IsSame (tree t) empty_tree) }
     {
-        Ok(Tree::from_entries(new_entries(alloc)?))
+        let made = Tree::from_placed(alloc, new_entries(alloc)?)?;
+        Ok(made)
     }
 
-    /// The tree of these entries, whose nodes are numbered below their count.
-    pub fn from_entries(entries: Vec<Entry>) -> Tree
+    /// The tree of these entries: each stands at its node's number, after its parent, and siblings in their order.
+    pub fn from_placed(alloc: Global, entries: Vec<Entry>) -> Result<Tree, AllocError>
         requires tree { IsTree entries.items }
-        requires numbered { (k : ℕ) → is_live k entries.items ≡ true → k < vec_len entries }
-        ensures { result ≡ entries.items }
+        requires placed { ArePlaced entries.items }
+        requires room { length entries.items < 2 ^ 64 - 1 }
+        ensures entries { IfOk result (λ t. (k : ℕ) → entry k t ≡ entry k entries.items) }
+        ensures kids { IfOk result (λ t. (k : ℕ) → kids k t ≡ kids k entries.items) }
+        ensures valid { IfOk result IsTree }
     {
-        let next = entries.len();
-        Tree { entries, next }
+        let mut cells = Vec::with_capacity(alloc, entries.len())?;
+        let mut index = HashMap::new(alloc);
+        for entry in entries {
+            add(alloc, &mut cells, &mut index, entry)?;
+        }
+        Ok(Tree { cells, index })
     }
 
-    /// The entries of all items, for reading a tree out in one pass: each with its node, its parent's node, its item and
-    /// its time, and siblings in their order.
-    pub fn entries(&self) -> &[Entry]
-        ensures entries { result.now ≡ self.now }
-        ensures valid { IsValidTree (tree self.now) }
-        ensures kept { IsTree self.now }
+    /// The tree of these entries, whose nodes are numbered below their count, and where siblings stand in their order.
+    pub fn from_entries(alloc: Global, entries: Vec<Entry>) -> Result<Tree, AllocError>
+        requires tree { IsTree entries.items }
+        requires numbered { (k : ℕ) → is_live k entries.items ≡ true → k < length entries.items }
+        requires room { length entries.items < 2 ^ 64 - 1 }
+        ensures entries { IfOk result (λ t. (k : ℕ) → entry k t ≡ entry k entries.items) }
+        ensures kids { IfOk result (λ t. (k : ℕ) → kids k t ≡ kids k entries.items) }
+        ensures same { IfOk result (λ t. IsSame (tree t) (tree entries.items)) }
+        ensures valid { IfOk result IsTree }
     {
-        &self.entries
+        let mut cells = blanks(alloc, entries.len())?;
+        let mut index = HashMap::new(alloc);
+        for entry in entries {
+            place(alloc, &mut cells, &mut index, entry)?;
+        }
+        Ok(Tree { cells, index })
     }
 
-    /// The node of an id.
-    pub fn find(&self, id: &Id) -> Option<Node>
-        ensures node { result ≡ node_of id.now self.now }
-        ensures valid { IsValidTree (tree self.now) }
-        ensures kept { IsTree self.now }
-        ensures live { IfSome result (λ k. is_live k self.now ≡ true) }
+    /// The item of a node.
+    fn item_of(&self, node: Node) -> Option<&Item>
+        ensures { option_map (λ i. i.now) result ≡ option_map (λ e. e.item) (entry node self.now) }
     {
-        node_of(&self.entries, id)
+        item_at(&self.cells, node.number())
     }
 
     pub fn item(&self, node: Node) -> &Item
         requires { IsTrue (is_live node self.now) }
         ensures { option_map (λ e. e.item) (entry node self.now) ≡ Some result.now }
     {
-        match find_entry(&self.entries, node) {
-            Some(entry) => &entry.item,
+        match self.item_of(node) {
+            Some(item) => item,
             None => unreachable!(),
         }
     }
@@ -140,10 +162,7 @@ impl Tree {
         requires { IsTrue (is_live node self.now) }
         ensures { option_map (λ e. e.time) (entry node self.now) ≡ Some result }
     {
-        match find_entry(&self.entries, node) {
-            Some(entry) => entry.time,
-            None => unreachable!(),
-        }
+        self.cells[node.number()].time
     }
 
     /// The node above; None for `places`.
@@ -151,7 +170,7 @@ impl Tree {
         ensures node { result ≡ above self.now node }
         ensures live { IfSome result (λ k. is_live k self.now ≡ true) }
     {
-        parent(&self.entries, node)
+        parent_at(&self.cells, node.number())
     }
 
     /// The first of a node's children.
@@ -159,7 +178,7 @@ impl Tree {
         ensures node { result ≡ first_of (kids node self.now) }
         ensures live { IfSome result (λ k. is_live k self.now ≡ true) }
     {
-        first(&self.entries, node)
+        of_link(first_at(&self.cells, node.number()))
     }
 
     /// The sibling after a node.
@@ -167,8 +186,8 @@ impl Tree {
         ensures node { result ≡ option_and_then (λ p. next_after node (kids p self.now)) (above self.now node) }
         ensures live { IfSome result (λ k. is_live k self.now ≡ true) }
     {
-        match parent(&self.entries, node) {
-            Some(parent) => next(&self.entries, node, parent),
+        match self.parent(node) {
+            Some(_) => of_link(next_at(&self.cells, node.number())),
             None => None,
         }
     }
@@ -178,45 +197,129 @@ impl Tree {
         ensures test { result ≡ is_below self.now top node }
         ensures below { IsTrue result ↔ IsBelow self.now top node }
     {
-        is_below(&self.entries, top, node)
+        let mut at = self.parent(node);
+        for _round in 0..self.cells.len() {
+            let Some(reached) = at else {
+                return false;
+            };
+            if top == reached {
+                return true;
+            }
+            at = self.parent(reached);
+        }
+        false
     }
 
-    /// A node's children, in their order.
-    pub fn children(&self, alloc: Global, node: Node) -> Result<Vec<Node>, AllocError>
-        ensures nodes { IfOk result (λ nodes. nodes.items ≡ kids node self.now) }
-        ensures live { IfOk result (λ nodes. All (λ k. is_live k self.now ≡ true) nodes.items) }
+    /// The node of an id.
+    pub fn find(&self, id: &Id) -> Option<Node>
+        ensures node { result ≡ node_of id.now self.now }
+        ensures valid { IsValidTree (tree self.now) }
+        ensures kept { IsTree self.now }
+        ensures live { IfSome result (λ k. is_live k self.now ≡ true) }
     {
-        Ok(children(alloc, &self.entries, node)?)
+        self.index.get(id).copied()
     }
 
-    /// All nodes in preorder: `places` first, each before its children, and these in their order.
-    pub fn walk(&self, alloc: Global) -> Result<Vec<Node>, AllocError>
-        ensures nodes { IfOk result (λ nodes. nodes.items ≡ preorder self.now (length self.now) 0) }
-        ensures live { IfOk result (λ nodes. All (λ k. is_live k self.now ≡ true) nodes.items) }
+    /// Whether a node is `places` or a root.
+    #[tactic(auto, unfolding(crate::specs::Entries::is_fixed, crate::specs::Entries::above))]
+    fn is_fixed(&self, node: Node) -> bool
+        ensures { result ≡ is_fixed node self.now }
     {
-        let mut nodes = Vec::new(alloc);
-        visit(
-            alloc,
-            &self.entries,
-            self.entries.len(),
-            Node::new(0),
-            &mut nodes,
-        )?;
-        Ok(nodes)
+        node.number() == 0
+            || match self.parent(node) {
+                Some(parent) => parent.number() == 0,
+                None => false,
+            }
     }
 
-    pub fn copy(&self, alloc: Global) -> Result<Tree, AllocError>
-        ensures { IfOk result (λ copied. copied ≡ self.now) }
+    /// Whether a node is a folder that may be given children.
+    #[tactic(auto, unfolding(crate::specs::Entries::takes_children))]
+    fn takes_children(&self, node: Node) -> bool
+        ensures { result ≡ takes_children node self.now }
     {
-        Ok(Tree {
-            entries: copy_entries(alloc, &self.entries)?,
-            next: self.next,
-        })
+        node.number() != 0
+            && match self.item_of(node) {
+                Some(item) => item.kind().is_folder(),
+                None => false,
+            }
+    }
+
+    /// Whether there is such a place among the children of a parent.
+    #[tactic(auto, unfolding(crate::specs::Entries::is_place, crate::specs::Entries::above))]
+    fn is_place(&self, parent: Node, before: &Option<Node>) -> bool
+        ensures { result ≡ is_place parent before.now self.now }
+    {
+        match *before {
+            None => true,
+            Some(node) => match self.parent(node) {
+                Some(above) => parent == above,
+                None => false,
+            },
+        }
+    }
+
+    /// Whether an id is there.
+    fn has_id(&self, id: &Id) -> bool
+        ensures { result ≡ has id.now (entry_ids self.now) }
+    {
+        self.find(id).is_some()
+    }
+
+    /// Why an item isn't inserted.
+    #[tactic(auto, unfolding(crate::specs::Entries::insert_fault))]
+    fn insert_fault(&self, parent: Node, before: &Option<Node>, id: &Id) -> Option<TreeFault>
+        ensures { result ≡ insert_fault self.now parent before.now id.now }
+    {
+        if !self.takes_children(parent) {
+            return Some(TreeFault::NotFolder);
+        }
+        if self.has_id(id) {
+            return Some(TreeFault::Twice);
+        }
+        if !self.is_place(parent, before) {
+            return Some(TreeFault::BadPlace);
+        }
+        None
+    }
+
+    /// Why a node isn't moved.
+    #[tactic(auto, unfolding(crate::specs::Entries::move_fault))]
+    fn move_fault(&self, node: Node, parent: Node, before: &Option<Node>) -> Option<MoveFault>
+        ensures { result ≡ move_fault self.now node parent before.now }
+    {
+        if self.is_fixed(node) {
+            return Some(MoveFault::Root);
+        }
+        if !self.takes_children(parent) {
+            return Some(MoveFault::NotFolder);
+        }
+        if node == parent || self.is_under(parent, node) {
+            return Some(MoveFault::Under);
+        }
+        if !self.is_place(parent, before) || is_node(node, before) {
+            return Some(MoveFault::BadPlace);
+        }
+        None
+    }
+
+    /// Why a node isn't removed.
+    #[tactic(auto, unfolding(crate::specs::Entries::remove_fault))]
+    fn remove_fault(&self, node: Node) -> Option<RemoveFault>
+        ensures { result ≡ remove_fault self.now node }
+    {
+        if self.is_fixed(node) {
+            return Some(RemoveFault::Root);
+        }
+        if self.first(node).is_some() {
+            return Some(RemoveFault::NotEmpty);
+        }
+        None
     }
 
     /// Puts an item under a folder, before one of its children or last, and gives its node.
     pub fn insert(
         &mut self,
+        alloc: Global,
         parent: Node,
         before: Option<Node>,
         item: Item,
@@ -228,22 +331,35 @@ impl Tree {
         ensures kids { IfOk result (λ k. (j : ℕ) → kids j self.new ≡ (if j == parent then put_before before k (kids j self.old) else kids j self.old)) }
         ensures unchanged { OnErr result (self.new ≡ self.old) }
     {
-        if let Some(fault) = insert_fault(&self.entries, parent, &before, item.id()) {
+        if let Some(fault) = self.insert_fault(parent, &before, item.id()) {
             return Err(fault);
         }
-        let Some(next) = self.next.checked_add(1) else {
+        let place = self.cells.len();
+        if place >= END - 1 {
+            return Err(TreeFault::Memory);
+        }
+        if self.cells.reserve(1).is_err() {
+            return Err(TreeFault::Memory);
+        }
+        let Ok(()) = enter(alloc, &mut self.index, item.id(), Node::new(place)) else {
             return Err(TreeFault::Memory);
         };
-        let node = Node::new(self.next);
-        let entry = Entry {
-            node,
+        self.cells.push_reserved(Cell {
             parent: Some(parent),
-            item,
+            first: END,
+            last: END,
+            prev: END,
+            next: END,
+            item: Some(item),
             time,
-        };
-        put(&mut self.entries, before, entry)?;
-        self.next = next;
-        Ok(node)
+        });
+        attach(
+            self.cells.as_mut_slice(),
+            parent.number(),
+            place,
+            link_of(before),
+        );
+        Ok(Node::new(place))
     }
 
     /// Puts a node, with all below it, under a folder, before one of its children or last. It takes no memory.
@@ -259,15 +375,17 @@ impl Tree {
         ensures kids { OnOk result ((j : ℕ) → kids j self.new ≡ (if j == parent then put_before before node (without_node node (kids j self.old)) else without_node node (kids j self.old))) }
         ensures unchanged { OnErr result (self.new ≡ self.old) }
     {
-        if let Some(fault) = move_fault(&self.entries, node, parent, &before) {
+        if let Some(fault) = self.move_fault(node, parent, &before) {
             return Err(fault);
         }
-        let mut entry = take(&mut self.entries, node);
-        entry.parent = Some(parent);
-        match put(&mut self.entries, before, entry) {
-            Ok(()) => Ok(()),
-            Err(_) => unreachable!(),
-        }
+        let Some(above) = self.parent(node) else {
+            unreachable!();
+        };
+        let cells = self.cells.as_mut_slice();
+        detach(cells, above.number(), node.number());
+        set_parent(cells, node.number(), parent);
+        attach(cells, parent.number(), node.number(), link_of(before));
+        Ok(())
     }
 
     /// Takes a node without children away, and gives its item. It takes no memory.
@@ -279,10 +397,16 @@ impl Tree {
         ensures kids { OnOk result ((j : ℕ) → kids j self.new ≡ without_node node (kids j self.old)) }
         ensures unchanged { OnErr result (self.new ≡ self.old) }
     {
-        if let Some(fault) = remove_fault(&self.entries, node) {
+        if let Some(fault) = self.remove_fault(node) {
             return Err(fault);
         }
-        let Entry { item, .. } = take(&mut self.entries, node);
+        let Some(above) = self.parent(node) else {
+            unreachable!();
+        };
+        let cells = self.cells.as_mut_slice();
+        detach(cells, above.number(), node.number());
+        let item = vacate(cells, node.number());
+        leave(&mut self.index, item.id());
         Ok(item)
     }
 
@@ -293,6 +417,98 @@ impl Tree {
         ensures entries { (j : ℕ) → entry j self.new ≡ (if j == node then option_map (revised content time) (entry j self.old) else entry j self.old) }
         ensures kids { (j : ℕ) → kids j self.new ≡ kids j self.old }
     {
-        revise(&mut self.entries, node, content, time);
+        revise(self.cells.as_mut_slice(), node.number(), content, time);
+    }
+
+    /// The node that comes once a node and all below it are done, at most so many levels up.
+    fn after(&self, rounds: usize, node: Node) -> Option<Node>
+        ensures { result ≡ after self.now rounds node }
+    {
+        let mut at = node;
+        for _round in 0..rounds {
+            if let Some(next) = self.next(at) {
+                return Some(next);
+            }
+            match self.parent(at) {
+                Some(parent) => at = parent,
+                None => return None,
+            }
+        }
+        None
+    }
+
+    /// The node that comes after one in preorder.
+    fn follower(&self, rounds: usize, node: Node) -> Option<Node>
+        ensures { result ≡ follower self.now rounds node }
+    {
+        match self.first(node) {
+            Some(first) => Some(first),
+            None => self.after(rounds, node),
+        }
+    }
+
+    /// All nodes in preorder: `places` first, each before its children, and these in their order. It goes by the links,
+    /// and keeps no stack.
+    pub fn walk(&self, alloc: Global) -> Result<Vec<Node>, AllocError>
+        ensures nodes { IfOk result (λ nodes. nodes.items ≡ preorder self.now (length self.now) 0) }
+        ensures once { IfOk result (λ nodes. (k : ℕ) → times k nodes.items ≡ (if is_live k self.now then 1 else 0)) }
+        ensures live { IfOk result (λ nodes. All (λ k. is_live k self.now ≡ true) nodes.items) }
+        ensures kept { OnOk result (IsTree self.now) }
+        ensures valid { OnOk result (IsValidTree (tree self.now)) }
+    {
+        let rounds = self.cells.len();
+        let mut nodes = Vec::new(alloc);
+        let mut at = Some(Node::new(0));
+        while let Some(node) = at {
+            nodes.push(node)?;
+            at = self.follower(rounds, node);
+        }
+        Ok(nodes)
+    }
+
+    /// A node's children, in their order.
+    pub fn children(&self, alloc: Global, node: Node) -> Result<Vec<Node>, AllocError>
+        ensures nodes { IfOk result (λ nodes. nodes.items ≡ kids node self.now) }
+        ensures live { IfOk result (λ nodes. All (λ k. is_live k self.now ≡ true) nodes.items) }
+    {
+        let _valid = &self.cells;
+        let mut nodes = Vec::new(alloc);
+        let mut at = self.first(node);
+        while let Some(child) = at {
+            nodes.push(child)?;
+            at = self.next(child);
+        }
+        Ok(nodes)
+    }
+
+    /// The index of the ids, made anew.
+    fn copy_index(&self, alloc: Global) -> Result<HashMap<Id, Node>, AllocError>
+        ensures { IfOk result (λ index. (x : List ℕ) → get bytes_eq index x ≡ node_of x self.now) }
+    {
+        let mut index = HashMap::new(alloc);
+        for place in 0..self.cells.len() {
+            let node = Node::new(place);
+            if let Some(item) = self.item_of(node) {
+                enter(alloc, &mut index, item.id(), node)?;
+            }
+        }
+        Ok(index)
+    }
+
+    pub fn copy(&self, alloc: Global) -> Result<Tree, AllocError>
+        ensures { IfOk result (λ copied. copied ≡ self.now) }
+    {
+        let index = self.copy_index(alloc)?;
+        let cells = copy_cells(alloc, &self.cells)?;
+        Ok(Tree { cells, index })
+    }
+}
+
+fn is_node(node: Node, other: &Option<Node>) -> bool
+    ensures { result ≡ is_node node other.now }
+{
+    match *other {
+        Some(other) => node == other,
+        None => false,
     }
 }

@@ -1,11 +1,11 @@
-use Rattle.std.proofs.Common.{◌≡◌, true, sym, ap, ◌∙◌, subst}
-use Rattle.std.specs.Option.{IfSome}
-use Rattle.ss_tree.specs.Entries.{is_live, first_of, kids}
+use Rattle.ss_tree.proofs.Seen.{first_is}
 use Rattle.ss_tree.proofs.Live.{live_first}
+use Rattle.ss_tree.specs.Cells.{listing}
 use Rattle.ss_tree.proofs.trees.Tree.first.Goals as goal
+
+pub returns-clause-node : goal.returns-clause-node
+returns-clause-node c = rw (← c.self.view_is, c.of_link.ensures, c.first_at.ensures, c.deref.ensures.value, c.number.ensures) (first_is c.self.inside.cells.items c.self.invariant.0 c.args.node)
 
 pub returns-clause-live : goal.returns-clause-live
 returns-clause-live c =
-    let es = c.self.inside.entries.items in
-    subst (λ l. IfSome c.first.result (λ k. is_live k l ≡ true)) c.self.view_is
-    (subst (λ o. IfSome o (λ k. is_live k es ≡ true)) (sym (c.first.ensures ∙ ap (λ es. first_of (kids c.args.node es)) c.deref.ensures.value)) (live_first es c.args.node c.self.invariant.is_tree))
+    rw (← c.self.view_is, c.of_link.ensures, c.first_at.ensures, c.deref.ensures.value, c.number.ensures, first_is c.self.inside.cells.items c.self.invariant.0 c.args.node) (live_first (listing c.self.inside.cells.items) c.args.node c.self.invariant.0.kept.is_tree)

@@ -1,27 +1,160 @@
-use Rattle.std.proofs.Common.{◌≡◌, ◌==◌, None, option_map, cond, sym, ap, ◌∙◌, subst}
-use Rattle.ss_tree.specs.Entries.{IsKept, entry, kids, put_before, without_node, under, move_fault}
-use Rattle.ss_tree.specs.Lists.{put_entry, without_entry}
-use Rattle.ss_tree.proofs.Kept.{kept_move, moved_entry, move_kids}
+use Rattle.std.proofs.Common.{◌≡◌, ◌==◌, ◌<◌, ℕ, List, Some, None, length, cond, sym, ◌∙◌, arith, option_map}
+use Rattle.ss_list.proofs.Calls.{whole_slice}
+use Rattle.ss_tree.specs.declared.entries.Entry.{Entry}
+use Rattle.ss_tree.specs.Entries.{above, entry, move_fault, under}
+use Rattle.ss_tree.specs.declared.cells.Cell.{Cell}
+use Rattle.ss_tree.specs.Cells.{next_of, prev_of, link_of, seat_at, listing, Joins, Attaches, SameLinks, IsLinked}
+use Rattle.ss_tree.proofs.Changed.{holds_linked, move_parent, move_loose, has_parent, live_some, leave_places, moved, moved_entries, moved_kids, moved_ids, move_places}
 use Rattle.ss_tree.proofs.trees.Tree.move_to.Goals as goal
+
+pub unreachable-requires : goal.unreachable-requires
+unreachable-requires c =
+    let cells = c.self.inside.cells.items in
+    let k = c.args.node in
+    let q = c.args.parent in
+    let b = c.args.before in
+    let linked : IsLinked cells = c.self.invariant.0 in
+    let free : move_fault (listing cells) k q b ≡ None = rw c.self.view_is (sym c.move_fault.ensures ∙ c.in_default.is) in
+    has_parent (listing cells) linked.kept.is_tree k (rw c.self.view_is c.requires) (move_loose (listing cells) k q b free) (rw c.self.view_is (sym c.parent.ensures.node ∙ c.in_default-parent.is))
+
+pub detach-requires-clause-left : goal.detach-requires-clause-left
+detach-requires-clause-left c =
+    let cells = c.self.inside.cells.items in
+    let k = c.args.node in
+    let q = c.args.parent in
+    let b = c.args.before in
+    let linked : IsLinked cells = c.self.invariant.0 in
+    let free : move_fault (listing cells) k q b ≡ None = rw c.self.view_is (sym c.move_fault.ensures ∙ c.in_default.is) in
+    let p = c.in-Some-parent.above in
+    let up : above (listing cells) k ≡ Some p = rw c.self.view_is (sym c.parent.ensures.node ∙ c.in-Some-parent.is) in
+    rw (c.as_mut_slice-cells.ensures.value, c.number.ensures, c.number-2.ensures) (leave_places cells k p linked up).0
+
+pub detach-requires-clause-right : goal.detach-requires-clause-right
+detach-requires-clause-right c =
+    let cells = c.self.inside.cells.items in
+    let k = c.args.node in
+    let q = c.args.parent in
+    let b = c.args.before in
+    let linked : IsLinked cells = c.self.invariant.0 in
+    let free : move_fault (listing cells) k q b ≡ None = rw c.self.view_is (sym c.move_fault.ensures ∙ c.in_default.is) in
+    let p = c.in-Some-parent.above in
+    let up : above (listing cells) k ≡ Some p = rw c.self.view_is (sym c.parent.ensures.node ∙ c.in-Some-parent.is) in
+    rw (c.as_mut_slice-cells.ensures.value, c.number.ensures, c.number-2.ensures) (leave_places cells k p linked up).1
+
+pub attach-requires-clause-parent : goal.attach-requires-clause-parent
+attach-requires-clause-parent c =
+    let cells = c.self.inside.cells.items in
+    let k = c.args.node in
+    let q = c.args.parent in
+    let b = c.args.before in
+    let linked : IsLinked cells = c.self.invariant.0 in
+    let free : move_fault (listing cells) k q b ≡ None = rw c.self.view_is (sym c.move_fault.ensures ∙ c.in_default.is) in
+    let p = c.in-Some-parent.above in
+    let up : above (listing cells) k ≡ Some p = rw c.self.view_is (sym c.parent.ensures.node ∙ c.in-Some-parent.is) in
+    let middle : List Cell = c.detach.new.cells in
+    let joins : Joins cells middle p (prev_of cells p k) (next_of cells p k) = rw (c.as_mut_slice-cells.ensures.value, c.number.ensures, c.number-2.ensures) at c.detach.ensures in
+    let turned : List Cell = c.set_parent.new.cells in
+    let same : SameLinks middle turned = c.set_parent.ensures.links in
+    let seats : (j : ℕ) → seat_at turned j ≡ cond (j == k) (option_map (under q) (seat_at middle j)) (seat_at middle j) = rw c.number-3.ensures at c.set_parent.ensures.seats in
+    let live : (d : Entry) × (entry k (listing cells) ≡ Some d) = live_some (entry k (listing cells)) (rw c.self.view_is c.requires) in
+    let low : q < length cells = linked.kept.below q (move_parent (listing cells) k q b free) in
+    rw c.number-4.ensures (omega (arith, same.long, joins.long))
+
+pub attach-requires-clause-right : goal.attach-requires-clause-right
+attach-requires-clause-right c =
+    let cells = c.self.inside.cells.items in
+    let k = c.args.node in
+    let q = c.args.parent in
+    let b = c.args.before in
+    let linked : IsLinked cells = c.self.invariant.0 in
+    let free : move_fault (listing cells) k q b ≡ None = rw c.self.view_is (sym c.move_fault.ensures ∙ c.in_default.is) in
+    let p = c.in-Some-parent.above in
+    let up : above (listing cells) k ≡ Some p = rw c.self.view_is (sym c.parent.ensures.node ∙ c.in-Some-parent.is) in
+    let middle : List Cell = c.detach.new.cells in
+    let joins : Joins cells middle p (prev_of cells p k) (next_of cells p k) = rw (c.as_mut_slice-cells.ensures.value, c.number.ensures, c.number-2.ensures) at c.detach.ensures in
+    let turned : List Cell = c.set_parent.new.cells in
+    let same : SameLinks middle turned = c.set_parent.ensures.links in
+    let seats : (j : ℕ) → seat_at turned j ≡ cond (j == k) (option_map (under q) (seat_at middle j)) (seat_at middle j) = rw c.number-3.ensures at c.set_parent.ensures.seats in
+    let live : (d : Entry) × (entry k (listing cells) ≡ Some d) = live_some (entry k (listing cells)) (rw c.self.view_is c.requires) in
+    rw c.link_of.ensures (move_places cells k p linked up middle joins q b turned live.0 live.1 free same seats).0
+
+pub attach-requires-clause-left : goal.attach-requires-clause-left
+attach-requires-clause-left c =
+    let cells = c.self.inside.cells.items in
+    let k = c.args.node in
+    let q = c.args.parent in
+    let b = c.args.before in
+    let linked : IsLinked cells = c.self.invariant.0 in
+    let free : move_fault (listing cells) k q b ≡ None = rw c.self.view_is (sym c.move_fault.ensures ∙ c.in_default.is) in
+    let p = c.in-Some-parent.above in
+    let up : above (listing cells) k ≡ Some p = rw c.self.view_is (sym c.parent.ensures.node ∙ c.in-Some-parent.is) in
+    let middle : List Cell = c.detach.new.cells in
+    let joins : Joins cells middle p (prev_of cells p k) (next_of cells p k) = rw (c.as_mut_slice-cells.ensures.value, c.number.ensures, c.number-2.ensures) at c.detach.ensures in
+    let turned : List Cell = c.set_parent.new.cells in
+    let same : SameLinks middle turned = c.set_parent.ensures.links in
+    let seats : (j : ℕ) → seat_at turned j ≡ cond (j == k) (option_map (under q) (seat_at middle j)) (seat_at middle j) = rw c.number-3.ensures at c.set_parent.ensures.seats in
+    let live : (d : Entry) × (entry k (listing cells) ≡ Some d) = live_some (entry k (listing cells)) (rw c.self.view_is c.requires) in
+    rw (c.number-4.ensures, c.link_of.ensures) (move_places cells k p linked up middle joins q b turned live.0 live.1 free same seats).1
 
 pub invariant_of-self : goal.invariant_of-self
 invariant_of-self c =
-    let es = c.self.inside.entries.items in
-    let free : move_fault es c.args.node c.args.parent c.args.before ≡ None = ap (λ l. move_fault l c.args.node c.args.parent c.args.before) (sym c.deref.ensures.value) ∙ (sym c.move_fault.ensures ∙ c.in_default.is) in
-    let is : c.put.new.entries.items ≡ put_entry c.args.before (under c.args.parent c.take-entry.result) (without_entry c.args.node es) =
-    c.in-Ok.ensures.put ∙ ap (put_entry c.args.before (under c.args.parent c.take-entry.result)) c.take-entry.ensures.rest in
-    subst (λ fs. IsKept fs c.self.inside.next) (sym is) (kept_move es c.self.inside.next c.args.node c.args.parent c.args.before c.take-entry.result c.self.invariant free c.take-entry.ensures.entry)
+    let cells = c.self.inside.cells.items in
+    let k = c.args.node in
+    let q = c.args.parent in
+    let b = c.args.before in
+    let linked : IsLinked cells = c.self.invariant.0 in
+    let free : move_fault (listing cells) k q b ≡ None = rw c.self.view_is (sym c.move_fault.ensures ∙ c.in_default.is) in
+    let p = c.in-Some-parent.above in
+    let up : above (listing cells) k ≡ Some p = rw c.self.view_is (sym c.parent.ensures.node ∙ c.in-Some-parent.is) in
+    let middle : List Cell = c.detach.new.cells in
+    let joins : Joins cells middle p (prev_of cells p k) (next_of cells p k) = rw (c.as_mut_slice-cells.ensures.value, c.number.ensures, c.number-2.ensures) at c.detach.ensures in
+    let turned : List Cell = c.set_parent.new.cells in
+    let same : SameLinks middle turned = c.set_parent.ensures.links in
+    let seats : (j : ℕ) → seat_at turned j ≡ cond (j == k) (option_map (under q) (seat_at middle j)) (seat_at middle j) = rw c.number-3.ensures at c.set_parent.ensures.seats in
+    let live : (d : Entry) × (entry k (listing cells) ≡ Some d) = live_some (entry k (listing cells)) (rw c.self.view_is c.requires) in
+    let new : List Cell = c.attach.new.cells in
+    let attaches : Attaches turned new q k (link_of b) = rw (c.number-4.ensures, c.number-5.ensures, c.link_of.ensures) at c.attach.ensures in
+    let whole = whole_slice c.self.inside.cells.len cells new (omega arith) (attaches.before_right.long ∙ (attaches.after_left.long ∙ (same.long ∙ joins.long))) in
+    rw whole (holds_linked (moved cells k p linked up middle joins q b turned live.0 live.1 free same seats new attaches), λ x. c.self.invariant.1 x ∙ sym (moved_ids cells k p linked up middle joins q b turned live.0 live.1 free same seats new attaches x))
 
 pub returns-clause-entries : goal.returns-clause-entries
-returns-clause-entries c = λ j.
-    let es = c.self.inside.entries.items in
-    ap (entry j) (c.in-Ok.ensures.put ∙ ap (put_entry c.args.before (under c.args.parent c.take-entry.result)) c.take-entry.ensures.rest)
-    ∙ (moved_entry es c.args.node c.args.parent c.args.before c.take-entry.result c.take-entry.ensures.entry j ∙ ap (λ l. cond (j == c.args.node) (option_map (under c.args.parent) (entry j l)) (entry j l)) c.self.view_is)
+returns-clause-entries c =
+    let cells = c.self.inside.cells.items in
+    let k = c.args.node in
+    let q = c.args.parent in
+    let b = c.args.before in
+    let linked : IsLinked cells = c.self.invariant.0 in
+    let free : move_fault (listing cells) k q b ≡ None = rw c.self.view_is (sym c.move_fault.ensures ∙ c.in_default.is) in
+    let p = c.in-Some-parent.above in
+    let up : above (listing cells) k ≡ Some p = rw c.self.view_is (sym c.parent.ensures.node ∙ c.in-Some-parent.is) in
+    let middle : List Cell = c.detach.new.cells in
+    let joins : Joins cells middle p (prev_of cells p k) (next_of cells p k) = rw (c.as_mut_slice-cells.ensures.value, c.number.ensures, c.number-2.ensures) at c.detach.ensures in
+    let turned : List Cell = c.set_parent.new.cells in
+    let same : SameLinks middle turned = c.set_parent.ensures.links in
+    let seats : (j : ℕ) → seat_at turned j ≡ cond (j == k) (option_map (under q) (seat_at middle j)) (seat_at middle j) = rw c.number-3.ensures at c.set_parent.ensures.seats in
+    let live : (d : Entry) × (entry k (listing cells) ≡ Some d) = live_some (entry k (listing cells)) (rw c.self.view_is c.requires) in
+    let new : List Cell = c.attach.new.cells in
+    let attaches : Attaches turned new q k (link_of b) = rw (c.number-4.ensures, c.number-5.ensures, c.link_of.ensures) at c.attach.ensures in
+    let whole = whole_slice c.self.inside.cells.len cells new (omega arith) (attaches.before_right.long ∙ (attaches.after_left.long ∙ (same.long ∙ joins.long))) in
+    rw (whole, ← c.self.view_is) (moved_entries cells k p linked up middle joins q b turned live.0 live.1 free same seats new attaches)
 
 pub returns-clause-kids : goal.returns-clause-kids
-returns-clause-kids c = λ j.
-    let es = c.self.inside.entries.items in
-    let free : move_fault es c.args.node c.args.parent c.args.before ≡ None = ap (λ l. move_fault l c.args.node c.args.parent c.args.before) (sym c.deref.ensures.value) ∙ (sym c.move_fault.ensures ∙ c.in_default.is) in
-    ap (kids j) (c.in-Ok.ensures.put ∙ ap (put_entry c.args.before (under c.args.parent c.take-entry.result)) c.take-entry.ensures.rest)
-    ∙ (move_kids es c.args.node c.args.parent c.args.before c.take-entry.result c.take-entry.ensures.entry free j
-    ∙ ap (λ l. cond (j == c.args.parent) (put_before c.args.before c.args.node (without_node c.args.node (kids j l))) (without_node c.args.node (kids j l))) c.self.view_is)
+returns-clause-kids c =
+    let cells = c.self.inside.cells.items in
+    let k = c.args.node in
+    let q = c.args.parent in
+    let b = c.args.before in
+    let linked : IsLinked cells = c.self.invariant.0 in
+    let free : move_fault (listing cells) k q b ≡ None = rw c.self.view_is (sym c.move_fault.ensures ∙ c.in_default.is) in
+    let p = c.in-Some-parent.above in
+    let up : above (listing cells) k ≡ Some p = rw c.self.view_is (sym c.parent.ensures.node ∙ c.in-Some-parent.is) in
+    let middle : List Cell = c.detach.new.cells in
+    let joins : Joins cells middle p (prev_of cells p k) (next_of cells p k) = rw (c.as_mut_slice-cells.ensures.value, c.number.ensures, c.number-2.ensures) at c.detach.ensures in
+    let turned : List Cell = c.set_parent.new.cells in
+    let same : SameLinks middle turned = c.set_parent.ensures.links in
+    let seats : (j : ℕ) → seat_at turned j ≡ cond (j == k) (option_map (under q) (seat_at middle j)) (seat_at middle j) = rw c.number-3.ensures at c.set_parent.ensures.seats in
+    let live : (d : Entry) × (entry k (listing cells) ≡ Some d) = live_some (entry k (listing cells)) (rw c.self.view_is c.requires) in
+    let new : List Cell = c.attach.new.cells in
+    let attaches : Attaches turned new q k (link_of b) = rw (c.number-4.ensures, c.number-5.ensures, c.link_of.ensures) at c.attach.ensures in
+    let whole = whole_slice c.self.inside.cells.len cells new (omega arith) (attaches.before_right.long ∙ (attaches.after_left.long ∙ (same.long ∙ joins.long))) in
+    rw (whole, ← c.self.view_is) (moved_kids cells k p linked up middle joins q b turned live.0 live.1 free same seats new attaches)

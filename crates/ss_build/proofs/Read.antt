@@ -2,8 +2,8 @@
 use Rattle.std.proofs.Common.{◌≡◌, ◌≢◌, ℕ, List, Bool, true, false, not, cond, ◌&&◌, refl, sym, ap, ◌∙◌, bytes_eq, Option, Some, None, option_map, option_and_then, unwrap_or, codes}
 use Rattle.std.proofs.lemmas.Bool.{false≢true}
 use Rattle.serde_json.specs.Data.{object, Members}
-use Rattle.serde_json.specs.Find.{get_member, as_str}
-use Rattle.serde_json.specs.Written.{compact_text}
+use Rattle.serde_json.specs.Find.{get_member}
+use Rattle.ss_record.specs.Marks.{string_of, plain_text}
 use Rattle.ss_record.specs.Ids.{has, places, roots}
 use Rattle.ss_record.specs.Items.{ItemView, names_of}
 use Rattle.ss_record.specs.Kinds.{is_folder, kind_of}
@@ -41,13 +41,13 @@ folder_unless false f e h = absurd (false≢true h)
 item_read : (id : List ℕ) (ms : Members) (r : Reading) → id ≢ places → item_of id ms ≡ Some r → IsRead id r
 unfolding item_of
 item_read id ms r ne e =
-    let k = and_then_some _ (option_and_then kind_of (option_and_then as_str (get_member (codes "type") ms))) r e in
+    let k = and_then_some _ (option_and_then kind_of (option_and_then string_of (get_member (codes "type") ms))) r e in
     let q = and_then_some _ (parentid_of (get_member (codes "parentid") ms)) r k.2 in
     let c = and_then_some _ (children_of (is_folder k.0) (get_member (codes "children") ms)) r q.2 in
     go k.0 q.0 c.0 (has id roots && not (is_folder k.0)) refl c.2
   where
     go : (kind : Kind) (p : Option (List ℕ)) (cs : List (List ℕ)) (b : Bool) → (has id roots && not (is_folder kind)) ≡ b
-        → cond b None (Some (Item (record { id = id; kind = kind; content = compact_text (object (without (names_of kind) ms)) }) p cs)) ≡ Some r → IsRead id r
+        → cond b None (Some (Item (record { id = id; kind = kind; content = plain_text (object (without (names_of kind) ms)) }) p cs)) ≡ Some r → IsRead id r
     go kind p cs true t g = cc
     go kind p cs false t g = record {
       same = λ i q ds f. cc;

@@ -57,7 +57,8 @@ fn plant(
     ensures valid { IfOk result (λ t. IsValidTree (tree t)) }
 {
     let entries = entries_of(alloc, claims, parents, order)?;
-    Ok(Tree::from_entries(entries))
+    let tree = Tree::from_entries(alloc, entries)?;
+    Ok(tree)
 }
 
 /// The tree of some items, and which of the first `count` are repaired.

@@ -264,7 +264,7 @@ const ODD_PAYLOADS: [(&str, &str); 3] = [
 ];
 
 #[test]
-fn decimals_and_tombstones_of_roots_are_skipped(rt: HostRuntime) -> Result<(), Fail> {
+fn decimals_are_kept_and_tombstones_of_roots_are_skipped(rt: HostRuntime) -> Result<(), Fail> {
     let mut sheets = Vec::new(rt.alloc());
     for row in &ODD_PAYLOADS {
         let payload = String::from_str(rt.alloc(), row.1)?;
@@ -273,7 +273,7 @@ fn decimals_and_tombstones_of_roots_are_skipped(rt: HostRuntime) -> Result<(), F
     let built = built_of(rt.alloc(), &sheets)?;
     assert_eq!(rt;
         shown(rt.alloc(), &built)?.as_str(),
-        "menu<places toolbar<places unfiled<places mobile<places |b2 |b1 menu |"
+        "menu<places toolbar<places unfiled<places b1<unfiled mobile<places |b2 |menu |b1 "
     );
     Ok(())
 }

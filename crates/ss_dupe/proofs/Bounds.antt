@@ -82,7 +82,7 @@ module _ {A : Type 0} (eq : A → A → Bool) (tells : (x y : A) → Decides (eq
     takes xs zero x h = h
     takes xs (suc n) x h = (h.0, (h.1.1.0, h.1.1.1, takes xs n h.1.1.0 h.1.1.2))
 
-    takes_in : (xs : List A) → ((y z : A) → has y xs ≡ true → goal y ≡ false → step y ≡ Some z → has z xs ≡ true) → (n : ℕ) (x : A) → has x xs ≡ true → Takes n x → TakesIn xs n x
+    pub takes_in : (xs : List A) → ((y z : A) → has y xs ≡ true → goal y ≡ false → step y ≡ Some z → has z xs ≡ true) → (n : ℕ) (x : A) → has x xs ≡ true → Takes n x → TakesIn xs n x
     takes_in xs closed zero x h k = k
     takes_in xs closed (suc n) x h k = (k.0, (h, (k.1.0, k.1.1, takes_in xs closed n k.1.0 (closed x k.1.0 h k.0 k.1.1) k.1.2)))
 

@@ -5,7 +5,6 @@ pub mod Lists
 pub mod Shapes
 pub mod OneEach
 pub mod Renamed
-pub mod Passes
 pub mod ReadOut
 pub mod Members
 pub mod Newness

@@ -1,38 +1,15 @@
--- The members of an item's content, and the lines of a key.
+-- The lines of a key.
 use Rattle.std.proofs.Common.{◌≡◌, ℕ, true, false, List, [], ◌∷◌, ◌++◌, Option, Some, None, option_map, unwrap_or, sym, ap, ◌∙◌, codes}
 use Rattle.std.specs.Ordering.{match_ordering}
 use Rattle.std.specs.declared.cmp.Ordering.{Ordering}
 use Rattle.std.specs.declared.cmp.Ordering.TheVariants.{Less, Equal, Greater}
 use Rattle.std.specs.Cmp.Lexicographic.{slice_cmp}
 use Rattle.std.specs.Ordering.{nat_cmp}
-use Rattle.serde_json.specs.Data.{Data, Members, no_members, member, object}
-use Rattle.serde_json.specs.Find.{get_member, as_object}
-use Rattle.serde_json.specs.Read.{read}
+use Rattle.serde_json.specs.Data.{Data, Members, no_members, member}
+use Rattle.serde_json.specs.Find.{get_member}
 use Rattle.serde_json.specs.Written.{compact_text, has_float, members_have_float}
-use Rattle.ss_record.specs.Items.{ItemView, is_fit}
-use Rattle.ss_record.specs.Payloads.{payload_members}
-use Rattle.ss_record.proofs.Exact.{payload_parts}
-use Rattle.ss_record.proofs.Fit.{fit_members}
 use Rattle.ss_dupe.specs.Keys.{member_line}
 use Rattle.ss_dupe.proofs.Basics.{or_neither}
-
-pub record Held (i : ItemView) : Type 0 where
-  pub members : Members
-  pub told : payload_members i.content ≡ Some members
-  pub read_as : read i.content ≡ Some (object members)
-
-pub held : (i : ItemView) → is_fit i ≡ true → Held i
-held i f = let m = fit_members i f in record { members = m.0; told = m.1; read_as = (payload_parts i.content m.0 m.1).1 }
-
-pub never_unread : (i : ItemView) → is_fit i ≡ true → read i.content ≡ None → ⊥
-never_unread i f e = let h = (held i f).read_as in cc
-
-pub is_object : (i : ItemView) → is_fit i ≡ true → (d : Data) → read i.content ≡ Some d → (o : Option Members) → o ≡ as_object d → o ≡ payload_members i.content
-is_object i f d e o q =
-    let h = held i f in
-    let told = h.read_as in
-    let same : d ≡ object h.members = cc in
-    q ∙ ap as_object same ∙ sym h.told
 
 member_whole : (k : List ℕ) (ms : Members) → members_have_float ms ≡ false → (d : Data) → get_member k ms ≡ Some d → has_float d ≡ false
 member_whole k no_members h d e = cc

@@ -1,16 +1,20 @@
 -- Reading a tree out.
 use Rattle.std.proofs.Common.{◌≡◌, ◌⊎◌, ◌+◌, ◌<◌, Bool, true, false, cond, ◌||◌, List, [], ◌∷◌, ◌++◌, length, take, take_all, get_or, ◌≤◌, map, filter, bytes_eq, Option, Some, None, is_some, unwrap_or, option_map, option_and_then, refl, sym, ap, subst, ◌∙◌, inl, inr, ℕ, zero, suc, arith}
-use Rattle.std.proofs.lemmas.List.{map_more, take_more}
+use Rattle.std.proofs.lemmas.List.{take_more}
+use Rattle.ss_list.specs.Chain.{times}
+use Rattle.ss_record.specs.Items.{ItemView}
 use Rattle.ss_record.specs.Ids.{has}
 use Rattle.ss_tree.specs.declared.entries.Entry.{Entry}
 use Rattle.ss_tree.specs.Trees.{Placed}
-use Rattle.ss_tree.specs.Entries.{entry, above, kids, kid_ids, stands_under, placed, tree, preorder, NodesApart, IsTree, top_entry}
+use Rattle.ss_tree.specs.Entries.{entry, is_live, above, kids, kid_ids, stands_under, placed, tree, preorder, NodesApart, IsTree, top_entry}
 use Rattle.ss_tree.proofs.Valid.{In, entry_in, in_entry, node_found, node_at}
+use Rattle.ss_tree.proofs.Settled.{kid_ids_are}
+use Rattle.ss_tree.proofs.EachMet.{each_met}
 use Rattle.ss_dupe.specs.declared.plain.Seat.{Seat}
 use Rattle.ss_dupe.specs.declared.plain.Plain.{Plain}
 use Rattle.ss_dupe.specs.Looks.{Id, Look, look, is_in}
 use Rattle.ss_dupe.specs.Plains.{AreIds, look_of, placed_at}
-use Rattle.ss_dupe.specs.Reading.{id_at, name_at}
+use Rattle.ss_dupe.specs.Reading.{id_at, ids_at, name_at}
 use Rattle.ss_dupe.proofs.Basics.{two_ways, no_way, same-true, same-is, same_turn, false_from, has-head, has-cases, has-nil}
 use Rattle.ss_dupe.proofs.Lists.{has-append_left, has-append_right, has-append_cases}
 use Rattle.ss_dupe.proofs.Shapes.{in-of_none}
@@ -118,16 +122,10 @@ one_more es t nodes k p q seat s at is ids = record { sound = sound; met = met; 
       | inr (inr f) ↦ absurd f
     ]
 
--- ---- all entries
+-- ---- all nodes
 
-nodes_in : (es : List Entry) (e : Entry) → In e es → In e.node (map (λ f. f.node) es)
-unfolding In
-nodes_in (x ∷ xs) e (inl q) = inl (ap (λ (f : Entry). f.node) q)
-nodes_in (x ∷ xs) e (inr i) = inr (nodes_in xs e i)
-nodes_in [] e i = absurd i
-
-pub all_read : (es : List Entry) → IsTree es → (p : Plain) → SoFar es (map (λ e. e.node) es) p → (x : Id) → look_of p x ≡ look (tree es) x
-all_read es t p s x = cases (look_of p x) refl (look (tree es) x) refl
+pub all_read : (es : List Entry) → IsTree es → (nodes : List ℕ) → ((k : ℕ) → is_live k es ≡ true → In k nodes) → (p : Plain) → SoFar es nodes p → (x : Id) → look_of p x ≡ look (tree es) x
+all_read es t nodes each p s x = cases (look_of p x) refl (look (tree es) x) refl
   where
     cases : (o : Option Placed) → look_of p x ≡ o → (r : Option Placed) → look (tree es) x ≡ r → look_of p x ≡ look (tree es) x
     cases (Some n) h r k = h ∙ sym (s.sound x n h)
@@ -136,28 +134,33 @@ all_read es t p s x = cases (look_of p x) refl (look (tree es) x) refl
         let f = node_found es x m k in
         let e = f.0 in
         let there = in_entry es e t.nodes f.1 in
-        no_way (is_in (look_of p) x) (ap (is_in (look_of p)) (sym (id_at-entry es e.node e there ∙ f.2)) ∙ s.met e.node (nodes_in es e f.1)) (in-of_none (look_of p) x h)
+        no_way (is_in (look_of p) x) (ap (is_in (look_of p)) (sym (id_at-entry es e.node e there ∙ f.2)) ∙ s.met e.node (each e.node (ap is_some there))) (in-of_none (look_of p) x h)
 
-item_in : (es : List Entry) (i : ℕ) (e : Entry) → i < length es → e ≡ get_or es i e → In e es
-unfolding In
-item_in [] i e lt is = absurd (omega arith)
-item_in (x ∷ xs) zero e lt is = inl is
-item_in (x ∷ xs) (suc i) e lt is = inr (item_in xs i e (omega arith) is)
+pub one_more_at : (es : List Entry) → IsTree es → (nodes : List ℕ) (i k : ℕ) (p q : Plain) (seat : Seat) → i < length nodes → k ≡ get_or nodes i k → SoFar es (take i nodes) p → option_map (placed es) (entry k es) ≡ Some (placed_at seat) →
+    ((x : Id) → look_of q x ≡ cond (bytes_eq seat.id x) (Some (placed_at seat)) (look_of p x)) → (AreIds p → AreIds q) → SoFar es (take (i + 1) nodes) q
+one_more_at es t nodes i k p q seat lt is s at put ids =
+    subst (λ ks. SoFar es ks q) (sym (take_more nodes i k lt ∙ ap (λ j. take i nodes ++ j ∷ []) (sym is))) (one_more es t (take i nodes) k p q seat s at put ids)
 
-pub one_more_at : (es : List Entry) → IsTree es → (i : ℕ) (e : Entry) (p q : Plain) (seat : Seat) → i < length es → e ≡ get_or es i e → SoFar es (map (λ f. f.node) (take i es)) p → placed es e ≡ placed_at seat →
-    ((x : Id) → look_of q x ≡ cond (bytes_eq seat.id x) (Some (placed_at seat)) (look_of p x)) → (AreIds p → AreIds q) → SoFar es (map (λ f. f.node) (take (i + 1) es)) q
-one_more_at es t i e p q seat lt is s at put ids =
-    subst (λ ks. SoFar es ks q) (sym (map_more (λ (f : Entry). f.node) es i e lt ∙ ap (λ (f : Entry). map (λ (d : Entry). d.node) (take i es) ++ f.node ∷ []) (sym is)))
-    (one_more es t (map (λ (f : Entry). f.node) (take i es)) e.node p q seat s (ap (option_map (placed es)) (in_entry es e t.nodes (item_in es i e lt is)) ∙ ap Some at) put ids)
+pub read_out : (es : List Entry) → IsTree es → (nodes : List ℕ) → ((k : ℕ) → times k nodes ≡ cond (is_live k es) 1 0) → (p : Plain) (i : ℕ) → length nodes ≤ i → SoFar es (take i nodes) p → (x : Id) → look_of p x ≡ look (tree es) x
+read_out es t nodes once p i le s = all_read es t nodes (each_met es nodes once) p (subst (λ ks. SoFar es ks p) (take_all i nodes le) s)
 
-pub read_out : (es : List Entry) → IsTree es → (p : Plain) (i : ℕ) → length es ≤ i → SoFar es (map (λ f. f.node) (take i es)) p → (x : Id) → look_of p x ≡ look (tree es) x
-read_out es t p i le s = all_read es t p (subst (λ l. SoFar es (map (λ (f : Entry). f.node) l) p) (take_all i es le) s)
+-- ---- one item
 
-pub seat_is : (es : List Entry) (e : Entry) (seat : Seat) (names : ℕ → Option Id) (kids : ℕ → List Id) → ((k : ℕ) → names k ≡ name_at es k) → ((k : ℕ) → kids k ≡ kid_ids k es)
-    → placed_at seat ≡ record { id = e.item.id; kind = e.item.kind; content = e.item.content; parent = option_and_then names e.parent; children = kids e.node; time = e.time } → placed es e ≡ placed_at seat
-unfolding placed
-seat_is es e seat names kids n k h =
-    (λ i. record { id = e.item.id; kind = e.item.kind; content = e.item.content; parent = option_and_then (λ j. sym (n j) i) e.parent; children = sym (k e.node) i; time = e.time }) ∙ sym h
+pub seat_is : (es : List Entry) → IsTree es → (k : ℕ) (seat : Seat) → option_map (λ e. e.item) (entry k es) ≡ Some seat.item.now → option_map (λ e. e.time) (entry k es) ≡ Some seat.time → seat.id ≡ seat.item.now.id
+    → seat.parent ≡ option_and_then (name_at es) (above es k) → seat.children.items ≡ ids_at es (kids k es) → option_map (placed es) (entry k es) ≡ Some (placed_at seat)
+unfolding placed above
+seat_is es t k seat item time id parent children = cases (entry k es) refl item time
+  where
+    cases : (o : Option Entry) → entry k es ≡ o → option_map (λ e. e.item) o ≡ Some seat.item.now → option_map (λ e. e.time) o ≡ Some seat.time → option_map (placed es) o ≡ Some (placed_at seat)
+    cases None h i m = cc
+    cases (Some e) h i m =
+        let item_is : e.item ≡ seat.item.now = cc in
+        let time_is : e.time ≡ seat.time = cc in
+        let node_is : e.node ≡ k = (entry_in k es e h).1 in
+        let parent_is : option_and_then (name_at es) e.parent ≡ seat.parent = sym (parent ∙ ap (λ (o : Option Entry). option_and_then (name_at es) (option_and_then (λ (d : Entry). d.parent) o)) h) in
+        let kids_are : kid_ids e.node es ≡ seat.children.items = ap (λ n. kid_ids n es) node_is ∙ kid_ids_are k es t.nodes ∙ sym children in
+        let id_is : e.item.id ≡ seat.id = ap (λ (v : ItemView). v.id) item_is ∙ sym id in
+        ap Some (λ j. record { id = id_is j; kind = (item_is j).kind; content = (item_is j).content; parent = parent_is j; children = kids_are j; time = time_is j })
 
 pub in_some : (g : Id → Option Seat) (x : Id) → is_some (g x) ≡ true → is_in (λ y. option_map placed_at (g y)) x ≡ true
 unfolding is_in

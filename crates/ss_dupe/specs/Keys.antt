@@ -17,7 +17,8 @@ telling Folder = codes "title" ∷ []
 telling Livemark = codes "title" ∷ codes "feedUri" ∷ []
 telling Separator = []
 
--- a member as compact JSON on a line of its own; the line is empty where the member is absent
+-- a member as compact JSON on a line of its own; the line is empty where the member is absent. A number with a point is
+-- the marked string of its characters, which no string is
 unfoldable pub member_line : Members → List ℕ → List ℕ
 member_line ms name = 0x0a ∷ unwrap_or (option_map compact_text (get_member name ms)) []
 

@@ -14,7 +14,3 @@ ids_at es ks = map (id_at es) ks
 -- where there is one
 abbrev pub name_at : List Entry → ℕ → Option (List ℕ)
 name_at es k = option_map (λ e. e.item.id) (entry k es)
-
--- the ids under k, with one more where it is the parent
-abbrev pub with_kid : ℕ → List ℕ → ℕ → List (List ℕ) → List (List ℕ)
-with_kid parent x k ids = if parent == k then ids ++ x ∷ [] else ids

@@ -16,5 +16,5 @@ mod tests;
 pub use laws::{no_id_is_in_two_pairs, renamed_trees_are_valid};
 pub use plain::{Plain, Seat};
 pub use plains::Plains;
-pub use rounds::pair_dupes;
+pub use rounds::{pair_dupes, pair_read};
 pub use sides::Side;

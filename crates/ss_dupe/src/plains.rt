@@ -8,6 +8,7 @@ ghost use Rattle.ss_tree.specs.Entries.{tree};
 ghost use Rattle.ss_dupe.specs.Looks.{Id as Text};
 ghost use Rattle.ss_dupe.specs.Sides.{asked, is_new, tree_of, deleted_on, other};
 ghost use Rattle.ss_dupe.specs.Plains.{AreIds, look_of, view};
+ghost use Rattle.ss_dupe.specs.Shapes.{AreShaped};
 
 use crate::plain::Plain;
 use crate::sides::Side;
@@ -46,6 +47,7 @@ impl<'a> Plains<'a> {
         ensures remote_ids { IfOk result (λ p. AreIds p.remote) }
         ensures local_tree { OnOk result (IsValidTree (tree sides.now.local.now)) }
         ensures remote_tree { OnOk result (IsValidTree (tree sides.now.remote.now)) }
+        ensures shaped { IfOk result (λ p. AreShaped (view p)) }
     {
         Ok(Plains {
             mirror: Plain::read(alloc, sides.mirror)?,

@@ -118,15 +118,25 @@ fn into_pairs(alloc: Global, found: BTreeMap<Id, Id>) -> Result<Vec<(Id, Id)>, A
     Ok(pairs)
 }
 
+/// Pairs the new items that are the same on both sides of trees that were read out: a local id and a remote id, by
+/// local id.
+pub fn pair_read(alloc: Global, plains: &Plains) -> Result<Vec<(Id, Id)>, AllocError>
+    requires shaped { AreShaped (view plains.now) }
+    requires ids { AreIds plains.now.local }
+    ensures { IfOk result (λ pairs. ArePairs (view plains.now) pairs.items) }
+{
+    let mut found = BTreeMap::new(alloc);
+    let mut current = shared(alloc, plains)?;
+    for step in 0..plains.local.ids.len() {
+        current = round(alloc, plains, &current, &mut found)?;
+    }
+    into_pairs(alloc, found)
+}
+
 /// Pairs the new items that are the same on both sides: a local id and a remote id, by local id.
 pub fn pair_dupes(alloc: Global, sides: &Sides) -> Result<Vec<(Id, Id)>, AllocError>
     ensures { IfOk result (λ pairs. ArePairs (asked sides.now) pairs.items) }
 {
     let plains = Plains::read(alloc, sides)?;
-    let mut found = BTreeMap::new(alloc);
-    let mut current = shared(alloc, &plains)?;
-    for step in 0..plains.local.ids.len() {
-        current = round(alloc, &plains, &current, &mut found)?;
-    }
-    into_pairs(alloc, found)
+    pair_read(alloc, &plains)
 }

@@ -25,7 +25,7 @@ fn add(alloc: Global, tree: &mut Tree, line: &str) -> Result<(), Fail> {
         .ok()
         .ok_or("unfit")?;
     let under = tree.find(&id_of(alloc, parent)?).ok_or("no parent")?;
-    tree.insert(under, None, item, Stamp::clamp(1))
+    tree.insert(alloc, under, None, item, Stamp::clamp(1))
         .ok()
         .ok_or("refused")?;
     Ok(())

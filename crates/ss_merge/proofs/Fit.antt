@@ -2,7 +2,7 @@
 use Rattle.std.proofs.Common.{◌≡◌, true, false, cond, not, ◌&&◌, List, ℕ, Option, Some, None, option_map, unwrap_or, codes, bytes_eq, refl, sym, ap, ◌∙◌, inl, inr}
 use Rattle.serde_json.specs.Data.{object, Members}
 use Rattle.serde_json.specs.Find.{get_member}
-use Rattle.serde_json.specs.Written.{compact_text}
+use Rattle.ss_record.specs.Marks.{plain_text}
 use Rattle.ss_record.specs.declared.kinds.Kind.{Kind}
 use Rattle.ss_record.specs.declared.kinds.Kind.TheVariants.{Bookmark, Query, Folder, Livemark, Separator}
 use Rattle.ss_record.specs.Ids.{has, places, roots}
@@ -26,9 +26,9 @@ with_id x i = record { id = x; kind = i.kind; content = i.content }
 content-again : (i : ItemView) (x : List ℕ) (ms : Members) → (has x roots ≡ true → is_folder i.kind ≡ true) → are_content i ms ≡ true → are_content (with_id x i) ms ≡ true
 unfolding are_content
 content-again i x ms root h =
-    let rest = and_second (bytes_eq (compact_text (object ms)) i.content) _ h in
+    let rest = and_second (bytes_eq (plain_text (object ms)) i.content) _ h in
     let more = and_second (lacks (names_of i.kind) ms) _ rest in
-    and_both (bytes_eq (compact_text (object ms)) i.content) _ (and_first (bytes_eq (compact_text (object ms)) i.content) _ h)
+    and_both (bytes_eq (plain_text (object ms)) i.content) _ (and_first (bytes_eq (plain_text (object ms)) i.content) _ h)
     (and_both (lacks (names_of i.kind) ms) _ (and_first (lacks (names_of i.kind) ms) _ rest)
     (and_both (not (is_true (get_member (codes "deleted") ms))) _ (and_first (not (is_true (get_member (codes "deleted") ms))) _ more)
     (elim (two_ways (has x roots)) [ inl r ↦ or_second (not (has x roots)) _ (root r) | inr r ↦ or_first (not (has x roots)) _ (true_not (has x roots) r) ])))

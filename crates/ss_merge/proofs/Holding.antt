@@ -8,7 +8,7 @@ use Rattle.ss_build.proofs.Seats.{has_at}
 use Rattle.ss_dupe.specs.Looks.{Id, is_root}
 use Rattle.ss_dupe.specs.Walks.{meets, passes}
 use Rattle.ss_dupe.specs.Sides.{Sides}
-use Rattle.ss_dupe.proofs.Basics.{two_ways}
+use Rattle.ss_dupe.proofs.Basics.{two_ways, no_way}
 use Rattle.ss_merge.specs.Parents.{chosen, fallback, final, is_rooted}
 use Rattle.ss_merge.specs.Claims.{AreMerging}
 use Rattle.ss_merge.specs.Links.{Holds, or_else}
@@ -78,23 +78,11 @@ put_none g o y e x = sym (ap (λ w. cond (bytes_eq y x) (or_else w (g x)) (g x))
 pub has_item : (ids : List Id) (i : ℕ) (y : Id) → i < length ids → y ≡ get_or ids i y → has y ids ≡ true
 has_item ids i y lt e = ap (λ z. has z ids) e ∙ has_at ids i y lt
 
+pub has_some : (x : Id) (ids : List Id) → has x ids ≡ true → 0 < length ids
+has_some x [] h = no_way (has x []) h (has-nil x)
+has_some x (y ∷ ys) h = omega arith
+
 -- ---- the walk along a map
-
-pub root_here : (step : Id → Option Id) (k : ℕ) (x : Id) → is_root x ≡ true → true ≡ meets step is_root k x
-root_here step zero x h = sym h
-root_here step (suc k) x h = sym (ap (λ b. b || passes (meets step is_root k) (step x)) h)
-
-pub no_way_on : (step : Id → Option Id) (k : ℕ) (x : Id) → is_root x ≡ false → step x ≡ None → false ≡ meets step is_root k x
-no_way_on step zero x h e = sym h
-no_way_on step (suc k) x h e = sym (ap (λ b. b || passes (meets step is_root k) (step x)) h ∙ ap (passes (meets step is_root k)) e)
-
-pub one_on : (step : Id → Option Id) (most i : ℕ) (x y : Id) → i < most → is_root x ≡ false → step x ≡ Some y → meets step is_root (most - (i + 1)) y ≡ meets step is_root (most - i) x
-one_on step most i x y lt h e =
-    let n : most - i ≡ suc (most - (i + 1)) = omega arith in
-    sym (ap (λ k. meets step is_root k x) n ∙ ap (λ b. b || passes (meets step is_root (most - (i + 1))) (step x)) h ∙ ap (passes (meets step is_root (most - (i + 1)))) e)
-
-pub at_end : (step : Id → Option Id) (most i : ℕ) (x : Id) → most ≤ i → is_root x ≡ meets step is_root (most - i) x
-at_end step most i x le = let n : most - i ≡ 0 = omega arith in sym (ap (λ k. meets step is_root k x) n)
 
 module _ (s : Sides) (ids : List Id) (m : AreMerging s ids) (g : Id → Option Id) (h : Holds g (chosen s (length ids)) ids) where
   abbrev n : ℕ

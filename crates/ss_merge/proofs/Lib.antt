@@ -5,10 +5,12 @@ pub mod Claimed
 pub mod Valid
 pub mod ByIds
 pub mod Taken
-pub mod Steps
 pub mod Holding
 pub mod Fit
 pub mod Naming
 pub mod Reading
 pub mod Gathering
 pub mod Whole
+pub mod Stable
+pub mod Marking
+pub mod Folding

@@ -5,3 +5,5 @@ pub mod Parents
 pub mod Merged
 pub mod Claims
 pub mod Links
+pub mod Ways
+pub mod Folders

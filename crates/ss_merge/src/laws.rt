@@ -1,13 +1,14 @@
 //! What merging means.
 
-ghost use Rattle.std.specs.Prelude.{◌≡◌, ◌⊎◌, ◌↔◌, ◌≤◌, ◌||◌, ℕ, List, length, true};
+ghost use Rattle.std.specs.Prelude.{◌≡◌, ◌⊎◌, ◌↔◌, ◌≤◌, ◌||◌, ℕ, List, Some, length, true};
 ghost use Rattle.ss_record.specs.Ids.{has, places};
 ghost use Rattle.ss_tree.specs.Trees.{IsValidTree, node_ids};
 ghost use Rattle.ss_dupe.specs.Looks.{Id, is_in, is_root};
 ghost use Rattle.ss_dupe.specs.Walks.{Meets};
+ghost use Rattle.ss_dupe.specs.declared.sides.Side.{Side};
 ghost use Rattle.ss_dupe.specs.Sides.{Sides};
 ghost use Rattle.ss_merge.specs.Survivors.{survives};
-ghost use Rattle.ss_merge.specs.Parents.{chosen, final, is_rooted};
+ghost use Rattle.ss_merge.specs.Parents.{chosen, final, is_rooted, nearest_folder};
 ghost use Rattle.ss_merge.specs.Merged.{merged};
 ghost use Rattle.ss_merge.specs.Claims.{AreMerging};
 
@@ -19,6 +20,11 @@ pub fn final_parents_come_to_a_root()
 /// An id is rooted exactly where its walk of chosen parents comes to a root, in however many steps.
 pub fn rooted_is_exact()
     ensures { (s : Sides) (ids : List Id) → AreMerging s ids → (x : Id) → survives s x ≡ true → (is_rooted s (length ids) x ≡ true) ↔ Meets (chosen s (length ids)) is_root x }
+{}
+
+/// The nearest ancestor that survives as a folder is found whatever the bound of the walk is.
+pub fn nearest_is_exact()
+    ensures { (s : Sides) (ids : List Id) → AreMerging s ids → (side : Side) (x p : Id) → has x ids ≡ true → (nearest_folder s (length ids) side x ≡ Some p) ↔ ((n : ℕ) × (nearest_folder s n side x ≡ Some p)) }
 {}
 
 /// A merged tree is valid, and has `places` and the survivors and nothing else.

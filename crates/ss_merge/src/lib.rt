@@ -6,6 +6,7 @@
 mod claims;
 mod ids;
 mod laws;
+mod marks;
 mod merging;
 mod paired;
 mod parents;
@@ -14,6 +15,9 @@ mod survivors;
 mod telling;
 #[cfg(test)]
 mod tests;
+mod ways;
 
-pub use laws::{final_parents_come_to_a_root, merged_trees_are_valid, rooted_is_exact};
+pub use laws::{
+    final_parents_come_to_a_root, merged_trees_are_valid, nearest_is_exact, rooted_is_exact,
+};
 pub use merging::{Merged, Origin, merge};

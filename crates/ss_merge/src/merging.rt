@@ -15,11 +15,11 @@ ghost use Rattle.ss_merge.specs.Claims.{AreMerging};
 
 use crate::claims::claims_of;
 use crate::ids::all_ids;
-use crate::paired::read_paired;
+use crate::paired::{Paired, read_paired};
 use crate::parents::finals_of;
 use crate::telling::{gone_of, origins};
 use ss_build::build_claims;
-use ss_dupe::{Plains, pair_dupes};
+use ss_dupe::Plains;
 use ss_text::{Id, Ids};
 use ss_tree::{Sides, Tree};
 use std::alloc::{AllocError, Global};
@@ -66,12 +66,12 @@ pub fn merge(alloc: Global, sides: &Sides) -> Result<Merged, AllocError>
     ensures gone { IfOk result (λ m. m.gone ≡ gone_of (paired m.renamed.items sides.now) (all_ids m.renamed.items sides.now)) }
     ensures renamed { IfOk result (λ m. ArePairs (asked sides.now) m.renamed.items) }
 {
-    let renamed = pair_dupes(alloc, sides)?;
-    let plains = read_paired(alloc, sides, &renamed)?;
-    let ids = all_ids(alloc, &plains)?;
-    let tree = tree_of(alloc, &plains, &ids)?;
-    let from = origins(alloc, &plains, &tree)?;
-    let gone = gone_of(alloc, &plains, &ids)?;
+    let paired = read_paired(alloc, sides)?;
+    let ids = all_ids(alloc, &paired.plains)?;
+    let tree = tree_of(alloc, &paired.plains, &ids)?;
+    let from = origins(alloc, &paired.plains, &tree)?;
+    let gone = gone_of(alloc, &paired.plains, &ids)?;
+    let Paired { renamed, .. } = paired;
     Ok(Merged {
         tree,
         from,

@@ -12,7 +12,7 @@ ghost use Rattle.ss_dupe.specs.Shapes.{AreShaped};
 ghost use Rattle.ss_dupe.specs.Sides.{asked};
 ghost use Rattle.ss_merge.specs.Links.{AreNames, IsRenamed, by_map};
 
-use ss_dupe::{Plain, Plains, Seat};
+use ss_dupe::{Plain, Plains, Seat, pair_read};
 use ss_text::Id;
 use ss_tree::Sides;
 use std::alloc::{AllocError, Global};
@@ -114,20 +114,24 @@ fn rename<'a>(
     Ok(named)
 }
 
-/// Reads the trees out, with the remote ids for the local items of these pairs.
-pub(crate) fn read_paired<'a>(
-    alloc: Global,
-    sides: &Sides<'a>,
-    pairs: &[(Id, Id)],
-) -> Result<Plains<'a>, AllocError>
-    requires { ArePairs (asked sides.now) pairs.now }
-    ensures same { IfOk result (λ p. view p ≡ paired pairs.now sides.now) }
-    ensures local_ids { IfOk result (λ p. AreIds p.local) }
-    ensures remote_ids { IfOk result (λ p. AreIds p.remote) }
-    ensures shaped { IfOk result (λ p. AreShaped (view p)) }
+/// The sides of a merge, read out, in which the local items of the duplicate pairs have the remote ids, and these pairs.
+#[derive(Drop)]
+pub(crate) struct Paired<'a> {
+    pub(crate) plains: Plains<'a>,
+    pub(crate) renamed: Vec<(Id, Id)>,
+}
+
+/// Reads the trees out, once, pairs the duplicates, and gives the local items of the pairs the remote ids.
+pub(crate) fn read_paired<'a>(alloc: Global, sides: &Sides<'a>) -> Result<Paired<'a>, AllocError>
+    ensures renamed { IfOk result (λ p. ArePairs (asked sides.now) p.renamed.items) }
+    ensures same { IfOk result (λ p. view p.plains ≡ paired p.renamed.items sides.now) }
+    ensures local_ids { IfOk result (λ p. AreIds p.plains.local) }
+    ensures remote_ids { IfOk result (λ p. AreIds p.plains.remote) }
+    ensures shaped { IfOk result (λ p. AreShaped (view p.plains)) }
 {
-    let names = names_of(alloc, pairs)?;
     let read = Plains::read(alloc, sides)?;
+    let renamed = pair_read(alloc, &read)?;
+    let names = names_of(alloc, &renamed)?;
     let local = rename(alloc, &names, &read.local)?;
     let Plains {
         mirror,
@@ -136,11 +140,12 @@ pub(crate) fn read_paired<'a>(
         remote_dead,
         ..
     } = read;
-    Ok(Plains {
+    let plains = Plains {
         mirror,
         local,
         remote,
         local_dead,
         remote_dead,
-    })
+    };
+    Ok(Paired { plains, renamed })
 }

@@ -9,7 +9,8 @@ ghost use Rattle.ss_tree.specs.Entries.{is_live};
 
 use crate::{Merged, Origin, merge};
 use plain::{Dice, NAMES, Raw, Raws, name, random_raws, shown_by_rules};
-use ss_record::{Item, Kind, is_root};
+use ss_build::{are_distinct, build};
+use ss_record::{Item, Kind, Sheet, is_root};
 use ss_text::{Id, Ids, Stamp, Word};
 use ss_tree::{Node, Sides, Tree};
 use std::alloc::{AllocError, Global};
@@ -53,7 +54,7 @@ fn add(alloc: Global, tree: &mut Tree, under: Node, word: &str) -> Result<Node, 
         .ok()
         .ok_or("unfit")?;
     Ok(
-        tree.insert(under, None, item, Stamp::clamp(time))
+        tree.insert(alloc, under, None, item, Stamp::clamp(time))
             .ok()
             .ok_or("refused")?,
     )
@@ -237,6 +238,13 @@ fn duplicates_take_the_remote_ids_through_two_levels(rt: HostRuntime) -> Result<
         text.as_str(),
         "menu[F1=News[G1=Old[b1 b3]]] toolbar unfiled mobile | F1 remote G1 remote b1 remote b3 local | | F2=F1 G2=G1 b2=b1"
     );
+    let local = "menu[F2=News[b2 b3]]";
+    let remote = "menu[F1=News@2[b1@2]]";
+    let text = merged(rt.alloc(), "", local, "", remote)?;
+    assert_eq!(rt;
+        text.as_str(),
+        "menu[F1=News[b1 b3]] toolbar unfiled mobile | F1 remote b1 remote b3 local | | F2=F1 b2=b1"
+    );
     Ok(())
 }
 
@@ -345,7 +353,7 @@ fn tree_of(alloc: Global, raws: &[Raw]) -> Result<Tree, Fail> {
         let under = tree
             .find(&id_of(alloc, name(raw.parent))?)
             .ok_or("no parent")?;
-        tree.insert(under, None, item, Stamp::clamp(u64::from(raw.time)))
+        tree.insert(alloc, under, None, item, Stamp::clamp(u64::from(raw.time)))
             .ok()
             .ok_or("refused")?;
     }
@@ -483,5 +491,80 @@ fn random_sides_are_merged_by_the_rules(rt: HostRuntime) -> Result<(), Fail> {
         );
         assert!(rt; stays(rt.alloc(), &merged.tree)?, "round {round}");
     }
+    Ok(())
+}
+
+/// The row of a folder of a chain, which lists the next one. The first one names `menu` as its parent, or the last one
+/// where they are a circle.
+fn link(alloc: Global, count: u32, circle: bool, number: u32) -> Result<Sheet, Fail> {
+    let name = format!(in alloc; "c{number}")?;
+    let next = number.saturating_add(1);
+    let mut payload = format!(in alloc;
+        "{{\"id\":\"c{number}\",\"type\":\"folder\",\"title\":\"t\",\"children\":["
+    )?;
+    if next < count {
+        payload.push_str(format!(in alloc; "\"c{next}\"")?.as_str())?;
+    } else if circle {
+        payload.push_str("\"c0\"")?;
+    }
+    payload.push_str("],\"parentid\":\"")?;
+    if number > 0 {
+        payload.push_str(format!(in alloc; "c{}\"}}", number - 1)?.as_str())?;
+    } else if circle {
+        payload.push_str(format!(in alloc; "c{}\"}}", count.saturating_sub(1))?.as_str())?;
+    } else {
+        payload.push_str("menu\"}")?;
+    }
+    Ok(Sheet {
+        id: id_of(alloc, name.as_str())?,
+        modified: Stamp::clamp(1),
+        payload: Word::new(payload),
+    })
+}
+
+/// The tree of rows, where their ids are distinct.
+fn built_of(alloc: Global, rows: &[Sheet]) -> Result<Tree, Fail> {
+    if !are_distinct(alloc, rows)? {
+        return Err(Fail::from("an id twice"));
+    }
+    let built = build(alloc, rows)?;
+    Ok(built.tree)
+}
+
+/// Merges a built chain or circle of folders with a new device, and tells how many items there are, and how many of them
+/// stand in `unfiled`.
+fn merged_chain(alloc: Global, count: u32, circle: bool) -> Result<(usize, usize), Fail> {
+    let mut rows = Vec::new(alloc);
+    for number in 0..count {
+        rows.push(link(alloc, count, circle, number)?)?;
+    }
+    let remote = built_of(alloc, &rows)?;
+    let mirror = Tree::new(alloc)?;
+    let local = Tree::new(alloc)?;
+    let none = read_ids(alloc, "")?;
+    let merged = merge(
+        alloc,
+        &Sides {
+            mirror: &mirror,
+            local: &local,
+            remote: &remote,
+            local_dead: &none,
+            remote_dead: &none,
+        },
+    )?;
+    let unfiled = merged
+        .tree
+        .find(&id_of(alloc, "unfiled")?)
+        .ok_or("no unfiled")?;
+    let below = merged.tree.children(alloc, unfiled)?;
+    Ok((merged.from.len(), below.len()))
+}
+
+#[test]
+fn a_long_chain_and_a_long_circle_are_merged_whole(rt: HostRuntime) -> Result<(), Fail> {
+    let chain = merged_chain(rt.alloc(), 20_000, false)?;
+    assert!(rt; chain == (20_004, 0));
+    let circle = merged_chain(rt.alloc(), 20_000, true)?;
+    assert!(rt; circle == (20_004, 20_000));
     Ok(())
 }

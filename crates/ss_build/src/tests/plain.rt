@@ -225,7 +225,7 @@ pub(crate) fn payload(alloc: Global, row: &Raw) -> Result<String, AllocError> {
     text.push_str(name(row.id))?;
     text.push_str(match row.told {
         Told::Deleted => "\",\"deleted\":true}",
-        Told::Unreadable => "\",\"type\":\"bookmark\",\"n\":1.5}",
+        Told::Unreadable => "\",\"type\":\"other\"}",
         Told::Bookmark => "\",\"type\":\"bookmark\",\"parentid\":\"",
         Told::Folder => "\",\"type\":\"folder\",\"parentid\":\"",
     })?;

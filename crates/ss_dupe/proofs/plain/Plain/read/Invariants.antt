@@ -1,6 +1,6 @@
-use Rattle.std.proofs.Common.{map, take}
+use Rattle.std.proofs.Common.{take}
 use Rattle.ss_dupe.proofs.ReadOut.{SoFar}
 use Rattle.ss_dupe.proofs.plain.Plain.read.Given as goal
 
-abbrev pub invariant-loop-entry : goal.invariant-loop-entry
-invariant-loop-entry l = SoFar l.entries (map (λ e. e.node) (take l.entry-index l.entries)) l.plain
+abbrev pub invariant-loop-node : goal.invariant-loop-node
+invariant-loop-node l = SoFar l.source (take l.node-index l.node-items) l.plain

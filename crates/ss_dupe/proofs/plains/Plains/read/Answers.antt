@@ -1,3 +1,7 @@
+use Rattle.std.proofs.Common.{◌≡◌, sym, subst}
+use Rattle.ss_tree.specs.Entries.{tree}
+use Rattle.ss_dupe.specs.Shapes.{AreShaped}
+use Rattle.ss_dupe.proofs.Shapes.{shape}
 use Rattle.ss_dupe.proofs.plains.Plains.read.Goals as goal
 
 pub returns-clause-same : goal.returns-clause-same
@@ -8,3 +12,8 @@ returns-clause-same c = λ i. record {
   local_dead = λ x. c.in_ok-set_of.ensures x i;
   remote_dead = λ x. c.in_ok-set_of-2.ensures x i;
 }
+
+pub returns-clause-shaped : goal.returns-clause-shaped
+returns-clause-shaped c =
+    subst AreShaped (sym (returns-clause-same c))
+    (record { local = shape (tree c.args.sides.now.local.now) c.in_ok-read-2.ensures.valid; remote = shape (tree c.args.sides.now.remote.now) c.in_ok-read-3.ensures.valid })

@@ -1,0 +1,1 @@
+use Rattle.ss_merge.proofs.marks.mark.Goals as goal

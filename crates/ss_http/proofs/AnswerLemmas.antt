@@ -1,5 +1,5 @@
 -- What follows of responses from the grammar of heads.
-use Rattle.std.proofs.Common.{◌≡◌, ◌≤◌, ◌<◌, ◌⊎◌, inl, inr, ℕ, ◌+◌, List, [], ◌∷◌, ◌++◌, length, take, drop, map, Bool, true, false, Option, Some, None, option_map, is_some, codes, refl, sym, ◌∙◌, ap, ap₂, subst, append_assoc, length-append, length-take, arith}
+use Rattle.std.proofs.Common.{◌≡◌, ◌≤◌, ◌<◌, ◌⊎◌, inl, inr, ℕ, ◌+◌, List, [], ◌∷◌, ◌++◌, length, take, drop, Bool, true, false, Option, Some, None, option_map, is_some, sym, ◌∙◌, ap, ap₂, subst, append_assoc, length-append, length-take, arith}
 use Rattle.std.proofs.lemmas.Bool.{true≢false}
 use Rattle.std.proofs.lemmas.List.{take-append-le, take-append-drop, append-nil, length-map}
 use Rattle.std.proofs.lemmas.Option.{same_Some, none-some}
@@ -9,16 +9,16 @@ use Rattle.httparse.specs.Grammar.{print_response, IsResponseHead, ReadsResponse
 use Rattle.httparse.specs.Spans.{IsResponseAt, ResponseOverflows, header_bytes, name_and_value}
 use Rattle.httparse.specs.declared.spans.HeaderSpan.{HeaderSpan}
 use Rattle.httparse.specs.declared.spans.ResponseSpans.{ResponseSpans}
-use Rattle.httparse.proofs.GrammarLemmas.{response_unique, response_prefix_free, print_response-append}
+use Rattle.httparse.proofs.GrammarLemmas.{response_unique, response_prefix_free}
 use Rattle.ss_http.specs.declared.answer.Answer.{Answer}
 use Rattle.ss_http.specs.declared.heard.Heard.{Heard}
 use Rattle.ss_http.specs.declared.heard.HeardFault.{HeardFault}
 use Rattle.ss_http.specs.declared.heard.HeardFault.TheVariants as faults
-use Rattle.ss_http.specs.Fields.{first_named}
-use Rattle.ss_http.specs.Hearing.{AnswersWith, IsAnswerHead, HasBody, Hears, heard_from, size_of, values_of, NoAnswerHead, NeverAnswers, LacksHead, LacksBody, HasCoding, HasNoSize, HasLarge, IsBad, headless, endless, coded, unsized, IsHeardFault, AfterAll}
+use Rattle.ss_http.specs.Hearing.{AnswersWith, HasBody, Hears, heard_from, size_of, values_of, NoAnswerHead, NeverAnswers, LacksHead, LacksBody, HasLarge, IsBad, headless, endless, coded, unsized, IsHeardFault, AfterAll}
 use Rattle.ss_http.specs.Listening.{IsAnswerAt, IsNoLonger, IsShortBody}
 use Rattle.ss_http.proofs.HeadLemmas.{whole_front, some_none}
 use Rattle.ss_http.proofs.MessageLemmas.{same_fronts}
+use Rattle.ss_http.specs.declared.limits.TheConstants.{HEAD_ROOM, HEARD_ROOM, MOST_FIELDS}
 
 -- ---- heads
 
@@ -39,10 +39,10 @@ pub one_answer : (buf more : List ℕ) (h k : grammar.ResponseHead) → AnswersW
 one_answer buf more h k b c = (response_prefix_free buf more h k b.after c.after (b.is_head.grammar, b.bytes) (c.is_head.grammar, c.bytes)).0
 
 -- a head that more bytes show was there before, where as many bytes are there as it may have
-pub long_answers : (buf more : List ℕ) (h : grammar.ResponseHead) → 16384 ≤ length buf → AnswersWith (buf ++ more) h → AnswersWith buf h
+pub long_answers : (buf more : List ℕ) (h : grammar.ResponseHead) → HEAD_ROOM ≤ length buf → AnswersWith (buf ++ more) h → AnswersWith buf h
 long_answers buf more h many b =
     let head = print_response h in
-    let size : length head ≤ 16384 = b.is_head.size in
+    let size : length head ≤ HEAD_ROOM = b.is_head.size in
     let inside : length head ≤ length buf = omega arith in
     let front : take (length head) buf ≡ head =
     sym (take-append-le (length head) buf more inside) ∙ ap (take (length head)) b.bytes ∙ take-append-le (length head) head b.after (omega arith)
@@ -66,7 +66,7 @@ heard_once input a b r q x y =
 
 -- what is heard of a response says of any head that stood before it
 pub as_heard : (got left : List ℕ) (heard : Heard) (rest : List ℕ) (h : grammar.ResponseHead) (r : Hears (got ++ left) heard rest) → AnswersWith got h
-    → HasBody h (length r.body) × (length r.body ≤ 536870912) × (length (got ++ left) ≡ length (print_response h) + (length r.body + length rest))
+    → HasBody h (length r.body) × (length r.body ≤ HEARD_ROOM) × (length (got ++ left) ≡ length (print_response h) + (length r.body + length rest))
 as_heard got left heard rest h r b =
     let same : h ≡ r.head = one_answer got left h r.head b (answers (got ++ left) heard rest r) in
     let P : grammar.ResponseHead → Type 0 = λ k. HasBody k (length r.body) in
@@ -88,8 +88,8 @@ lacks_nothing got heard rest r (inr lacks) =
 
 not_bad : (got left : List ℕ) (heard : Heard) (rest : List ℕ) → Hears (got ++ left) heard rest → IsBad got → ⊥
 not_bad got left heard rest r (headless never) =
-    let many : 64 < length r.head.fields = never left r.head (r.body ++ rest) (r.is_head.grammar, r.bytes) in
-    let few : length r.head.fields ≤ 64 = r.is_head.count in
+    let many : MOST_FIELDS < length r.head.fields = never left r.head (r.body ++ rest) (r.is_head.grammar, r.bytes) in
+    let few : length r.head.fields ≤ MOST_FIELDS = r.is_head.count in
     let no : ⊥ = omega arith in
     no
 not_bad got left heard rest r (endless many none) = none r.head (long_answers got left r.head many (answers (got ++ left) heard rest r))
@@ -100,8 +100,8 @@ not_large : (n : ℕ) (got left : List ℕ) (heard : Heard) (rest : List ℕ) �
 not_large n got left heard rest r large =
     let s = as_heard got left heard rest large.head r large.begins in
     let same : n ≡ length r.body = same_Some _ _ (sym large.sized.size ∙ s.0.size) in
-    let above : 536870912 < n = large.above in
-    let limit : length r.body ≤ 536870912 = r.limit in
+    let above : HEARD_ROOM < n = large.above in
+    let limit : length r.body ≤ HEARD_ROOM = r.limit in
     let never : ⊥ = omega arith in
     never
 
@@ -116,7 +116,7 @@ always_heard got left heard rest faults.Memory r fault = tt
 -- ---- what a parse found
 
 -- a head that was parsed from at most so many bytes
-pub parsed_answers : (buf : List ℕ) (headers : List HeaderSpan) (spans : ResponseSpans) (h : grammar.ResponseHead) → IsResponseAt buf headers spans h → length buf ≤ 16384 → length headers ≤ 64
+pub parsed_answers : (buf : List ℕ) (headers : List HeaderSpan) (spans : ResponseSpans) (h : grammar.ResponseHead) → IsResponseAt buf headers spans h → length buf ≤ HEAD_ROOM → length headers ≤ MOST_FIELDS
     → AnswersWith buf h
 parsed_answers buf headers spans h at room count =
     let size : length buf ≡ length (print_response h) + length (drop spans.len buf) = ap length at.reads.1 ∙ length-append (print_response h) (drop spans.len buf) in
@@ -138,7 +138,7 @@ pub some_there : {A : Type 0} (f : A → List ℕ) (o : Option A) (p : Option (L
 some_there f None p b e is one = absurd (true≢false (sym one ∙ is))
 some_there f (Some x) p b e is one = ap is_some (sym e)
 
-pub overflowing : (buf : List ℕ) → ResponseOverflows 64 buf → NeverAnswers buf
+pub overflowing : (buf : List ℕ) → ResponseOverflows MOST_FIELDS buf → NeverAnswers buf
 overflowing buf over more h rest reads = over more h rest reads
 
 -- ---- a head and the body behind it
@@ -150,7 +150,7 @@ heard_whole head body answer heard at whole size is =
     let none : at.begins.after ≡ [] = whole at.tree at.begins.after (at.begins.is_head.grammar, at.begins.bytes) in
     let all : head ≡ print_response at.tree = at.begins.bytes ∙ ap (λ z. print_response at.tree ++ z) none ∙ append-nil (print_response at.tree) in
     let P : ℕ → Type 0 = λ n. HasBody at.tree n in
-    let limit : answer.size ≤ 536870912 = at.limit in
+    let limit : answer.size ≤ HEARD_ROOM = at.limit in
     record {
       head = at.tree;
       body = body;

@@ -1,23 +1,22 @@
 -- A written request is a head of the grammar with its body, and is read as its message.
-use Rattle.std.proofs.Common.{eq-eqb, ◌≡◌, ℕ, ◌^◌, ◌<◌, ◌≤◌, List, [], ◌∷◌, ◌++◌, length, map, Bool, true, false, ◌&&◌, ◌||◌, not, ◌==◌, cond, leb, Option, Some, None, option_map, IfSome, decimal, codes, refl, sym, ap, ap₂, ◌∙◌, arith, lit≤, append_assoc, length-append}
+use Rattle.std.proofs.Common.{eq-eqb, ◌≡◌, ℕ, ◌^◌, ◌<◌, ◌≤◌, List, [], ◌∷◌, ◌++◌, length, map, Bool, true, false, ◌&&◌, cond, Option, Some, None, option_map, IfSome, decimal, codes, refl, sym, ap, ◌∙◌, arith, lit≤, append_assoc, length-append}
 use Rattle.std.proofs.lemmas.Bool.{and_parts, ltb-true}
 use Rattle.std.proofs.lemmas.List.{length-map}
 use Rattle.std.proofs.lemmas.List.Sums.{AllPass-from_list_all}
 use Rattle.std.proofs.lemmas.List.Elements.{All-from_recursion}
 use Rattle.std.specs.List.{list_all, list_any}
 use Rattle.httparse.specs.Grammar.{IsField, crlf, print_request, RequestHead, IsRequestHead, is_token_byte, is_uri_byte}
-use Rattle.httparse.specs.Spans.{name_and_value}
 use Rattle.httparse.proofs.GrammarLemmas.{print_request-append}
-use Rattle.ss_text.specs.Numbers.{number_of}
-use Rattle.ss_text.specs.Time.{stamp_text, last_stamp}
+use Rattle.ss_text.specs.Time.{stamp_text}
 use Rattle.ss_text.specs.declared.stamps.Cond.{Cond}
 use Rattle.ss_text.specs.declared.stamps.Cond.TheVariants.{Free, IfModified, IfUnmodified}
 use Rattle.ss_http.specs.declared.message.Message.{Message}
-use Rattle.ss_http.specs.Fields.{Line, lines, field_if, first_named, same_name, announced, announced_by, agreed, agrees, is_number, closes, holds_close, ends}
-use Rattle.ss_http.specs.Messages.{ReadsMessage, fields_of, message_of}
-use Rattle.ss_http.specs.Requests.{cond_fields, content_fields, request_fields, body_bytes, request_line, request_text, message_sent, is_host_byte, IsCond, IsSendable}
-use Rattle.ss_http.proofs.Written.{field_of, lines_print, Fit, fit-append, fit_if, are_fields, values_are, if_long, lines_length, decimal_long, stamp_long}
+use Rattle.ss_http.specs.Fields.{Line, lines, first_named, announced, announced_by, agreed, agrees, is_number, closes, ends}
+use Rattle.ss_http.specs.Messages.{ReadsMessage, fields_of}
+use Rattle.ss_http.specs.Requests.{cond_fields, content_fields, request_fields, body_bytes, request_text, message_sent, IsCond, IsSendable}
+use Rattle.ss_http.proofs.Written.{field_of, lines_print, Fit, fit-append, are_fields, values_are, if_long, lines_length, decimal_long, stamp_long}
 use Rattle.ss_http.proofs.Values.{decimal_is_bare, stamp_is_bare, visible_is_bare, number_again}
+use Rattle.ss_http.specs.declared.limits.TheConstants.{BODY_ROOM, HEAD_ROOM, HOST_ROOM}
 
 abbrev pub request_tree : List ℕ → List ℕ → List ℕ → Cond → Option (List ℕ) → RequestHead
 request_tree method target host cond body =
@@ -37,7 +36,7 @@ request_is_head method target host cond body rest =
 
 -- ---- the fields
 
-content_fit : (body : Option (List ℕ)) → IfSome body (λ b. length b ≤ 2101248) → Fit (content_fields body)
+content_fit : (body : Option (List ℕ)) → IfSome body (λ b. length b ≤ BODY_ROOM) → Fit (content_fields body)
 unfolding is_token_byte
 content_fit None h = tt
 content_fit (Some b) h =
@@ -87,15 +86,15 @@ length_said host (IfUnmodified since) (Some b) = refl
 abbrev if_said : Bool → ℕ → Option ℕ
 if_said t n = cond t (Some n) None
 
-agrees_itself : (n : ℕ) → n ≤ 2101248 → agrees n (codes "Content-Length", decimal n) ≡ true
+agrees_itself : (n : ℕ) → n ≤ BODY_ROOM → agrees n (codes "Content-Length", decimal n) ≡ true
 agrees_itself n few = ap (is_number n) (number_again n (omega arith)) ∙ eq-eqb n n refl
 
-all_said : (host : List ℕ) (cond : Cond) (b : List ℕ) → length b ≤ 2101248 → list_all (agrees (length b)) (request_fields host cond (Some b)) ≡ true
+all_said : (host : List ℕ) (cond : Cond) (b : List ℕ) → length b ≤ BODY_ROOM → list_all (agrees (length b)) (request_fields host cond (Some b)) ≡ true
 all_said host Free b few = ap (λ t. t && true) (agrees_itself (length b) few)
 all_said host (IfModified since) b few = ap (λ t. t && true) (agrees_itself (length b) few)
 all_said host (IfUnmodified since) b few = ap (λ t. t && true) (agrees_itself (length b) few)
 
-announces_body : (host : List ℕ) (cond : Cond) (body : Option (List ℕ)) → IfSome body (λ b. length b ≤ 2101248) → announced (request_fields host cond body) ≡ Some (length (body_bytes body))
+announces_body : (host : List ℕ) (cond : Cond) (body : Option (List ℕ)) → IfSome body (λ b. length b ≤ BODY_ROOM) → announced (request_fields host cond body) ≡ Some (length (body_bytes body))
 unfolding announced
 announces_body host cond None few = ap (λ o. announced_by o (request_fields host cond None)) (length_said host cond None)
 announces_body host cond (Some b) few =
@@ -121,7 +120,7 @@ field_count host (IfModified since) (Some b) = lit≤ tt
 field_count host (IfUnmodified since) None = lit≤ tt
 field_count host (IfUnmodified since) (Some b) = lit≤ tt
 
-content_long : (body : Option (List ℕ)) → IfSome body (λ b. length b ≤ 2101248) → length (lines (content_fields body)) ≤ 100
+content_long : (body : Option (List ℕ)) → IfSome body (λ b. length b ≤ BODY_ROOM) → length (lines (content_fields body)) ≤ 100
 unfolding lines
 content_long None h = lit≤ tt
 content_long (Some b) h =
@@ -141,13 +140,13 @@ lines_short method target host cond body s =
     omega (
       arith,
       lines_length ((codes "Host", host) ∷ []) (cond_fields cond ++ content_fields body),
-      if_long (codes "Host") (Some host) 1030 s.host_size.1,
+      if_long (codes "Host") (Some host) HOST_ROOM s.host_size.1,
       lines_length (cond_fields cond) (content_fields body),
       cond_long cond s.stamp,
       content_long body s.size,
     )
 
-head_short : (method target host : List ℕ) (cond : Cond) (body : Option (List ℕ)) → IsSendable method target host cond body → length (print_request (request_tree method target host cond body)) ≤ 16384
+head_short : (method target host : List ℕ) (cond : Cond) (body : Option (List ℕ)) → IsSendable method target host cond body → length (print_request (request_tree method target host cond body)) ≤ HEAD_ROOM
 head_short method target host cond body s =
     let tree = request_tree method target host cond body in
     let section = lines (request_fields host cond body) ++ codes "\r\n" in
@@ -194,6 +193,6 @@ request_read method target host cond body rest s =
       says = same_message method target (body_bytes body) (fields_of (request_tree method target host cond body)) (request_fields host cond body) values (stays_open host cond body);
     }
   where
-    within : (b : Option (List ℕ)) → IfSome b (λ b. length b ≤ 2101248) → length (body_bytes b) ≤ 2101248
+    within : (b : Option (List ℕ)) → IfSome b (λ b. length b ≤ BODY_ROOM) → length (body_bytes b) ≤ BODY_ROOM
     within None h = lit≤ tt
     within (Some b) h = h

@@ -1,29 +1,29 @@
 -- What a parse of the front says of the messages.
-use Rattle.std.proofs.Common.{◌≡◌, ◌≤◌, ◌<◌, ◌⊎◌, inl, inr, Result, Ok, Err, IfOk, ℕ, ◌+◌, ◌-◌, List, [], ◌∷◌, ◌++◌, length, take, drop, map, Option, Some, None, sym, refl, ◌∙◌, ap, subst, append_assoc, length-append, length-drop, length-take, length-take-le, arith}
+use Rattle.std.proofs.Common.{◌≡◌, ◌≤◌, ◌<◌, inl, inr, Result, Ok, Err, IfOk, ℕ, ◌+◌, ◌-◌, List, [], ◌∷◌, ◌++◌, length, take, drop, Option, Some, None, sym, refl, ◌∙◌, ap, subst, append_assoc, length-append, length-drop, length-take, length-take-le, arith}
 use Rattle.std.proofs.lemmas.List.{take-append-le, take-append-drop, drop-drop, append-nil, length-map}
 use Rattle.std.proofs.lemmas.Bool.{true≢false}
 use Rattle.std.proofs.lemmas.Option.{same_Some, none-some}
 use Rattle.std.proofs.Math.Seq.{take-append-add}
 use Rattle.std.specs.Option.{IsSome}
-use Rattle.httparse.specs.Grammar.{RequestHead, IsRequestHead, print_request, ReadsRequest, HasNoRequest}
+use Rattle.httparse.specs.Grammar.{RequestHead, IsRequestHead, print_request, HasNoRequest}
 use Rattle.httparse.specs.Spans.{RequestOverflows, IsRequestAt, header_bytes, name_and_value}
 use Rattle.httparse.specs.declared.spans.HeaderSpan.{HeaderSpan}
 use Rattle.httparse.specs.declared.spans.RequestSpans.{RequestSpans}
-use Rattle.httparse.proofs.GrammarLemmas.{request_prefix_free, request_unique}
+use Rattle.httparse.proofs.GrammarLemmas.{request_prefix_free}
 use Rattle.ss_http.specs.declared.message.Message.{Message}
 use Rattle.ss_http.specs.declared.head.Head.{Head}
 use Rattle.ss_http.specs.declared.head.Found.{Found}
 use Rattle.ss_http.specs.declared.head.Found.TheVariants.{Whole, Unfinished, Refused}
 use Rattle.ss_http.specs.declared.fault.MsgFault.{MsgFault}
 use Rattle.ss_http.specs.declared.fault.MsgFault.TheVariants as faults
-use Rattle.ss_http.specs.Fields.{announced, first_named}
-use Rattle.ss_http.specs.Messages.{IsHead, BeginsWith, Announces, fields_of, ReadsMessage, NoMessage, NeverMessage}
-use Rattle.ss_http.specs.Faults.{NoHead, NeverHead, WantsHead, WantsBody, IsCoded, IsUnmeasured, IsTooLarge, IsFaultOf, IsRefusal, lasting}
+use Rattle.ss_http.specs.Messages.{BeginsWith, Announces, fields_of, ReadsMessage, NoMessage, NeverMessage}
+use Rattle.ss_http.specs.Faults.{NoHead, NeverHead, WantsBody, IsFaultOf, IsRefusal, lasting}
 use Rattle.ss_http.specs.Heads.{IsHeadAt, Finds}
 use Rattle.ss_outside.specs.Told.{Meanings, IsUsedUp}
 use Rattle.ss_http.specs.Reading.{IsShort, EndsWith, RisesWith, ended_by}
 use Rattle.ss_http.proofs.Ranges.{drop_front}
 use Rattle.ss_http.proofs.MessageLemmas.{reads_head}
+use Rattle.ss_http.specs.declared.limits.TheConstants.{BODY_ROOM, HEAD_ROOM, MOST_FIELDS}
 
 -- a message begins with its head
 pub begins : (buf : List ℕ) (m : Message) (rest : List ℕ) (r : ReadsMessage buf m rest) → BeginsWith buf r.head
@@ -50,18 +50,18 @@ pub one_head : (buf more : List ℕ) (h k : RequestHead) → BeginsWith buf h �
 one_head buf more h k b c = (request_prefix_free buf more h k b.after c.after (b.is_head.grammar, b.bytes) (c.is_head.grammar, c.bytes)).0
 
 -- as many bytes as a head may have, and no head
-pub too_long : (buf more : List ℕ) (h : RequestHead) → 16384 ≤ length buf → HasNoRequest (take 16384 buf) → BeginsWith (buf ++ more) h → ⊥
+pub too_long : (buf more : List ℕ) (h : RequestHead) → HEAD_ROOM ≤ length buf → HasNoRequest (take HEAD_ROOM buf) → BeginsWith (buf ++ more) h → ⊥
 too_long buf more h many none b =
     let head = print_request h in
-    let size : length head ≤ 16384 = b.is_head.size in
-    let spare = 16384 - length head in
-    let count : 16384 ≡ length head + spare = omega arith in
-    let front : take 16384 buf ≡ head ++ take spare b.after =
-    sym (take-append-le 16384 buf more many) ∙ ap (take 16384) b.bytes ∙ ap (λ n. take n (head ++ b.after)) count
+    let size : length head ≤ HEAD_ROOM = b.is_head.size in
+    let spare = HEAD_ROOM - length head in
+    let count : HEAD_ROOM ≡ length head + spare = omega arith in
+    let front : take HEAD_ROOM buf ≡ head ++ take spare b.after =
+    sym (take-append-le HEAD_ROOM buf more many) ∙ ap (take HEAD_ROOM) b.bytes ∙ ap (λ n. take n (head ++ b.after)) count
     ∙ take-append-add head b.after spare in
     none h (take spare b.after) (b.is_head.grammar, front)
 
-pub no_head_in_all : (buf : List ℕ) → 16384 ≤ length buf → HasNoRequest (take 16384 buf) → NoHead buf
+pub no_head_in_all : (buf : List ℕ) → HEAD_ROOM ≤ length buf → HasNoRequest (take HEAD_ROOM buf) → NoHead buf
 no_head_in_all buf many none h b = too_long buf [] h many none (begins_append buf [] h b)
 
 pub whole_front : (l : List ℕ) → take (length l) l ≡ l
@@ -69,10 +69,10 @@ whole_front [] = refl
 whole_front (x ∷ l) = ap (λ z. x ∷ z) (whole_front l)
 
 -- a head that more bytes show was there before, where as many bytes are there as it may have
-pub long_begins : (buf more : List ℕ) (h : RequestHead) → 16384 ≤ length buf → BeginsWith (buf ++ more) h → BeginsWith buf h
+pub long_begins : (buf more : List ℕ) (h : RequestHead) → HEAD_ROOM ≤ length buf → BeginsWith (buf ++ more) h → BeginsWith buf h
 long_begins buf more h many b =
     let head = print_request h in
-    let size : length head ≤ 16384 = b.is_head.size in
+    let size : length head ≤ HEAD_ROOM = b.is_head.size in
     let inside : length head ≤ length buf = omega arith in
     let front : take (length head) buf ≡ head =
     sym (take-append-le (length head) buf more inside) ∙ ap (take (length head)) b.bytes ∙ take-append-le (length head) head b.after (omega arith)
@@ -80,17 +80,17 @@ long_begins buf more h many b =
     record { is_head = b.is_head; after = drop (length head) buf; bytes = sym (take-append-drop (length head) buf) ∙ ap (λ z. z ++ drop (length head) buf) front }
 
 -- with as many bytes as a head may have and none among them, none comes
-pub never_long : (buf : List ℕ) → 16384 ≤ length buf → NoHead buf → NeverMessage buf
+pub never_long : (buf : List ℕ) → HEAD_ROOM ≤ length buf → NoHead buf → NeverMessage buf
 never_long buf many none more m rest r = none r.head (long_begins buf more r.head many (begins (buf ++ more) m rest r))
 
 -- a front that no head with 64 fields or less can come of
-pub overflowing : (buf front tail : List ℕ) → buf ≡ front ++ tail → RequestOverflows 64 front → NeverHead buf
+pub overflowing : (buf front tail : List ℕ) → buf ≡ front ++ tail → RequestOverflows MOST_FIELDS front → NeverHead buf
 overflowing buf front tail is over more h rest reads =
     over (tail ++ more) h rest (reads.0, sym (append_assoc front tail more) ∙ ap (λ b. b ++ more) (sym is) ∙ reads.1)
 
 -- the head's body isn't the one that a message at the front would have
 pub other_body : (buf more : List ℕ) (h : RequestHead) (m : Message) (rest : List ℕ) → BeginsWith buf h → ReadsMessage (buf ++ more) m rest
-    → (n : ℕ) × Announces (fields_of h) n × (n ≤ 2101248) × (length (buf ++ more) ≡ length (print_request h) + (n + length rest))
+    → (n : ℕ) × Announces (fields_of h) n × (n ≤ BODY_ROOM) × (length (buf ++ more) ≡ length (print_request h) + (n + length rest))
 other_body buf more h m rest b r =
     let same : h ≡ r.head = one_head buf more h r.head b (begins (buf ++ more) m rest r) in
     let P : RequestHead → Type 0 = λ k. Announces (fields_of k) (length r.body) in
@@ -112,8 +112,8 @@ pub refusal_never : (e : MsgFault) (bytes : List ℕ) → IsRefusal e → IsFaul
 refusal_never faults.End bytes is fault = absurd is
 refusal_never faults.Cut bytes is fault = absurd is
 refusal_never faults.BadHead bytes is fault = λ more m rest r.
-    let many : 64 < length r.head.fields = fault more r.head (r.body ++ rest) (reads_head (bytes ++ more) m rest r) in
-    let few : length r.head.fields ≤ 64 = r.is_head.count in
+    let many : MOST_FIELDS < length r.head.fields = fault more r.head (r.body ++ rest) (reads_head (bytes ++ more) m rest r) in
+    let few : length r.head.fields ≤ MOST_FIELDS = r.is_head.count in
     omega arith
 refusal_never faults.HeadTooLong bytes is fault = never_long bytes fault.0 fault.1
 refusal_never faults.Coded bytes is fault = λ more m rest r.
@@ -125,8 +125,8 @@ refusal_never faults.BadLength bytes is fault = λ more m rest r.
 refusal_never (faults.TooLarge n) bytes is fault = λ more m rest r.
     let o = other_body bytes more fault.head m rest fault.begins r in
     let same : n ≡ o.0 = same_Some _ _ (sym fault.announces.size ∙ o.1.size) in
-    let above : 2101248 < n = fault.above in
-    let limit : o.0 ≤ 2101248 = o.2 in
+    let above : BODY_ROOM < n = fault.above in
+    let limit : o.0 ≤ BODY_ROOM = o.2 in
     let never : ⊥ = omega arith in
     never
 refusal_never faults.ReadFault bytes is fault = absurd is
@@ -203,7 +203,7 @@ body_whole buf head m at whole says =
     let count : length body ≡ head.body = length-take-le head.body at.begins.after (omega (arith, ap length after, length-drop head.size buf)) in
     let rest : drop (head.size + head.body) buf ≡ drop head.body at.begins.after = sym (drop-drop head.body head.size buf) ∙ ap (drop head.body) after in
     let P : ℕ → Type 0 = λ n. Announces (fields_of at.tree) n in
-    let limit : head.body ≤ 2101248 = at.limit in
+    let limit : head.body ≤ BODY_ROOM = at.limit in
     record {
       head = at.tree;
       body = body;
@@ -229,7 +229,7 @@ short_fault faults.ReadFault buf head at short = tt
 short_fault faults.Memory buf head at short = absurd short
 
 -- what was found in a front that is all, or has as many bytes as a head may have, was found in all
-pub finds_front : (n : ℕ) (buf : List ℕ) (found : Found) → n ≤ length buf → (n < 16384 → n ≡ length buf) → Finds found (take n buf) → Finds found buf
+pub finds_front : (n : ℕ) (buf : List ℕ) (found : Found) → n ≤ length buf → (n < HEAD_ROOM → n ≡ length buf) → Finds found (take n buf) → Finds found buf
 finds_front n buf (Whole head) within all found =
     let P : List ℕ → Type 0 = λ b. IsHeadAt b head in
     subst P (take-append-drop n buf) (head_append (take n buf) (drop n buf) head found)
@@ -244,7 +244,7 @@ finds_front n buf (Refused fault) within all found =
     (found.0, subst P (take-append-drop n buf) (refusal_append fault (take n buf) (drop n buf) found.0 found.1))
 
 -- the fault of an input that ended before a head was whole
-pub ended_fault : (bytes : List ℕ) → HasNoRequest bytes → length bytes < 16384 → IsFaultOf (ended_by bytes) bytes
+pub ended_fault : (bytes : List ℕ) → HasNoRequest bytes → length bytes < HEAD_ROOM → IsFaultOf (ended_by bytes) bytes
 ended_fault [] none short = refl
 ended_fault (b ∷ bytes) none short = inl (omega arith, short, no_head (b ∷ bytes) none)
 
@@ -256,7 +256,7 @@ pub ended_rises : (bytes : List ℕ) (before now : ℕ) → now ≡ before → R
 ended_rises [] before now same = same
 ended_rises (b ∷ bytes) before now same = same
 
-pub finds_ok : {E : Type 0} (r : Result Found E) (n : ℕ) (buf : List ℕ) → n ≤ length buf → (n < 16384 → n ≡ length buf)
+pub finds_ok : {E : Type 0} (r : Result Found E) (n : ℕ) (buf : List ℕ) → n ≤ length buf → (n < HEAD_ROOM → n ≡ length buf)
     → IfOk r (λ found. Finds found (take n buf)) → IfOk r (λ found. Finds found buf)
 finds_ok (Ok found) n buf within all h = finds_front n buf found within all h
 finds_ok (Err e) n buf within all h = tt
@@ -272,7 +272,7 @@ kept_whole buf kept head m rest same at r =
     omega arith
 
 -- a head that was parsed from at most so many bytes
-pub parsed_begins : (buf : List ℕ) (headers : List HeaderSpan) (spans : RequestSpans) (h : RequestHead) → IsRequestAt buf headers spans h → length buf ≤ 16384 → length headers ≤ 64 → BeginsWith buf h
+pub parsed_begins : (buf : List ℕ) (headers : List HeaderSpan) (spans : RequestSpans) (h : RequestHead) → IsRequestAt buf headers spans h → length buf ≤ HEAD_ROOM → length headers ≤ MOST_FIELDS → BeginsWith buf h
 parsed_begins buf headers spans h at room count =
     let size : length buf ≡ length (print_request h) + length (drop spans.len buf) = ap length at.reads.1 ∙ length-append (print_request h) (drop spans.len buf) in
     record {

@@ -1,5 +1,5 @@
 -- A written response is a head of the grammar with its body, and is heard as it was meant.
-use Rattle.std.proofs.Common.{◌≡◌, ℕ, ◌+◌, ◌/◌, ◌^◌, ◌<◌, ◌≤◌, List, [], ◌∷◌, ◌++◌, length, map, Bool, true, false, ◌&&◌, ◌||◌, ◌==◌, cond, Option, Some, None, option_map, option_and_then, IfSome, decimal, codes, refl, sym, ap, ap₂, ◌∙◌, arith, lit<, lit≤, append_assoc, append-nil, length-append, inl, inr, ◌⊎◌}
+use Rattle.std.proofs.Common.{◌≡◌, ℕ, ◌^◌, ◌<◌, ◌≤◌, List, [], ◌∷◌, ◌++◌, length, map, Bool, true, false, ◌==◌, cond, Option, Some, None, option_map, option_and_then, IfSome, decimal, codes, refl, sym, ap, ap₂, ◌∙◌, arith, lit<, lit≤, append_assoc, append-nil, length-append, inl, inr, ◌⊎◌}
 use Rattle.std.proofs.lemmas.Bool.{cases_lt, eqb-true}
 use Rattle.std.proofs.lemmas.Fmt.{decimal_is_IsNumeral, length-decimal-le}
 use Rattle.std.proofs.lemmas.Int.Digits.{digits_value-lt}
@@ -23,6 +23,7 @@ use Rattle.ss_http.specs.Hearing.{Hears, size_of, said, IsBare, IsAllow, IsSound
 use Rattle.ss_http.proofs.LineLemmas.{lines-append}
 use Rattle.ss_http.proofs.Written.{field_of, lines_print, Fit, fit-append, fit_if, bare_map, are_fields, values_are, none_named, named_here, or_none, none_closing, if_count, if_long, map_long, decimal_long, stamp_long, lines_length}
 use Rattle.ss_http.proofs.Values.{decimal_digits, decimal_is_bare, stamp_is_bare, visible_is_bare, number_again, stamp_again}
+use Rattle.ss_http.specs.declared.limits.TheConstants.{HEAD_ROOM, LENGTH_DIGITS}
 
 abbrev pub tree_of : ResponseHead → ℕ → grammar.ResponseHead
 tree_of h n = record { blank = []; minor = 1; digits = decimal h.status; reason = Some (reason_of h.status); line_end = crlf; fields = map field_of (fields h n); last = crlf }
@@ -261,7 +262,7 @@ lines_short h body s =
       if_long (codes "Connection") (cond h.last (Some (codes "close")) None) 5 (close_long h.last),
     )
 
-head_short : (h : ResponseHead) (body : List ℕ) → IsSound h body → length (print_response (tree_of h (length body))) ≤ 16384
+head_short : (h : ResponseHead) (body : List ℕ) → IsSound h body → length (print_response (tree_of h (length body))) ≤ HEAD_ROOM
 head_short h body s =
     let H = tree_of h (length body) in
     let section = lines (fields h (length body)) ++ codes "\r\n" in
@@ -290,12 +291,12 @@ stamp_heard : (o : Option ℕ) → IfSome o (λ s. s ≤ last_stamp) → o ≡ o
 stamp_heard None h = refl
 stamp_heard (Some s) h = sym (stamp_again s h)
 
-size_heard : (h : ResponseHead) (body : List ℕ) (b : Bool) → (h.status == 304) ≡ b → length body < 10 ^ 18 → (h.status ≡ 304 → body ≡ []) → size_of h.status (fields h (length body)) ≡ Some (length body)
+size_heard : (h : ResponseHead) (body : List ℕ) (b : Bool) → (h.status == 304) ≡ b → length body < 10 ^ LENGTH_DIGITS → (h.status ≡ 304 → body ≡ []) → size_of h.status (fields h (length body)) ≡ Some (length body)
 size_heard h body true e few empty =
-    ap (λ b. cond b (Some 0) (option_and_then (number_of 18) (first_named (codes "Content-Length") (fields h (length body))))) e ∙ ap (λ l. Some (length l)) (sym (empty (eqb-true h.status 304 e)))
+    ap (λ b. cond b (Some 0) (option_and_then (number_of LENGTH_DIGITS) (first_named (codes "Content-Length") (fields h (length body))))) e ∙ ap (λ l. Some (length l)) (sym (empty (eqb-true h.status 304 e)))
 size_heard h body false e few empty =
-    ap (λ b. cond b (Some 0) (option_and_then (number_of 18) (first_named (codes "Content-Length") (fields h (length body))))) e
-    ∙ ap (option_and_then (number_of 18)) (length_heard h (length body) e) ∙ number_again (length body) few
+    ap (λ b. cond b (Some 0) (option_and_then (number_of LENGTH_DIGITS) (first_named (codes "Content-Length") (fields h (length body))))) e
+    ∙ ap (option_and_then (number_of LENGTH_DIGITS)) (length_heard h (length body) e) ∙ number_again (length body) few
 
 -- a written response is heard as it was meant
 pub hears_response : (h : ResponseHead) (body rest : List ℕ) → IsSound h body → Hears (response h body ++ rest) (said h body) rest

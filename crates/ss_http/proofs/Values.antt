@@ -13,6 +13,7 @@ use Rattle.httparse.proofs.TrimLemmas.{trim_ows_space, AllPass-reverse}
 use Rattle.ss_text.specs.Numbers.{number_of}
 use Rattle.ss_text.specs.Time.{stamp_text, two_digits, split_point, hundredths, with_fraction, stamp_of, last_stamp}
 use Rattle.ss_http.specs.Hearing.{IsBare}
+use Rattle.ss_http.specs.declared.limits.TheConstants.{LENGTH_DIGITS}
 
 digit_passes : (c : ℕ) → digit_value c < 10 → is_ascii_digit c ≡ true
 digit_passes c h = let r = digit_from_value c h in ap₂ (λ a b. a && b) (le-leb 48 c r.0) (le-leb c 57 r.1)
@@ -87,11 +88,11 @@ all_three : {A : Type 0} (a b c : Bool) (o : Option A) → a ≡ true → b ≡ 
 all_three a b c o p q r = ap₂ (λ x y. cond (x && y && c) o None) p q ∙ ap (λ z. cond z o None) r
 
 -- a number is read back
-pub number_again : (n : ℕ) → n < 10 ^ 18 → number_of 18 (decimal n) ≡ Some n
+pub number_again : (n : ℕ) → n < 10 ^ LENGTH_DIGITS → number_of LENGTH_DIGITS (decimal n) ≡ Some n
 unfolding number_of
 number_again n h =
     let few : n < 2 ^ 64 = omega arith in
-    all_three _ _ _ (Some (digits_value 10 (decimal n))) (le-leb 1 _ (decimal_nonempty n few)) (le-leb _ 18 (length-decimal-le 18 n (lit< tt) h few)) (decimal_digits n few)
+    all_three _ _ _ (Some (digits_value 10 (decimal n))) (le-leb 1 _ (decimal_nonempty n few)) (le-leb _ LENGTH_DIGITS (length-decimal-le LENGTH_DIGITS n (lit< tt) h few)) (decimal_digits n few)
     ∙ ap Some (decimal_is_IsNumeral n few).1
 
 split_there : (ds rest : List ℕ) → list_all is_ascii_digit ds ≡ true → split_point (ds ++ 46 ∷ rest) ≡ (ds, Some rest)

@@ -5,6 +5,7 @@ use Rattle.ss_http.specs.declared.fault.MsgFault.{MsgFault}
 use Rattle.ss_http.specs.declared.fault.MsgFault.TheVariants as faults
 use Rattle.ss_http.specs.Fields.{first_named, announced}
 use Rattle.ss_http.specs.Messages.{BeginsWith, Announces, fields_of}
+use Rattle.ss_http.specs.declared.limits.TheConstants.{BODY_ROOM, HEAD_ROOM, MOST_FIELDS}
 
 -- no front of buf is a head
 abbrev pub NoHead : List ℕ → Type 0
@@ -12,11 +13,11 @@ NoHead buf = (h : RequestHead) → BeginsWith buf h → ⊥
 
 -- whatever follows, no head with at most 64 fields stands at the front
 abbrev pub NeverHead : List ℕ → Type 0
-NeverHead buf = (more : List ℕ) (h : RequestHead) (rest : List ℕ) → ReadsRequest (buf ++ more) h rest → 64 < length h.fields
+NeverHead buf = (more : List ℕ) (h : RequestHead) (rest : List ℕ) → ReadsRequest (buf ++ more) h rest → MOST_FIELDS < length h.fields
 
 -- the head isn't whole, and may still be within its limit
 abbrev pub WantsHead : List ℕ → Type 0
-WantsHead buf = (0 < length buf) × (length buf < 16384) × NoHead buf
+WantsHead buf = (0 < length buf) × (length buf < HEAD_ROOM) × NoHead buf
 
 -- the head is there, and the body that it announces isn't whole
 pub record WantsBody (buf : List ℕ) : Type 0 where
@@ -24,7 +25,7 @@ pub record WantsBody (buf : List ℕ) : Type 0 where
   pub n : ℕ
   pub begins : BeginsWith buf head
   pub announces : Announces (fields_of head) n
-  pub limit : n ≤ 2101248
+  pub limit : n ≤ BODY_ROOM
   pub short : length buf < length (print_request head) + n
 
 -- the head has a Transfer-Encoding
@@ -45,14 +46,14 @@ pub record IsTooLarge (n : ℕ) (buf : List ℕ) : Type 0 where
   pub head : RequestHead
   pub begins : BeginsWith buf head
   pub announces : Announces (fields_of head) n
-  pub above : 2101248 < n
+  pub above : BODY_ROOM < n
 
 -- what the bytes are where a call answers this fault
 abbrev pub IsFaultOf : MsgFault → List ℕ → Type 0
 IsFaultOf faults.End bytes = bytes ≡ []
 IsFaultOf faults.Cut bytes = WantsHead bytes ⊎ WantsBody bytes
 IsFaultOf faults.BadHead bytes = NeverHead bytes
-IsFaultOf faults.HeadTooLong bytes = (16384 ≤ length bytes) × NoHead bytes
+IsFaultOf faults.HeadTooLong bytes = (HEAD_ROOM ≤ length bytes) × NoHead bytes
 IsFaultOf faults.Coded bytes = IsCoded bytes
 IsFaultOf faults.BadLength bytes = IsUnmeasured bytes
 IsFaultOf (faults.TooLarge n) bytes = IsTooLarge n bytes

@@ -1,9 +1,10 @@
 -- Messages of a client (RFC 9112), over httparse's grammar of heads.
-use Rattle.std.specs.Prelude.{◌≡◌, ◌≤◌, ℕ, List, [], ◌∷◌, ◌++◌, length, map, Option, None, Some, codes}
+use Rattle.std.specs.Prelude.{◌≡◌, ◌≤◌, ℕ, List, [], ◌∷◌, ◌++◌, length, map, None, Some, codes}
 use Rattle.httparse.specs.Grammar.{RequestHead, IsRequestHead, print_request}
 use Rattle.httparse.specs.Spans.{name_and_value}
 use Rattle.ss_http.specs.declared.message.Message.{Message}
 use Rattle.ss_http.specs.Fields.{Line, first_named, announced, ends}
+use Rattle.ss_http.specs.declared.limits.TheConstants.{BODY_ROOM, HEAD_ROOM, MOST_FIELDS}
 
 -- the fields of a head
 abbrev pub fields_of : RequestHead → List Line
@@ -12,8 +13,8 @@ fields_of h = map name_and_value h.fields
 -- a head that a message may begin with: it has at most 64 fields and 16,384 bytes
 pub record IsHead (h : RequestHead) : Type 0 where
   pub grammar : IsRequestHead h
-  pub size : length (print_request h) ≤ 16384
-  pub count : length h.fields ≤ 64
+  pub size : length (print_request h) ≤ HEAD_ROOM
+  pub count : length h.fields ≤ MOST_FIELDS
 
 -- buf begins with such a head
 pub record BeginsWith (buf : List ℕ) (h : RequestHead) : Type 0 where
@@ -37,7 +38,7 @@ pub record ReadsMessage (buf : List ℕ) (m : Message) (rest : List ℕ) : Type 
   pub body : List ℕ
   pub is_head : IsHead head
   pub announces : Announces (fields_of head) (length body)
-  pub limit : length body ≤ 2101248
+  pub limit : length body ≤ BODY_ROOM
   pub bytes : buf ≡ print_request head ++ (body ++ rest)
   pub says : m ≡ message_of head body
 

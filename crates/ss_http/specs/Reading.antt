@@ -1,18 +1,24 @@
 -- What a call that reads a message answers.
-use Rattle.std.specs.Prelude.{◌≡◌, ◌<◌, ℕ, List, [], ◌∷◌, length, Option, None, Some, Result, Ok, Err, ⊤}
+use Rattle.std.specs.Prelude.{◌≡◌, ◌≤◌, ◌<◌, ◌⊎◌, ℕ, List, [], ◌∷◌, length, None, Result, Ok, Err, ⊤}
 use Rattle.ss_outside.specs.Told.{Meanings, IsUsedUp}
 use Rattle.ss_outside.specs.Causes.{Rose}
 use Rattle.ss_http.specs.declared.message.Message.{Message}
 use Rattle.ss_http.specs.declared.fault.MsgFault.{MsgFault}
 use Rattle.ss_http.specs.declared.fault.MsgFault.TheVariants as faults
 use Rattle.ss_http.specs.Buffers.{Kept}
-use Rattle.ss_http.specs.Messages.{ReadsMessage}
+use Rattle.httparse.specs.Grammar.{RequestHead}
+use Rattle.ss_http.specs.Messages.{BeginsWith, ReadsMessage}
+use Rattle.ss_http.specs.declared.limits.TheConstants.{HEAD_ROOM}
 use Rattle.ss_http.specs.Faults.{IsFaultOf, lasting}
 
 -- of the kept and brought bytes the message was the front, and the rest is kept; after a fault all are kept
 abbrev pub Answers : Result Message MsgFault → List ℕ → Kept → Type 0
 Answers (Ok m) bytes kept = ReadsMessage bytes m kept.bytes × (kept.stop ≡ None)
 Answers (Err e) bytes kept = (kept.bytes ≡ bytes) × (kept.stop ≡ lasting e) × IsFaultOf e bytes
+
+-- the bytes decide over a head: one stands whole at their front, or they are as many as a head may have
+abbrev pub IsDecided : List ℕ → Type 0
+IsDecided bytes = ((h : RequestHead) × BeginsWith bytes h) ⊎ (HEAD_ROOM ≤ length bytes)
 
 -- what the kept bytes are where a call that waits for so many answers this fault
 abbrev pub IsShort : MsgFault → ℕ → List ℕ → Type 0

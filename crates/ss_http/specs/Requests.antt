@@ -8,6 +8,7 @@ use Rattle.ss_text.specs.declared.stamps.Cond.{Cond}
 use Rattle.ss_text.specs.declared.stamps.Cond.TheVariants.{Free, IfModified, IfUnmodified}
 use Rattle.ss_http.specs.declared.message.Message.{Message}
 use Rattle.ss_http.specs.Fields.{Line, lines}
+use Rattle.ss_http.specs.declared.limits.TheConstants.{BODY_ROOM, HOST_ROOM, METHOD_ROOM, TARGET_ROOM}
 
 -- the field of a condition
 abbrev pub cond_fields : Cond → List Line
@@ -55,11 +56,11 @@ IsCond (IfUnmodified since) = since ≤ last_stamp
 
 -- parts that make a message: a short method, a target, a host of 1 to 1,030 visible bytes and a body that isn't too large
 pub record IsSendable (method target host : List ℕ) (cond : Cond) (body : Option (List ℕ)) : Type 0 where
-  pub token : (is_token method ≡ true) × (length method ≤ 100)
-  pub target_size : (0 < length target) × (length target ≤ 8000)
+  pub token : (is_token method ≡ true) × (length method ≤ METHOD_ROOM)
+  pub target_size : (0 < length target) × (length target ≤ TARGET_ROOM)
   pub target_bytes : list_all is_uri_byte target ≡ true
   pub target_text : IsUtf8 target
-  pub host_size : (0 < length host) × (length host ≤ 1030)
+  pub host_size : (0 < length host) × (length host ≤ HOST_ROOM)
   pub host_bytes : list_all is_host_byte host ≡ true
   pub stamp : IsCond cond
-  pub size : IfSome body (λ b. length b ≤ 2101248)
+  pub size : IfSome body (λ b. length b ≤ BODY_ROOM)

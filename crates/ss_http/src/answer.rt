@@ -8,15 +8,12 @@ ghost use Rattle.ss_http.specs.Hearing.{size_of};
 ghost use Rattle.ss_http.specs.Listening.{Looks};
 
 use crate::fields::{ends, find};
-use crate::head::HEAD_ROOM;
 use crate::heard::HeardFault;
+use crate::limits::{HEAD_ROOM, HEARD_ROOM, LENGTH_DIGITS, MOST_FIELDS};
 use httparse::Status;
 use httparse::spans::{EMPTY_HEADER_SPAN, HeaderSpan, ResponseSpans, parse_response};
 use ss_text::{Bytes, Stamp, read_number, read_stamp};
 use std::alloc::{AllocError, Global};
-
-/// The longest body, in bytes.
-const BODY_MOST: u64 = 536_870_912;
 
 /// What a head says, and how many bytes its body has.
 #[derive(Drop, Debug)]
@@ -50,7 +47,7 @@ fn size_in(buf: &[u8], headers: &[HeaderSpan], status: u16) -> Option<u64>
         return Some(0);
     }
     match find(buf, headers, "Content-Length") {
-        Some(span) => read_number(span.of(buf), 18),
+        Some(span) => read_number(span.of(buf), LENGTH_DIGITS),
         None => None,
     }
 }
@@ -84,8 +81,8 @@ fn answer_of(
 ) -> Result<Looked, AllocError>
     requires within { IsResponseWithin buf.now headers.now spans }
     requires found { IsResponseOf buf.now headers.now spans }
-    requires room { length buf.now ≤ 16384 }
-    requires count { length headers.now ≤ 64 }
+    requires room { length buf.now ≤ HEAD_ROOM }
+    requires count { length headers.now ≤ MOST_FIELDS }
     ensures { IfOk result (λ looked. Looks looked buf.now) }
 {
     let fields = &headers[..spans.headers];
@@ -96,7 +93,7 @@ fn answer_of(
         Some(size) => size,
         None => return Ok(Looked::Refused(HeardFault::Bad)),
     };
-    if size > BODY_MOST {
+    if size > HEARD_ROOM {
         return Ok(Looked::Refused(HeardFault::TooLarge { n: size }));
     }
     Ok(Looked::Whole(Answer {
@@ -110,10 +107,10 @@ fn answer_of(
 
 /// Looks for a head at the front of the bytes.
 pub fn look(alloc: Global, buf: &[u8]) -> Result<Looked, AllocError>
-    requires { length buf.now ≤ 16384 }
+    requires { length buf.now ≤ HEAD_ROOM }
     ensures { IfOk result (λ looked. Looks looked buf.now) }
 {
-    let mut headers = [EMPTY_HEADER_SPAN; 64];
+    let mut headers = [EMPTY_HEADER_SPAN; MOST_FIELDS];
     match parse_response(buf, &mut headers) {
         Ok(Status::Complete(spans)) => answer_of(alloc, buf, &headers, spans),
         Ok(Status::Partial) => {

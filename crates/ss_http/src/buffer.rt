@@ -4,15 +4,12 @@ ghost use Rattle.std.specs.Prelude.{◌≡◌, ◌≤◌, ◌<◌, ◌+◌, ◌-
 ghost use Rattle.ss_outside.specs.Causes.{RisesOnErr};
 ghost use Rattle.ss_outside.specs.Told.{EndsAt};
 ghost use Rattle.ss_http.specs.Buffers.{Kept, Brings, count_of};
-ghost use Rattle.ss_http.specs.declared.buffer.TheConstants.{ROOM};
 
 use crate::fault::MsgFault;
+use crate::limits::ROOM;
 use ss_outside::{ReadFault, Source};
 use std::alloc::{AllocError, Global};
 use std::marker::Model;
-
-/// The room of a buffer in bytes: that of the longest head and of the longest body.
-pub const ROOM: usize = 2_117_632;
 
 /// Bytes that were read and belong to no message yet, and why no message will come any more, if so.
 #[derive(Drop)]
@@ -26,12 +23,13 @@ pub struct Buffer {
 impl Model for Buffer {
     ghost use Rattle.std.specs.Prelude.{◌≡◌, ◌≤◌, slice_range, length};
     ghost use Rattle.ss_http.specs.Buffers.{Kept};
+    ghost use Rattle.ss_http.specs.declared.limits.TheConstants.{ROOM};
 
     ghost Value = { Kept };
 
     ghost view = { λ buffer. record { bytes = slice_range buffer.bytes.items buffer.start buffer.end; stop = buffer.stop } };
 
-    ghost invariant = { λ buffer. (buffer.start ≤ buffer.end) × (buffer.end ≤ length buffer.bytes.items) × (length buffer.bytes.items ≡ 2117632) };
+    ghost invariant = { λ buffer. (buffer.start ≤ buffer.end) × (buffer.end ≤ length buffer.bytes.items) × (length buffer.bytes.items ≡ ROOM) };
 }
 
 impl Buffer {
@@ -98,7 +96,8 @@ impl Buffer {
     }
 }
 
-/// Moves the bytes from `start` to `end` to the front where no room is left behind them, and answers where they begin.
+/// Moves the bytes from `start` to `end` to the front where no room is left behind them, and answers where they begin. Where they
+/// fit before themselves, no other byte is moved.
 fn pack(bytes: &mut [u8], start: usize, end: usize) -> usize
     requires ordered { start ≤ end }
     requires within { end ≤ length bytes.old }
@@ -110,7 +109,13 @@ fn pack(bytes: &mut [u8], start: usize, end: usize) -> usize
     if end < bytes.len() {
         return start;
     }
-    bytes.rotate_left(start);
+    let kept = end - start;
+    if kept <= start {
+        let (front, back) = bytes.split_at_mut(start);
+        front[..kept].copy_from_slice(&back[..kept]);
+    } else {
+        bytes.rotate_left(start);
+    }
     0
 }
 

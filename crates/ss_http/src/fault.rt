@@ -16,7 +16,7 @@ pub enum MsgFault {
     #[error("the input ended inside a message")]
     Cut,
 
-    /// The bytes begin no head with at most 64 fields, however they go on.
+    /// The bytes begin no head with as many fields as it may have, however they go on.
     #[error("the input goes on with no head of a message")]
     BadHead,
 
@@ -32,7 +32,7 @@ pub enum MsgFault {
     #[error("the length of a message is no number, or there are two")]
     BadLength,
 
-    /// The body would have `n` bytes, more than 2,101,248.
+    /// The body would have `n` bytes, more than a message may have.
     #[error("the body of a message is too large: {n} bytes")]
     TooLarge { n: u64 },
 

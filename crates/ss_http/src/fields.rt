@@ -6,6 +6,7 @@ ghost use Rattle.httparse.specs.Spans.{IsHeaderWithin, IsWithin, header_bytes, s
 ghost use Rattle.ss_text.specs.Numbers.{number_of};
 ghost use Rattle.ss_http.specs.Fields.{agrees, announced, closes, ends, first_named, holds_close, is_close, is_number, same_name, skip_spaces, without_spaces};
 
+use crate::limits::LENGTH_DIGITS;
 use httparse::spans::{HeaderSpan, Span};
 use ss_text::read_number;
 
@@ -31,9 +32,9 @@ pub(crate) fn find(buf: &[u8], headers: &[HeaderSpan], name: &str) -> Option<Spa
 }
 
 fn says(text: &[u8], size: u64) -> bool
-    ensures { result ≡ is_number size (number_of 18 text.now) }
+    ensures { result ≡ is_number size (number_of LENGTH_DIGITS text.now) }
 {
-    match read_number(text, 18) {
+    match read_number(text, LENGTH_DIGITS) {
         None => false,
         Some(number) => number == size,
     }
@@ -68,7 +69,7 @@ pub(crate) fn announced(buf: &[u8], headers: &[HeaderSpan]) -> Option<u64>
         Some(span) => span,
         None => return Some(0),
     };
-    let size = match read_number(span.of(buf), 18) {
+    let size = match read_number(span.of(buf), LENGTH_DIGITS) {
         Some(size) => size,
         None => return None,
     };

@@ -6,17 +6,12 @@ ghost use Rattle.ss_http.specs.Heads.{Finds};
 
 use crate::fault::MsgFault;
 use crate::fields::{announced, ends, find};
+use crate::limits::{BODY_ROOM, HEAD_ROOM, MOST_FIELDS};
 use crate::message::FieldLines;
 use httparse::Status;
 use httparse::spans::{EMPTY_HEADER_SPAN, HeaderSpan, RequestSpans, parse_request};
 use ss_text::Bytes;
 use std::alloc::{AllocError, Global};
-
-/// The longest head, in bytes.
-pub const HEAD_ROOM: usize = 16_384;
-
-/// The longest body, in bytes.
-pub const BODY_ROOM: u64 = 2_101_248;
 
 /// The parts of a head, the number of its bytes and of those of its body.
 #[derive(Drop, Debug)]
@@ -69,8 +64,8 @@ fn head_of(
 ) -> Result<Found, AllocError>
     requires within { IsRequestWithin buf.now headers.now spans }
     requires found { IsRequestOf buf.now headers.now spans }
-    requires room { length buf.now ≤ 16384 }
-    requires count { length headers.now ≤ 64 }
+    requires room { length buf.now ≤ HEAD_ROOM }
+    requires count { length headers.now ≤ MOST_FIELDS }
     ensures { IfOk result (λ found. Finds found buf.now) }
 {
     let fields = &headers[..spans.headers];
@@ -99,7 +94,7 @@ pub fn find_head(alloc: Global, buf: &[u8]) -> Result<Found, AllocError>
     ensures { IfOk result (λ found. Finds found buf.now) }
 {
     let front = &buf[..buf.len().min(HEAD_ROOM)];
-    let mut headers = [EMPTY_HEADER_SPAN; 64];
+    let mut headers = [EMPTY_HEADER_SPAN; MOST_FIELDS];
     match parse_request(front, &mut headers) {
         Ok(Status::Complete(spans)) => head_of(alloc, front, &headers, spans),
         Ok(Status::Partial) => {

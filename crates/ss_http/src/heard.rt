@@ -28,7 +28,7 @@ pub enum HeardFault {
     /// The bytes begin no head within its limits, or one with a `Transfer-Encoding` or without a length.
     Bad,
 
-    /// The body would have `n` bytes, more than 536,870,912.
+    /// The body would have `n` bytes, more than a client reads.
     TooLarge { n: u64 },
 
     /// The source failed.

@@ -9,8 +9,8 @@ ghost use Rattle.ss_http.specs.Hearing.{EndsHearing, Hearing, IsHeardFault, Rise
 ghost use Rattle.ss_http.specs.Listening.{EndsWithout, IsAnswerAt, IsNoLonger, IsShortBody, byte_of};
 
 use crate::answer::{Answer, Looked, look};
-use crate::head::HEAD_ROOM;
 use crate::heard::{Heard, HeardFault};
+use crate::limits::{HEAD_ROOM, HEARD_ROOM};
 use ss_outside::{ReadFault, Source};
 use ss_text::Bytes;
 use std::alloc::Global;
@@ -36,10 +36,10 @@ fn read_byte<S: Source>(source: &mut S) -> Result<Option<u8>, ReadFault>
 /// a time, so that none behind the head is taken.
 fn read_line<S: Source>(head: &mut Vec<u8>, source: &mut S) -> Result<(), HeardFault>
     requires headless { HasNoResponse head.old.items }
-    requires short { length head.old.items < 16384 }
+    requires short { length head.old.items < HEAD_ROOM }
     ensures bytes { Brings head.old.items head.new.items (S.Told.told source.old) (S.Told.told source.new) }
     ensures more { OnOk result (length head.old.items < length head.new.items) }
-    ensures room { length head.new.items ≤ 16384 }
+    ensures room { length head.new.items ≤ HEAD_ROOM }
     ensures whole { OnOk result (IsNoLonger head.new.items) }
     ensures fault { IfErr result (λ e. IsHeardFault e head.new.items) }
     ensures ended { IfErr result (λ e. EndsHearing e (S.Told.told source.new)) }
@@ -131,7 +131,7 @@ fn read_body<S: Source>(
     size: usize,
 ) -> Result<(), HeardFault>
     requires empty { body.old.items ≡ [] }
-    requires limit { size ≤ 536870912 }
+    requires limit { size ≤ HEARD_ROOM }
     ensures bytes { HasRead body.new.items (S.Told.told source.old) (S.Told.told source.new) }
     ensures whole { OnOk result (length body.new.items ≡ size) }
     ensures fault { IfErr result (λ e. IsShortBody e size body.new.items) }

@@ -1,18 +1,19 @@
 //! The next message of a source.
 
 ghost use Rattle.std.specs.Prelude.{◌≡◌, ◌≤◌, ◌<◌, ◌+◌, ℕ, List, ◌++◌, Some, length, IfOk, OnOk, drop, Err, IfErr, IfSome, IfNone, MatchResult};
-ghost use Rattle.httparse.specs.Grammar.{HasNoRequest, RequestHead};
+ghost use Rattle.httparse.specs.Grammar.{HasNoRequest};
 ghost use Rattle.ss_outside.specs.Told.{HasRead};
 ghost use Rattle.ss_http.specs.Buffers.{Brings};
-ghost use Rattle.ss_http.specs.Faults.{IsFaultOf};
+ghost use Rattle.ss_http.specs.Faults.{IsFaultOf, IsRefusal};
 ghost use Rattle.ss_http.specs.Heads.{IsHeadAt};
-ghost use Rattle.ss_http.specs.Reading.{IsShort, EndsWith, RisesWith, Answers, ended_by};
-ghost use Rattle.ss_http.specs.Messages.{BeginsWith, ReadsMessage};
+ghost use Rattle.ss_http.specs.Reading.{IsDecided, IsShort, EndsWith, RisesWith, Answers, ended_by};
+ghost use Rattle.ss_http.specs.Messages.{ReadsMessage};
 ghost use Rattle.ss_http.specs.declared.message.Message.{Message};
 
 use crate::buffer::Buffer;
 use crate::fault::MsgFault;
-use crate::head::{Found, HEAD_ROOM, Head, find_head};
+use crate::head::{Found, Head, find_head};
+use crate::limits::{HEAD_ROOM, ROOM};
 use crate::message::Message;
 use ss_outside::Source;
 use ss_text::Bytes;
@@ -21,7 +22,7 @@ use std::alloc::Global;
 /// Reads until a line end came, or as many bytes are kept as a head may have: before that no head becomes whole.
 fn read_line<S: Source>(buffer: &mut Buffer, source: &mut S) -> Result<(), MsgFault>
     requires headless { HasNoRequest buffer.old.bytes }
-    requires short { length buffer.old.bytes < 16384 }
+    requires short { length buffer.old.bytes < HEAD_ROOM }
     ensures stop { buffer.new.stop ≡ buffer.old.stop }
     ensures bytes { Brings buffer.old.bytes buffer.new.bytes (S.Told.told source.old) (S.Told.told source.new) }
     ensures more { OnOk result (length buffer.old.bytes < length buffer.new.bytes) }
@@ -54,7 +55,7 @@ fn read_head<S: Source>(
     ensures stop { buffer.new.stop ≡ buffer.old.stop }
     ensures bytes { Brings buffer.old.bytes buffer.new.bytes (S.Told.told source.old) (S.Told.told source.new) }
     ensures head { IfOk result (λ head. IsHeadAt buffer.new.bytes head) }
-    ensures ready { (h : RequestHead) → BeginsWith buffer.old.bytes h → (buffer.new ≡ buffer.old) × (S.Told.told source.new ≡ S.Told.told source.old) }
+    ensures ready { IsDecided buffer.old.bytes → (buffer.new ≡ buffer.old) × (S.Told.told source.new ≡ S.Told.told source.old) }
     ensures fault { IfErr result (λ e. IsFaultOf e buffer.new.bytes) }
     ensures ended { IfErr result (λ e. EndsWith e (S.Told.told source.new)) }
     ensures cause { MatchResult result
@@ -77,7 +78,7 @@ fn read_head<S: Source>(
 
 /// Reads until so many bytes are kept.
 fn fill_to<S: Source>(buffer: &mut Buffer, source: &mut S, size: usize) -> Result<(), MsgFault>
-    requires { size ≤ 2117632 }
+    requires { size ≤ ROOM }
     ensures stop { buffer.new.stop ≡ buffer.old.stop }
     ensures bytes { Brings buffer.old.bytes buffer.new.bytes (S.Told.told source.old) (S.Told.told source.new) }
     ensures enough { OnOk result (size ≤ length buffer.new.bytes) }
@@ -111,6 +112,7 @@ fn read_whole<S: Source>(
     ensures bytes { Brings buffer.old.bytes buffer.new.bytes (S.Told.told source.old) (S.Told.told source.new) }
     ensures whole { IfOk result (λ r. (r.1 ≤ length buffer.new.bytes) × ReadsMessage buffer.new.bytes r.0 (drop r.1 buffer.new.bytes)) }
     ensures ready { (m : Message) (rest : List ℕ) → ReadsMessage buffer.old.bytes m rest → S.Told.told source.new ≡ S.Told.told source.old }
+    ensures refused { IfErr result (λ e. IsRefusal e → IsDecided buffer.old.bytes → S.Told.told source.new ≡ S.Told.told source.old) }
     ensures fault { IfErr result (λ e. IsFaultOf e buffer.new.bytes) }
     ensures ended { IfErr result (λ e. EndsWith e (S.Told.told source.new)) }
     ensures cause { MatchResult result
@@ -156,6 +158,9 @@ pub fn read_message<S: Source>(
     // A message that is kept whole is given without a read.
     ensures ready { IfNone buffer.old.stop ((m : Message) (rest : List ℕ) → ReadsMessage buffer.old.bytes m rest
         → S.Told.told source.new ≡ S.Told.told source.old) }
+    // A message whose head is refused is refused without a read where the head is kept whole, or as many bytes are kept as it may have.
+    ensures refused { IfNone buffer.old.stop (IfErr result (λ e. IsRefusal e → IsDecided buffer.old.bytes
+        → S.Told.told source.new ≡ S.Told.told source.old)) }
     ensures ended { IfNone buffer.old.stop (IfErr result (λ e. EndsWith e (S.Told.told source.new))) }
     ensures cause { IfNone buffer.old.stop (MatchResult result
         (λ _. (S.Told.told source.new).read_faults ≡ (S.Told.told source.old).read_faults)

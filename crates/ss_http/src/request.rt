@@ -75,9 +75,8 @@ fn head_lines(
 }
 
 /// Appends a request: its first line, `Host`, the condition's field, the type and length of a body, an empty line and the body.
-/// Without memory for it `out` stays as it was. A server reads it as a message where the method is a token of at most 100
-/// bytes, the target has at most 8,000 and is UTF-8 without blanks, the host 1 to 1,030 visible bytes, and the body at most
-/// 2,101,248.
+/// Without memory for it `out` stays as it was. A server reads it as a message where the method is a token, the
+/// target is UTF-8 without blanks, the host has visible bytes alone, and each and the body are within their limits.
 #[tactic(auto, unfolding(crate::specs::Requests::request_text))]
 pub fn push_request(
     alloc: Global,

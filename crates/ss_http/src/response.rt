@@ -1,6 +1,6 @@
 //! The bytes of a response.
 
-ghost use Rattle.std.specs.Prelude.{◌≡◌, ◌≤◌, ◌+◌, ◌++◌, Some, None, codes, decimal, option_map, if◌then◌else◌, IfOk, OnOk, OnErr, vec_len, vec_capacity};
+ghost use Rattle.std.specs.Prelude.{◌≡◌, ◌++◌, Some, None, codes, decimal, option_map, if◌then◌else◌, IfOk, OnOk, OnErr};
 ghost use Rattle.ss_http.specs.Fields.{field_if, lines};
 ghost use Rattle.ss_http.specs.Responses.{body_fields, fields, head_text, reason_of, response, status_line, type_of};
 ghost use Rattle.ss_text.specs.Time.{stamp_text};
@@ -142,24 +142,19 @@ fn head_lines(alloc: Global, head: &ResponseHead, size: usize) -> Result<Vec<u8>
     Ok(out)
 }
 
-/// Appends the head of a response whose body has this size, and takes the room for the body, which is to be appended next.
-/// Without memory for both `out` stays as it was.
-pub fn push_head(
+/// The response with this head and body. The head is put before the body where that lies, so that a body isn't copied where
+/// there is room behind it.
+pub fn into_response(
     alloc: Global,
-    out: &mut Vec<u8>,
     head: &ResponseHead,
-    size: usize,
-) -> Result<(), AllocError>
-    ensures ok { OnOk result (out.new.items ≡ out.old.items ++ head_text head.now size) }
-    ensures room { OnOk result (vec_len out.new + size ≤ vec_capacity out.new) }
-    ensures err { OnErr result (out.new.items ≡ out.old.items) }
+    mut body: Vec<u8>,
+) -> Result<Vec<u8>, AllocError>
+    ensures { IfOk result (λ bytes. bytes.items ≡ response head.now body.items) }
 {
+    let size = body.len();
     let lines = head_lines(alloc, head, size)?;
-    let Some(room) = lines.len().checked_add(size) else {
-        return Err(AllocError);
-    };
-    out.reserve(room)?;
-    out.extend_from_slice(lines.as_slice())
+    drop(body.splice(..0, lines)?);
+    Ok(body)
 }
 
 /// Appends a response with this head and body. Without memory for it `out` stays as it was.

@@ -1,8 +1,8 @@
 //! Messages and responses over memory.
 
 use crate::{
-    Buffer, Heard, HeardFault, Message, MsgFault, ResponseHead, memory_response,
-    memory_response_len, push_head, push_request, push_response, read_message, read_response,
+    Buffer, Heard, HeardFault, Message, MsgFault, ResponseHead, into_response, memory_response,
+    memory_response_len, push_request, push_response, read_message, read_response,
 };
 use ss_outside::MemSource;
 use ss_text::{Bytes, Cond, Stamp};
@@ -279,9 +279,13 @@ fn responses_are_written_byte_for_byte_and_heard(rt: HostRuntime) -> Result<(), 
     let listed = head_of(rt.alloc(), 200, true)?;
     push_response(rt.alloc(), &mut out, &listed, b"\"a\"\n\"b\"\n")?;
     assert!(rt; out.as_slice() == LISTED.as_bytes());
+    let body = Vec::from_slice(rt.alloc(), b"\"a\"\n\"b\"\n")?;
+    let whole = into_response(rt.alloc(), &listed, body)?;
+    assert!(rt; whole.as_slice() == LISTED.as_bytes());
     let unchanged = head_of(rt.alloc(), 304, false)?;
-    push_head(rt.alloc(), &mut out, &unchanged, 0)?;
-    assert!(rt; out.ends_with(UNCHANGED.as_bytes()));
+    let bare = into_response(rt.alloc(), &unchanged, Vec::new(rt.alloc()))?;
+    assert!(rt; bare.as_slice() == UNCHANGED.as_bytes());
+    out.extend_from_slice(bare.as_slice())?;
     let mut source = source_of_bytes(rt.alloc(), out.as_slice())?;
     let first = read_response(rt.alloc(), &mut source);
     assert!(rt; first.is_ok_and(|heard| says(&heard, 200, b"\"a\"\n\"b\"\n", true)));

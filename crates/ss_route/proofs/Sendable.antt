@@ -22,11 +22,12 @@ use Rattle.ss_route.specs.Sending.{IsSent, IsTyped, IsReadable, IsReadableBatch,
 use Rattle.ss_route.proofs.Composed.{Pair, ArePlainSegments, ArePlainPairs, target_text, target_uri, target_utf8}
 use Rattle.ss_route.proofs.Sent.{bookmarks, configuration, bookmarks_plain, configuration_plain, first_pairs, first_plain, later_pairs, later_plain, first_target, later_target, configuration_target, mode_pairs, mode_plain, mode_target}
 use Rattle.ss_route.proofs.Tokens.{token_short}
+use Rattle.ss_http.specs.declared.limits.TheConstants.{BODY_ROOM, TARGET_ROOM, METHOD_ROOM}
 
 -- ---- the size of a target
 
 abbrev IsTargetSize : List ℕ → Type 0
-IsTargetSize target = (0 < length target) × (length target ≤ 8000)
+IsTargetSize target = (0 < length target) × (length target ≤ TARGET_ROOM)
 
 behind_account : (uid : ℕ) (rest : List ℕ) → uid ≤ 4294967295 → length rest ≤ 7900 → IsTargetSize (account_path uid ++ rest)
 unfolding account_path
@@ -83,8 +84,8 @@ post_size uid records mode cond below readable =
 -- ---- the parts of a request make a message
 
 composed : (method target host : List ℕ) (cond : Cond) (body : Option (List ℕ)) (segments : List (List ℕ)) (pairs : List Pair)
-    → (is_token method ≡ true) × (length method ≤ 100) → target ≡ target_text segments pairs → ArePlainSegments segments → ArePlainPairs pairs → IsTargetSize target
-    → IsHost host → IsCond cond → IfSome body (λ b. length b ≤ 2101248) → IsSendable method target host cond body
+    → (is_token method ≡ true) × (length method ≤ METHOD_ROOM) → target ≡ target_text segments pairs → ArePlainSegments segments → ArePlainPairs pairs → IsTargetSize target
+    → IsHost host → IsCond cond → IfSome body (λ b. length b ≤ BODY_ROOM) → IsSendable method target host cond body
 composed method target host cond body segments pairs name same plain pairs_plain size visible stamp small = record {
   token = name;
   target_size = size;
@@ -96,11 +97,11 @@ composed method target host cond body segments pairs name same plain pairs_plain
   size = small;
 }
 
-get_name : (is_token (codes "GET") ≡ true) × (length (codes "GET") ≤ 100)
+get_name : (is_token (codes "GET") ≡ true) × (length (codes "GET") ≤ METHOD_ROOM)
 unfolding is_token_byte
 get_name = (refl, omega arith)
 
-post_name : (is_token (codes "POST") ≡ true) × (length (codes "POST") ≤ 100)
+post_name : (is_token (codes "POST") ≡ true) × (length (codes "POST") ≤ METHOD_ROOM)
 unfolding is_token_byte
 post_name = (refl, omega arith)
 
@@ -124,7 +125,7 @@ page_sendable uid offset host (IfUnmodified time) below visible at within typed 
     get_name (later_target uid offset time) (bookmarks_plain uid (omega arith)) (later_plain offset (omega arith)) (later_size uid offset time below within) visible typed tt
 
 post_sendable : (uid : ℕ) (host : List ℕ) (records : Records) (mode : Mode) (cond : Cond) → uid ≤ 4294967295 → IsHost host → IsCond cond → IsReadableBatch mode
-    → length (uploads_text records.parts) ≤ 2101248 → Sendable uid host (Post (codes "bookmarks") records mode cond)
+    → length (uploads_text records.parts) ≤ BODY_ROOM → Sendable uid host (Post (codes "bookmarks") records mode cond)
 post_sendable uid host records mode cond below visible typed readable small =
     composed (codes "POST") (target_of uid (Post (codes "bookmarks") records mode cond)) host cond (Some (uploads_text records.parts)) (bookmarks uid) (mode_pairs mode)
     post_name (mode_target uid records mode cond) (bookmarks_plain uid (omega arith)) (mode_plain mode readable) (post_size uid records mode cond below readable) visible typed small

@@ -1,7 +1,8 @@
 -- Numbers and ids of batches, as they are written and read.
-use Rattle.std.proofs.Common.{◌≡◌, ℕ, ◌+◌, ◌*◌, ◌/◌, ◌%◌, ◌^◌, ◌<◌, ◌≤◌, List, [], ◌∷◌, ◌++◌, length, get_or, Bool, true, false, ◌&&◌, ◌||◌, ◌==◌, cond, leb, Option, Some, None, option_and_then, codes, decimal, refl, sym, ap, ap₂, ◌∙◌, arith, lit<, append-nil, le-leb, ne_eqb}
+use Rattle.std.proofs.Common.{◌≡◌, ℕ, ◌+◌, ◌*◌, ◌/◌, ◌%◌, ◌^◌, ◌<◌, ◌≤◌, List, [], ◌∷◌, ◌++◌, length, get_or, Bool, true, false, ◌&&◌, ◌||◌, ◌==◌, cond, leb, eq-eqb, rules, Result, Ok, Err, Option, Some, None, option_and_then, codes, decimal, refl, sym, ap, ap₂, ◌∙◌, arith, lit<, append-nil, le-leb, ne_eqb}
 use Rattle.std.proofs.lemmas.Bool.{and_parts, leb-true}
-use Rattle.std.proofs.lemmas.Fmt.{decimal_is_IsNumeral, decimal_nonempty, length-decimal-le, first_decimal, IsAscii-decimal}
+use Rattle.std.proofs.lemmas.Fmt.{decimal_is_IsNumeral, decimal_nonempty, length-decimal-le, first_decimal, IsAscii-decimal, decimal-digits_value}
+use Rattle.std.proofs.lemmas.Str.Parse.{IsNumeralModel, numerals_by_value, digits_value_short}
 use Rattle.std.proofs.lemmas.List.Sums.{AllPass-from_list_all}
 use Rattle.std.proofs.lemmas.Slice.Eq.{bytes_eq-Decides}
 use Rattle.std.specs.List.{list_all, AllByRecursion}
@@ -11,9 +12,10 @@ use Rattle.std.specs.Result.{result_ok}
 use Rattle.std.specs.Str.Parse.{digits_value}
 use Rattle.base64.specs.Decode.{groups_error, scan_steps, groups_bytes}
 use Rattle.base64.specs.Rfc4648.{encode_symbols}
-use Rattle.base64.specs.GeneralPurpose.{decoded_of}
+use Rattle.base64.specs.GeneralPurpose.{IsBytes, decode_of, decoded_of, encode_of}
+use Rattle.base64.specs.declared.decode.DecodeError.{DecodeError}
 use Rattle.base64.specs.Engines.{url_safe_no_pad}
-use Rattle.base64.proofs.EngineFacts.{decode_of-encode_of}
+use Rattle.base64.proofs.EngineFacts.{decode_of-encode_of, decode_of_strict}
 use Rattle.ss_http.proofs.Values.{decimal_digits}
 use Rattle.ss_text.specs.Numbers.{number_of}
 use Rattle.ss_route.specs.Posts.{token, batch_of}
@@ -108,6 +110,43 @@ batch_back n above below =
     let bytes : (i : ℕ) → get_or (decimal n) i 0 < 256 = λ i. (let ascii = IsAscii-decimal n few i in omega arith) in
     let decoded = decode_of-encode_of url_safe_no_pad (decimal n) refl bytes in
     ap (λ r. option_and_then (positive_of 12) (result_ok r)) decoded ∙ positive_back 12 n (lit< tt) (omega arith) few (omega arith)
+
+own : IsNumeralModel (λ ds. list_all is_ascii_digit ds ≡ true) (digits_value 10)
+own = numerals_by_value (λ ds. list_all is_ascii_digit ds ≡ true) (search rules)
+
+guarded : (b : Bool) (x : Option ℕ) (n : ℕ) → cond b None x ≡ Some n → (b ≡ false) × (x ≡ Some n)
+guarded true x n e = absurd (let f : None ≡ Some n = e in cc)
+guarded false x n e = (refl, e)
+
+chosen : (b : Bool) (v n : ℕ) → cond b (Some v) None ≡ Some n → (b ≡ true) × (v ≡ n)
+chosen true v n e = (refl, (let f : Some v ≡ Some n = e in cc))
+chosen false v n e = absurd (let f : None ≡ Some n = e in cc)
+
+-- digits without a leading zero are those of their number
+digits_again : (digits : List ℕ) (n : ℕ) → positive_of 12 digits ≡ Some n → decimal n ≡ digits
+unfolding positive_of number_of
+digits_again digits n given =
+    let outer = guarded (get_or digits 0 0 == 48) _ n given in
+    let inner = chosen _ (digits_value 10 digits) n outer.1 in
+    let parts = and_parts (leb 1 (length digits) && leb (length digits) 12) (list_all is_ascii_digit digits) inner.0 in
+    let sizes = and_parts (leb 1 (length digits)) (leb (length digits) 12) parts.0 in
+    let some : 1 ≤ length digits = leb-true 1 (length digits) sizes.0 in
+    let few : length digits ≤ 12 = leb-true (length digits) 12 sizes.1 in
+    let small : digits_value 10 digits < 10 ^ 12 = digits_value_short own digits 12 parts.1 few in
+    let unled : get_or digits 0 0 ≡ 48 → length digits ≡ 1 = λ zero. absurd (let t : (get_or digits 0 0 == 48) ≡ true = eq-eqb (get_or digits 0 0) 48 zero in let f = outer.0 in cc) in
+    ap decimal (sym inner.1) ∙ decimal-digits_value own digits parts.1 (omega arith) unled (omega arith)
+
+decoded_again : (text : List ℕ) (n : ℕ) (r : Result (List ℕ) DecodeError) → IsBytes text → decode_of url_safe_no_pad text ≡ r
+    → option_and_then (positive_of 12) (result_ok r) ≡ Some n → text ≡ token n
+unfolding token
+decoded_again text n (Ok digits) bytes is given =
+    decode_of_strict url_safe_no_pad text digits (refl, refl) bytes is ∙ ap (encode_of url_safe_no_pad) (sym (digits_again digits n given))
+decoded_again text n (Err e) bytes is given = absurd (let f : None ≡ Some n = given in cc)
+
+-- the id of a batch is the one text that is given out for its number
+pub batch_canonical : (text : List ℕ) (n : ℕ) → IsBytes text → batch_of text ≡ Some n → text ≡ token n
+unfolding batch_of decoded_of
+batch_canonical text n bytes given = decoded_again text n (decode_of url_safe_no_pad text) bytes refl given
 
 -- `true` is the id of no batch
 true_is_none : batch_of (codes "true") ≡ None

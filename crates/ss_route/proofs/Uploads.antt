@@ -1,15 +1,13 @@
 -- The body that a client writes is read as its parts.
-use Rattle.std.proofs.Common.{◌≡◌, ℕ, ◌+◌, ◌/◌, ◌%◌, ◌<◌, ◌≤◌, List, [], ◌∷◌, ◌++◌, length, map, Bool, true, false, ◌&&◌, ◌==◌, cond, leb, ltb, Option, Some, None, option_map, option_and_then, Ok, Err, codes, is_some, get_or, refl, sym, ap, ap₂, ◌∙◌, subst, arith, lit<, lit≤, append_assoc, append-nil, inl, inr, ◌⊎◌, lt-ltb, le-ltb, ne_eqb}
-use Rattle.std.proofs.lemmas.Bool.{true≢false, cases_eq, cases_lt, and_parts, leb-true}
-use Rattle.std.specs.Char.{digit_char}
+use Rattle.std.proofs.Common.{◌≡◌, ℕ, ◌+◌, ◌<◌, ◌≤◌, List, [], ◌∷◌, ◌++◌, length, map, Bool, true, false, ◌&&◌, ◌==◌, cond, leb, Option, Some, None, option_map, option_and_then, Ok, Err, codes, is_some, get_or, refl, sym, ap, ap₂, ◌∙◌, arith, lit<, lit≤, append_assoc, append-nil, inl, inr, ◌⊎◌, le-ltb}
+use Rattle.std.proofs.lemmas.Bool.{cases_lt, and_parts, leb-true}
 use Rattle.std.specs.List.{flat_map, filter_map, cons_option, list_all, AllPass, join_with_byte, AllByRecursion}
 use Rattle.std.specs.Str.{IsUtf8, is_utf8}
 use Rattle.std.proofs.lemmas.Str.{IsUtf8-append, IsUtf8-from_ascii, is_utf8-from_IsUtf8}
 use Rattle.std.proofs.lemmas.List.{get_or_past}
 use Rattle.std.proofs.lemmas.List.Sums.{AllPass-from_list_all}
 use Rattle.json.proofs.Printed.Utf8.{IsUtf8-are_ascii, IsUtf8-quoted}
-use Rattle.json.specs.Print.{escape_letter, escape_byte, escape, quoted}
-use Rattle.json.proofs.Printed.Strings.{escape_byte_plain}
+use Rattle.json.specs.Print.{escape_byte, quoted}
 use Rattle.json.specs.Print.{print, print_from}
 use Rattle.json.specs.Token.{Token, end_array}
 use Rattle.json.specs.Tree.{json_tokens, items_tokens, ItemsHaveNumbers, items_depth, depth}
@@ -19,10 +17,9 @@ use Rattle.json.proofs.Printed.Tokens.{tokens-print}
 use Rattle.json.proofs.Printed.Trees.{ArePrintable-json_tokens, value-json_tokens}
 use Rattle.serde_json.specs.Read.{read, max_depth, of_json, of_items}
 use Rattle.ss_text.specs.Names.{is_id, is_visible}
-use Rattle.ss_text.specs.Decimals.{pieces, wrapped_piece, wrapped, next_place, is_in_run}
-use Rattle.ss_text.specs.declared.decimals.Place.{Place}
-use Rattle.ss_text.specs.declared.decimals.Place.TheVariants.{Outside, Inside, Escaped}
+use Rattle.ss_text.specs.Decimals.{is_number_byte, outside, pieces, spelled, wrapped_pieces, wrapped}
 use Rattle.ss_text.proofs.Pieces.{at_byte}
+use Rattle.ss_text.proofs.Printed.{quoted_there}
 use Rattle.ss_bso.specs.Bodies.{id_of, records_of_text, records_of, part_of, failed_of, first_fault, or_fault, part_with, failure_with, items_list, json_records}
 use Rattle.ss_bso.specs.Members.{fields_of, payload_of, sortindex_of, ttl_of, parsed, ◌>>=◌}
 use Rattle.ss_bso.specs.declared.bodies.BodyFault.TheVariants.{NoId}
@@ -33,6 +30,7 @@ use Rattle.ss_bso.specs.declared.parts.Reason.TheVariants.{TooLarge}
 use Rattle.serde_json.specs.Data.{Data, string, object, array, put, no_members, Items, item, no_items}
 use Rattle.ss_route.specs.Sending.{IsUpload as SetsPayload, payload_set, upload_text, uploads_text}
 use Rattle.ss_route.specs.Texts.{list_text, json_text}
+use Rattle.ss_bso.specs.declared.limits.TheConstants.{MOST_PAYLOAD}
 
 -- an id and a payload
 record Upload : Type 0 where
@@ -48,107 +46,55 @@ objects_text us = codes "[" ++ join_with_byte 44 (map object_text us) ++ codes "
 record IsUpload (u : Upload) : Type 0 where
   id : is_id u.id ≡ true
   payload : IsUtf8 u.payload
-  size : length u.payload ≤ 2097152
+  size : length u.payload ≤ MOST_PAYLOAD
 
 abbrev part_from : Upload → Part
 part_from u = record { id = u.id; fields = record { payload = Set u.payload; sortindex = Keep; ttl = Keep } }
 
 -- ---- nothing in it is wrapped
 
-abbrev W : Place → List ℕ → List ℕ
-W place text = flat_map wrapped_piece (pieces place text)
+abbrev W : List ℕ → List ℕ
+W text = flat_map spelled (flat_map wrapped_pieces (pieces outside text))
 
-W_byte : (place : Place) (x : ℕ) (xs : List ℕ) → is_in_run place x ≡ false → W place (x ∷ xs) ≡ x ∷ W (next_place place x) xs
-W_byte place x xs e = ap (flat_map wrapped_piece) (at_byte place x xs e)
+W_byte : (x : ℕ) (xs : List ℕ) → (x == 34) ≡ false → is_number_byte x ≡ false → W (x ∷ xs) ≡ x ∷ W xs
+W_byte x xs q n = ap (λ ps. flat_map spelled (flat_map wrapped_pieces ps)) (at_byte x xs q n)
 
-abbrev Steps : List ℕ → Type 0
-Steps bytes = (t : List ℕ) → W Inside (bytes ++ t) ≡ bytes ++ W Inside t
+W_quoted : (s r : List ℕ) → W (quoted s ++ r) ≡ quoted s ++ W r
+W_quoted s r = ap (λ ps. flat_map spelled (flat_map wrapped_pieces ps)) (quoted_there s r)
 
-pair : (l : ℕ) → Steps (92 ∷ l ∷ [])
-pair l t = W_byte Inside 92 (l ∷ t) refl ∙ ap (λ r. 92 ∷ r) (W_byte Escaped l t refl)
-
-plain_byte : (x : ℕ) → (x == 34) ≡ false → (x == 92) ≡ false → (t : List ℕ) → W Inside (x ∷ t) ≡ x ∷ W Inside t
-plain_byte x q b t =
-    W_byte Inside x t refl ∙ ap (λ p. x ∷ W p t) (ap (λ c. cond c Outside (cond (x == 92) Escaped Inside)) q ∙ ap (λ c. cond c Escaped Inside) b)
-
-digit_plain : (d : ℕ) → d < 16 → ((digit_char d == 34) ≡ false) × ((digit_char d == 92) ≡ false)
-digit_plain d h = at (cases_lt d 10)
-  where
-    at : (d < 10) ⊎ (10 ≤ d) → ((digit_char d == 34) ≡ false) × ((digit_char d == 92) ≡ false)
-    at (inl low) =
-        let e : digit_char d ≡ 48 + d = ap (λ b. cond b (48 + d) (87 + d)) (lt-ltb d 10 low) in
-        (ap (λ c. c == 34) e ∙ ne_eqb (48 + d) 34 (λ k. omega arith), ap (λ c. c == 92) e ∙ ne_eqb (48 + d) 92 (λ k. omega arith))
-    at (inr high) =
-        let e : digit_char d ≡ 87 + d = ap (λ b. cond b (48 + d) (87 + d)) (le-ltb d 10 high) in
-        (ap (λ c. c == 34) e ∙ ne_eqb (87 + d) 34 (λ k. omega arith), ap (λ c. c == 92) e ∙ ne_eqb (87 + d) 92 (λ k. omega arith))
-
-unicode : (x : ℕ) → x < 32 → Steps (92 ∷ 117 ∷ 48 ∷ 48 ∷ digit_char (x / 16) ∷ digit_char (x % 16) ∷ [])
-unicode x h t =
-    let a = digit_plain (x / 16) (omega arith) in
-    let b = digit_plain (x % 16) (omega arith) in
-    pair 117 (48 ∷ 48 ∷ digit_char (x / 16) ∷ digit_char (x % 16) ∷ t)
-    ∙ ap (λ r. 92 ∷ 117 ∷ r) (plain_byte 48 refl refl _ ∙ ap (λ r. 48 ∷ r) (plain_byte 48 refl refl _ ∙ ap (λ r. 48 ∷ r)
-    (plain_byte (digit_char (x / 16)) a.0 a.1 _ ∙ ap (λ r. digit_char (x / 16) ∷ r) (plain_byte (digit_char (x % 16)) b.0 b.1 t))))
-
-control : (b c : Bool) (l x : ℕ) → x < 32 → c ≡ true → Steps (cond b (92 ∷ l ∷ []) (cond c (92 ∷ 117 ∷ 48 ∷ 48 ∷ digit_char (x / 16) ∷ digit_char (x % 16) ∷ []) (x ∷ [])))
-control true c l x h e = pair l
-control false true l x h e = unicode x h
-control false false l x h e = absurd (true≢false (sym e))
-
-escape_steps : (x : ℕ) → Steps (escape_byte x)
-unfolding escape_byte
-escape_steps x = go (cases_eq x 34) (cases_eq x 92) (cases_lt x 32)
-  where
-    go : (x ≡ 34) ⊎ (x ≡ 34 → ⊥) → (x ≡ 92) ⊎ (x ≡ 92 → ⊥) → (x < 32) ⊎ (32 ≤ x) → Steps (escape_byte x)
-    go (inl e) b c = subst (λ y. Steps (escape_byte y)) (sym e) (pair 34)
-    go (inr q) (inl e) c = subst (λ y. Steps (escape_byte y)) (sym e) (pair 92)
-    go (inr q) (inr b) (inl c) = control (ltb 0 (escape_letter x)) (ltb x 32) (escape_letter x) x c (lt-ltb x 32 c)
-    go (inr q) (inr b) (inr l) = subst Steps (sym (escape_byte_plain x q b l)) (plain_byte x (ne_eqb x 34 q) (ne_eqb x 92 b))
-
-W_escape : (s r : List ℕ) → W Inside (escape s ++ 34 ∷ r) ≡ escape s ++ 34 ∷ W Outside r
-W_escape [] r = W_byte Inside 34 r refl
-W_escape (x ∷ s) r =
-    ap (W Inside) (append_assoc (escape_byte x) (escape s) (34 ∷ r)) ∙ escape_steps x (escape s ++ 34 ∷ r) ∙ ap (λ t. escape_byte x ++ t) (W_escape s r)
-    ∙ sym (append_assoc (escape_byte x) (escape s) (34 ∷ W Outside r))
-
-W_quoted : (s r : List ℕ) → W Outside (quoted s ++ r) ≡ quoted s ++ W Outside r
-W_quoted s r =
-    ap (λ t. W Outside (34 ∷ t)) (append_assoc (escape s) (34 ∷ []) r) ∙ W_byte Outside 34 (escape s ++ 34 ∷ r) refl ∙ ap (λ t. 34 ∷ t) (W_escape s r)
-    ∙ ap (λ t. 34 ∷ t) (sym (append_assoc (escape s) (34 ∷ []) (W Outside r)))
-
-W_open : (r : List ℕ) → W Outside (codes "{\"id\":" ++ r) ≡ codes "{\"id\":" ++ W Outside r
+W_open : (r : List ℕ) → W (codes "{\"id\":" ++ r) ≡ codes "{\"id\":" ++ W r
 unfolding pieces
 W_open r = refl
 
-W_middle : (r : List ℕ) → W Outside (codes ",\"payload\":" ++ r) ≡ codes ",\"payload\":" ++ W Outside r
+W_middle : (r : List ℕ) → W (codes ",\"payload\":" ++ r) ≡ codes ",\"payload\":" ++ W r
 unfolding pieces
 W_middle r = refl
 
-W_object : (u : Upload) (r : List ℕ) → W Outside (object_text u ++ r) ≡ object_text u ++ W Outside r
+W_object : (u : Upload) (r : List ℕ) → W (object_text u ++ r) ≡ object_text u ++ W r
 W_object u r =
-    ap (W Outside) (regroup (quoted u.id) (quoted u.payload) r)
+    ap W (regroup (quoted u.id) (quoted u.payload) r)
     ∙ W_open _ ∙ ap (λ t. codes "{\"id\":" ++ t) (W_quoted u.id _ ∙ ap (λ t. quoted u.id ++ t) (W_middle _ ∙ ap (λ t. codes ",\"payload\":" ++ t)
-    (W_quoted u.payload _ ∙ ap (λ t. quoted u.payload ++ t) (W_byte Outside 125 r refl))))
-    ∙ sym (regroup (quoted u.id) (quoted u.payload) (W Outside r))
+    (W_quoted u.payload _ ∙ ap (λ t. quoted u.payload ++ t) (W_byte 125 r refl refl))))
+    ∙ sym (regroup (quoted u.id) (quoted u.payload) (W r))
   where
     regroup : (a b t : List ℕ) → (codes "{\"id\":" ++ a ++ codes ",\"payload\":" ++ b ++ codes "}") ++ t ≡ codes "{\"id\":" ++ (a ++ (codes ",\"payload\":" ++ (b ++ (125 ∷ t))))
     regroup a b t = simp append_assoc
 
 -- the objects with commas between, and then r
-W_objects : (us : List Upload) (r : List ℕ) → W Outside (join_with_byte 44 (map object_text us) ++ r) ≡ join_with_byte 44 (map object_text us) ++ W Outside r
+W_objects : (us : List Upload) (r : List ℕ) → W (join_with_byte 44 (map object_text us) ++ r) ≡ join_with_byte 44 (map object_text us) ++ W r
 W_objects [] r = refl
 W_objects (u ∷ []) r = W_object u r
 W_objects (u ∷ v ∷ us) r =
     let rest = join_with_byte 44 (map object_text (v ∷ us)) in
-    ap (W Outside) (append_assoc (object_text u) (44 ∷ rest) r) ∙ W_object u (44 ∷ (rest ++ r))
-    ∙ ap (λ t. object_text u ++ t) (W_byte Outside 44 (rest ++ r) refl ∙ ap (λ t. 44 ∷ t) (W_objects (v ∷ us) r))
-    ∙ sym (append_assoc (object_text u) (44 ∷ rest) (W Outside r))
+    ap W (append_assoc (object_text u) (44 ∷ rest) r) ∙ W_object u (44 ∷ (rest ++ r))
+    ∙ ap (λ t. object_text u ++ t) (W_byte 44 (rest ++ r) refl refl ∙ ap (λ t. 44 ∷ t) (W_objects (v ∷ us) r))
+    ∙ sym (append_assoc (object_text u) (44 ∷ rest) (W r))
 
 nothing_wrapped : (us : List Upload) → wrapped (objects_text us) ≡ objects_text us
 unfolding objects_text pieces
 nothing_wrapped us =
     let objects = join_with_byte 44 (map object_text us) in
-    W_byte Outside 91 (objects ++ 93 ∷ []) refl ∙ ap (λ t. 91 ∷ t) (W_objects us (93 ∷ []) ∙ ap (λ t. objects ++ t) (W_byte Outside 93 [] refl))
+    W_byte 91 (objects ++ 93 ∷ []) refl refl ∙ ap (λ t. 91 ∷ t) (W_objects us (93 ∷ []) ∙ ap (λ t. objects ++ t) (W_byte 93 [] refl refl))
 
 -- ---- what is read
 
@@ -216,7 +162,7 @@ id_again u h = ap (λ b. cond b (Some u.id) None) h.id
 
 fields_again : (u : Upload) → IsUpload u → fields_of (data_of u) ≡ Ok (record { payload = Set u.payload; sortindex = Keep; ttl = Keep })
 unfolding fields_of payload_of sortindex_of ttl_of
-fields_again u h = ap (λ b. cond b (Err TooLarge) (Ok (Set u.payload)) >>= (λ p. Ok (record { payload = p; sortindex = Keep; ttl = Keep }))) (le-ltb 2097152 (length u.payload) h.size)
+fields_again u h = ap (λ b. cond b (Err TooLarge) (Ok (Set u.payload)) >>= (λ p. Ok (record { payload = p; sortindex = Keep; ttl = Keep }))) (le-ltb MOST_PAYLOAD (length u.payload) h.size)
 
 abbrev elements : List Upload → List (Option Data)
 elements us = items_list (datas_of us)
@@ -284,7 +230,7 @@ pub record IsPart (part : Part) : Type 0 where
   pub id : is_id part.id ≡ true
   pub sets : SetsPayload part
   pub payload : IsUtf8 (payload_set part.fields.payload)
-  pub size : length (payload_set part.fields.payload) ≤ 2097152
+  pub size : length (payload_set part.fields.payload) ≤ MOST_PAYLOAD
 
 abbrev upload_of : Part → Upload
 upload_of part = record { id = part.id; payload = payload_set part.fields.payload }

@@ -1,7 +1,6 @@
 pub mod Asking
 pub mod Bodies
 pub mod Conditions
-pub mod Drafts
 pub mod Fields
 pub mod Posts
 pub mod Refusals

@@ -20,6 +20,7 @@ use Rattle.ss_query.specs.declared.requests.Request.TheVariants.{Info, List as L
 use Rattle.ss_query.specs.declared.requests.Sort.TheVariants.{Oldest}
 use Rattle.ss_route.specs.Posts.{token}
 use Rattle.ss_route.specs.Texts.{json_text, list_text}
+use Rattle.ss_http.specs.declared.limits.TheConstants.{BODY_ROOM, HOST_ROOM}
 
 -- the query of a page of 1,000 whole records, the oldest first
 abbrev pub page : ℕ → Query
@@ -53,7 +54,7 @@ IsSent _ = ⊥
 
 -- a host of 1 to 1,030 visible bytes
 abbrev pub IsHost : List ℕ → Type 0
-IsHost host = (0 < length host) × (length host ≤ 1030) × (list_all is_host_byte host ≡ true)
+IsHost host = (0 < length host) × (length host ≤ HOST_ROOM) × (list_all is_host_byte host ≡ true)
 
 abbrev pub method_of : Request → List ℕ
 method_of (Post collection records mode cond) = codes "POST"
@@ -126,5 +127,5 @@ IsTyped _ = ⊤
 
 abbrev pub IsReadable : Request → Type 0
 IsReadable (ListOf collection query cond) = query.offset ≤ 999999999
-IsReadable (Post collection records mode cond) = IsReadableBatch mode × (length (uploads_text records.parts) ≤ 2101248)
+IsReadable (Post collection records mode cond) = IsReadableBatch mode × (length (uploads_text records.parts) ≤ BODY_ROOM)
 IsReadable _ = ⊤

@@ -1,10 +1,13 @@
 -- The texts of bodies (SyncStorage API 1.5): JSON without spaces (RFC 8259).
-use Rattle.std.specs.Prelude.{ℕ, ℤ, ◌*◌, ◌/◌, Bool, List, [], ◌++◌, map, flat_map, Option, Some, None, if◌then◌else◌, codes, decimal}
+use Rattle.std.specs.Prelude.{ℕ, ℤ, ◌*◌, ◌/◌, Bool, List, [], ◌++◌, map, flat_map, ◌∷◌, Option, Some, None, if◌then◌else◌, codes, decimal}
 use Rattle.std.specs.Fmt.{signed_decimal}
 use Rattle.std.specs.List.{join_with_byte}
 use Rattle.serde_json.specs.Data.{string}
 use Rattle.serde_json.specs.Written.{compact_text}
 use Rattle.ss_text.specs.Time.{stamp_text}
+use Rattle.ss_bso.specs.declared.limits.TheConstants.{MOST_POST_RECORDS, MOST_POST_BYTES, MOST_BATCH_RECORDS, MOST_BATCH_BYTES, MOST_PAYLOAD}
+use Rattle.ss_bso.specs.Limits.{most_payload_bytes}
+use Rattle.ss_http.specs.declared.limits.TheConstants.{BODY_ROOM}
 use Rattle.ss_bso.specs.declared.rows.Row.{Row}
 use Rattle.ss_bso.specs.declared.parts.Reason.{Reason}
 use Rattle.ss_bso.specs.declared.parts.Reason.TheVariants as reasons
@@ -93,17 +96,22 @@ word_text words.Stamp = codes "stamp"
 word_text words.Term = codes "term"
 word_text words.Type = codes "type"
 
--- the limits of the server
+-- the limits of the server, by their names in its configuration
+abbrev pub limits : List (List ℕ × ℕ)
+limits =
+    (codes "max_request_bytes", BODY_ROOM) ∷ (codes "max_post_records", MOST_POST_RECORDS) ∷ (codes "max_post_bytes", MOST_POST_BYTES)
+    ∷ (codes "max_total_records", MOST_BATCH_RECORDS) ∷ (codes "max_total_bytes", MOST_BATCH_BYTES) ∷ (codes "max_record_payload_bytes", MOST_PAYLOAD)
+    ∷ []
+
 unfoldable pub limits_text : List ℕ
-limits_text =
-    codes "{\"max_request_bytes\":2101248,\"max_post_records\":100,\"max_post_bytes\":2097152,\"max_total_records\":20000,\"max_total_bytes\":16777216,\"max_record_payload_bytes\":2097152}"
+limits_text = object_text (map (λ limit. member_text limit.0 (decimal limit.1)) limits)
 
 -- a body; the lines are asked of lists alone
 unfoldable pub body_text : Bool → Body → List ℕ
 body_text lines (Times times) = object_text (map (λ entry. member_text entry.0 (stamp_text entry.1)) times)
 body_text lines (Counts counts) = object_text (map (λ entry. member_text entry.0 (decimal entry.1)) counts)
 body_text lines (Usage usage) = object_text (map (λ entry. member_text entry.0 (kilobytes_text entry.1)) usage)
-body_text lines (Quota used) = codes "[" ++ kilobytes_text used ++ codes ",131072.00]"
+body_text lines (Quota used) = codes "[" ++ kilobytes_text used ++ codes "," ++ kilobytes_text most_payload_bytes ++ codes "]"
 body_text lines Limits = limits_text
 body_text lines (Gone time) = codes "{\"modified\":" ++ stamp_text time ++ codes "}"
 body_text lines (Ids ids) = elements_text lines (map json_text ids)

@@ -10,18 +10,13 @@ ghost use Rattle.ss_route.specs.Refusals.{Settles, reason_refusal, fields_refusa
 use crate::cuts::is_same;
 use crate::fields::without_parameters;
 use crate::routed::{Local, Stop, code, said};
+use ss_bso::limits::{MOST_POST_BYTES, MOST_POST_RECORDS};
 use ss_bso::{
     BodyFault, Field, Fields, FieldsFault, Part, Reason, Records, read_fields, read_parts,
 };
 use ss_http::FieldLines;
 use ss_query::Said;
 use std::alloc::Global;
-
-/// The most records of one POST.
-const MOST_RECORDS: usize = 100;
-
-/// The most payload bytes of the records of one POST that didn't fail.
-const MOST_BYTES: usize = 2_097_152;
 
 fn is_coded(fields: &FieldLines) -> bool
     ensures { result ≡ is_coded fields.now }
@@ -111,9 +106,9 @@ fn payload_size(part: &Part) -> usize
 fn are_within(parts: &[Part]) -> bool
     ensures { result ≡ nat_le (part_bytes parts.now) most_post_bytes }
 {
-    let mut room = MOST_BYTES;
+    let mut room = MOST_POST_BYTES;
     for part in parts {
-        let size = payload_size(part);
+        let size = payload_size(part) as u64;
         if size > room {
             return false;
         }
@@ -126,8 +121,9 @@ fn within_limits(records: Records) -> Result<Records, Stop>
     ensures { Settles result (within_limits records) }
 {
     let parts = records.parts.as_slice();
-    let count = records.failed.as_slice().len();
-    if parts.len() <= MOST_RECORDS && count <= MOST_RECORDS - parts.len() && are_within(parts) {
+    let good = parts.len() as u64;
+    let failed = records.failed.as_slice().len() as u64;
+    if good <= MOST_POST_RECORDS && failed <= MOST_POST_RECORDS - good && are_within(parts) {
         Ok(records)
     } else {
         Err(Stop::Refused(code(17)))

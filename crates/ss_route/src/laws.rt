@@ -1,11 +1,13 @@
 //! Laws of the definitions, each on a call that does nothing.
 
-ghost use Rattle.std.specs.Prelude.{◌≡◌, ◌≤◌, ◌++◌, List, ℕ, Bool, false};
+ghost use Rattle.std.specs.Prelude.{◌≡◌, ◌≤◌, ◌++◌, List, ℕ, Bool, false, Some};
+ghost use Rattle.base64.specs.GeneralPurpose.{IsBytes};
 ghost use Rattle.ss_http.specs.Hearing.{Hears};
 ghost use Rattle.ss_http.specs.Messages.{ReadsMessage};
 ghost use Rattle.ss_query.specs.Fit.{IsFitRequest};
 ghost use Rattle.ss_query.specs.declared.replies.Reply.{Reply};
 ghost use Rattle.ss_query.specs.declared.requests.Request.{Request};
+ghost use Rattle.ss_route.specs.Posts.{batch_of, token};
 ghost use Rattle.ss_route.specs.Routing.{routed};
 ghost use Rattle.ss_route.specs.Sending.{IsHost, IsSent, IsTyped, IsReadable, message_of, request_sent};
 ghost use Rattle.ss_route.specs.declared.routed.Routed.TheVariants.{Ask};
@@ -26,4 +28,10 @@ pub fn requests_are_routed()
         → IsReadable request → ReadsMessage (request_sent uid host request ++ rest) (message_of uid host request) rest }
     ensures routed { (uid : ℕ) (host : List ℕ) (request : Request) → 1 ≤ uid → uid ≤ 4294967295 → IsTyped request → IsSent request → IsFitRequest request
         → IsReadable request → routed (message_of uid host request) ≡ Ask uid request false }
+{}
+
+/// The text that is given out as the id of a batch is read as its number, and no other text is.
+pub fn batch_ids_are_given_out()
+    ensures back { (n : ℕ) → 1 ≤ n → n ≤ 999999999999 → batch_of (token n) ≡ Some n }
+    ensures alone { (text : List ℕ) (n : ℕ) → IsBytes text → batch_of text ≡ Some n → text ≡ token n }
 {}

@@ -8,7 +8,6 @@ mod asked;
 mod bodies;
 mod conditions;
 mod cuts;
-mod drafts;
 mod fields;
 mod laws;
 mod methods;
@@ -17,12 +16,13 @@ mod requests;
 mod responses;
 mod routed;
 mod routing;
+mod scalars;
 mod targets;
 #[cfg(test)]
 mod tests;
 mod texts;
 
-pub use laws::{replies_are_heard, requests_are_routed};
+pub use laws::{batch_ids_are_given_out, replies_are_heard, requests_are_routed};
 pub use requests::write_request;
 pub use responses::{heard_of, not_listed, refused, render, render_local};
 pub use routed::{Local, Routed};

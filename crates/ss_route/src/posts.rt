@@ -12,6 +12,7 @@ use crate::routed::{Stop, code, said};
 use crate::targets::read_positive;
 use base64::DecodeAllocError;
 use base64::engine::general_purpose::URL_SAFE_NO_PAD;
+use ss_bso::limits::{MOST_BATCH_BYTES, MOST_BATCH_RECORDS, MOST_POST_BYTES, MOST_POST_RECORDS};
 use ss_http::FieldLines;
 use ss_query::{Mode, Said, read_parameter};
 use ss_text::read_number;
@@ -119,21 +120,21 @@ fn is_within(fields: &FieldLines, name: &str, limit: u64) -> bool
 fn are_readable(fields: &FieldLines, batch: bool) -> bool
     ensures { result ≡ list_all (is_readable fields.now) (sizes batch) }
 {
-    is_readable(fields, "X-Weave-Records", 100)
-        && is_readable(fields, "X-Weave-Bytes", 2_097_152)
+    is_readable(fields, "X-Weave-Records", MOST_POST_RECORDS)
+        && is_readable(fields, "X-Weave-Bytes", MOST_POST_BYTES)
         && (!batch
-            || is_readable(fields, "X-Weave-Total-Records", 20_000)
-                && is_readable(fields, "X-Weave-Total-Bytes", 16_777_216))
+            || is_readable(fields, "X-Weave-Total-Records", MOST_BATCH_RECORDS)
+                && is_readable(fields, "X-Weave-Total-Bytes", MOST_BATCH_BYTES))
 }
 
 fn are_within(fields: &FieldLines, batch: bool) -> bool
     ensures { result ≡ list_all (is_within fields.now) (sizes batch) }
 {
-    is_within(fields, "X-Weave-Records", 100)
-        && is_within(fields, "X-Weave-Bytes", 2_097_152)
+    is_within(fields, "X-Weave-Records", MOST_POST_RECORDS)
+        && is_within(fields, "X-Weave-Bytes", MOST_POST_BYTES)
         && (!batch
-            || is_within(fields, "X-Weave-Total-Records", 20_000)
-                && is_within(fields, "X-Weave-Total-Bytes", 16_777_216))
+            || is_within(fields, "X-Weave-Total-Records", MOST_BATCH_RECORDS)
+                && is_within(fields, "X-Weave-Total-Bytes", MOST_BATCH_BYTES))
 }
 
 /// The sizes that a POST announces; those of the whole batch count where one is named.

@@ -3,11 +3,10 @@
 ghost use Rattle.std.specs.Prelude.{◌≡◌, ◌++◌, IfOk, OnOk, option_map, codes, decimal, string_bytes};
 ghost use Rattle.ss_query.specs.Fit.{IsFitRequest};
 ghost use Rattle.ss_query.specs.Refused.{condition_of};
-ghost use Rattle.ss_route.specs.Drafts.{append};
 ghost use Rattle.ss_route.specs.Posts.{token};
 ghost use Rattle.ss_route.specs.Sending.{IsSent, IsHost, method_of, account_path, offset_text, mode_text, target_of, payload_set, upload_text, uploads_text, body_sent, request_sent};
 
-use crate::drafts::Draft;
+use crate::scalars::{put, put_json};
 use crate::texts::{Element, put_list, token};
 use ss_bso::{Field, Part, Parts};
 use ss_http::push_request;
@@ -28,23 +27,22 @@ impl Element for Part {
     ghost text = { upload_text };
 
     #[tactic(auto, using(crate::proofs::Appending::append_append), unfolding(crate::specs::Sending::upload_text))]
-    fn write(&self, out: &mut Draft) -> Result<(), AllocError> {
-        out.put(b"{\"id\":")?;
-        out.put_json(self.id.as_str())?;
-        out.put(b",\"payload\":")?;
-        out.put_json(payload_set(&self.fields.payload))?;
-        out.put(b"}")
+    fn write(&self, out: &mut Vec<u8>) -> Result<(), AllocError> {
+        put(out, b"{\"id\":")?;
+        put_json(out, self.id.as_str())?;
+        put(out, b",\"payload\":")?;
+        put_json(out, payload_set(&self.fields.payload))?;
+        put(out, b"}")
     }
 }
 
 /// The body of a POST.
-#[tactic(auto, unfolding(crate::specs::Drafts::append))]
 fn uploads_text(alloc: Global, parts: &Parts) -> Result<Vec<u8>, AllocError>
     ensures { IfOk result (λ text. text.items ≡ uploads_text parts.now) }
 {
-    let mut out = Draft::behind(Vec::new(alloc));
+    let mut out = Vec::new(alloc);
     put_list(&mut out, parts.as_slice())?;
-    Ok(out.into_bytes(alloc))
+    Ok(out)
 }
 
 /// Where the targets of an account begin.

@@ -1,15 +1,13 @@
 //! Responses.
 
-ghost use Rattle.std.specs.Prelude.{◌≡◌, length, IfOk, OnOk, option_map, decimal};
+ghost use Rattle.std.specs.Prelude.{◌≡◌, ◌++◌, IfOk, OnOk, option_map, decimal};
 ghost use Rattle.ss_http.specs.Responses.{response};
-ghost use Rattle.ss_route.specs.Drafts.{append};
 ghost use Rattle.ss_route.specs.Wire.{is_list, content, head_of, wire, local_head, local_wire, heard_of, not_listed, refusal_of};
 
-use crate::drafts::Draft;
 use crate::routed::{Local, said};
 use crate::texts::put_body;
 use itoa::Buffer;
-use ss_http::{Heard, MsgFault, ResponseHead, push_head};
+use ss_http::{Heard, MsgFault, ResponseHead, into_response};
 use ss_query::{Body, Reply, Said};
 use ss_text::{Bytes, Stamp};
 use std::alloc::{AllocError, Global};
@@ -21,15 +19,14 @@ fn is_list(body: &Body) -> bool
 }
 
 /// The body of a response with this status; a 304 has none.
-#[tactic(auto, using(crate::proofs::Appending::append_empty))]
 fn put_content(
     alloc: Global,
-    out: &mut Draft,
+    out: &mut Vec<u8>,
     status: u16,
     newlines: bool,
     body: &Body,
 ) -> Result<(), AllocError>
-    ensures { OnOk result (out.new ≡ append out.old (content status newlines body.now)) }
+    ensures { OnOk result (out.new.items ≡ out.old.items ++ (content status newlines body.now)) }
 {
     if status == 304 {
         return Ok(());
@@ -37,23 +34,21 @@ fn put_content(
     put_body(alloc, out, newlines, body)
 }
 
-/// The length of the body of a response.
-#[tactic(auto, unfolding(crate::specs::Drafts::append))]
-fn content_size(
+/// The body of a response with this status.
+fn content_of(
     alloc: Global,
     status: u16,
     newlines: bool,
     body: &Body,
-) -> Result<usize, AllocError>
-    ensures { IfOk result (λ size. size ≡ length (content status newlines body.now)) }
+) -> Result<Vec<u8>, AllocError>
+    ensures { IfOk result (λ bytes. bytes.items ≡ content status newlines body.now) }
 {
-    let mut out = Draft::measured();
+    let mut out = Vec::new(alloc);
     put_content(alloc, &mut out, status, newlines, body)?;
-    Ok(out.size())
+    Ok(out)
 }
 
-/// The response with this head; its body is written once, behind the head.
-#[tactic(auto, unfolding(crate::specs::Drafts::append))]
+/// The response with this head. Its body is written first, once, so that the head can say how long it is.
 fn respond(
     alloc: Global,
     head: &ResponseHead,
@@ -62,12 +57,8 @@ fn respond(
 ) -> Result<Vec<u8>, AllocError>
     ensures { IfOk result (λ bytes. bytes.items ≡ response head.now (content head.now.status newlines body.now)) }
 {
-    let size = content_size(alloc, head.status, newlines, body)?;
-    let mut bytes = Vec::new(alloc);
-    push_head(alloc, &mut bytes, head, size)?;
-    let mut out = Draft::behind(bytes);
-    put_content(alloc, &mut out, head.status, newlines, body)?;
-    Ok(out.into_bytes(alloc))
+    let content = content_of(alloc, head.status, newlines, body)?;
+    into_response(alloc, head, content)
 }
 
 fn head_of(reply: &Reply, newlines: bool, last: bool) -> ResponseHead
@@ -160,7 +151,6 @@ fn text_of(alloc: Global, number: Option<u64>) -> Result<Option<Bytes>, AllocErr
 }
 
 /// What a client hears of a reply.
-#[tactic(auto, unfolding(crate::specs::Drafts::append))]
 pub fn heard_of(
     alloc: Global,
     reply: &Reply,
@@ -169,13 +159,12 @@ pub fn heard_of(
 ) -> Result<Heard, AllocError>
     ensures { IfOk result (λ heard. heard ≡ heard_of reply.now newlines last) }
 {
-    let mut out = Draft::behind(Vec::new(alloc));
-    put_content(alloc, &mut out, reply.status, newlines, &reply.body)?;
+    let content = content_of(alloc, reply.status, newlines, &reply.body)?;
     Ok(Heard {
         status: reply.status,
         modified: reply.modified,
         next: text_of(alloc, reply.next)?,
-        body: Bytes::new(out.into_bytes(alloc)),
+        body: Bytes::new(content),
         last,
     })
 }

@@ -4,31 +4,36 @@ ghost use Rattle.std.specs.Prelude.{◌≡◌, ◌++◌, List, ℕ, OnOk, IfOk, 
 ghost use Rattle.std.specs.Fmt.{signed_decimal};
 ghost use Rattle.std.specs.List.{join_with_byte};
 ghost use Rattle.ss_text.specs.Time.{stamp_text};
-ghost use Rattle.ss_route.specs.Drafts.{append};
+ghost use Rattle.ss_bso.specs.Limits.{most_payload_bytes};
 ghost use Rattle.ss_route.specs.Posts.{token};
 ghost use Rattle.ss_route.specs.Texts.{json_text, list_text, object_text, lines_text, elements_text, member_text, sortindex_text, row_text, kilobytes_text, reason_name, failure_text, records_text, word_text, limits_text, body_text};
 
-use crate::drafts::Draft;
+use crate::scalars::{put, put_json, put_kilobytes, put_number, put_signed};
 use base64::engine::general_purpose::URL_SAFE_NO_PAD;
 use itoa::Buffer;
+use ss_bso::limits::{
+    MOST_BATCH_BYTES, MOST_BATCH_RECORDS, MOST_PAYLOAD, MOST_PAYLOAD_BYTES, MOST_POST_BYTES,
+    MOST_POST_RECORDS,
+};
 use ss_bso::{Failures, Reason, Row};
+use ss_http::limits::BODY_ROOM;
 use ss_query::{Body, Said};
-use ss_text::{Id, Ids, Name, Stamp};
+use ss_text::{Id, Ids, Name, Stamp, push_stamp};
 use std::alloc::{AllocError, Global};
 
 /// What is written as an element of a list or a member of an object.
 pub trait Element {
     ghost text: { Self → List ℕ };
 
-    fn write(&self, out: &mut Draft) -> Result<(), AllocError>
-        ensures { OnOk result (out.new ≡ append out.old (text self.now)) };
+    fn write(&self, out: &mut Vec<u8>) -> Result<(), AllocError>
+        ensures { OnOk result (out.new.items ≡ out.old.items ++ (text self.now)) };
 }
 
 impl Element for Id {
     ghost text = { json_text };
 
-    fn write(&self, out: &mut Draft) -> Result<(), AllocError> {
-        out.put_json(self.as_str())
+    fn write(&self, out: &mut Vec<u8>) -> Result<(), AllocError> {
+        put_json(out, self.as_str())
     }
 }
 
@@ -36,15 +41,15 @@ impl Element for Row {
     ghost text = { row_text };
 
     #[tactic(auto, using(crate::proofs::Appending::append_append), unfolding(crate::specs::Texts::row_text))]
-    fn write(&self, out: &mut Draft) -> Result<(), AllocError> {
-        out.put(b"{\"id\":")?;
-        out.put_json(self.id.as_str())?;
-        out.put(b",\"modified\":")?;
-        out.put_stamp(self.modified)?;
-        out.put(b",\"payload\":")?;
-        out.put_json(self.payload.as_str())?;
+    fn write(&self, out: &mut Vec<u8>) -> Result<(), AllocError> {
+        put(out, b"{\"id\":")?;
+        put_json(out, self.id.as_str())?;
+        put(out, b",\"modified\":")?;
+        push_stamp(out, self.modified)?;
+        put(out, b",\"payload\":")?;
+        put_json(out, self.payload.as_str())?;
         put_sortindex(out, self.sortindex)?;
-        out.put(b"}")
+        put(out, b"}")
     }
 }
 
@@ -52,10 +57,10 @@ impl Element for (Name, Stamp) {
     ghost text = { λ entry. member_text entry.0 (stamp_text entry.1) };
 
     #[tactic(auto, using(crate::proofs::Appending::append_append), unfolding(crate::specs::Texts::member_text))]
-    fn write(&self, out: &mut Draft) -> Result<(), AllocError> {
-        out.put_json(self.0.as_str())?;
-        out.put(b":")?;
-        out.put_stamp(self.1)
+    fn write(&self, out: &mut Vec<u8>) -> Result<(), AllocError> {
+        put_json(out, self.0.as_str())?;
+        put(out, b":")?;
+        push_stamp(out, self.1)
     }
 }
 
@@ -63,10 +68,10 @@ impl Element for (Name, u64) {
     ghost text = { λ entry. member_text entry.0 (decimal entry.1) };
 
     #[tactic(auto, using(crate::proofs::Appending::append_append), unfolding(crate::specs::Texts::member_text))]
-    fn write(&self, out: &mut Draft) -> Result<(), AllocError> {
-        out.put_json(self.0.as_str())?;
-        out.put(b":")?;
-        out.put_number(self.1)
+    fn write(&self, out: &mut Vec<u8>) -> Result<(), AllocError> {
+        put_json(out, self.0.as_str())?;
+        put(out, b":")?;
+        put_number(out, self.1)
     }
 }
 
@@ -74,9 +79,9 @@ impl Element for (Id, Reason) {
     ghost text = { failure_text };
 
     #[tactic(auto, using(crate::proofs::Appending::append_append), unfolding(crate::specs::Texts::member_text))]
-    fn write(&self, out: &mut Draft) -> Result<(), AllocError> {
-        out.put_json(self.0.as_str())?;
-        out.put(b":")?;
+    fn write(&self, out: &mut Vec<u8>) -> Result<(), AllocError> {
+        put_json(out, self.0.as_str())?;
+        put(out, b":")?;
         put_reason(out, self.1)
     }
 }
@@ -94,25 +99,25 @@ fn name_of(reason: Reason) -> &'static str
 
 /// The reason of a failure, as the one string of a list.
 #[tactic(auto, using(crate::proofs::Appending::append_append))]
-fn put_reason(out: &mut Draft, reason: Reason) -> Result<(), AllocError>
-    ensures { OnOk result (out.new ≡ append out.old (codes "[\"" ++ reason_name reason ++ codes "\"]")) }
+fn put_reason(out: &mut Vec<u8>, reason: Reason) -> Result<(), AllocError>
+    ensures { OnOk result (out.new.items ≡ out.old.items ++ (codes "[\"" ++ reason_name reason ++ codes "\"]")) }
 {
-    out.put(b"[\"")?;
-    out.put(name_of(reason).as_bytes())?;
-    out.put(b"\"]")
+    put(out, b"[\"")?;
+    put(out, name_of(reason).as_bytes())?;
+    put(out, b"\"]")
 }
 
 #[tactic(auto, using(crate::proofs::Appending::append_append))]
-fn put_index(out: &mut Draft, index: i32) -> Result<(), AllocError>
-    ensures { OnOk result (out.new ≡ append out.old (codes ",\"sortindex\":" ++ signed_decimal index)) }
+fn put_index(out: &mut Vec<u8>, index: i32) -> Result<(), AllocError>
+    ensures { OnOk result (out.new.items ≡ out.old.items ++ (codes ",\"sortindex\":" ++ signed_decimal index)) }
 {
-    out.put(b",\"sortindex\":")?;
-    out.put_signed(index)
+    put(out, b",\"sortindex\":")?;
+    put_signed(out, index)
 }
 
-#[tactic(auto, using(crate::proofs::Appending::append_empty), unfolding(crate::specs::Texts::sortindex_text))]
-fn put_sortindex(out: &mut Draft, sortindex: Option<i32>) -> Result<(), AllocError>
-    ensures { OnOk result (out.new ≡ append out.old (sortindex_text sortindex)) }
+#[tactic(auto, unfolding(crate::specs::Texts::sortindex_text))]
+fn put_sortindex(out: &mut Vec<u8>, sortindex: Option<i32>) -> Result<(), AllocError>
+    ensures { OnOk result (out.new.items ≡ out.old.items ++ (sortindex_text sortindex)) }
 {
     match sortindex {
         Some(index) => put_index(out, index),
@@ -121,21 +126,21 @@ fn put_sortindex(out: &mut Draft, sortindex: Option<i32>) -> Result<(), AllocErr
 }
 
 /// Texts with a comma before each.
-#[tactic(auto, using(crate::proofs::Appending::append_append, crate::proofs::Appending::append_empty))]
-fn put_tail<E: Element>(out: &mut Draft, elements: &[E]) -> Result<(), AllocError>
-    ensures { OnOk result (out.new ≡ append out.old (flat_map (λ element. codes "," ++ E.text element) elements.now)) }
+#[tactic(auto, using(crate::proofs::Appending::append_append))]
+fn put_tail<E: Element>(out: &mut Vec<u8>, elements: &[E]) -> Result<(), AllocError>
+    ensures { OnOk result (out.new.items ≡ out.old.items ++ (flat_map (λ element. codes "," ++ E.text element) elements.now)) }
 {
     for element in elements {
-        out.put(b",")?;
+        put(out, b",")?;
         element.write(out)?;
     }
     Ok(())
 }
 
 /// Texts between commas.
-#[tactic(auto, using(crate::proofs::Appending::append_append, crate::proofs::Appending::append_empty))]
-fn put_joined<E: Element>(out: &mut Draft, elements: &[E]) -> Result<(), AllocError>
-    ensures { OnOk result (out.new ≡ append out.old (join_with_byte 0x2c (map E.text elements.now))) }
+#[tactic(auto, using(crate::proofs::Appending::append_append))]
+fn put_joined<E: Element>(out: &mut Vec<u8>, elements: &[E]) -> Result<(), AllocError>
+    ensures { OnOk result (out.new.items ≡ out.old.items ++ (join_with_byte 0x2c (map E.text elements.now))) }
 {
     match elements {
         [] => Ok(()),
@@ -147,40 +152,44 @@ fn put_joined<E: Element>(out: &mut Draft, elements: &[E]) -> Result<(), AllocEr
 }
 
 /// Texts with a newline behind each.
-#[tactic(auto, using(crate::proofs::Appending::append_append, crate::proofs::Appending::append_empty), unfolding(crate::specs::Texts::lines_text))]
-fn put_lines<E: Element>(out: &mut Draft, elements: &[E]) -> Result<(), AllocError>
-    ensures { OnOk result (out.new ≡ append out.old (lines_text (map E.text elements.now))) }
+#[tactic(auto, using(crate::proofs::Appending::append_append), unfolding(crate::specs::Texts::lines_text))]
+fn put_lines<E: Element>(out: &mut Vec<u8>, elements: &[E]) -> Result<(), AllocError>
+    ensures { OnOk result (out.new.items ≡ out.old.items ++ (lines_text (map E.text elements.now))) }
 {
     for element in elements {
         element.write(out)?;
-        out.put(b"\n")?;
+        put(out, b"\n")?;
     }
     Ok(())
 }
 
 /// A list.
 #[tactic(auto, using(crate::proofs::Appending::append_append), unfolding(crate::specs::Texts::list_text))]
-pub fn put_list<E: Element>(out: &mut Draft, elements: &[E]) -> Result<(), AllocError>
-    ensures { OnOk result (out.new ≡ append out.old (list_text (map E.text elements.now))) }
+pub fn put_list<E: Element>(out: &mut Vec<u8>, elements: &[E]) -> Result<(), AllocError>
+    ensures { OnOk result (out.new.items ≡ out.old.items ++ (list_text (map E.text elements.now))) }
 {
-    out.put(b"[")?;
+    put(out, b"[")?;
     put_joined(out, elements)?;
-    out.put(b"]")
+    put(out, b"]")
 }
 
 /// An object.
 #[tactic(auto, using(crate::proofs::Appending::append_append), unfolding(crate::specs::Texts::object_text))]
-fn put_object<E: Element>(out: &mut Draft, members: &[E]) -> Result<(), AllocError>
-    ensures { OnOk result (out.new ≡ append out.old (object_text (map E.text members.now))) }
+fn put_object<E: Element>(out: &mut Vec<u8>, members: &[E]) -> Result<(), AllocError>
+    ensures { OnOk result (out.new.items ≡ out.old.items ++ (object_text (map E.text members.now))) }
 {
-    out.put(b"{")?;
+    put(out, b"{")?;
     put_joined(out, members)?;
-    out.put(b"}")
+    put(out, b"}")
 }
 
 /// A list in the form that is asked for.
-fn put_elements<E: Element>(out: &mut Draft, lines: bool, elements: &[E]) -> Result<(), AllocError>
-    ensures { OnOk result (out.new ≡ append out.old (elements_text lines (map E.text elements.now))) }
+fn put_elements<E: Element>(
+    out: &mut Vec<u8>,
+    lines: bool,
+    elements: &[E],
+) -> Result<(), AllocError>
+    ensures { OnOk result (out.new.items ≡ out.old.items ++ (elements_text lines (map E.text elements.now))) }
 {
     if lines {
         put_lines(out, elements)
@@ -199,10 +208,10 @@ impl Element for InKilobytes<'_> {
     ghost text = { λ member. member_text member.entry.now.0 (kilobytes_text member.entry.now.1) };
 
     #[tactic(auto, using(crate::proofs::Appending::append_append), unfolding(crate::specs::Texts::member_text))]
-    fn write(&self, out: &mut Draft) -> Result<(), AllocError> {
-        out.put_json(self.entry.0.as_str())?;
-        out.put(b":")?;
-        out.put_kilobytes(self.entry.1)
+    fn write(&self, out: &mut Vec<u8>) -> Result<(), AllocError> {
+        put_json(out, self.entry.0.as_str())?;
+        put(out, b":")?;
+        put_kilobytes(out, self.entry.1)
     }
 }
 
@@ -217,46 +226,91 @@ fn in_kilobytes(alloc: Global, usage: &[(Name, u64)]) -> Result<Vec<InKilobytes<
     Ok(members)
 }
 
-fn put_usage(alloc: Global, out: &mut Draft, usage: &[(Name, u64)]) -> Result<(), AllocError>
-    ensures { OnOk result (out.new ≡ append out.old (object_text (map (λ entry. member_text entry.0 (kilobytes_text entry.1)) usage.now))) }
+fn put_usage(alloc: Global, out: &mut Vec<u8>, usage: &[(Name, u64)]) -> Result<(), AllocError>
+    ensures { OnOk result (out.new.items ≡ out.old.items ++ (object_text (map (λ entry. member_text entry.0 (kilobytes_text entry.1)) usage.now))) }
 {
     let members = in_kilobytes(alloc, usage)?;
     put_object(out, members.as_slice())
 }
 
 #[tactic(auto, using(crate::proofs::Appending::append_append))]
-fn put_quota(out: &mut Draft, used: u64) -> Result<(), AllocError>
-    ensures { OnOk result (out.new ≡ append out.old (codes "[" ++ kilobytes_text used ++ codes ",131072.00]")) }
+fn put_quota(out: &mut Vec<u8>, used: u64) -> Result<(), AllocError>
+    ensures { OnOk result (out.new.items ≡ out.old.items ++ (codes "[" ++ kilobytes_text used ++ codes "," ++ kilobytes_text most_payload_bytes ++ codes "]")) }
 {
-    out.put(b"[")?;
-    out.put_kilobytes(used)?;
-    out.put(b",131072.00]")
+    put(out, b"[")?;
+    put_kilobytes(out, used)?;
+    put(out, b",")?;
+    put_kilobytes(out, MOST_PAYLOAD_BYTES)?;
+    put(out, b"]")
+}
+
+/// A limit of the server, by its name in the configuration.
+struct Limit {
+    name: &'static str,
+    most: u64,
+}
+
+impl Element for Limit {
+    ghost text = { λ limit. member_text limit.name.now (decimal limit.most) };
+
+    #[tactic(auto, using(crate::proofs::Appending::append_append), unfolding(crate::specs::Texts::member_text))]
+    fn write(&self, out: &mut Vec<u8>) -> Result<(), AllocError> {
+        put_json(out, self.name)?;
+        put(out, b":")?;
+        put_number(out, self.most)
+    }
 }
 
 #[tactic(auto, unfolding(crate::specs::Texts::limits_text))]
-fn put_limits(out: &mut Draft) -> Result<(), AllocError>
-    ensures { OnOk result (out.new ≡ append out.old limits_text) }
+fn put_limits(out: &mut Vec<u8>) -> Result<(), AllocError>
+    ensures { OnOk result (out.new.items ≡ out.old.items ++ limits_text) }
 {
-    out.put(
-        b"{\"max_request_bytes\":2101248,\"max_post_records\":100,\"max_post_bytes\":2097152,\"max_total_records\":20000,\"max_total_bytes\":16777216,\"max_record_payload_bytes\":2097152}",
+    put_object(
+        out,
+        &[
+            Limit {
+                name: "max_request_bytes",
+                most: BODY_ROOM,
+            },
+            Limit {
+                name: "max_post_records",
+                most: MOST_POST_RECORDS,
+            },
+            Limit {
+                name: "max_post_bytes",
+                most: MOST_POST_BYTES,
+            },
+            Limit {
+                name: "max_total_records",
+                most: MOST_BATCH_RECORDS,
+            },
+            Limit {
+                name: "max_total_bytes",
+                most: MOST_BATCH_BYTES,
+            },
+            Limit {
+                name: "max_record_payload_bytes",
+                most: MOST_PAYLOAD as u64,
+            },
+        ],
     )
 }
 
 /// What is told of a deletion, and the beginning of what a POST is told.
 #[tactic(auto, using(crate::proofs::Appending::append_append))]
-fn put_modified(out: &mut Draft, time: Stamp) -> Result<(), AllocError>
-    ensures { OnOk result (out.new ≡ append out.old (codes "{\"modified\":" ++ stamp_text time)) }
+fn put_modified(out: &mut Vec<u8>, time: Stamp) -> Result<(), AllocError>
+    ensures { OnOk result (out.new.items ≡ out.old.items ++ (codes "{\"modified\":" ++ stamp_text time)) }
 {
-    out.put(b"{\"modified\":")?;
-    out.put_stamp(time)
+    put(out, b"{\"modified\":")?;
+    push_stamp(out, time)
 }
 
 #[tactic(auto, using(crate::proofs::Appending::append_append))]
-fn put_gone(out: &mut Draft, time: Stamp) -> Result<(), AllocError>
-    ensures { OnOk result (out.new ≡ append out.old (codes "{\"modified\":" ++ stamp_text time ++ codes "}")) }
+fn put_gone(out: &mut Vec<u8>, time: Stamp) -> Result<(), AllocError>
+    ensures { OnOk result (out.new.items ≡ out.old.items ++ (codes "{\"modified\":" ++ stamp_text time ++ codes "}")) }
 {
     put_modified(out, time)?;
-    out.put(b"}")
+    put(out, b"}")
 }
 
 /// The id of a batch.
@@ -270,35 +324,35 @@ pub fn token(alloc: Global, batch: u64) -> Result<String, AllocError>
 
 /// The beginning of what a POST to a batch is told.
 #[tactic(auto, using(crate::proofs::Appending::append_append))]
-fn put_batch(alloc: Global, out: &mut Draft, batch: u64) -> Result<(), AllocError>
-    ensures { OnOk result (out.new ≡ append out.old (codes "{\"batch\":\"" ++ token batch ++ codes "\"")) }
+fn put_batch(alloc: Global, out: &mut Vec<u8>, batch: u64) -> Result<(), AllocError>
+    ensures { OnOk result (out.new.items ≡ out.old.items ++ (codes "{\"batch\":\"" ++ token batch ++ codes "\"")) }
 {
     let token = token(alloc, batch)?;
-    out.put(b"{\"batch\":\"")?;
-    out.put(token.as_str().as_bytes())?;
-    out.put(b"\"")
+    put(out, b"{\"batch\":\"")?;
+    put(out, token.as_str().as_bytes())?;
+    put(out, b"\"")
 }
 
 /// What a POST is told of its records.
 #[tactic(auto, using(crate::proofs::Appending::append_append), unfolding(crate::specs::Texts::records_text))]
-fn put_records(out: &mut Draft, success: &Ids, failed: &Failures) -> Result<(), AllocError>
-    ensures { OnOk result (out.new ≡ append out.old (records_text success.now failed.now)) }
+fn put_records(out: &mut Vec<u8>, success: &Ids, failed: &Failures) -> Result<(), AllocError>
+    ensures { OnOk result (out.new.items ≡ out.old.items ++ (records_text success.now failed.now)) }
 {
-    out.put(b",\"success\":")?;
+    put(out, b",\"success\":")?;
     put_list(out, success.as_slice())?;
-    out.put(b",\"failed\":")?;
+    put(out, b",\"failed\":")?;
     put_object(out, failed.as_slice())?;
-    out.put(b"}")
+    put(out, b"}")
 }
 
 #[tactic(auto, using(crate::proofs::Appending::append_append))]
 fn put_posted(
-    out: &mut Draft,
+    out: &mut Vec<u8>,
     modified: Stamp,
     success: &Ids,
     failed: &Failures,
 ) -> Result<(), AllocError>
-    ensures { OnOk result (out.new ≡ append out.old (codes "{\"modified\":" ++ stamp_text modified ++ records_text success.now failed.now)) }
+    ensures { OnOk result (out.new.items ≡ out.old.items ++ (codes "{\"modified\":" ++ stamp_text modified ++ records_text success.now failed.now)) }
 {
     put_modified(out, modified)?;
     put_records(out, success, failed)
@@ -307,12 +361,12 @@ fn put_posted(
 #[tactic(auto, using(crate::proofs::Appending::append_append))]
 fn put_staged(
     alloc: Global,
-    out: &mut Draft,
+    out: &mut Vec<u8>,
     batch: u64,
     success: &Ids,
     failed: &Failures,
 ) -> Result<(), AllocError>
-    ensures { OnOk result (out.new ≡ append out.old (codes "{\"batch\":\"" ++ token batch ++ codes "\"" ++ records_text success.now failed.now)) }
+    ensures { OnOk result (out.new.items ≡ out.old.items ++ (codes "{\"batch\":\"" ++ token batch ++ codes "\"" ++ records_text success.now failed.now)) }
 {
     put_batch(alloc, out, batch)?;
     put_records(out, success, failed)
@@ -348,18 +402,23 @@ fn word_of(word: Said) -> &'static str
 }
 
 #[tactic(auto, using(crate::proofs::Appending::append_append))]
-fn put_word(out: &mut Draft, word: Said) -> Result<(), AllocError>
-    ensures { OnOk result (out.new ≡ append out.old (codes "\"" ++ word_text word ++ codes "\"")) }
+fn put_word(out: &mut Vec<u8>, word: Said) -> Result<(), AllocError>
+    ensures { OnOk result (out.new.items ≡ out.old.items ++ (codes "\"" ++ word_text word ++ codes "\"")) }
 {
-    out.put(b"\"")?;
-    out.put(word_of(word).as_bytes())?;
-    out.put(b"\"")
+    put(out, b"\"")?;
+    put(out, word_of(word).as_bytes())?;
+    put(out, b"\"")
 }
 
 /// A body; `lines` is the form of a list.
-#[tactic(auto, using(crate::proofs::Appending::append_empty), unfolding(crate::specs::Texts::body_text))]
-pub fn put_body(alloc: Global, out: &mut Draft, lines: bool, body: &Body) -> Result<(), AllocError>
-    ensures { OnOk result (out.new ≡ append out.old (body_text lines body.now)) }
+#[tactic(auto, unfolding(crate::specs::Texts::body_text))]
+pub fn put_body(
+    alloc: Global,
+    out: &mut Vec<u8>,
+    lines: bool,
+    body: &Body,
+) -> Result<(), AllocError>
+    ensures { OnOk result (out.new.items ≡ out.old.items ++ (body_text lines body.now)) }
 {
     match body {
         Body::Times(times) => put_object(out, times.as_slice()),
@@ -381,9 +440,9 @@ pub fn put_body(alloc: Global, out: &mut Draft, lines: bool, body: &Body) -> Res
             failed,
         } => put_staged(alloc, out, *batch, success, failed),
         Body::One(row) => row.write(out),
-        Body::At(time) => out.put_stamp(*time),
+        Body::At(time) => push_stamp(out, *time),
         Body::Empty => Ok(()),
-        Body::Code(code) => out.put_number(u64::from(*code)),
+        Body::Code(code) => put_number(out, u64::from(*code)),
         Body::Said(word) => put_word(out, *word),
     }
 }

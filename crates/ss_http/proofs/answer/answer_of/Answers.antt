@@ -1,10 +1,8 @@
-use Rattle.std.proofs.Common.{◌≡◌, ℕ, List, Option, Some, map, take, codes, option_and_then, sym, ap, ap₂, ◌∙◌, ◌<◌, arith}
-use Rattle.httparse.specs.Grammar as grammar
-use Rattle.httparse.specs.Grammar.{status_code}
-use Rattle.httparse.specs.Spans.{span_bytes, header_bytes}
+use Rattle.std.proofs.Common.{codes, option_and_then, sym, ap, ap₂, ◌∙◌, arith}
+use Rattle.httparse.specs.Spans.{span_bytes}
 use Rattle.ss_text.specs.Time.{stamp_of}
 use Rattle.ss_http.specs.Fields.{first_named, ends}
-use Rattle.ss_http.specs.Hearing.{HasBody, size_of, values_of, coded, unsized}
+use Rattle.ss_http.specs.Hearing.{size_of, coded, unsized}
 use Rattle.ss_http.proofs.AnswerLemmas.{parsed_answers, none_there, some_there}
 use Rattle.ss_http.proofs.answer.answer_of.Goals as goal
 
@@ -31,8 +29,8 @@ returns-in-None c =
       }),
     )
 
-pub returns-then-size-gt-BODY_MOST : goal.returns-then-size-gt-BODY_MOST
-returns-then-size-gt-BODY_MOST c =
+pub returns-then-size-gt-HEARD_ROOM : goal.returns-then-size-gt-HEARD_ROOM
+returns-then-size-gt-HEARD_ROOM c =
     let h = c.requires.found in (
       tt,
       record {

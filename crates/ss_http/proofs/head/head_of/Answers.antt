@@ -1,4 +1,4 @@
-use Rattle.std.proofs.Common.{◌≡◌, ◌∙◌, codes, sym, ap, ap₂, arith}
+use Rattle.std.proofs.Common.{◌∙◌, codes, sym, ap, ap₂, arith}
 use Rattle.httparse.specs.Spans.{span_bytes}
 use Rattle.ss_http.specs.Fields.{announced, ends, first_named}
 use Rattle.ss_http.proofs.HeadLemmas.{parsed_begins}

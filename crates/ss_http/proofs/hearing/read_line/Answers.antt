@@ -1,10 +1,11 @@
-use Rattle.std.proofs.Common.{◌≡◌, ◌≤◌, ◌<◌, ◌+◌, ℕ, List, [], ◌∷◌, ◌++◌, length, subst, sym, ap, ◌∙◌, arith, length-append}
+use Rattle.std.proofs.Common.{◌≡◌, ◌<◌, ◌+◌, ℕ, List, [], ◌∷◌, ◌++◌, length, subst, sym, ap, ◌∙◌, arith, length-append}
 use Rattle.httparse.specs.Grammar.{HasNoResponse}
 use Rattle.ss_http.specs.Buffers.{Brings}
 use Rattle.ss_http.specs.Listening.{IsNoLonger}
 use Rattle.ss_http.proofs.Filling.{Brings-append}
 use Rattle.ss_http.proofs.LineEnds.{no_longer, still_none}
 use Rattle.ss_http.proofs.hearing.read_line.Goals as goal
+use Rattle.ss_http.specs.declared.limits.TheConstants.{HEAD_ROOM}
 
 pub returns-then-byte-eq10-clause-whole : goal.returns-then-byte-eq10-clause-whole
 returns-then-byte-eq10-clause-whole g c =
@@ -20,7 +21,7 @@ bytes-preserved g c =
     let brings : Brings old new (g.S.Told.told c.bytes.source) (g.S.Told.told c.read_byte.new.source) = record { got = byte ∷ []; kept = is; read = rw c.in-Ok-Some.field-0-is at c.in-Ok-Some.ensures.bytes } in
     let P : List ℕ → Type 0 = HasNoResponse in
     let size : length new ≡ length old + 1 = ap length is ∙ length-append old (byte ∷ []) in
-    let short : length new < 16384 = omega (arith, size, c.bytes.invariant.short, c.if-len-eq-HEAD_ROOM.false, c.len.ensures) in
+    let short : length new < HEAD_ROOM = omega (arith, size, c.bytes.invariant.short, c.if-len-eq-HEAD_ROOM.false, c.len.ensures) in
     record {
       bytes = Brings-append c.args.head.now.items old new (g.S.Told.told c.args.source.now) (g.S.Told.told c.bytes.source) (g.S.Told.told c.read_byte.new.source) c.bytes.invariant.bytes brings;
       faults = c.in-Ok-Some.ensures.cause ∙ c.bytes.invariant.faults;

@@ -1,8 +1,6 @@
-use Rattle.std.proofs.Common.{◌≡◌, List, ℕ, [], ◌++◌, Err}
+use Rattle.std.proofs.Common.{◌++◌}
 use Rattle.std.proofs.lemmas.Result.{err_from_is_err_and}
 use Rattle.ss_outside.proofs.Telling.{HasRead-append}
-use Rattle.ss_http.specs.declared.heard.Heard.{Heard}
-use Rattle.ss_http.specs.Hearing.{Hearing}
 use Rattle.ss_http.proofs.AnswerLemmas.{heard_whole, short_heard}
 use Rattle.ss_http.proofs.hearing.read_response.Goals as goal
 

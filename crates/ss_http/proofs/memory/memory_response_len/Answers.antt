@@ -1,4 +1,4 @@
-use Rattle.std.proofs.Common.{◌≡◌, ◌+◌, ◌/◌, ℕ, Bool, length, decimal, sym, ◌∙◌, ap, arith}
+use Rattle.std.proofs.Common.{◌≡◌, ◌/◌, length, decimal, sym, ◌∙◌, ap, arith}
 use Rattle.ss_http.specs.Responses.{close_text}
 use Rattle.ss_http.proofs.MemoryLemmas.{sized, stamp_size}
 use Rattle.ss_http.proofs.memory.memory_response_len.Goals as goal

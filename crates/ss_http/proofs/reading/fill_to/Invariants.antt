@@ -1,6 +1,7 @@
 use Rattle.std.proofs.Common.{◌≡◌, ◌≤◌, ◌-◌, length}
 use Rattle.ss_http.specs.Buffers.{Brings}
 use Rattle.ss_http.proofs.reading.fill_to.Given as goal
+use Rattle.ss_http.specs.declared.limits.TheConstants.{ROOM}
 
 abbrev pub invariant-bodies : goal.invariant-bodies
 invariant-bodies g l = record {
@@ -11,4 +12,4 @@ invariant-bodies g l = record {
 }
 
 abbrev pub decreases-bodies : goal.decreases-bodies
-decreases-bodies g l = 2117632 - length l.buffer.bytes
+decreases-bodies g l = ROOM - length l.buffer.bytes

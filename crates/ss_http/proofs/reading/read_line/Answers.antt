@@ -1,12 +1,11 @@
-use Rattle.std.proofs.Common.{◌≡◌, ◌≤◌, ◌<◌, ◌+◌, ℕ, List, length, take, drop, ◌++◌, ◌-◌, subst, sym, ap, ◌∙◌, ◌==◌, false, arith, length-append}
+use Rattle.std.proofs.Common.{◌≡◌, ◌+◌, ℕ, List, length, take, drop, ◌++◌, ◌-◌, subst, sym, ap, ◌∙◌, ◌==◌, false, arith, length-append}
 use Rattle.std.specs.List.{list_any}
 use Rattle.std.proofs.lemmas.List.{take_rest}
 use Rattle.httparse.specs.Grammar.{HasNoRequest}
 use Rattle.ss_http.specs.Faults.{IsFaultOf}
-use Rattle.ss_http.specs.Reading.{RisesWith, EndsWith, ended_by}
-use Rattle.ss_http.specs.declared.fault.MsgFault.{MsgFault}
+use Rattle.ss_http.specs.Reading.{ended_by}
 use Rattle.ss_http.proofs.Filling.{Brings-append, brought_none}
-use Rattle.ss_http.proofs.HeadLemmas.{ended_fault, ended_ends, ended_rises}
+use Rattle.ss_http.proofs.HeadLemmas.{ended_fault, ended_rises}
 use Rattle.ss_http.proofs.LineEnds.{still_no_request}
 use Rattle.ss_http.proofs.Ranges.{drop_front}
 use Rattle.ss_http.proofs.reading.read_line.Goals as goal

@@ -1,4 +1,4 @@
-use Rattle.std.proofs.Common.{◌≡◌, ◌+◌, ◌-◌, ℕ, List, take, drop, subst, sym, ◌∙◌, ap, arith}
+use Rattle.std.proofs.Common.{◌≡◌, ◌+◌, ◌-◌, ℕ, List, take, drop, subst, sym, ◌∙◌, ap, arith, inl}
 use Rattle.std.proofs.lemmas.Result.{err_from_is_err_and}
 use Rattle.ss_http.specs.declared.message.Message.{Message}
 use Rattle.ss_http.specs.Heads.{IsHeadAt}
@@ -31,7 +31,7 @@ returns-clause-whole g c =
     )
 
 pub returns-in_err-head-clause-ready : goal.returns-in_err-head-clause-ready
-returns-in_err-head-clause-ready g c = λ m rest r. (c.read_head.ensures.ready r.head (begins c.args.buffer.now.bytes m rest r)).1
+returns-in_err-head-clause-ready g c = λ m rest r. (c.read_head.ensures.ready (inl (r.head, begins c.args.buffer.now.bytes m rest r))).1
 
 pub returns-in_err-fill_to-clause-bytes : goal.returns-in_err-fill_to-clause-bytes
 returns-in_err-fill_to-clause-bytes g c =
@@ -40,18 +40,23 @@ returns-in_err-fill_to-clause-bytes g c =
 
 pub returns-in_err-fill_to-clause-ready : goal.returns-in_err-fill_to-clause-ready
 returns-in_err-fill_to-clause-ready g c = λ m rest r.
-    let same = c.read_head.ensures.ready r.head (begins c.args.buffer.now.bytes m rest r) in
+    let same = c.read_head.ensures.ready (inl (r.head, begins c.args.buffer.now.bytes m rest r)) in
     let size = kept_whole c.args.buffer.now.bytes c.read_head.new.buffer.bytes c.in_ok-head.head m rest (ap (λ (k : Kept). k.bytes) same.0) c.in_ok-head.ensures.head r in
     (c.fill_to.ensures.ready size).1 ∙ same.1
 
 pub returns-in_default-clause-ready : goal.returns-in_default-clause-ready
 returns-in_default-clause-ready g c = λ m rest r.
-    let same = c.read_head.ensures.ready r.head (begins c.args.buffer.now.bytes m rest r) in
+    let same = c.read_head.ensures.ready (inl (r.head, begins c.args.buffer.now.bytes m rest r)) in
     let size = kept_whole c.args.buffer.now.bytes c.read_head.new.buffer.bytes c.in_ok-head.head m rest (ap (λ (k : Kept). k.bytes) same.0) c.in_ok-head.ensures.head r in
     (c.fill_to.ensures.ready size).1 ∙ same.1
 
 pub returns-clause-ready : goal.returns-clause-ready
 returns-clause-ready g c = λ m rest r.
-    let same = c.read_head.ensures.ready r.head (begins c.args.buffer.now.bytes m rest r) in
+    let same = c.read_head.ensures.ready (inl (r.head, begins c.args.buffer.now.bytes m rest r)) in
     let size = kept_whole c.args.buffer.now.bytes c.read_head.new.buffer.bytes c.in_ok-head.head m rest (ap (λ (k : Kept). k.bytes) same.0) c.in_ok-head.ensures.head r in
     (c.fill_to.ensures.ready size).1 ∙ same.1
+
+pub returns-clause-bytes : goal.returns-clause-bytes
+returns-clause-bytes g c =
+    Brings-append c.args.buffer.now.bytes c.read_head.new.buffer.bytes c.fill_to.new.buffer.bytes (g.S.Told.told c.args.source.now) (g.S.Told.told c.read_head.new.source) (g.S.Told.told c.fill_to.new.source)
+    c.read_head.ensures.bytes c.fill_to.ensures.bytes

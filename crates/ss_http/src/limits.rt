@@ -1,0 +1,28 @@
+//! The limits of messages and responses (this project). Each stands here and nowhere else.
+
+/// The most fields of a head.
+pub const MOST_FIELDS: usize = 64;
+
+/// The longest head, in bytes.
+pub const HEAD_ROOM: usize = 16_384;
+
+/// The longest body of a message, in bytes.
+pub const BODY_ROOM: u64 = 2_101_248;
+
+/// The room of a buffer in bytes: that of the longest head and of the longest body of a message.
+pub const ROOM: usize = HEAD_ROOM + BODY_ROOM as usize;
+
+/// The longest body of a response that a client reads, in bytes.
+pub const HEARD_ROOM: u64 = 536_870_912;
+
+/// The most digits of a `Content-Length`.
+pub const LENGTH_DIGITS: usize = 18;
+
+/// The longest method of a request that a client sends, in bytes.
+pub const METHOD_ROOM: usize = 100;
+
+/// The longest target of a request that a client sends, in bytes.
+pub const TARGET_ROOM: usize = 8_000;
+
+/// The longest host of a request that a client sends, in bytes.
+pub const HOST_ROOM: usize = 1_030;

@@ -5,3 +5,5 @@ pub mod Splitting
 pub mod Joining
 pub mod Closing
 pub mod Covering
+pub mod Served
+pub mod Beside

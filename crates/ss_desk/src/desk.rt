@@ -10,12 +10,11 @@ use crate::pass::{Pass, RawPass};
 use crate::rule::{DeskSeat, TurnsRule};
 use crate::steps::{Draw, Finish, Look, TakeIn};
 use crate::view::View;
+use crate::waiting::Bells;
 use atomic_table::{Refused, Table};
 use std::alloc::{AllocError, Global};
-use std::hint::spin_loop;
 use std::snapshot::Snapshot;
 use std::sync::Wait;
-use std::thread::yield_now;
 
 // The word with the ticket that is served.
 const SERVING: usize = 0;
@@ -26,13 +25,11 @@ const TICKETS: usize = 1;
 // A ticket from here on is never served, so that no ticket is ever drawn twice.
 const LIMIT: u64 = 1 << 63;
 
-// How often a caller looks before it leaves the processor to others between two looks.
-const SPINS: u32 = 64;
-
 /// A value on which passes take turns.
 #[derive(Drop)]
 pub struct Desk<T: Journaled> {
     pub(crate) table: Table<Option<T>, View<T::Fixed, T::Entry>, Snapshot<T>, TurnsRule<T>, Global>,
+    bells: Bells,
     ghost sized: { (table.shared.table_id.words ≡ 2) × (table.shared.table_id.slots ≡ 1) },
 }
 
@@ -54,7 +51,10 @@ impl<T: Journaled> Desk<T> {
         slots.push_reserved(Some(value));
         match Table::new(alloc, &[0, 0], slots, &key) {
             Ok((table, seat)) => Ok((
-                Desk { table },
+                Desk {
+                    table,
+                    bells: Bells::new(),
+                },
                 RawPass {
                     seat,
                     first: 0,
@@ -115,7 +115,7 @@ impl<T: Journaled> Desk<T> {
         requires all { CoversAll (view pass) }
         ensures finished { Finished T.ticket_of T.pass_of T.fixed T.entries T.legal (view pass) result }
     {
-        let Desk { table } = self;
+        let Desk { table, bells: _ } = self;
         let RawPass {
             seat,
             first: _,
@@ -148,19 +148,16 @@ impl<T: Journaled> Desk<T> {
         ensures same { seat.new.table_id ≡ seat.old.table_id }
         ensures took { Took T.ticket_of T.pass_of T.fixed T.entries T.legal seat.old.me.0 ticket seat.new.me }
     {
-        let mut looks = 0;
+        let mut waiter = self.bells.waiter(ticket);
         for _ in rt.forever() {
+            let rings = waiter.rings();
             let serving = self.table.shared.load::<Look<T>>(seat, SERVING);
             if serving == ticket && ticket < LIMIT {
                 break;
             }
-            if looks < SPINS {
-                looks += 1;
-                spin_loop();
-            } else {
-                yield_now();
-            }
+            waiter.pause(rt, rings);
         }
+        waiter.end();
     }
 
     // Takes the value out, makes the call, puts the value back and ends the turn.
@@ -188,6 +185,7 @@ impl<T: Journaled> Desk<T> {
             Some(_) => unreachable!(),
         }
         shared.fetch_add::<Finish<T>>(seat, SERVING, 1);
+        self.bells.ring(ticket.wrapping_add(1));
         answer
     }
 }

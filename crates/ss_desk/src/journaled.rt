@@ -12,7 +12,7 @@ pub struct Full {
 
 /// A value that changes by calls alone and enters each call into its journal: a list of entries, oldest first.
 /// An entry has the call's ticket, the number of the pass that made it, and what was asked. It may have more.
-pub trait Journaled {
+pub trait Journaled: Drop {
     ghost use Rattle.ss_desk.specs.declared.journaled.Full.{Full};
     ghost use Rattle.ss_desk.specs.Journal.{AddsCall};
 
@@ -23,7 +23,7 @@ pub trait Journaled {
     type Entry;
 
     /// What a call is asked to do.
-    type Ask;
+    type Ask: Drop;
 
     /// What a call answers.
     type Reply;

@@ -12,6 +12,7 @@ mod steps;
 #[cfg(test)]
 mod tests;
 mod view;
+mod waiting;
 
 pub use counter::{Addition, Counter};
 pub use desk::Desk;

@@ -1,0 +1,4 @@
+pub mod Desks
+pub mod Openings
+pub mod Sorting
+pub mod Covered

@@ -1,0 +1,5 @@
+pub mod Places
+pub mod Answers
+pub mod Steps
+pub mod Opening
+pub mod Town

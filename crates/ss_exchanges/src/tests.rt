@@ -3,7 +3,7 @@
 
 use sqlite::Connection;
 use ss_account::Account;
-use ss_bso::{Kept, Rows, Times};
+use ss_bso::Kept;
 use ss_http::{FieldLines, Message};
 use ss_keep_sql::SqlKeeper;
 use ss_keeper::{Keeper, MemKeeper};
@@ -40,6 +40,9 @@ fn lines(alloc: Global, kept: &Kept) -> Result<Vec<String>, Fail> {
     }
     for entry in kept.collections.as_slice() {
         lines.push(format!(in alloc; "{entry:?}")?)?;
+    }
+    for staged in kept.batches.as_slice() {
+        lines.push(format!(in alloc; "{staged:?}")?)?;
     }
     let about = format!(in alloc;
         "{} {} {}",
@@ -93,18 +96,8 @@ fn ends_with(lines: &[String], text: &str) -> bool {
     }
 }
 
-fn nothing(alloc: Global) -> Kept {
-    Kept {
-        rows: Rows::new(Vec::new(alloc)),
-        collections: Times::new(Vec::new(alloc)),
-        store: Stamp::clamp(0),
-        last_delete: Stamp::clamp(0),
-        counter: 0,
-    }
-}
-
 fn in_memory(alloc: Global, exchange: &str, messages: usize) -> Result<Vec<String>, Fail> {
-    let keeper = MemKeeper::new(nothing(alloc), Vec::new(alloc));
+    let keeper = MemKeeper::new(Kept::fresh(alloc), Vec::new(alloc));
     kept_after(alloc, keeper, exchange, messages)
 }
 
@@ -149,6 +142,10 @@ const BATCH: &str =
 const DROPPED: &str =
     "1000 PUT /storage/forms/z {}\n1001 POST /storage/forms?batch=true [{\"id\":\"a\"}]\n1002 DELETE /storage/forms \n1003 POST /storage/forms?batch=MQ&commit=true []\n1003 GET /info/collections ";
 
+/// Two batches, of which one has ended when a row is written, and then all goes.
+const ENDED: &str =
+    "1000 POST /storage/forms?batch=true [{\"id\":\"a\",\"ttl\":1}]\n1001 POST /storage/tabs?batch=true [{\"id\":\"b\",\"payload\":null}]\n721000 PUT /storage/forms/z {}\n721000 POST /storage/tabs?batch=Mg [{\"id\":\"c\",\"sortindex\":3}]\n721001 POST /storage/tabs?batch=true []\n721002 DELETE /storage/ ";
+
 /// Deletions of items and of everything.
 const DELETED: &str =
     "1000 PUT /storage/forms/a {\"payload\":\"xxxxxxxxxxxxxxxxxxxxxxxxxxxxxxxxxxxxxxxxxxxxxxxxxxxxxxxxxxxxxxxxxxxxxxxxxxxxxxxxxxxxxxxxxxxxxxxxxxxx\"}\n1000 GET /info/collections \n1000 GET /info/collection_usage \n1000 GET /info/quota \n1001 DELETE /storage/forms?ids=a,q \n1001 GET /info/collection_counts \n1002 DELETE /storage/ \n1002 GET /info/collections ";
@@ -159,13 +156,52 @@ fn both_keepers_hold_the_same_after_each_message(rt: HostRuntime) -> Result<(), 
     agree(&rt, rt.alloc(), FIELDS, 4, "4 successes")?;
     agree(&rt, rt.alloc(), BATCH, 6, "6 successes")?;
     agree(&rt, rt.alloc(), DROPPED, 5, "4 successes")?;
+    agree(&rt, rt.alloc(), ENDED, 6, "6 successes")?;
     agree(&rt, rt.alloc(), DELETED, 8, "8 successes")
+}
+
+/// Answers the messages of an exchange, and gives the number of rows of the account and of those that are then kept.
+fn rows_after<K: Keeper + Drop>(
+    alloc: Global,
+    keeper: K,
+    exchange: &str,
+) -> Result<(usize, usize), Fail> {
+    let mut account = match Account::open(alloc, keeper) {
+        Ok(account) => account,
+        Err(_) => return Err("an account".into()),
+    };
+    for line in exchange.split('\n') {
+        let (now, message) = message(alloc, line)?;
+        if let Routed::Ask { request, .. } = route(alloc, &message) {
+            account.step(alloc, now, &request);
+        }
+    }
+    let plain = account.plain(alloc)?;
+    let mut keeper = account.into_keeper();
+    match keeper.load(alloc) {
+        Ok(kept) => Ok((plain.rows.as_slice().len(), kept.rows.as_slice().len())),
+        Err(_) => Err("what is kept".into()),
+    }
+}
+
+/// The stamp of the last write is the end of a row, and the moment before it isn't.
+const STAMP: &str =
+    "1000 PUT /storage/forms/a {\"ttl\":1}\n1099 PUT /storage/forms/b {}\n1099 PUT /storage/forms/c {}";
+
+#[test]
+fn a_row_that_ends_at_a_stamp_stays_in_account_and_keeper(rt: HostRuntime) -> Result<(), Fail> {
+    let alloc = rt.alloc();
+    let keeper = MemKeeper::new(Kept::fresh(alloc), Vec::new(alloc));
+    assert_eq!(&rt; rows_after(alloc, keeper, STAMP)?, (3, 3));
+    let keeper = SqlKeeper::adopt(Connection::open_in_memory(alloc)?)?;
+    assert_eq!(&rt; rows_after(alloc, keeper, STAMP)?, (3, 3));
+    Ok(())
 }
 
 /// The responses to the messages of an exchange, over a keeper in memory whose call of this number fails; the first call is the
 /// one that opens the account, and 0 is none.
 fn responses(alloc: Global, failing: u64, exchange: &str) -> Result<Vec<u8>, Fail> {
-    let keeper = MemKeeper::new(nothing(alloc), vec![in alloc; failing]?);
+    let keeper = MemKeeper::new(Kept::fresh(alloc), vec![in alloc; failing]?);
     let mut account = match Account::open(alloc, keeper) {
         Ok(account) => account,
         Err(_) => return Err("an account".into()),

@@ -9,8 +9,8 @@ use Rattle.ss_bso.specs.declared.account.Plain.{Plain}
 use Rattle.ss_bso.specs.Account.{fresh}
 use Rattle.ss_bso.specs.Validity.{IsValid, SameAccount}
 use Rattle.ss_query.specs.declared.replies.Reply.{Reply}
-use Rattle.ss_account.proofs.JournalOrder.{marked-same}
-use Rattle.ss_account.proofs.Reordering.{same-self, same-back, same-through}
+use Rattle.ss_laws.proofs.JournalOrder.{marked-same}
+use Rattle.ss_bso.proofs.Reordering.{same-self, same-back, same-through}
 use Rattle.ss_http.specs.declared.message.Message.{Message}
 use Rattle.ss_http.specs.declared.fault.MsgFault.{MsgFault}
 use Rattle.ss_http.specs.declared.fault.MsgFault.TheVariants as faults
@@ -24,11 +24,11 @@ use Rattle.ss_route.specs.declared.routed.Local.{Local}
 use Rattle.ss_route.specs.Wire.{wire, refusal_of}
 use Rattle.syncstore.specs.declared.answer.Ending.{Ending}
 use Rattle.syncstore.specs.declared.answer.Ending.TheVariants as endings
-use Rattle.syncstore.specs.Turns.{Asked, asks, told, asked, Course, entered, unread, IsCourseOf, left_by, response_to, Turn, AreTurns, closes, account_after, responses, IsRefused, refusal_response, IsReading, AreReadings, GoesOn, Answered, IsTurn, WasSent, WasCut, Progress, ending_of, Refuses, refusal, Stops}
+use Rattle.syncstore.specs.Turns.{Asked, asks, told, asked, Course, entered, unread, IsCourseOf, left_by, response_to, Turn, AreTurns, closes, account_after, responses, IsRefused, refusal_response, IsReading, AreReadings, GoesOn, Answered, IsTurn, WasSent, WasCut, Progress, ending_of, Refuses, refusal, Stops, most_messages}
 
 -- a count that stands at 0 never rose
-pub never-rose : Rose 0 0 → ⊥
-never-rose rose = let risen = rose.risen in absurd (omega arith)
+pub never-rose : {before now : ℕ} → now ≡ 0 → Rose before now → ⊥
+never-rose {before} {now} stands rose = let risen = rose.risen in absurd (omega arith)
 
 -- one turn more
 pub courses_further : (uid : ℕ) (turns : List Turn) (t : Turn) → AreTurns uid turns → IsCourseOf t.course (asked uid t.message) → AreTurns uid (turns ++ t ∷ [])
@@ -180,7 +180,7 @@ plain_readings at rs coming coming' are =
 -- a message was read, and its response was sent
 pub turned : (uid : ℕ) (at : Option ℕ) (input input' input2 output output' output2 : Meanings) (coming coming' coming2 : Option (List ℕ)) (kept kept' : Kept)
     (account account' : Plain) (count now : ℕ) (m : Message) (got bytes : List ℕ)
-    → Progress uid at input input' output output' coming coming' kept account count → count < 1000000
+    → Progress uid at input input' output output' coming coming' kept account count → count < most_messages
     → HasRead got input' input2 → Answers (Ok m) (kept.bytes ++ got) kept' → input2.read_faults ≡ input'.read_faults
     → IsReading at count now coming' coming2 → IsTurn (asked uid m) now (closes count m) account account' bytes → IsValid account'
     → WasSent bytes output' output2 → m.last ≡ false
@@ -208,16 +208,16 @@ turned uid at input input' input2 output output' output2 coming coming' coming2 
       write_faults = sent.faults ∙ p.write_faults;
     }
 
-fewer_turns : (turns : List Turn) (count : ℕ) → count ≡ length turns → count < 1000000 → length turns < 1000000
+fewer_turns : (turns : List Turn) (count : ℕ) → count ≡ length turns → count < most_messages → length turns < most_messages
 fewer_turns turns count is more = omega arith
 
-no_more_turns : (turns : List Turn) (t : Turn) (count : ℕ) → count ≡ length turns → count < 1000000 → length (turns ++ t ∷ []) ≤ 1000000
+no_more_turns : (turns : List Turn) (t : Turn) (count : ℕ) → count ≡ length turns → count < most_messages → length (turns ++ t ∷ []) ≤ most_messages
 no_more_turns turns t count is more = omega (arith, length-append turns (t ∷ []))
 
 -- a message asked to close, and its response was sent
 pub ended_asking : (uid : ℕ) (at : Option ℕ) (input input' input2 output output' output2 : Meanings) (coming coming' coming2 : Option (List ℕ)) (kept kept' : Kept)
     (account account' : Plain) (count now : ℕ) (m : Message) (got bytes : List ℕ)
-    → Progress uid at input input' output output' coming coming' kept account count → count < 1000000
+    → Progress uid at input input' output output' coming coming' kept account count → count < most_messages
     → HasRead got input' input2 → ReadsMessage (kept.bytes ++ got) m kept'.bytes → input2.read_faults ≡ input'.read_faults
     → IsReading at count now coming' coming2 → IsTurn (asked uid m) now (closes count m) account account' bytes
     → WasSent bytes output' output2 → m.last ≡ true
@@ -245,7 +245,7 @@ ended_asking uid at input input' input2 output output' output2 coming coming' co
 -- of a response only a front was sent
 pub ended_cut : (uid : ℕ) (at : Option ℕ) (input input' input2 output output' output2 : Meanings) (coming coming' coming2 : Option (List ℕ)) (kept kept' : Kept)
     (account account' : Plain) (count now : ℕ) (m : Message) (got bytes : List ℕ)
-    → Progress uid at input input' output output' coming coming' kept account count → count < 1000000
+    → Progress uid at input input' output output' coming coming' kept account count → count < most_messages
     → HasRead got input' input2 → ReadsMessage (kept.bytes ++ got) m kept'.bytes → input2.read_faults ≡ input'.read_faults
     → IsReading at count now coming' coming2 → IsTurn (asked uid m) now (closes count m) account account' bytes
     → WasCut bytes output' output2
@@ -294,7 +294,7 @@ refused_for refuses rest cause = record { cause = cause; local = refuses.local; 
 
 -- the bytes behind the messages were refused, and the refusal was sent
 ended_refusing : (uid : ℕ) (at : Option ℕ) (input input' input2 output output' output2 : Meanings) (coming coming' coming2 : Option (List ℕ)) (kept : Kept) (account : Plain) (count : ℕ) (fault : MsgFault) (got : List ℕ)
-    → Progress uid at input input' output output' coming coming' kept account count → count < 1000000
+    → Progress uid at input input' output output' coming coming' kept account count → count < most_messages
     → HasRead got input' input2 → IsFaultOf fault (kept.bytes ++ got) → RisesWith fault input'.read_faults input2.read_faults
     → (refuses : Refuses fault at count coming' coming2) → WasSent (refusal_response (refusal refuses)) output' output2
     → Answered uid at endings.Refused input input2 output output2 coming coming2
@@ -317,7 +317,7 @@ ended_refusing uid at input input' input2 output output' output2 coming coming' 
 
 -- the bytes behind the messages were refused, and of the refusal only a front was sent
 ended_refusing_in_part : (uid : ℕ) (at : Option ℕ) (input input' input2 output output' output2 : Meanings) (coming coming' coming2 : Option (List ℕ)) (kept : Kept) (account : Plain) (count : ℕ) (fault : MsgFault) (got : List ℕ)
-    → Progress uid at input input' output output' coming coming' kept account count → count < 1000000
+    → Progress uid at input input' output output' coming coming' kept account count → count < most_messages
     → HasRead got input' input2 → IsFaultOf fault (kept.bytes ++ got) → RisesWith fault input'.read_faults input2.read_faults
     → (refuses : Refuses fault at count coming' coming2) → WasCut (refusal_response (refusal refuses)) output' output2
     → Answered uid at endings.Output input input2 output output2 coming coming2
@@ -340,12 +340,12 @@ ended_refusing_in_part uid at input input' input2 output output' output2 coming 
       );
       cause = (subst P p.write_faults cut.rose, inr (refusal refuses, refl, refused_for refuses (kept.bytes ++ got) cause, p.goes_on));
       faults = quiet fault refuses.local input'.read_faults input2.read_faults refuses.answered rises ∙ p.read_faults;
-      fewer = (let few : length p.turns < 1000000 = fewer_turns p.turns count p.count_is more in let e : length p.turns ≤ 1000000 = omega arith in e);
+      fewer = (let few : length p.turns < most_messages = fewer_turns p.turns count p.count_is more in let e : length p.turns ≤ most_messages = omega arith in e);
     }
 
 -- the input ended or failed, or no memory was found for the message
 ended_unanswered : (uid : ℕ) (at : Option ℕ) (input input' input2 output output' : Meanings) (coming coming' : Option (List ℕ)) (kept : Kept) (account : Plain) (count : ℕ) (fault : MsgFault) (got : List ℕ)
-    → Progress uid at input input' output output' coming coming' kept account count → count < 1000000
+    → Progress uid at input input' output output' coming coming' kept account count → count < most_messages
     → HasRead got input' input2 → IsFaultOf fault (kept.bytes ++ got) → EndsWith fault input2 → RisesWith fault input'.read_faults input2.read_faults
     → refusal_of fault ≡ None
     → Answered uid at (ending_of fault) input input2 output output' coming coming'
@@ -421,7 +421,7 @@ ended_unanswered uid at input input' input2 output output' coming coming' kept a
 
 -- nothing was written and read of the clock, and the ending is the fault's
 unanswered : (uid : ℕ) (at : Option ℕ) (input input' input2 output output' output2 : Meanings) (coming coming' coming2 : Option (List ℕ)) (kept : Kept) (account : Plain) (count : ℕ) (fault : MsgFault) (got : List ℕ) (ending : Ending)
-    → Progress uid at input input' output output' coming coming' kept account count → count < 1000000
+    → Progress uid at input input' output output' coming coming' kept account count → count < most_messages
     → HasRead got input' input2 → IsFaultOf fault (kept.bytes ++ got) → EndsWith fault input2 → RisesWith fault input'.read_faults input2.read_faults
     → (refusal_of fault ≡ None) × (ending ≡ ending_of fault) × (output2 ≡ output') × (coming2 ≡ coming')
     → Answered uid at ending input input2 output output2 coming coming2
@@ -434,7 +434,7 @@ unanswered uid at input input' input2 output output' output2 coming coming' comi
 
 -- the run stopped as a message was to be read
 pub stopped : (uid : ℕ) (at : Option ℕ) (input input' input2 output output' output2 : Meanings) (coming coming' coming2 : Option (List ℕ)) (kept : Kept) (account : Plain) (count : ℕ) (fault : MsgFault) (got : List ℕ) (ending : Ending)
-    → Progress uid at input input' output output' coming coming' kept account count → count < 1000000
+    → Progress uid at input input' output output' coming coming' kept account count → count < most_messages
     → HasRead got input' input2 → IsFaultOf fault (kept.bytes ++ got) → EndsWith fault input2 → RisesWith fault input'.read_faults input2.read_faults
     → Stops ending fault at count output' output2 coming' coming2
     → Answered uid at ending input input2 output output2 coming coming2
@@ -457,7 +457,7 @@ stopped uid at input input' input2 output output' output2 coming coming' coming2
 
 -- as many messages were answered as may be
 pub ended_counting : (uid : ℕ) (at : Option ℕ) (input input' output output' : Meanings) (coming coming' : Option (List ℕ)) (kept : Kept) (account : Plain) (count : ℕ)
-    → Progress uid at input input' output output' coming coming' kept account count → 1000000 ≤ count
+    → Progress uid at input input' output output' coming coming' kept account count → most_messages ≤ count
     → Answered uid at endings.Count input input' output output' coming coming'
 ended_counting uid at input input' output output' coming coming' kept account count p full = record {
   taken = p.taken;
@@ -471,7 +471,7 @@ ended_counting uid at input input' output output' coming coming' kept account co
   clock = plain_readings at (map now_in p.turns) coming coming' p.clock;
   courses = p.courses;
   answered = p.answered ∙ sym (append-nil (responses uid fresh 0 p.turns));
-  cause = (sym p.count_is ∙ (let most : count ≤ 1000000 = p.within in let e : count ≡ 1000000 = omega arith in e), p.goes_on, refl);
+  cause = (sym p.count_is ∙ (let most : count ≤ most_messages = p.within in let e : count ≡ most_messages = omega arith in e), p.goes_on, refl);
   faults = (p.read_faults, p.write_faults);
   fewer = tt;
 }
@@ -500,7 +500,7 @@ pub valid_fresh : IsValid fresh
 valid_fresh = record {
   places = grind arith;
   names = grind arith;
-  limits = record { bytes = omega arith; number = omega arith };
+  limits = record { within = refl };
   items = grind arith;
   times = grind arith;
   store = omega arith;

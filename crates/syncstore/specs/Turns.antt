@@ -11,7 +11,7 @@ use Rattle.ss_query.specs.declared.replies.Mark.{Mark}
 use Rattle.ss_query.specs.declared.replies.Mark.TheVariants.{Done, Keeper}
 use Rattle.ss_query.specs.declared.replies.Said.TheVariants as words
 use Rattle.ss_query.specs.declared.requests.Request.{Request}
-use Rattle.ss_account.specs.Journals.{marked}
+use Rattle.ss_laws.specs.Journals.{marked}
 use Rattle.ss_http.specs.declared.message.Message.{Message}
 use Rattle.ss_http.specs.declared.fault.MsgFault.{MsgFault}
 use Rattle.ss_http.specs.declared.fault.MsgFault.TheVariants as faults
@@ -30,6 +30,7 @@ use Rattle.syncstore.specs.declared.answer.Ending.TheVariants as endings
 use Rattle.syncstore.specs.declared.response.Response.{Response}
 use Rattle.syncstore.specs.declared.response.Response.TheVariants.{Whole, Short}
 use Rattle.syncstore.specs.Words.{status_of}
+use Rattle.syncstore.specs.declared.answer.TheConstants.{MOST}
 
 -- what a message asks of the account that is served, and whether lists are wanted in lines; or what it is told at once
 pub data Asked : Type 0 where
@@ -98,7 +99,7 @@ AreTurns uid (turn ∷ turns) = IsCourseOf turn.course (asked uid turn.message) 
 
 -- how many messages one run answers
 abbrev pub most_messages : ℕ
-most_messages = 1000000
+most_messages = MOST
 
 -- whether a response closes: its message asks for it, or it is the last that is answered
 abbrev pub closes : ℕ → Message → Bool

@@ -2,7 +2,6 @@
 
 ghost use Rattle.std.specs.Prelude.{◌≡◌, ◌≤◌, ◌<◌, IfSome};
 ghost use Rattle.ss_bso.specs.declared.account.Plain.{Plain};
-ghost use Rattle.ss_bso.specs.Changes.{fresh_kept};
 ghost use Rattle.ss_bso.specs.Validity.{IsValid};
 ghost use Rattle.ss_query.specs.Fit.{IsFitRequest};
 ghost use Rattle.syncstore.specs.Turns.{Answered, IsReading, IsTurn, Stops, asked, asks, told, bytes_of, closes, ending_of};
@@ -11,13 +10,12 @@ ghost use Rattle.syncstore.specs.Words.{status_of};
 use crate::response::Response;
 use crate::words::AnswerCommand;
 use ss_account::Account;
-use ss_bso::{Kept, Rows, Times};
+use ss_bso::Kept;
 use ss_http::{Buffer, Message, MsgFault, read_message};
 use ss_keeper::SureKeeper;
 use ss_outside::{Clock, Sink, Source};
 use ss_query::Request;
 use ss_route::{Local, Routed, not_listed, refused, route};
-use ss_text::Stamp;
 use std::alloc::Global;
 
 /// How many messages one run answers.
@@ -69,7 +67,7 @@ pub fn status_of(ending: Ending) -> u8
 /// The next reading of the clock of a run (hundredths of a second), of which `count` were taken.
 fn reading<C: Clock>(at: Option<u64>, count: u64, clock: &mut C) -> u64
     requires first { IfSome at (λ first. first ≤ 999999999999) }
-    requires count { count ≤ 1000000 }
+    requires count { count ≤ MOST }
     ensures reading { IsReading at count result (C.coming clock.old) (C.coming clock.new) }
     ensures unread { IfSome at (λ _. clock.new ≡ clock.old) }
 {
@@ -81,7 +79,7 @@ fn reading<C: Clock>(at: Option<u64>, count: u64, clock: &mut C) -> u64
 
 /// Whether a response closes, before which so many messages were answered.
 fn closes(count: u64, message: &Message) -> bool
-    requires { count < 1000000 }
+    requires { count < MOST }
     ensures { result ≡ closes count message.now }
 {
     message.last || count + 1 == MOST
@@ -101,6 +99,7 @@ fn ask(
     ensures valid { IsValid account.new.plain }
 {
     let reply = account.step(alloc, now, request);
+    account.keeper().never_fails();
     Response::to_reply(alloc, &reply, newlines, last)
 }
 
@@ -167,7 +166,7 @@ fn stop<T: Sink, C: Clock>(
     clock: &mut C,
 ) -> Ending
     requires first { IfSome at (λ first. first ≤ 999999999999) }
-    requires count { count ≤ 1000000 }
+    requires count { count ≤ MOST }
     ensures stops { Stops result fault at count (T.Told.told output.old) (T.Told.told output.new) (C.coming clock.old) (C.coming clock.new) }
     ensures unread { IfSome at (λ _. clock.new ≡ clock.old) }
 {
@@ -178,19 +177,6 @@ fn stop<T: Sink, C: Clock>(
     match Response::to_local(alloc, &local, now, true).write(output) {
         Ok(()) => Ending::Refused,
         Err(_) => Ending::Output,
-    }
-}
-
-/// What is kept of an account that nothing was asked of.
-fn fresh_kept(alloc: Global) -> Kept
-    ensures { result ≡ fresh_kept }
-{
-    Kept {
-        rows: Rows::new(Vec::new(alloc)),
-        collections: Times::new(Vec::new(alloc)),
-        store: Stamp::clamp(0),
-        last_delete: Stamp::clamp(0),
-        counter: 0,
     }
 }
 
@@ -211,7 +197,7 @@ pub fn answer<S: Source, T: Sink, C: Clock>(
     let Ok(mut buffer) = Buffer::new(alloc) else {
         return Ending::Memory;
     };
-    let keeper = SureKeeper::new(fresh_kept(alloc));
+    let keeper = SureKeeper::new(Kept::fresh(alloc));
     let Ok(mut account) = Account::open(alloc, keeper) else {
         return Ending::Memory;
     };

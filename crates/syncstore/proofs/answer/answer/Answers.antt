@@ -23,7 +23,7 @@ turns-init g c =
     let uid = c.args.command.uid in
     let at = c.args.command.at in
     let account = c.in-Ok-open.account.plain in
-    let is : account ≡ fresh = c.in-Ok-open.ensures.opened ∙ ap opened (c.new-keeper.ensures.kept ∙ c.fresh_kept.ensures) in
+    let is : account ≡ fresh = c.in-Ok-open.ensures.opened ∙ ap opened (c.new-keeper.ensures.kept ∙ c.fresh.ensures) in
     let K : Kept → Type 0 = λ k. Progress uid at input input output output coming coming k account 0 in
     let A : Plain → Type 0 = λ a. Progress uid at input input output output coming coming (record { bytes = []; stop = None }) a 0 in
     (subst K (sym c.in-Ok.ensures) (subst A (sym is) (begun uid at input output coming valid_fresh)), unread_at_first at c.args.clock.now)

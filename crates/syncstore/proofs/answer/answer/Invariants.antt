@@ -2,6 +2,7 @@ use Rattle.std.proofs.Common.{◌-◌}
 use Rattle.std.specs.Prelude.{IfSome, ◌≡◌}
 use Rattle.syncstore.specs.Turns.{Progress}
 use Rattle.syncstore.proofs.answer.answer.Given as goal
+use Rattle.syncstore.specs.declared.answer.TheConstants.{MOST}
 
 abbrev pub invariant-turns : goal.invariant-turns
 invariant-turns g l =
@@ -10,4 +11,4 @@ invariant-turns g l =
     × IfSome l.command.at (λ _. l.clock ≡ l.fn.clock)
 
 abbrev pub decreases-turns : goal.decreases-turns
-decreases-turns g l = 1000000 - l.count
+decreases-turns g l = MOST - l.count

@@ -1,7 +1,7 @@
 use Rattle.std.proofs.Common.{◌≡◌, true, false, nat_eq, sym, ◌∙◌, ap, subst, arith}
 use Rattle.std.proofs.lemmas.Bool.Decides.{nat_tests}
 use Rattle.std.specs.Prelude.{Bool, if◌then◌else◌}
-use Rattle.ss_account.proofs.Reordering.{same-self}
+use Rattle.ss_bso.proofs.Reordering.{same-self}
 use Rattle.ss_route.specs.declared.routed.Local.{Local}
 use Rattle.ss_route.specs.declared.routed.Routed.{Routed}
 use Rattle.ss_route.specs.Wire.{not_listed}

@@ -1,6 +1,6 @@
 use Rattle.std.proofs.Common.{refl}
 use Rattle.ss_query.specs.declared.replies.Mark.TheVariants.{Done}
-use Rattle.ss_account.proofs.Reordering.{same-self}
+use Rattle.ss_bso.proofs.Reordering.{same-self}
 use Rattle.syncstore.specs.Turns.{entered}
 use Rattle.syncstore.proofs.answer.tell.Goals as goal
 

@@ -99,3 +99,13 @@ pub loop_fault_at : {X : Type 0} (F : X → Option Data) (xs : List X) (i place 
     → fault_at (place + 1) (F (get_or xs i d)) ≡ Some f → Gathered place parts failed (map F (drop i xs)) (map F xs) → records_of (map F xs) ≡ Err f
 loop_fault_at F xs i place d parts failed f here bad g =
     loop_fault F xs i place (get_or xs i d) parts failed f here (get_or_default xs i d (get_or xs i d) here) bad g
+
+-- the same where what is left to come is a list
+pub left_fault : {X : Type 0} (F : X → Option Data) (left rest all : List X) (x : X) (place : ℕ) (parts : List Part) (failed : List (List ℕ × Reason)) (f : BodyFault) → left ≡ x ∷ rest
+    → fault_at (place + 1) (F x) ≡ Some f → Gathered place parts failed (map F left) (map F all) → records_of (map F all) ≡ Err f
+left_fault F left rest all x place parts failed f here bad g =
+    gathered_fault place parts failed (F x) (map F rest) (map F all) f bad (subst (λ l. Gathered place parts failed (map F l) (map F all)) here g)
+
+pub left_none : {X : Type 0} (F : X → Option Data) (left all : List X) (place : ℕ) (parts : List Part) (failed : List (List ℕ × Reason)) → left ≡ []
+    → Gathered place parts failed (map F left) (map F all) → records_of (map F all) ≡ Ok (record { parts = parts; failed = failed })
+left_none F left all place parts failed none g = gathered_all place parts failed (map F all) (subst (λ l. Gathered place parts failed (map F l) (map F all)) none g)

@@ -54,16 +54,16 @@ impl Gathering {
     }
 
     /// Adds an element; false where it has no id.
-    fn add(&mut self, alloc: Global, value: &Value) -> Result<bool, AllocError>
-        ensures found { IfOk result (λ found. found ≡ is_some (id_of (view value.now))) }
-        ensures parts { OnOk result (Grows self.old.parts.items self.new.parts.items (part_of (Some (view value.now)))) }
-        ensures failed { OnOk result (Grows self.old.failed.items self.new.failed.items (failed_of (Some (view value.now)))) }
+    fn add(&mut self, alloc: Global, value: Value) -> Result<bool, AllocError>
+        ensures found { IfOk result (λ found. found ≡ is_some (id_of (view value))) }
+        ensures parts { OnOk result (Grows self.old.parts.items self.new.parts.items (part_of (Some (view value)))) }
+        ensures failed { OnOk result (Grows self.old.failed.items self.new.failed.items (failed_of (Some (view value)))) }
     {
-        let id = match id_in(alloc, value)? {
+        let id = match id_in(alloc, &value)? {
             Some(id) => id,
             None => return Ok(false),
         };
-        match fields_in(alloc, value)? {
+        match fields_in(value) {
             Ok(fields) => self.parts.push(Part { id, fields })?,
             Err(reason) => self.failed.push((id, reason))?,
         }
@@ -91,8 +91,8 @@ fn id_in(alloc: Global, value: &Value) -> Result<Option<Id>, AllocError>
     }
 }
 
-fn records_in(alloc: Global, values: &[Value]) -> Result<Records, BodyFault>
-    ensures { GivesRecords result (records_of (map (λ value. Some (view value)) values.now)) }
+fn records_in(alloc: Global, values: Vec<Value>) -> Result<Records, BodyFault>
+    ensures { GivesRecords result (records_of (map (λ value. Some (view value)) values.items)) }
 {
     let mut gathering = Gathering::new(alloc);
     let mut place = 0u64;
@@ -115,7 +115,7 @@ fn records_in_lines(alloc: Global, lines: &[&[u8]]) -> Result<Records, BodyFault
         let Some(value) = parse(alloc, line)? else {
             return Err(BodyFault::NotJson);
         };
-        if !gathering.add(alloc, &value)? {
+        if !gathering.add(alloc, value)? {
             return Err(BodyFault::NoId { place });
         }
     }
@@ -126,9 +126,9 @@ fn read_list(alloc: Global, body: &[u8]) -> Result<Records, BodyFault>
     ensures { GivesRecords result (json_records (parsed body.now)) }
 {
     let value = parse(alloc, body)?.ok_or(BodyFault::NotJson)?;
-    match value.as_array() {
-        Some(values) => records_in(alloc, values.as_slice()),
-        None => Err(BodyFault::NotList),
+    match value {
+        Value::Array(values) => records_in(alloc, values),
+        _ => Err(BodyFault::NotList),
     }
 }
 

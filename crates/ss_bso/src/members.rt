@@ -56,27 +56,23 @@ pub(crate) fn parse(alloc: Global, text: &[u8]) -> Result<Option<Value>, AllocEr
     read(alloc, wrapped.bytes.as_slice())
 }
 
+/// The payload that a member gives; its text is moved out of it.
 #[tactic(auto, unfolding(crate::specs::Members::payload_of))]
-fn payload_in(
-    alloc: Global,
-    member: Option<&Value>,
-) -> Result<Result<Field<Word>, Reason>, AllocError>
-    ensures { IfOk result (λ field. field ≡ payload_of (option_map (λ value. view value.now) member.entry)) }
+fn payload_in(member: Option<&mut Value>) -> Result<Field<Word>, Reason>
+    ensures { result ≡ payload_of (option_map (λ value. view value.now) member.entry) }
 {
     let value = match member {
-        None => return Ok(Ok(Field::Keep)),
-        Some(value) => value,
+        None => return Ok(Field::Keep),
+        Some(value) => value.take(),
     };
-    if value.is_null() {
-        return Ok(Ok(Field::Clear));
-    }
-    match value.as_str() {
-        None => Ok(Err(Reason::Payload)),
-        Some(text) => if text.len() > MOST_PAYLOAD {
-            Ok(Err(Reason::TooLarge))
+    match value {
+        Value::Null => Ok(Field::Clear),
+        Value::String(text) => if text.len() > MOST_PAYLOAD {
+            Err(Reason::TooLarge)
         } else {
-            Ok(Ok(Field::Set(Word::new(String::from_str(alloc, text)?))))
+            Ok(Field::Set(Word::new(text)))
         },
+        _ => Err(Reason::Payload),
     }
 }
 
@@ -122,27 +118,19 @@ fn ttl_in(member: Option<&Value>) -> Result<Field<u32>, Reason>
     }
 }
 
-/// The fields that an object's members give, or the first reason against them.
+/// The fields that an object's members give, or the first reason against them. The payload's text is moved out.
 #[tactic(auto, unfolding(crate::specs::Members::fields_of))]
-pub(crate) fn fields_in(alloc: Global, value: &Value) -> Result<Result<Fields, Reason>, AllocError>
-    ensures { IfOk result (λ fields. fields ≡ fields_of (view value.now)) }
+pub(crate) fn fields_in(mut value: Value) -> Result<Fields, Reason>
+    ensures { result ≡ fields_of (view value) }
 {
-    let payload = match payload_in(alloc, value.get("payload"))? {
-        Ok(field) => field,
-        Err(reason) => return Ok(Err(reason)),
-    };
-    let sortindex = match sortindex_in(value.get("sortindex")) {
-        Ok(field) => field,
-        Err(reason) => return Ok(Err(reason)),
-    };
-    match ttl_in(value.get("ttl")) {
-        Ok(ttl) => Ok(Ok(Fields {
-            payload,
-            sortindex,
-            ttl,
-        })),
-        Err(reason) => Ok(Err(reason)),
-    }
+    let sortindex = sortindex_in(value.get("sortindex"));
+    let ttl = ttl_in(value.get("ttl"));
+    let payload = payload_in(value.get_mut("payload"))?;
+    Ok(Fields {
+        payload,
+        sortindex: sortindex?,
+        ttl: ttl?,
+    })
 }
 
 /// The fields that the body of a PUT gives: a JSON object, its decimals wrapped first, of equal members the last.
@@ -156,5 +144,5 @@ pub fn read_fields(alloc: Global, body: &[u8]) -> Result<Fields, FieldsFault>
     if !value.is_object() {
         return Err(FieldsFault::NotObject);
     }
-    fields_in(alloc, &value)?.map_err(FieldsFault::Bad)
+    fields_in(value).map_err(FieldsFault::Bad)
 }

@@ -3,7 +3,7 @@
 ghost use Rattle.std.specs.Prelude.{◌≡◌, true, refl, IfOk, Some, None, if◌then◌else◌, bytes_eq};
 ghost use Rattle.std.specs.List.{list_all};
 ghost use Rattle.std.specs.Cmp as order;
-ghost use Rattle.std.specs.Cmp.Lexicographic.{nat_list_cmp_total, nat_list_eq_equiv, texts_po, texts_ties};
+ghost use Rattle.std.specs.Cmp.Lexicographic.{nat_list_cmp_total, nat_list_eq_equiv, texts_po, texts_ties, pointwise, lists_equiv};
 ghost use Rattle.std.specs.Cmp.Rules.{hashing};
 ghost use Rattle.std.specs.Hash as fed;
 ghost use Rattle.std.proofs.Common.{rules};
@@ -270,4 +270,18 @@ impl Ids {
         }
         Ok(Ids { ids })
     }
+}
+
+impl PartialEq for Ids {
+    ghost eq = { pointwise bytes_eq };
+
+    ghost laws = { order.partial_equiv_from_equiv (lists_equiv nat_list_eq_equiv) };
+
+    fn eq(&self, other: &Ids) -> bool {
+        self.ids == other.ids
+    }
+}
+
+impl Eq for Ids {
+    ghost laws = { lists_equiv nat_list_eq_equiv };
 }

@@ -6,7 +6,9 @@ pub mod Pieces
 pub mod Points
 pub mod Printed
 pub mod Scans
+pub mod StringTokens
 pub mod Strings
+pub mod TokensStay
 pub mod Whole
 pub mod WholeTokens
 pub mod WholeTrees

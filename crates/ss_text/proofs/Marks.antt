@@ -167,7 +167,7 @@ same_bytes [] (y ∷ ys) e = absurd (true≢false (sym e))
 same_bytes (x ∷ xs) [] e = absurd (true≢false (sym e))
 same_bytes (x ∷ xs) (y ∷ ys) e = let p = and_parts (x == y) (bytes_eq xs ys) e in ap₂ (λ a l. a ∷ l) (eqb-true x y p.0) (same_bytes xs ys p.1)
 
-begins_split : (s : List ℕ) → begins_marked s ≡ true → s ≡ escape_mark ++ drop 6 s
+pub begins_split : (s : List ℕ) → begins_marked s ≡ true → s ≡ escape_mark ++ drop 6 s
 begins_split s e = sym (take-append-drop 6 s) ∙ ap (λ m. m ++ drop 6 s) (same_bytes (take 6 s) escape_mark e)
 
 rest_utf8 : (s : List ℕ) → begins_marked s ≡ true → IsUtf8 s → IsUtf8 (drop 6 s)
@@ -200,7 +200,7 @@ run_utf8 Mark r u = go (is_decimal r)
     go false = subst IsUtf8 (sym (append-nil r)) u
 run_utf8 Unmark r u = subst IsUtf8 (sym (append-nil r)) u
 
-flat-append : (ps qs : List Piece) → flat_map spelled (ps ++ qs) ≡ flat_map spelled ps ++ flat_map spelled qs
+pub flat-append : (ps qs : List Piece) → flat_map spelled (ps ++ qs) ≡ flat_map spelled ps ++ flat_map spelled qs
 flat-append [] qs = refl
 flat-append (p ∷ ps) qs = ap (λ t. spelled p ++ t) (flat-append ps qs) ∙ sym (append_assoc (spelled p) (flat_map spelled ps) (flat_map spelled qs))
 

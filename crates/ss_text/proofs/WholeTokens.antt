@@ -95,15 +95,15 @@ good_string (Some s) ls g = good_token (string s) ls tt g
 
 -- ---- a number takes bytes of numbers
 
-record Eats (t r : List ℕ) : Type 0 where
-  front : List ℕ
-  is : t ≡ front ++ r
-  bytes : list_all is_number_byte front ≡ true
+pub record Eats (t r : List ℕ) : Type 0 where
+  pub front : List ℕ
+  pub is : t ≡ front ++ r
+  pub bytes : list_all is_number_byte front ≡ true
 
 eats_none : (t : List ℕ) → Eats t t
 eats_none t = record { front = []; is = refl; bytes = refl }
 
-all_append : (a b : List ℕ) → list_all is_number_byte a ≡ true → list_all is_number_byte b ≡ true → list_all is_number_byte (a ++ b) ≡ true
+pub all_append : (a b : List ℕ) → list_all is_number_byte a ≡ true → list_all is_number_byte b ≡ true → list_all is_number_byte (a ++ b) ≡ true
 all_append [] b h g = g
 all_append (x ∷ a) b h g = let parts = and_parts (is_number_byte x) (list_all is_number_byte a) h in ap₂ (λ p q. p && q) parts.0 (all_append a b parts.1 g)
 
@@ -128,7 +128,7 @@ eats_digits : (t : List ℕ) → Eats t (drop (prefix_len is_ascii_digit t) t)
 eats_digits [] = eats_none []
 eats_digits (x ∷ t) = digits_step (is_ascii_digit x) x (prefix_len is_ascii_digit t) t refl (eats_digits t)
 
-abbrev EatsIf : List ℕ → Option (List ℕ) → Type 0
+abbrev pub EatsIf : List ℕ → Option (List ℕ) → Type 0
 EatsIf t None = Unit {0}
 EatsIf t (Some r) = Eats t r
 
@@ -171,14 +171,14 @@ if_exponent t =
     (from_part (drop 1 t) (after_sign (drop 1 t)) _ (one_of (drop 1 t) (head (drop 1 t) == 45 || head (drop 1 t) == 43) (λ k. eats_two 45 43 (drop 1 t) refl refl refl refl k)) (if_digits (after_sign (drop 1 t)))))
     (eats_none t)
 
-if_number : (t : List ℕ) → EatsIf t (after_number t)
+pub if_number : (t : List ℕ) → EatsIf t (after_number t)
 unfolding after_number
 if_number t =
     then_if t after_exponent _ (then_if t after_fraction _ (from_part t (after_minus t) _ (one_of t (head t == 45) (λ e. eats_one 45 t refl refl e)) (if_whole (after_minus t))) if_fraction) if_exponent
 
 -- ---- a run ends where a word ends
 
-one_of_six : (P : ℕ → Type 0) → P 123 → P 125 → P 91 → P 93 → P 58 → P 44 → (x : ℕ) → is_operator x ≡ true → P x
+pub one_of_six : (P : ℕ → Type 0) → P 123 → P 125 → P 91 → P 93 → P 58 → P 44 → (x : ℕ) → is_operator x ≡ true → P x
 one_of_six P a b c d e f x h = at6 (or_cases ((x == 123) || (x == 125) || (x == 91) || (x == 93) || (x == 58)) (x == 44) h)
   where
     is : (c : ℕ) → P c → (x == c) ≡ true → P x
@@ -199,7 +199,7 @@ one_of_six P a b c d e f x h = at6 (or_cases ((x == 123) || (x == 125) || (x == 
     at6 : (((x == 123) || (x == 125) || (x == 91) || (x == 93) || (x == 58)) ≡ true) ⊎ ((x == 44) ≡ true) → P x
     at6 k = ⊎_elim at5 (is 44 f) k
 
-one_of_four : (P : ℕ → Type 0) → P 32 → P 9 → P 10 → P 13 → (x : ℕ) → is_space x ≡ true → P x
+pub one_of_four : (P : ℕ → Type 0) → P 32 → P 9 → P 10 → P 13 → (x : ℕ) → is_space x ≡ true → P x
 one_of_four P a b c d x h = at4 (or_cases ((x == 32) || (x == 9) || (x == 10)) (x == 13) h)
   where
     is : (c : ℕ) → P c → (x == c) ≡ true → P x
@@ -214,7 +214,7 @@ one_of_four P a b c d x h = at4 (or_cases ((x == 32) || (x == 9) || (x == 10)) (
     at4 : (((x == 32) || (x == 9) || (x == 10)) ≡ true) ⊎ ((x == 13) ≡ true) → P x
     at4 k = ⊎_elim at3 (is 13 d) k
 
-end_is_no_part : (x : ℕ) → (is_operator x || is_space x) ≡ true → is_number_byte x ≡ false
+pub end_is_no_part : (x : ℕ) → (is_operator x || is_space x) ≡ true → is_number_byte x ≡ false
 end_is_no_part x h =
     ⊎_elim (one_of_six (λ y. is_number_byte y ≡ false) refl refl refl refl refl refl x) (one_of_four (λ y. is_number_byte y ≡ false) refl refl refl refl x) (or_cases (is_operator x) (is_space x) h)
 
@@ -222,7 +222,7 @@ no_part : (rest : List ℕ) → ends_word rest ≡ true → prefix_len is_number
 no_part [] h = refl
 no_part (x ∷ xs) h = ap (λ b. cond b (1 + prefix_len is_number_byte xs) 0) (end_is_no_part x h)
 
-run_front : (s rest : List ℕ) → list_all is_number_byte s ≡ true → 0 < length s → ends_word rest ≡ true → pieces at.outside (s ++ rest) ≡ run s ∷ pieces at.outside rest
+pub run_front : (s rest : List ℕ) → list_all is_number_byte s ≡ true → 0 < length s → ends_word rest ≡ true → pieces at.outside (s ++ rest) ≡ run s ∷ pieces at.outside rest
 run_front s rest h some ended = run_there s rest h some (no_part rest ended)
 
 -- ---- the lexer and the scanner agree
@@ -286,7 +286,7 @@ some_front (x ∷ s) h = omega arith
 
 -- ---- the literals
 
-literal_is : (name t : List ℕ) → pointwise nat_eq name (take (length name) t) ≡ true → t ≡ name ++ drop (length name) t
+pub literal_is : (name t : List ℕ) → pointwise nat_eq name (take (length name) t) ≡ true → t ≡ name ++ drop (length name) t
 literal_is [] t h = refl
 literal_is (c ∷ name) [] h = absurd (false≢true h)
 literal_is (c ∷ name) (x ∷ t) h =

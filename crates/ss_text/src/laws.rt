@@ -1,6 +1,7 @@
 //! What wrapping is for.
 
-ghost use Rattle.std.specs.Prelude.{◌≡◌, List, ℕ, false, Some};
+ghost use Rattle.std.specs.Prelude.{◌≡◌, List, ℕ, false, Some, map};
+ghost use Rattle.std.specs.List.{flat_map};
 ghost use Rattle.json.specs.Lex.{tokens};
 ghost use Rattle.json.specs.Print.{ArePrintable, print};
 ghost use Rattle.json.specs.Token.{Token};
@@ -8,7 +9,7 @@ ghost use Rattle.serde_json.specs.Data.{Data};
 ghost use Rattle.serde_json.specs.Read.{read};
 ghost use Rattle.serde_json.specs.Written.{has_float};
 ghost use Rattle.ss_text.specs.Decimals.{wrapped, count_of, marked, unmarked};
-ghost use Rattle.ss_text.specs.Tokens.{AreWhole};
+ghost use Rattle.ss_text.specs.Tokens.{AreWhole, Lexes, wrapped_token, marked_token};
 
 /// A wrapped text that serde_json reads holds no float.
 pub fn wrapped_is_whole()
@@ -31,4 +32,12 @@ pub fn unwrapped_is_same()
 /// Unmarking a marked text gives the text back.
 pub fn unmarking_undoes_marking()
     ensures { (text : List ℕ) → unmarked (marked text) ≡ text }
+{}
+
+/// Wrapping and marking, in JSON's own words (RFC 8259): of a text that lexes, the tokens of the wrapped text are its
+/// tokens, each decimal replaced by a list of one string; those of the marked text are its tokens, each decimal replaced
+/// by a string of U+0001 and its characters, and each string or name that begins with U+0001 by one with one more.
+pub fn tokens_stay()
+    ensures wrapped { (text : List ℕ) → Lexes text → tokens (wrapped text) ≡ flat_map wrapped_token (tokens text) }
+    ensures marked { (text : List ℕ) → Lexes text → tokens (marked text) ≡ map marked_token (tokens text) }
 {}

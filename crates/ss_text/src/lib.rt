@@ -18,7 +18,9 @@ pub use decimals::{
     Wrapped, count_decimals, is_decimal, mark_decimals, unmark_decimals, wrap_decimals,
 };
 pub use json_texts::push_json_text;
-pub use laws::{marked_is_whole, unmarking_undoes_marking, unwrapped_is_same, wrapped_is_whole};
+pub use laws::{
+    marked_is_whole, tokens_stay, unmarking_undoes_marking, unwrapped_is_same, wrapped_is_whole,
+};
 pub use lines::{cut_lines, lines_in};
 pub use names::{Id, Ids, Name};
 pub use numbers::read_number;

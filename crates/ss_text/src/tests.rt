@@ -153,7 +153,8 @@ fn ids_and_names_have_their_form(rt: HostRuntime) -> Result<(), Fail> {
 
     let mut ids = Vec::new(alloc);
     ids.push(id)?;
-    assert_eq!(rt; Ids::new(ids).copy(alloc)?.as_slice().len(), 1);
+    let ids = Ids::new(ids);
+    assert!(rt; ids.copy(alloc)? == ids && ids != Ids::new(Vec::new(alloc)));
     let word = Word::new(String::from_str(alloc, "w")?);
     assert!(rt; word.copy(alloc)? == word);
     assert!(rt; Bytes::from_slice(alloc, b"w")?.copy(alloc)?.as_slice() == b"w".as_slice());

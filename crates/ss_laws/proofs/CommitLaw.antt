@@ -1,5 +1,5 @@
 -- A commit is answered 200 exactly where nothing stands against it.
-use Rattle.std.specs.Prelude.{◌≡◌, ℕ, ◌<◌, ◌≤◌, ◌+◌, Bool, true, false, not, ◌&&◌, List, length, Option, Some, None, option_map, is_none, IsSome, nat_le, refl}
+use Rattle.std.specs.Prelude.{◌≡◌, ℕ, ◌<◌, Bool, true, false, not, ◌&&◌, List, Option, Some, None, option_map, is_none, IsSome, nat_le, refl}
 use Rattle.std.proofs.Common.{ap, sym, arith}
 use Rattle.std.proofs.lemmas.Bool.Decides.{nat_tests}
 use Rattle.ss_text.specs.Time.{last_stamp, stops}

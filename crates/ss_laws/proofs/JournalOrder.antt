@@ -11,7 +11,7 @@ use Rattle.ss_query.specs.declared.replies.Body.TheVariants.{Said}
 use Rattle.ss_query.specs.declared.replies.Said.TheVariants.{Keeper as KeeperWord, Memory as MemoryWord}
 use Rattle.ss_query.specs.declared.requests.Request.{Request}
 use Rattle.ss_laws.specs.declared.journal.Entry.{Entry}
-use Rattle.ss_laws.specs.declared.journal.Journal.{Journal}
+use Rattle.ss_laws.specs.Journal.{Journal}
 use Rattle.ss_query.specs.Fit.{IsFitRequest}
 use Rattle.ss_laws.specs.Laws.{SameOutcome}
 use Rattle.ss_laws.specs.Journals.{failed, marked, entered, account_after, reply_at, IsLegal}

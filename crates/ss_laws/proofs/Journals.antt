@@ -8,7 +8,7 @@ use Rattle.ss_query.specs.declared.replies.Mark.TheVariants.{Done, Keeper, Memor
 use Rattle.ss_query.specs.declared.replies.Reply.{Reply}
 use Rattle.ss_query.specs.declared.requests.Request.{Request}
 use Rattle.ss_laws.specs.declared.journal.Entry.{Entry}
-use Rattle.ss_laws.specs.declared.journal.Journal.{Journal}
+use Rattle.ss_laws.specs.Journal.{Journal}
 use Rattle.ss_query.specs.Fit.{IsFitRequest}
 use Rattle.ss_laws.specs.Journals.{marked, entered, account_after, reply_at, IsLegal}
 use Rattle.ss_bso.proofs.Lists.{Each-from_All}

@@ -1,7 +1,6 @@
 -- The collections' times, and lists with each key once.
 use Rattle.std.specs.Prelude.{◌≡◌, ℕ, ◌≤◌, Bool, true, false, not, cond, List, [], ◌∷◌, Option, Some, None, option_map, IsSomeAnd, IsFalse, bytes_eq, find, filter, refl}
-use Rattle.std.proofs.Common.{sym, ap, ◌∙◌, arith}
-use Rattle.std.proofs.lemmas.Slice.Eq.{bytes_eq-Decides}
+use Rattle.std.proofs.Common.{ap, ◌∙◌, arith}
 use Rattle.ss_text.specs.Texts.{once_by}
 use Rattle.ss_bso.specs.Account.{time_of}
 use Rattle.ss_bso.specs.Write.{times_without, times_with}

@@ -1,5 +1,5 @@
 -- Legal journals, and the reply at each place of one.
-use Rattle.std.specs.Prelude.{ℕ, ◌≤◌, List, length, take, map, fold, slice_get, Option, None, option_map, All}
+use Rattle.std.specs.Prelude.{ℕ, ◌≤◌, List, [], ◌∷◌, ◌++◌, length, take, map, fold, slice_get, Option, None, option_map, All}
 use Rattle.std.specs.List.Sorted.{IsStrictlyIncreasing}
 use Rattle.ss_bso.specs.declared.account.Plain.{Plain}
 use Rattle.ss_bso.specs.Account.{tick}
@@ -13,7 +13,7 @@ use Rattle.ss_query.specs.declared.replies.Said.TheVariants.{Keeper as KeeperWor
 use Rattle.ss_query.specs.declared.requests.Request.{Request}
 use Rattle.ss_query.specs.Api.{api, Outcome}
 use Rattle.ss_laws.specs.declared.journal.Entry.{Entry}
-use Rattle.ss_laws.specs.declared.journal.Journal.{Journal}
+use Rattle.ss_laws.specs.Journal.{Journal}
 use Rattle.ss_query.specs.Fit.{IsFitRequest}
 
 -- a request that ended for want of memory or by its keeper's failure: the clock alone has moved
@@ -40,6 +40,14 @@ account_after opening entries = fold (λ account entry. (entered account entry).
 abbrev pub reply_at : Journal → ℕ → Option Reply
 reply_at journal place =
     option_map (λ entry. (entered (account_after journal.opening (take place journal.entries)) entry).reply) (slice_get journal.entries place)
+
+-- a journal without entries
+abbrev pub begun : Plain → ℕ → Journal
+begun opening most = record { opening = opening; most = most; entries = [] }
+
+-- a journal with one more entry
+abbrev pub with_entry : Journal → Entry → Journal
+with_entry journal entry = record journal { entries = journal.entries ++ entry ∷ [] }
 
 -- a legal journal
 pub record IsLegal (journal : Journal) : Type 0 where

@@ -16,7 +16,7 @@ ghost use Rattle.ss_query.specs.declared.requests.Request.{Request};
 ghost use Rattle.ss_query.specs.Api.{api};
 ghost use Rattle.ss_query.specs.Effect.{is_write};
 ghost use Rattle.ss_bso.specs.Account.{tick};
-ghost use Rattle.ss_laws.specs.declared.journal.Journal.{Journal};
+ghost use Rattle.ss_laws.specs.Journal.{Journal};
 ghost use Rattle.ss_laws.specs.Journals.{IsLegal, reply_at, account_after};
 
 /// What batches do is what plain POSTs of the same parts do: an account after a list of requests is, but for its

@@ -118,9 +118,12 @@ impl<K: Keeper> Account<K> {
         self.ledger.keeper.load(alloc)
     }
 
-    /// The account as plain data.
+    /// The account as plain data. As every account it is valid, and kept so that it can be opened again.
     pub fn plain(&self, alloc: Global) -> Result<Plain, AllocError>
-        ensures { IfOk result (λ plain. SameAccount self.now.plain plain) }
+        ensures plain { IfOk result (λ plain. SameAccount self.now.plain plain) }
+        ensures valid { IsValid self.now.plain }
+        ensures kept { IsKeptBy (K.told self.now.keeper) self.now.plain }
+        ensures again { IfSome (K.told self.now.keeper) IsGood }
     {
         let plain = self.state.plain(alloc)?;
         Ok(plain)

@@ -17,8 +17,6 @@ mod sizes;
 mod state;
 mod targets;
 mod telling;
-#[cfg(test)]
-mod tests;
 mod writing;
 
 pub use account::Account;

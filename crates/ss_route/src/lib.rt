@@ -18,8 +18,6 @@ mod routed;
 mod routing;
 mod scalars;
 mod targets;
-#[cfg(test)]
-mod tests;
 mod texts;
 
 pub use laws::{batch_ids_are_given_out, replies_are_heard, requests_are_routed};

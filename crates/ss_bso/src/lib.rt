@@ -11,8 +11,6 @@ mod members;
 mod parts;
 mod puts;
 mod rows;
-#[cfg(test)]
-mod tests;
 
 pub use account::{Batches, Plain, Staged, Times};
 pub use bodies::{BodyFault, read_parts};

@@ -28,16 +28,26 @@ fn payload(alloc: Global, size: u64) -> anyhow::Result<String> {
     Ok(format!(in alloc; "{{\"payload\":\"{text}\"}}")?)
 }
 
+/// A list of one record with a payload of so many bytes.
+fn record(alloc: Global, size: u64) -> anyhow::Result<String> {
+    let text = letters(alloc, size)?;
+    Ok(format!(in alloc; "[{{\"id\":\"a\",\"payload\":\"{text}\"}}]")?)
+}
+
 /// A text of so many letters.
 pub fn letters(alloc: Global, size: u64) -> anyhow::Result<String> {
     Ok("x".repeat(alloc, usize::try_from(size)?)?)
 }
 
-/// A body as a line has it, in which `¶` stands for a newline. `%records FROM COUNT` and `%payload SIZE` stand for long ones; the
-/// former moves on by its count where a line is repeated.
+/// A body as a line has it, in which `¶` stands for a newline and `←` for CR. `%records FROM COUNT`, `%payload SIZE` and `%record SIZE`
+/// stand for long ones; the first moves on by its count where a line is repeated.
 pub fn body(alloc: Global, text: &str, turn: u64) -> anyhow::Result<String> {
     let Some(made) = text.strip_prefix("%") else {
-        return Ok(text.replace(alloc, "¶", "\n")?);
+        return Ok(
+            text.replace(alloc, "¶", "\n")?
+                .as_str()
+                .replace(alloc, "←", "\r")?,
+        );
     };
     match made.split_once(' ') {
         Some(("records", rest)) => {
@@ -52,6 +62,7 @@ pub fn body(alloc: Global, text: &str, turn: u64) -> anyhow::Result<String> {
             )
         }
         Some(("payload", size)) => payload(alloc, number(size)?),
+        Some(("record", size)) => record(alloc, number(size)?),
         _ => bail!("no body"),
     }
 }

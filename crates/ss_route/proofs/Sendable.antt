@@ -1,10 +1,11 @@
 -- The bytes of a request that is sent are read as its message.
-use Rattle.std.proofs.Common.{◌≡◌, ℕ, ◌<◌, ◌≤◌, List, [], ◌++◌, length, true, Option, Some, None, codes, decimal, refl, sym, ap, ◌∙◌, subst, arith, lit<, length-append, append_assoc}
+use Rattle.std.proofs.Common.{◌≡◌, ℕ, ◌<◌, ◌≤◌, List, [], ◌++◌, length, true, Option, Some, None, codes, decimal, refl, sym, ap, ◌∙◌, subst, arith, lit<, length-append, append_assoc, ◌∷◌, ◌/◌, ◌%◌, ⊎_elim}
 use Rattle.std.proofs.lemmas.Fmt.{length-decimal-le}
 use Rattle.std.specs.Prelude.{IfSome}
 use Rattle.std.specs.List.{list_all}
 use Rattle.std.specs.Str.{IsUtf8}
 use Rattle.httparse.specs.Grammar.{is_token, is_token_byte, is_uri_byte}
+use Rattle.ss_text.specs.Time.{stamp_text, two_digits}
 use Rattle.ss_text.specs.declared.stamps.Cond.{Cond}
 use Rattle.ss_text.specs.declared.stamps.Cond.TheVariants.{Free, IfModified, IfUnmodified}
 use Rattle.ss_bso.specs.declared.parts.Records.{Records}
@@ -15,12 +16,13 @@ use Rattle.ss_query.specs.Refused.{condition_of}
 use Rattle.ss_query.specs.declared.requests.Info.TheVariants.{Configuration}
 use Rattle.ss_query.specs.declared.requests.Mode.{Mode}
 use Rattle.ss_query.specs.declared.requests.Mode.TheVariants.{Plain, Begin, Append, Commit}
+use Rattle.ss_query.specs.declared.requests.Query.{Query}
 use Rattle.ss_query.specs.declared.requests.Request.{Request}
 use Rattle.ss_query.specs.declared.requests.Request.TheVariants.{Info, DeleteAll, List as ListOf, Post, DeleteCollection, DeleteIds, Put, Get as GetItem, Delete as DeleteItem}
 use Rattle.ss_route.specs.Posts.{token}
-use Rattle.ss_route.specs.Sending.{IsSent, IsTyped, IsReadable, IsReadableBatch, IsPageAt, IsHost, page, account_path, mode_text, target_of, uploads_text, method_of, body_sent, request_sent, message_of}
+use Rattle.ss_route.specs.Sending.{IsSent, IsTyped, IsReadable, IsReadableBatch, IsPageAt, IsListed, IsUnmodified, IsHost, page, all_ids, newer_text, account_path, mode_text, target_of, uploads_text, method_of, body_sent, request_sent, message_of}
 use Rattle.ss_route.proofs.Composed.{Pair, ArePlainSegments, ArePlainPairs, target_text, target_uri, target_utf8}
-use Rattle.ss_route.proofs.Sent.{bookmarks, configuration, bookmarks_plain, configuration_plain, first_pairs, first_plain, later_pairs, later_plain, first_target, later_target, configuration_target, mode_pairs, mode_plain, mode_target}
+use Rattle.ss_route.proofs.Sent.{bookmarks, configuration, bookmarks_plain, configuration_plain, IsTime, first_pairs, first_plain, later_pairs, later_plain, first_target, later_target, ids_target, configuration_target, mode_pairs, mode_plain, mode_target}
 use Rattle.ss_route.proofs.Tokens.{token_short}
 use Rattle.ss_http.specs.declared.limits.TheConstants.{BODY_ROOM, TARGET_ROOM, METHOD_ROOM}
 
@@ -47,17 +49,43 @@ configuration_size : (uid : ℕ) → uid ≤ 4294967295 → IsTargetSize (target
 unfolding target_of
 configuration_size uid below = behind_account uid (codes "/info/configuration") below (omega arith)
 
-first_size : (uid : ℕ) → uid ≤ 4294967295 → IsTargetSize (target_of uid (ListOf (codes "bookmarks") (page 0) Free))
-unfolding target_of
-first_size uid below = behind_both uid (codes "/storage/bookmarks?full=1&sort=oldest&limit=1000") [] below (omega arith) (omega arith)
+newer_size : (newer : Option ℕ) → IsTime newer → length (newer_text newer) ≤ 20
+unfolding stamp_text
+newer_size None h = omega arith
+newer_size (Some since) h =
+    let digits = length-decimal-le 10 (since / 100) (lit< tt) (omega arith) (omega arith) in
+    let time = length-append (decimal (since / 100)) (46 ∷ two_digits (since % 100)) in
+    let last : length (46 ∷ two_digits (since % 100)) ≡ 3 = refl in
+    let whole = length-append (codes "&newer=") (stamp_text since) in
+    let head : length (codes "&newer=") ≡ 7 = refl in
+    omega (arith, digits, time, last, whole, head)
 
-later_size : (uid offset time : ℕ) → uid ≤ 4294967295 → offset ≤ 999999999 → IsTargetSize (target_of uid (ListOf (codes "bookmarks") (page offset) (IfUnmodified time)))
-unfolding target_of
-later_size uid offset time below within =
+offset_size : (offset : ℕ) → offset ≤ 999999999 → length (codes "&offset=" ++ decimal offset) ≤ 20
+offset_size offset within =
     let digits = length-decimal-le 9 offset (lit< tt) (omega arith) (omega arith) in
     let whole = length-append (codes "&offset=") (decimal offset) in
     let head : length (codes "&offset=") ≡ 8 = refl in
-    behind_both uid (codes "/storage/bookmarks?full=1&sort=oldest&limit=1000") (codes "&offset=" ++ decimal offset) below (omega arith) (omega (arith, whole, head, digits))
+    omega (arith, digits, whole, head)
+
+page_size : (newer : Option ℕ) (place : List ℕ) → IsTime newer → length place ≤ 20 → length (codes "/storage/bookmarks?full=1&sort=oldest&limit=1000" ++ newer_text newer ++ place) ≤ 7900
+page_size newer place known few =
+    let time = newer_size newer known in
+    let outer = length-append (codes "/storage/bookmarks?full=1&sort=oldest&limit=1000" ++ newer_text newer) place in
+    let inner = length-append (codes "/storage/bookmarks?full=1&sort=oldest&limit=1000") (newer_text newer) in
+    let head : length (codes "/storage/bookmarks?full=1&sort=oldest&limit=1000") ≡ 48 = refl in
+    omega (arith, time, outer, inner, head, few)
+
+first_size : (uid : ℕ) (newer : Option ℕ) → uid ≤ 4294967295 → IsTime newer → IsTargetSize (target_of uid (ListOf (codes "bookmarks") (page newer 0) Free))
+unfolding target_of
+first_size uid newer below known = behind_account uid _ below (page_size newer [] known (omega arith))
+
+later_size : (uid : ℕ) (newer : Option ℕ) (offset time : ℕ) → uid ≤ 4294967295 → IsTime newer → offset ≤ 999999999 → IsTargetSize (target_of uid (ListOf (codes "bookmarks") (page newer offset) (IfUnmodified time)))
+unfolding target_of
+later_size uid newer offset time below known within = behind_account uid _ below (page_size newer (codes "&offset=" ++ decimal offset) known (offset_size offset within))
+
+ids_size : (uid time : ℕ) → uid ≤ 4294967295 → IsTargetSize (target_of uid (ListOf (codes "bookmarks") all_ids (IfUnmodified time)))
+unfolding target_of
+ids_size uid time below = behind_account uid (codes "/storage/bookmarks") below (omega arith)
 
 mode_size : (mode : Mode) → IsReadableBatch mode → length (mode_text mode) ≤ 100
 mode_size Plain h = omega arith
@@ -113,16 +141,30 @@ limits_sendable uid host below visible =
     composed (codes "GET") (target_of uid (Info Configuration Free)) host Free None (configuration uid) [] get_name (configuration_target uid)
     (configuration_plain uid (omega arith)) tt (configuration_size uid below) visible tt tt
 
-page_sendable : (uid offset : ℕ) (host : List ℕ) (cond : Cond) → uid ≤ 4294967295 → IsHost host → IsPageAt offset cond → offset ≤ 999999999 → IsCond cond
-    → Sendable uid host (ListOf (codes "bookmarks") (page offset) cond)
-page_sendable uid offset host Free below visible at within typed =
-    subst (λ offset. Sendable uid host (ListOf (codes "bookmarks") (page offset) Free)) (sym at)
-    (composed (codes "GET") (target_of uid (ListOf (codes "bookmarks") (page 0) Free)) host Free None (bookmarks uid) first_pairs get_name (first_target uid)
-    (bookmarks_plain uid (omega arith)) first_plain (first_size uid below) visible tt tt)
-page_sendable uid offset host (IfModified time) below visible at within typed = absurd at
-page_sendable uid offset host (IfUnmodified time) below visible at within typed =
-    composed (codes "GET") (target_of uid (ListOf (codes "bookmarks") (page offset) (IfUnmodified time))) host (IfUnmodified time) None (bookmarks uid) (later_pairs offset)
-    get_name (later_target uid offset time) (bookmarks_plain uid (omega arith)) (later_plain offset (omega arith)) (later_size uid offset time below within) visible typed tt
+page_sendable : (uid : ℕ) (newer : Option ℕ) (offset : ℕ) (host : List ℕ) (cond : Cond) → uid ≤ 4294967295 → IsHost host → IsTime newer → IsPageAt offset cond → offset ≤ 999999999 → IsCond cond
+    → Sendable uid host (ListOf (codes "bookmarks") (page newer offset) cond)
+page_sendable uid newer offset host Free below visible known at within typed =
+    subst (λ offset. Sendable uid host (ListOf (codes "bookmarks") (page newer offset) Free)) (sym at)
+    (composed (codes "GET") (target_of uid (ListOf (codes "bookmarks") (page newer 0) Free)) host Free None (bookmarks uid) (first_pairs newer) get_name (first_target uid newer)
+    (bookmarks_plain uid (omega arith)) (first_plain newer known) (first_size uid newer below known) visible tt tt)
+page_sendable uid newer offset host (IfModified time) below visible known at within typed = absurd at
+page_sendable uid newer offset host (IfUnmodified time) below visible known at within typed =
+    composed (codes "GET") (target_of uid (ListOf (codes "bookmarks") (page newer offset) (IfUnmodified time))) host (IfUnmodified time) None (bookmarks uid) (later_pairs newer offset)
+    get_name (later_target uid newer offset time) (bookmarks_plain uid (omega arith)) (later_plain newer offset known (omega arith)) (later_size uid newer offset time below known within) visible typed tt
+
+ids_sendable : (uid : ℕ) (host : List ℕ) (cond : Cond) → uid ≤ 4294967295 → IsHost host → IsUnmodified cond → IsCond cond → Sendable uid host (ListOf (codes "bookmarks") all_ids cond)
+ids_sendable uid host Free below visible at typed = absurd at
+ids_sendable uid host (IfModified time) below visible at typed = absurd at
+ids_sendable uid host (IfUnmodified time) below visible at typed =
+    composed (codes "GET") (target_of uid (ListOf (codes "bookmarks") all_ids (IfUnmodified time))) host (IfUnmodified time) None (bookmarks uid) []
+    get_name (ids_target uid time) (bookmarks_plain uid (omega arith)) tt (ids_size uid time below) visible typed tt
+
+list_sendable : (uid : ℕ) (host : List ℕ) (query : Query) (cond : Cond) → uid ≤ 4294967295 → IsHost host → IsTime query.newer → IsListed query cond → query.offset ≤ 999999999 → IsCond cond
+    → Sendable uid host (ListOf (codes "bookmarks") query cond)
+list_sendable uid host query cond below visible known listed within typed =
+    ⊎_elim
+    (λ is. subst (λ query. Sendable uid host (ListOf (codes "bookmarks") query cond)) (sym is.0) (page_sendable uid query.newer query.offset host cond below visible known is.1 within typed))
+    (λ is. subst (λ query. Sendable uid host (ListOf (codes "bookmarks") query cond)) (sym is.0) (ids_sendable uid host cond below visible is.1 typed)) listed
 
 post_sendable : (uid : ℕ) (host : List ℕ) (records : Records) (mode : Mode) (cond : Cond) → uid ≤ 4294967295 → IsHost host → IsCond cond → IsReadableBatch mode
     → length (uploads_text records.parts) ≤ BODY_ROOM → Sendable uid host (Post (codes "bookmarks") records mode cond)
@@ -136,7 +178,7 @@ sendable uid host (Info what cond) below visible typed sent readable =
 sendable uid host (DeleteAll cond) below visible typed sent readable = absurd sent
 sendable uid host (ListOf collection query cond) below visible typed sent readable =
     subst (λ collection. Sendable uid host (ListOf collection query cond)) (sym sent.0)
-    (subst (λ query. Sendable uid host (ListOf (codes "bookmarks") query cond)) (sym sent.1) (page_sendable uid query.offset host cond below visible sent.2 readable typed))
+    (list_sendable uid host query cond below visible typed.0 sent.1 readable typed.1)
 sendable uid host (Post collection records mode cond) below visible typed sent readable =
     subst (λ collection. Sendable uid host (Post collection records mode cond)) (sym sent.0)
     (post_sendable uid host records mode cond below visible typed.1 readable.0 readable.1)

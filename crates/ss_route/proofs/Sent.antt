@@ -1,9 +1,9 @@
 -- A request that is sent is routed as it was meant.
-use Rattle.std.proofs.Common.{◌≡◌, ℕ, suc, ◌+◌, ◌^◌, ◌<◌, ◌≤◌, List, [], ◌∷◌, length, Bool, true, false, ◌&&◌, cond, Option, Some, None, option_and_then, codes, decimal, refl, sym, ap, ap₂, ◌∙◌, subst, arith, lit<, le-leb, append_assoc, append-nil}
+use Rattle.std.proofs.Common.{◌≡◌, ℕ, suc, ◌+◌, ◌^◌, ◌<◌, ◌≤◌, List, [], ◌∷◌, length, Bool, true, false, ◌&&◌, cond, Option, Some, None, option_and_then, codes, decimal, refl, sym, ap, ap₂, ◌∙◌, subst, arith, lit<, le-leb, append_assoc, append-nil, ◌++◌, ⊎_elim}
 use Rattle.std.proofs.lemmas.Fmt.{decimal_nonempty}
 use Rattle.std.proofs.lemmas.List.Sums.{sum_by-cons}
 use Rattle.std.specs.List.{list_all, AllByRecursion, All}
-use Rattle.std.specs.Prelude.{Result, Ok, Err, ok_or, is_some}
+use Rattle.std.specs.Prelude.{Result, Ok, Err, ok_or, is_some, IfSome}
 use Rattle.std.specs.Str.{IsUtf8}
 use Rattle.httparse.specs.Grammar.{trim_ows}
 use Rattle.ss_text.specs.Names.{is_id}
@@ -18,7 +18,7 @@ use Rattle.ss_http.proofs.Values.{stamp_again}
 use Rattle.ss_http.specs.Requests.{IsCond, request_fields}
 use Rattle.ss_http.specs.declared.message.Message.{Message}
 use Rattle.ss_query.specs.Fit.{IsFitRequest, most_post_records, most_post_bytes}
-use Rattle.ss_query.specs.Parameters.{◌>>=◌, optional, or_default, ids_in, stamp_in, limit_in, offset_in, sort_in, ids_of_text, query_of_text, parameter}
+use Rattle.ss_query.specs.Parameters.{◌>>=◌, as_some, optional, or_default, ids_in, stamp_in, limit_in, offset_in, sort_in, ids_of_text, query_of_text, parameter}
 use Rattle.ss_query.specs.declared.queries.QueryFault.{QueryFault}
 use Rattle.ss_query.specs.declared.queries.QueryFault.TheVariants as of_query
 use Rattle.ss_query.specs.declared.replies.Said.TheVariants as words
@@ -28,7 +28,7 @@ use Rattle.ss_query.specs.declared.requests.Mode.TheVariants.{Plain, Begin, Appe
 use Rattle.ss_query.specs.declared.requests.Query.{Query}
 use Rattle.ss_query.specs.declared.requests.Request.{Request}
 use Rattle.ss_query.specs.declared.requests.Request.TheVariants.{Info, DeleteAll, List as ListOf, Post, DeleteCollection, DeleteIds, Put, Get as GetItem, Delete as DeleteItem}
-use Rattle.ss_query.specs.declared.requests.Sort.TheVariants.{Newest, Oldest}
+use Rattle.ss_query.specs.declared.requests.Sort.TheVariants.{Newest}
 use Rattle.ss_route.specs.declared.asked.Asked.{Asked}
 use Rattle.ss_route.specs.declared.asked.Asked.TheVariants.{TellOf, OfCollection}
 use Rattle.ss_route.specs.declared.asked.CollectionAct.{CollectionAct}
@@ -47,10 +47,10 @@ use Rattle.ss_route.specs.Fields.{wants_lines, without_parameters}
 use Rattle.ss_route.specs.Posts.{token, batch_of, mode_of, mode_in, batch_in, continues, names_batch, announced_in}
 use Rattle.ss_route.specs.Refusals.{said, code, or_refusal, query_refusal, body_refusal}
 use Rattle.ss_route.specs.Routing.{is_get, asking, settled, routed, request_in, collection_request, list_request, post_request}
-use Rattle.ss_route.specs.Sending.{IsSent, IsTyped, IsReadable, IsReadableBatch, IsPageAt, IsUnmodified, IsUpload, page, payload_set, account_path, target_of, uploads_text, message_of}
+use Rattle.ss_route.specs.Sending.{IsSent, IsTyped, IsReadable, IsReadableBatch, IsPageAt, IsListed, IsUnmodified, IsUpload, page, all_ids, payload_set, account_path, target_of, uploads_text, message_of}
 use Rattle.ss_route.specs.Targets.{query_of, named_by, named_in, place_of, info_of, account_in}
 use Rattle.ss_route.proofs.Composed.{Pair, is_plain, IsPlainSegment, IsPlainPair, ArePlainSegments, ArePlainPairs, target_text, first_value, path_again, parameter_again}
-use Rattle.ss_route.proofs.Tokens.{decimal_is_plain, token_is_plain, number_back, uid_back, batch_back, token_is_not_true}
+use Rattle.ss_route.proofs.Tokens.{decimal_is_plain, stamp_is_plain, token_is_plain, number_back, uid_back, batch_back, token_is_not_true}
 use Rattle.ss_route.proofs.Uploads.{IsPart, uploads_are_read}
 
 -- a step that goes on
@@ -151,31 +151,51 @@ from_parameters : (text : List ℕ) → query_of_text text ≡ query_from (param
 unfolding query_of_text ids_of_text query_from
 from_parameters text = refl
 
-abbrev pub first_pairs : List Pair
-first_pairs = (codes "full", codes "1") ∷ (codes "sort", codes "oldest") ∷ (codes "limit", codes "1000") ∷ []
+-- a page of newer records names their time
+abbrev pub newer_pairs : Option ℕ → List Pair
+newer_pairs None = []
+newer_pairs (Some since) = (codes "newer", stamp_text since) ∷ []
 
-abbrev pub later_pairs : ℕ → List Pair
-later_pairs offset = (codes "full", codes "1") ∷ (codes "sort", codes "oldest") ∷ (codes "limit", codes "1000") ∷ (codes "offset", decimal offset) ∷ []
+abbrev pub first_pairs : Option ℕ → List Pair
+first_pairs newer = (codes "full", codes "1") ∷ (codes "sort", codes "oldest") ∷ (codes "limit", codes "1000") ∷ newer_pairs newer
 
-pub first_plain : ArePlainPairs first_pairs
-first_plain = (pair _ _ refl refl, (pair _ _ refl refl, (pair _ _ refl refl, tt)))
+abbrev pub later_pairs : Option ℕ → ℕ → List Pair
+later_pairs newer offset = (codes "full", codes "1") ∷ (codes "sort", codes "oldest") ∷ (codes "limit", codes "1000") ∷ (newer_pairs newer ++ (codes "offset", decimal offset) ∷ [])
 
-pub later_plain : (offset : ℕ) → offset < 2 ^ 64 → ArePlainPairs (later_pairs offset)
-later_plain offset h = (pair _ _ refl refl, (pair _ _ refl refl, (pair _ _ refl refl, (pair _ _ refl (decimal_is_plain offset h), tt))))
+abbrev pub IsTime : Option ℕ → Type 0
+IsTime newer = IfSome newer (λ since. since ≤ last_stamp)
 
-first_query : query_from None None None (Some (codes "1000")) None (Some (codes "oldest")) (Some (codes "1")) ≡ Ok (page 0)
+pub first_plain : (newer : Option ℕ) → IsTime newer → ArePlainPairs (first_pairs newer)
+first_plain None h = (pair _ _ refl refl, (pair _ _ refl refl, (pair _ _ refl refl, tt)))
+first_plain (Some since) h = (pair _ _ refl refl, (pair _ _ refl refl, (pair _ _ refl refl, (pair _ _ refl (stamp_is_plain since h), tt))))
+
+pub later_plain : (newer : Option ℕ) (offset : ℕ) → IsTime newer → offset < 2 ^ 64 → ArePlainPairs (later_pairs newer offset)
+later_plain None offset known h = (pair _ _ refl refl, (pair _ _ refl refl, (pair _ _ refl refl, (pair _ _ refl (decimal_is_plain offset h), tt))))
+later_plain (Some since) offset known h =
+    (pair _ _ refl refl, (pair _ _ refl refl, (pair _ _ refl refl, (pair _ _ refl (stamp_is_plain since known), (pair _ _ refl (decimal_is_plain offset h), tt)))))
+
+abbrev time_value : Option ℕ → Option (List ℕ)
+time_value None = None
+time_value (Some since) = Some (stamp_text since)
+
+newer_again : (newer : Option ℕ) → IsTime newer → optional stamp_in (time_value newer) ≡ Ok newer
+newer_again None h = refl
+newer_again (Some since) h = ap (λ o. as_some (ok_or o of_query.BadStamp)) (stamp_again since h)
+
+offset_again : (offset : ℕ) → offset ≤ 999999999 → or_default 0 offset_in (Some (decimal offset)) ≡ Ok offset
+unfolding offset_in
+offset_again offset h = ap (λ o. ok_or o of_query.BadOffset) (number_back 9 offset (lit< tt) (omega arith) (omega arith))
+
+page_query : (time place : Option (List ℕ)) (newer : Option ℕ) (offset : ℕ) → optional stamp_in time ≡ Ok newer → or_default 0 offset_in place ≡ Ok offset
+    → query_from None time None (Some (codes "1000")) place (Some (codes "oldest")) (Some (codes "1")) ≡ Ok (page newer offset)
 unfolding query_from limit_in sort_in number_of
-first_query = refl
+page_query time place newer offset e h =
+    let found : Option ℕ → ℕ → Result Query QueryFault = λ newer offset. Ok (page newer offset) in
+    ap (λ r. r >>= (λ newer. or_default 0 offset_in place >>= found newer)) e ∙ ap (λ r. r >>= found newer) h
 
-abbrev made : Option ℕ → ℕ → Result Query QueryFault
-made limit offset = Ok (record { ids = None; newer = None; older = None; limit = limit; offset = offset; sort = Oldest; full = true })
-
-later_query : (offset : ℕ) → offset ≤ 999999999
-    → query_from None None None (Some (codes "1000")) (Some (decimal offset)) (Some (codes "oldest")) (Some (codes "1")) ≡ Ok (page offset)
-unfolding query_from limit_in sort_in offset_in number_of
-later_query offset h =
-    ap (λ o. optional limit_in (Some (codes "1000")) >>= (λ limit. ok_or o of_query.BadOffset >>= (λ offset. made limit offset)))
-    (number_back 9 offset (lit< tt) (omega arith) (omega arith))
+all_query : query_from None None None None None None None ≡ Ok all_ids
+unfolding query_from
+all_query = refl
 
 parameters_are : (segments : List (List ℕ)) (pairs : List Pair) (query : Query) → ArePlainSegments segments → ArePlainPairs pairs
     → query_from (first_value (codes "ids") pairs) (first_value (codes "newer") pairs) (first_value (codes "older") pairs) (first_value (codes "limit") pairs)
@@ -209,37 +229,56 @@ no_lines host (IfModified time) (Some body) = refl
 no_lines host (IfUnmodified time) None = refl
 no_lines host (IfUnmodified time) (Some body) = refl
 
-pub first_target : (uid : ℕ) → target_of uid (ListOf (codes "bookmarks") (page 0) Free) ≡ target_text (bookmarks uid) first_pairs
+pub first_target : (uid : ℕ) (newer : Option ℕ) → target_of uid (ListOf (codes "bookmarks") (page newer 0) Free) ≡ target_text (bookmarks uid) (first_pairs newer)
 unfolding target_of account_path
-first_target uid = simp (append_assoc, append-nil)
+first_target uid None = simp (append_assoc, append-nil)
+first_target uid (Some since) = simp (append_assoc, append-nil)
 
-pub later_target : (uid offset time : ℕ) → target_of uid (ListOf (codes "bookmarks") (page offset) (IfUnmodified time)) ≡ target_text (bookmarks uid) (later_pairs offset)
+pub later_target : (uid : ℕ) (newer : Option ℕ) (offset time : ℕ) → target_of uid (ListOf (codes "bookmarks") (page newer offset) (IfUnmodified time)) ≡ target_text (bookmarks uid) (later_pairs newer offset)
 unfolding target_of account_path
-later_target uid offset time = simp (append_assoc, append-nil)
+later_target uid None offset time = simp (append_assoc, append-nil)
+later_target uid (Some since) offset time = simp (append_assoc, append-nil)
 
-first_page : (uid : ℕ) (host : List ℕ) → 1 ≤ uid → uid ≤ 4294967295
-    → asking (message_of uid host (ListOf (codes "bookmarks") (page 0) Free)) ≡ Ok (Ask uid (ListOf (codes "bookmarks") (page 0) Free) false)
-first_page uid host above below =
-    let request = ListOf (codes "bookmarks") (page 0) Free in
+pub ids_target : (uid time : ℕ) → target_of uid (ListOf (codes "bookmarks") all_ids (IfUnmodified time)) ≡ target_text (bookmarks uid) []
+unfolding target_of account_path
+ids_target uid time = simp (append_assoc, append-nil)
+
+-- a list whose target has these pairs is asked for again
+list_goes : (uid : ℕ) (host : List ℕ) (query : Query) (cond : Cond) (pairs : List Pair) → 1 ≤ uid → uid ≤ 4294967295 → target_of uid (ListOf (codes "bookmarks") query cond) ≡ target_text (bookmarks uid) pairs
+    → ArePlainPairs pairs → condition_in true (request_fields host cond None) ≡ Ok cond
+    → query_from (first_value (codes "ids") pairs) (first_value (codes "newer") pairs) (first_value (codes "older") pairs) (first_value (codes "limit") pairs)
+    (first_value (codes "offset") pairs) (first_value (codes "sort") pairs) (first_value (codes "full") pairs) ≡ Ok query
+    → asking (message_of uid host (ListOf (codes "bookmarks") query cond)) ≡ Ok (Ask uid (ListOf (codes "bookmarks") query cond) false)
+list_goes uid host query cond pairs above below target plain condition found =
+    let request = ListOf (codes "bookmarks") query cond in
     let m = message_of uid host request in
     let few : uid < 2 ^ 64 = omega arith in
-    asked_bookmarks m methods.Get collections.List uid first_pairs Free request get_is (first_target uid) first_plain above below (get_asks collections.List)
-    (free_again true host)
-    (listed_again m Free (page 0) (ap (λ target. query_of_text (query_of target)) (first_target uid) ∙ parameters_are (bookmarks uid) first_pairs (page 0) (bookmarks_plain uid few) first_plain first_query))
-    (no_lines host Free None)
+    asked_bookmarks m methods.Get collections.List uid pairs cond request get_is target plain above below (get_asks collections.List) condition
+    (listed_again m cond query (ap (λ target. query_of_text (query_of target)) target ∙ parameters_are (bookmarks uid) pairs query (bookmarks_plain uid few) plain found)) (no_lines host cond None)
 
-later_page : (uid offset time : ℕ) (host : List ℕ) → 1 ≤ uid → uid ≤ 4294967295 → offset ≤ 999999999 → time ≤ last_stamp
-    → asking (message_of uid host (ListOf (codes "bookmarks") (page offset) (IfUnmodified time))) ≡ Ok (Ask uid (ListOf (codes "bookmarks") (page offset) (IfUnmodified time)) false)
-later_page uid offset time host above below within known =
-    let request = ListOf (codes "bookmarks") (page offset) (IfUnmodified time) in
-    let m = message_of uid host request in
-    let few : uid < 2 ^ 64 = omega arith in
-    let plain = later_plain offset (omega arith) in
-    asked_bookmarks m methods.Get collections.List uid (later_pairs offset) (IfUnmodified time) request get_is (later_target uid offset time) plain above below (get_asks collections.List)
-    (unmodified_again true host time None known)
-    (listed_again m (IfUnmodified time) (page offset)
-    (ap (λ target. query_of_text (query_of target)) (later_target uid offset time) ∙ parameters_are (bookmarks uid) (later_pairs offset) (page offset) (bookmarks_plain uid few) plain (later_query offset within)))
-    (no_lines host (IfUnmodified time) None)
+first_page : (uid : ℕ) (newer : Option ℕ) (host : List ℕ) → 1 ≤ uid → uid ≤ 4294967295 → IsTime newer
+    → asking (message_of uid host (ListOf (codes "bookmarks") (page newer 0) Free)) ≡ Ok (Ask uid (ListOf (codes "bookmarks") (page newer 0) Free) false)
+first_page uid newer host above below known = list_goes uid host (page newer 0) Free (first_pairs newer) above below (first_target uid newer) (first_plain newer known) (free_again true host) (found newer known)
+  where
+    found : (t : Option ℕ) → IsTime t → query_from (first_value (codes "ids") (first_pairs t)) (first_value (codes "newer") (first_pairs t)) (first_value (codes "older") (first_pairs t)) (first_value (codes "limit") (first_pairs t))
+        (first_value (codes "offset") (first_pairs t)) (first_value (codes "sort") (first_pairs t)) (first_value (codes "full") (first_pairs t)) ≡ Ok (page t 0)
+    found None h = page_query None None None 0 refl refl
+    found (Some since) h = page_query (Some (stamp_text since)) None (Some since) 0 (newer_again (Some since) h) refl
+
+later_page : (uid : ℕ) (newer : Option ℕ) (offset time : ℕ) (host : List ℕ) → 1 ≤ uid → uid ≤ 4294967295 → IsTime newer → offset ≤ 999999999 → time ≤ last_stamp
+    → asking (message_of uid host (ListOf (codes "bookmarks") (page newer offset) (IfUnmodified time))) ≡ Ok (Ask uid (ListOf (codes "bookmarks") (page newer offset) (IfUnmodified time)) false)
+later_page uid newer offset time host above below known within moment =
+    list_goes uid host (page newer offset) (IfUnmodified time) (later_pairs newer offset) above below (later_target uid newer offset time) (later_plain newer offset known (omega arith))
+    (unmodified_again true host time None moment) (found newer known)
+  where
+    found : (t : Option ℕ) → IsTime t → query_from (first_value (codes "ids") (later_pairs t offset)) (first_value (codes "newer") (later_pairs t offset)) (first_value (codes "older") (later_pairs t offset))
+        (first_value (codes "limit") (later_pairs t offset)) (first_value (codes "offset") (later_pairs t offset)) (first_value (codes "sort") (later_pairs t offset)) (first_value (codes "full") (later_pairs t offset)) ≡ Ok (page t offset)
+    found None h = page_query None (Some (decimal offset)) None offset refl (offset_again offset within)
+    found (Some since) h = page_query (Some (stamp_text since)) (Some (decimal offset)) (Some since) offset (newer_again (Some since) h) (offset_again offset within)
+
+ids_listed : (uid time : ℕ) (host : List ℕ) → 1 ≤ uid → uid ≤ 4294967295 → time ≤ last_stamp
+    → asking (message_of uid host (ListOf (codes "bookmarks") all_ids (IfUnmodified time))) ≡ Ok (Ask uid (ListOf (codes "bookmarks") all_ids (IfUnmodified time)) false)
+ids_listed uid time host above below known = list_goes uid host all_ids (IfUnmodified time) [] above below (ids_target uid time) tt (unmodified_again true host time None known) all_query
 
 -- ---- the limits of the server
 
@@ -378,11 +417,23 @@ upload uid time host parts mode above below known readable are number bytes =
 abbrev Goes : ℕ → List ℕ → Request → Type 0
 Goes uid host request = asking (message_of uid host request) ≡ Ok (Ask uid request false)
 
-page_goes : (uid offset : ℕ) (host : List ℕ) (cond : Cond) → 1 ≤ uid → uid ≤ 4294967295 → IsPageAt offset cond → offset ≤ 999999999 → IsCond cond
-    → Goes uid host (ListOf (codes "bookmarks") (page offset) cond)
-page_goes uid offset host Free above below at within typed = subst (λ offset. Goes uid host (ListOf (codes "bookmarks") (page offset) Free)) (sym at) (first_page uid host above below)
-page_goes uid offset host (IfModified time) above below at within typed = absurd at
-page_goes uid offset host (IfUnmodified time) above below at within typed = later_page uid offset time host above below within typed
+page_goes : (uid : ℕ) (newer : Option ℕ) (offset : ℕ) (host : List ℕ) (cond : Cond) → 1 ≤ uid → uid ≤ 4294967295 → IsTime newer → IsPageAt offset cond → offset ≤ 999999999 → IsCond cond
+    → Goes uid host (ListOf (codes "bookmarks") (page newer offset) cond)
+page_goes uid newer offset host Free above below known at within typed = subst (λ offset. Goes uid host (ListOf (codes "bookmarks") (page newer offset) Free)) (sym at) (first_page uid newer host above below known)
+page_goes uid newer offset host (IfModified time) above below known at within typed = absurd at
+page_goes uid newer offset host (IfUnmodified time) above below known at within typed = later_page uid newer offset time host above below known within typed
+
+ids_go : (uid : ℕ) (host : List ℕ) (cond : Cond) → 1 ≤ uid → uid ≤ 4294967295 → IsUnmodified cond → IsCond cond → Goes uid host (ListOf (codes "bookmarks") all_ids cond)
+ids_go uid host Free above below at typed = absurd at
+ids_go uid host (IfModified time) above below at typed = absurd at
+ids_go uid host (IfUnmodified time) above below at typed = ids_listed uid time host above below typed
+
+lists_go : (uid : ℕ) (host : List ℕ) (query : Query) (cond : Cond) → 1 ≤ uid → uid ≤ 4294967295 → IsTime query.newer → IsListed query cond → query.offset ≤ 999999999 → IsCond cond
+    → Goes uid host (ListOf (codes "bookmarks") query cond)
+lists_go uid host query cond above below known listed within typed =
+    ⊎_elim
+    (λ is. subst (λ query. Goes uid host (ListOf (codes "bookmarks") query cond)) (sym is.0) (page_goes uid query.newer query.offset host cond above below known is.1 within typed))
+    (λ is. subst (λ query. Goes uid host (ListOf (codes "bookmarks") query cond)) (sym is.0) (ids_go uid host cond above below is.1 typed)) listed
 
 post_goes : (uid : ℕ) (host : List ℕ) (parts : List Part) (mode : Mode) (cond : Cond) → 1 ≤ uid → uid ≤ 4294967295 → IsUnmodified cond → IsCond cond → IsReadableBatch mode
     → AllByRecursion IsPart parts → length parts + 0 ≤ most_post_records → part_bytes parts ≤ most_post_bytes
@@ -397,7 +448,7 @@ goes uid host (Info what cond) above below typed sent fit readable =
 goes uid host (DeleteAll cond) above below typed sent fit readable = absurd sent
 goes uid host (ListOf collection query cond) above below typed sent fit readable =
     subst (λ collection. Goes uid host (ListOf collection query cond)) (sym sent.0)
-    (subst (λ query. Goes uid host (ListOf (codes "bookmarks") query cond)) (sym sent.1) (page_goes uid query.offset host cond above below sent.2 readable typed))
+    (lists_go uid host query cond above below typed.0 sent.1 readable typed.1)
 goes uid host (Post collection records mode cond) above below typed sent fit readable =
     let are = parts_are records.parts (all_by_recursion IsUpload records.parts sent.2) (all_by_recursion _ records.parts typed.0) fit.1 in
     let number : length records.parts + 0 ≤ most_post_records = omega (arith, fit.0) in

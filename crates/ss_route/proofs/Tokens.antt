@@ -16,7 +16,9 @@ use Rattle.base64.specs.GeneralPurpose.{IsBytes, decode_of, decoded_of, encode_o
 use Rattle.base64.specs.declared.decode.DecodeError.{DecodeError}
 use Rattle.base64.specs.Engines.{url_safe_no_pad}
 use Rattle.base64.proofs.EngineFacts.{decode_of-encode_of, decode_of_strict}
-use Rattle.ss_http.proofs.Values.{decimal_digits}
+use Rattle.ss_http.proofs.Values.{decimal_digits, two_are_digits}
+use Rattle.std.proofs.lemmas.List.Folds.{list_all-append}
+use Rattle.ss_text.specs.Time.{stamp_text, two_digits, last_stamp}
 use Rattle.ss_text.specs.Numbers.{number_of}
 use Rattle.ss_route.specs.Posts.{token, batch_of}
 use Rattle.ss_route.specs.Targets.{positive_of, uid_of}
@@ -31,6 +33,13 @@ digits_are_plain (x ∷ xs) h = let parts = and_parts (is_ascii_digit x) (list_a
 
 pub decimal_is_plain : (n : ℕ) → n < 2 ^ 64 → list_all is_plain (decimal n) ≡ true
 decimal_is_plain n h = digits_are_plain (decimal n) (decimal_digits n h)
+
+pub stamp_is_plain : (time : ℕ) → time ≤ last_stamp → list_all is_plain (stamp_text time) ≡ true
+unfolding stamp_text
+stamp_is_plain time h =
+    let seconds = decimal_is_plain (time / 100) (omega arith) in
+    let rest : list_all is_plain (46 ∷ two_digits (time % 100)) ≡ true = digits_are_plain (two_digits (time % 100)) (two_are_digits (time % 100) (omega arith)) in
+    list_all-append is_plain (decimal (time / 100)) (46 ∷ two_digits (time % 100)) ∙ ap₂ (λ a b. a && b) seconds rest
 
 -- ---- the id of a batch
 

@@ -1,7 +1,8 @@
 -- The requests that a sync client sends, as it writes them.
-use Rattle.std.specs.Prelude.{◌≡◌, ℕ, ◌≤◌, ◌<◌, true, List, [], ◌++◌, map, length, All, Option, Some, None, codes, decimal, ⊤}
+use Rattle.std.specs.Prelude.{◌≡◌, ◌⊎◌, ℕ, ◌≤◌, ◌<◌, true, false, List, [], ◌++◌, map, length, All, Option, Some, None, IfSome, if◌then◌else◌, codes, decimal, ⊤}
 use Rattle.std.specs.List.{list_all}
 use Rattle.std.specs.Str.{IsUtf8}
+use Rattle.ss_text.specs.Time.{stamp_text, last_stamp}
 use Rattle.ss_text.specs.declared.stamps.Cond.{Cond}
 use Rattle.ss_text.specs.declared.stamps.Cond.TheVariants.{Free, IfModified, IfUnmodified}
 use Rattle.ss_bso.specs.declared.parts.Field.{Field}
@@ -17,14 +18,18 @@ use Rattle.ss_query.specs.declared.requests.Mode.TheVariants.{Plain, Begin, Appe
 use Rattle.ss_query.specs.declared.requests.Query.{Query}
 use Rattle.ss_query.specs.declared.requests.Request.{Request}
 use Rattle.ss_query.specs.declared.requests.Request.TheVariants.{Info, List as ListOf, Post}
-use Rattle.ss_query.specs.declared.requests.Sort.TheVariants.{Oldest}
+use Rattle.ss_query.specs.declared.requests.Sort.TheVariants.{Newest, Oldest}
 use Rattle.ss_route.specs.Posts.{token}
 use Rattle.ss_route.specs.Texts.{json_text, list_text}
 use Rattle.ss_http.specs.declared.limits.TheConstants.{BODY_ROOM, HOST_ROOM}
 
--- the query of a page of 1,000 whole records, the oldest first
-abbrev pub page : ℕ → Query
-page offset = record { ids = None; newer = None; older = None; limit = Some 1000; offset = offset; sort = Oldest; full = true }
+-- the query of a page of 1,000 whole records, the oldest first: of all, or of those that are newer than a time
+abbrev pub page : Option ℕ → ℕ → Query
+page newer offset = record { ids = None; newer = newer; older = None; limit = Some 1000; offset = offset; sort = Oldest; full = true }
+
+-- the query of the list of all ids
+abbrev pub all_ids : Query
+all_ids = record { ids = None; newer = None; older = None; limit = None; offset = 0; sort = Newest; full = false }
 
 -- a first page has no condition and begins at the front; a later one asks that nothing has changed
 abbrev pub IsPageAt : ℕ → Cond → Type 0
@@ -38,6 +43,10 @@ IsUnmodified Free = ⊥
 IsUnmodified (IfModified time) = ⊥
 IsUnmodified (IfUnmodified time) = ⊤
 
+-- the lists that are asked for: a page, or all ids where nothing has changed
+abbrev pub IsListed : Query → Cond → Type 0
+IsListed query cond = ((query ≡ page query.newer query.offset) × IsPageAt query.offset cond) ⊎ ((query ≡ all_ids) × IsUnmodified cond)
+
 -- a record that sets its payload and says nothing of the other fields
 pub record IsUpload (part : Part) : Type 0 where
   pub text : List ℕ
@@ -45,10 +54,11 @@ pub record IsUpload (part : Part) : Type 0 where
   pub sortindex : part.fields.sortindex ≡ Keep
   pub ttl : part.fields.ttl ≡ Keep
 
--- the requests that are written: for the limits of the server, for a page of the bookmarks, and to upload bookmarks
+-- the requests that are written: for the limits of the server, for a page of the bookmarks or the list of their ids, and to
+-- upload bookmarks
 abbrev pub IsSent : Request → Type 0
 IsSent (Info what cond) = (what ≡ Configuration) × (cond ≡ Free)
-IsSent (ListOf collection query cond) = (collection ≡ codes "bookmarks") × (query ≡ page query.offset) × IsPageAt query.offset cond
+IsSent (ListOf collection query cond) = (collection ≡ codes "bookmarks") × IsListed query cond
 IsSent (Post collection records mode cond) = (collection ≡ codes "bookmarks") × (records.failed ≡ []) × All IsUpload records.parts × IsUnmodified cond
 IsSent _ = ⊥
 
@@ -70,6 +80,16 @@ offset_text offset Free = []
 offset_text offset (IfModified time) = []
 offset_text offset (IfUnmodified time) = codes "&offset=" ++ decimal offset
 
+-- a page of newer records names their time
+abbrev pub newer_text : Option ℕ → List ℕ
+newer_text None = []
+newer_text (Some since) = codes "&newer=" ++ stamp_text since
+
+-- what a list's target says behind the account: the parameters of a page, or none
+abbrev pub listed_text : Query → Cond → List ℕ
+listed_text query cond =
+    if query.full then codes "/storage/bookmarks?full=1&sort=oldest&limit=1000" ++ newer_text query.newer ++ offset_text query.offset cond else codes "/storage/bookmarks"
+
 -- how the records of a POST are taken
 abbrev pub mode_text : Mode → List ℕ
 mode_text Plain = []
@@ -80,8 +100,7 @@ mode_text (Commit batch) = codes "?batch=" ++ token batch ++ codes "&commit=true
 -- the target of a request
 unfoldable pub target_of : ℕ → Request → List ℕ
 target_of uid (Info what cond) = account_path uid ++ codes "/info/configuration"
-target_of uid (ListOf collection query cond) =
-    account_path uid ++ codes "/storage/bookmarks?full=1&sort=oldest&limit=1000" ++ offset_text query.offset cond
+target_of uid (ListOf collection query cond) = account_path uid ++ listed_text query cond
 target_of uid (Post collection records mode cond) = account_path uid ++ codes "/storage/bookmarks" ++ mode_text mode
 target_of uid _ = []
 
@@ -119,9 +138,10 @@ IsReadableBatch Begin = ⊤
 IsReadableBatch (Append batch) = (1 ≤ batch) × (batch ≤ 999999999999)
 IsReadableBatch (Commit batch) = (1 ≤ batch) × (batch ≤ 999999999999)
 
--- the values of a request are those of its types: ids have the form of ids, payloads are texts, and a condition has a time
+-- the values of a request are those of its types: ids have the form of ids, payloads are texts, and a condition and a page of newer
+-- records have a time
 abbrev pub IsTyped : Request → Type 0
-IsTyped (ListOf collection query cond) = IsCond cond
+IsTyped (ListOf collection query cond) = IfSome query.newer (λ since. since ≤ last_stamp) × IsCond cond
 IsTyped (Post collection records mode cond) = All (λ part. (is_id part.id ≡ true) × IsUtf8 (payload_set part.fields.payload)) records.parts × IsCond cond
 IsTyped _ = ⊤
 

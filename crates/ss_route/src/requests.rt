@@ -3,15 +3,16 @@
 ghost use Rattle.std.specs.Prelude.{◌≡◌, ◌++◌, IfOk, OnOk, option_map, codes, decimal, string_bytes};
 ghost use Rattle.ss_query.specs.Fit.{IsFitRequest};
 ghost use Rattle.ss_query.specs.Refused.{condition_of};
+ghost use Rattle.ss_text.specs.Time.{stamp_text};
 ghost use Rattle.ss_route.specs.Posts.{token};
-ghost use Rattle.ss_route.specs.Sending.{IsSent, IsHost, method_of, account_path, offset_text, mode_text, target_of, payload_set, upload_text, uploads_text, body_sent, request_sent};
+ghost use Rattle.ss_route.specs.Sending.{IsSent, IsHost, method_of, account_path, offset_text, newer_text, listed_text, mode_text, target_of, payload_set, upload_text, uploads_text, body_sent, request_sent};
 
 use crate::scalars::{put, put_json};
 use crate::texts::{Element, put_list, token};
 use ss_bso::{Field, Part, Parts};
 use ss_http::push_request;
 use ss_query::{Mode, Query, Request};
-use ss_text::{Cond, Word};
+use ss_text::{Cond, Stamp, Word};
 use std::alloc::{AllocError, Global};
 
 fn payload_set(payload: &Field<Word>) -> &str
@@ -75,6 +76,41 @@ fn push_page(
     }
 }
 
+/// The parameter of a page of newer records.
+fn since_text(alloc: Global, since: Stamp) -> Result<String, AllocError>
+    ensures { IfOk result (λ text. string_bytes text ≡ codes "&newer=" ++ stamp_text since) }
+{
+    let (seconds, rest) = (since.get() / 100, since.get() % 100);
+    format!(in alloc; "&newer={seconds}.{}{}", rest / 10, rest % 10)
+}
+
+fn push_newer(alloc: Global, target: &mut String, newer: Option<Stamp>) -> Result<(), AllocError>
+    ensures { OnOk result (string_bytes target.new ≡ string_bytes target.old ++ newer_text newer) }
+{
+    match newer {
+        Some(since) => target.push_str(since_text(alloc, since)?.as_str()),
+        None => Ok(()),
+    }
+}
+
+/// What the target of a list says behind the account.
+#[tactic(auto, using(crate::proofs::Appending::append_append))]
+fn push_listed(
+    alloc: Global,
+    target: &mut String,
+    query: &Query,
+    cond: Cond,
+) -> Result<(), AllocError>
+    ensures { OnOk result (string_bytes target.new ≡ string_bytes target.old ++ listed_text query.now cond) }
+{
+    if !query.full {
+        return target.push_str("/storage/bookmarks");
+    }
+    target.push_str("/storage/bookmarks?full=1&sort=oldest&limit=1000")?;
+    push_newer(alloc, target, query.newer)?;
+    push_page(alloc, target, query, cond)
+}
+
 fn push_batch(alloc: Global, target: &mut String, batch: u64) -> Result<(), AllocError>
     ensures { OnOk result (string_bytes target.new ≡ string_bytes target.old ++ (codes "?batch=" ++ token batch)) }
 {
@@ -114,8 +150,7 @@ fn target_of(alloc: Global, uid: u32, request: &Request) -> Result<String, Alloc
             target.push_str("/info/configuration")?;
         }
         Request::List { query, cond, .. } => {
-            target.push_str("/storage/bookmarks?full=1&sort=oldest&limit=1000")?;
-            push_page(alloc, &mut target, query, *cond)?;
+            push_listed(alloc, &mut target, query, *cond)?;
         }
         Request::Post { mode, .. } => {
             target.push_str("/storage/bookmarks")?;
@@ -156,7 +191,8 @@ fn condition_of(request: &Request) -> Cond
     }
 }
 
-/// The bytes of a request: for the limits of the server, for a page of the bookmarks, or to upload bookmarks.
+/// The bytes of a request: for the limits of the server, for a page of the bookmarks, all or those newer than a time, for the
+/// list of their ids, or to upload bookmarks.
 pub fn write_request(
     alloc: Global,
     uid: u32,

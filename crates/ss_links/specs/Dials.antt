@@ -1,0 +1,67 @@
+-- Dials, and those in memory.
+use Rattle.std.specs.Prelude.{◌≡◌, ◌≢◌, ◌⊎◌, ℕ, ◌+◌, nat_lt, ◌&&◌, List, [], ◌∷◌, ◌++◌, length, Bool, true, false, Option, Some, None, is_some, Result, Ok, Err, if◌then◌else◌}
+use Rattle.std.specs.Option.{unwrap_or}
+use Rattle.ss_outside.specs.Told.{Meanings}
+use Rattle.ss_outside.specs.Causes.{Rose}
+use Rattle.ss_outside.specs.Plans.{Plan, raised, is_failing, after_call}
+use Rattle.ss_outside.specs.Memory.{flat}
+use Rattle.ss_links.specs.Links.{Link}
+use Rattle.ss_links.specs.declared.dial.DialFault.{DialFault}
+use Rattle.ss_links.specs.declared.dial.DialFault.TheVariants.{Fault, Memory}
+
+-- what a link that was hung up told: the bytes that were taken from it, that were left in it and that were written to it
+pub record Hung : Type 0 where
+  pub taken : List ℕ
+  pub left : List ℕ
+  pub written : List ℕ
+
+-- the count rises in a call that answers a fault, and in no other
+abbrev pub HasCause : {L : Type 0} → Result L DialFault → ℕ → ℕ → Type 0
+HasCause (Ok link) before now = now ≡ before
+HasCause (Err Fault) before now = Rose before now
+HasCause (Err Memory) before now = now ≡ before
+
+-- a link told this
+pub record Tells (link : Meanings) (hung : Hung) : Type 0 where
+  pub taken : link.taken ≡ Some hung.taken
+  pub left : link.left ≡ Some hung.left
+  pub written : link.written ≡ Some hung.written
+
+-- where it is told afterwards which links were hung up, this one stands at the end, behind those that were told before
+abbrev pub HasHung : Meanings → Option (List Hung) → Option (List Hung) → Type 0
+HasHung link old new = (y : List Hung) → new ≡ Some y → (x : List Hung) × (hung : Hung) × (old ≡ Some x) × Tells link hung × (y ≡ x ++ hung ∷ [])
+
+-- the count rises where a call of the link had failed, and stays where none had
+pub record HangUpCounts (link : Meanings) (before now : ℕ) : Type 0 where
+  pub failed : ((link.read_faults ≢ 0) ⊎ (link.write_faults ≢ 0)) → Rose before now
+  pub fine : link.read_faults ≡ 0 → link.write_faults ≡ 0 → now ≡ before
+
+-- a dial in memory: the links that it has yet to give, what the links told that were hung up, where that is told, for how
+-- many of these it has room, which of its calls fail, and its count of faults
+pub record Dialling : Type 0 where
+  pub links : List Link
+  pub hung : Option (List Hung)
+  pub room : ℕ
+  pub plan : Option Plan
+  pub faults : ℕ
+
+-- what a dial in memory answers; past the last link it fails
+abbrev pub dialled_by : Bool → List Link → Result Link DialFault
+dialled_by true links = Err Fault
+dialled_by false [] = Err Fault
+dialled_by false (link ∷ links) = Ok link
+
+-- the dial after the next call
+abbrev pub after_dial : Bool → List Link → Dialling → Dialling
+after_dial true links d = record { links = links; hung = d.hung; room = d.room; plan = after_call d.plan; faults = raised d.faults }
+after_dial false [] d = record { links = []; hung = d.hung; room = d.room; plan = after_call d.plan; faults = raised d.faults }
+after_dial false (link ∷ links) d = record { links = links; hung = d.hung; room = d.room; plan = after_call d.plan; faults = d.faults }
+
+-- what a link that was hung up told, where it tells all
+abbrev pub hung_of : Link → Hung
+hung_of link = record { taken = link.source.taken; left = flat link.source.pieces; written = unwrap_or link.sink.written [] }
+
+-- which links are told once one more was hung up: it stands at the end, where it tells, and there is room
+abbrev pub with_link : ℕ → Option (List Hung) → Link → Option (List Hung)
+with_link room None link = None
+with_link room (Some hung) link = if is_some link.sink.written && nat_lt (length hung) room then Some (hung ++ hung_of link ∷ []) else None

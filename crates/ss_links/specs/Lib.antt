@@ -1,0 +1,5 @@
+pub mod Counts
+pub mod Links
+pub mod Ports
+pub mod Dials
+pub mod Stores

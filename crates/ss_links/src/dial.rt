@@ -1,0 +1,38 @@
+//! Dials.
+
+ghost use Rattle.std.specs.Prelude.{◌≡◌, ℕ, Option, List, IfOk};
+ghost use Rattle.ss_links.specs.Links.{IsUnused};
+ghost use Rattle.ss_links.specs.Dials.{Hung, HasCause, HasHung, HangUpCounts};
+
+use ss_outside::{Sink, Source};
+
+/// Why no link was made.
+#[derive(Clone, Copy, Debug, PartialEq, Eq)]
+pub enum DialFault {
+    /// The dial failed; it counts this.
+    Fault,
+    /// Memory ran out.
+    Memory,
+}
+
+/// Makes links to hosts, and takes them back.
+pub trait Dial {
+    type Link: Source + Sink;
+
+    /// How many of its calls failed, or took a link back of which a read or write had failed.
+    ghost dial_faults: { Self → ℕ };
+
+    /// What was taken from each link that was hung up, was left in it and was written to it, in order, where it is told.
+    ghost hung: { Self → Option (List Hung) };
+
+    /// Makes a link to this port of this host: no byte of it was taken or written.
+    fn dial(&mut self, host: &str, port: u16) -> Result<Self::Link, DialFault>
+        ensures unused { IfOk result (λ link. IsUnused (Self.Link.Told.told link)) }
+        ensures hung { hung self.new ≡ hung self.old }
+        ensures cause { HasCause result (dial_faults self.old) (dial_faults self.new) };
+
+    /// Ends a link.
+    fn hang_up(&mut self, link: Self::Link)
+        ensures hung { HasHung (Self.Link.Told.told link) (hung self.old) (hung self.new) }
+        ensures counted { HangUpCounts (Self.Link.Told.told link) (dial_faults self.old) (dial_faults self.new) };
+}

@@ -1,0 +1,145 @@
+//! A link over TCP: the trusted edge. It counts its faults, and tells no content.
+
+ghost use Rattle.std.specs.Prelude.{◌≡◌, ◌≢◌, ◌⊎◌, ◌↔◌, ◌≤◌, IfOk, IsTrue, length};
+ghost use Rattle.ss_outside.specs.Told.{counts_alone};
+ghost use Rattle.ss_links.specs.Links.{idle_link};
+
+use crate::link::Closable;
+use crate::waiting::Awaited;
+use ss_outside::{ReadFault, Sink, Source, Told, WriteFault};
+use std::io;
+use std::io::{ErrorKind, Read, Write};
+use std::marker::Model;
+use std::net::{Net, OpenStream, Shutdown};
+use std::time::Clock;
+
+/// A link over TCP. A read fails where the message isn't there in time, and a write where the response isn't taken in time
+/// (`WAIT_SECONDS`). A write that takes its whole piece ends a response.
+#[derive(Drop)]
+pub struct TcpLink<'a, R: Net + Clock> {
+    system: &'a R,
+    // None once it was closed.
+    stream: Option<R::Stream>,
+    message: Awaited,
+    response: Option<Awaited>,
+    read_faults: u64,
+    write_faults: u64,
+}
+
+impl<'a, R: Net + Clock> Model for TcpLink<'a, R> {
+    ghost use Rattle.std.specs.Prelude.{is_none};
+    ghost use Rattle.ss_links.specs.Links.{Connection};
+
+    ghost Value = { Connection };
+
+    ghost view = { λ l. record { read_faults = l.read_faults; write_faults = l.write_faults; is_closed = is_none l.stream } };
+}
+
+impl<'a, R: Net + Clock> TcpLink<'a, R> {
+    /// A link over this stream, which sends without delay. Its first message is awaited from now on.
+    pub(crate) fn new(system: &'a R, stream: R::Stream) -> io::Result<TcpLink<'a, R>>
+        ensures { IfOk result (λ link. link ≡ idle_link) }
+    {
+        stream.set_nodelay(true)?;
+        Ok(TcpLink {
+            system,
+            stream: Some(stream),
+            message: Awaited::from_now(system)?,
+            response: None,
+            read_faults: 0,
+            write_faults: 0,
+        })
+    }
+
+    /// Whether a read or a write failed.
+    pub(crate) fn has_failed(&self) -> bool
+        ensures { IsTrue result ↔ ((self.now.read_faults ≢ 0) ⊎ (self.now.write_faults ≢ 0)) }
+    {
+        self.read_faults != 0 || self.write_faults != 0
+    }
+
+    fn read_in_time(&mut self, into: &mut [u8]) -> io::Result<usize>
+        ensures room { length into.new ≡ length into.old }
+        ensures bound { IfOk result (λ count. count ≤ length into.new) }
+        ensures same { self.new ≡ self.old }
+    {
+        let Some(stream) = &mut self.stream else {
+            return Err(io::Error::from(ErrorKind::NotConnected));
+        };
+        let Some(left) = self.message.time_left(self.system)? else {
+            return Err(io::Error::from(ErrorKind::TimedOut));
+        };
+        stream.set_read_timeout(Some(left))?;
+        stream.read(into)
+    }
+
+    fn write_in_time(&mut self, from: &[u8]) -> io::Result<usize>
+        ensures bound { IfOk result (λ count. count ≤ length from.now) }
+        ensures same { self.new ≡ self.old }
+    {
+        let Some(stream) = &mut self.stream else {
+            return Err(io::Error::from(ErrorKind::NotConnected));
+        };
+        let mut response = match self.response {
+            Some(response) => response,
+            None => Awaited::from_now(self.system)?,
+        };
+        let left = response.time_left(self.system)?;
+        self.response = Some(response);
+        let Some(left) = left else {
+            return Err(io::Error::from(ErrorKind::TimedOut));
+        };
+        stream.set_write_timeout(Some(left))?;
+        let count = stream.write(from)?;
+        if count == from.len() {
+            self.response = None;
+            if let Ok(next) = Awaited::from_now(self.system) {
+                self.message = next;
+            }
+        }
+        Ok(count)
+    }
+}
+
+impl<'a, R: Net + Clock> Told for TcpLink<'a, R> {
+    ghost told = { λ link. counts_alone link.read_faults link.write_faults };
+}
+
+impl<'a, R: Net + Clock> Source for TcpLink<'a, R> {
+    fn read(&mut self, into: &mut [u8]) -> Result<usize, ReadFault> {
+        match self.read_in_time(into) {
+            Ok(count) => Ok(count),
+            Err(_) => {
+                self.read_faults = self.read_faults.saturating_add(1);
+                Err(ReadFault)
+            }
+        }
+    }
+}
+
+impl<'a, R: Net + Clock> Sink for TcpLink<'a, R> {
+    fn write(&mut self, from: &[u8]) -> Result<usize, WriteFault> {
+        match self.write_in_time(from) {
+            Ok(0) if !from.is_empty() => {
+                self.write_faults = self.write_faults.saturating_add(1);
+                Ok(0)
+            }
+            Ok(count) => Ok(count),
+            Err(_) => {
+                self.write_faults = self.write_faults.saturating_add(1);
+                Err(WriteFault)
+            }
+        }
+    }
+}
+
+impl<'a, R: Net + Clock> Closable for TcpLink<'a, R> {
+    ghost closed = { λ link. link.is_closed };
+
+    fn close(&mut self) {
+        if let Some(stream) = &self.stream {
+            let _ = stream.shutdown(Shutdown::Both);
+        }
+        self.stream = None;
+    }
+}

@@ -16,11 +16,12 @@ use Rattle.ss_tree.specs.declared.faults.RemoveFault.TheVariants.{Root as Fixed,
 use Rattle.ss_tree.specs.Entries.{entry, entry_ids, first_of, is_live, stands_under, kids, above, put_before, without_node, under, revised, insert_fault, move_fault, remove_fault, takes_children, is_place, is_node, is_fixed, is_below, is_fit_with, node_of, IsTree, IsKept}
 use Rattle.ss_tree.proofs.Lists.{put_entry, without_entry, revise_entry}
 use Rattle.ss_tree.proofs.Edits.{entry_put, entry_without, kids_without}
-use Rattle.ss_tree.proofs.Kept.{insert_free, move_free, remove_free, takes_parts, kept_insert, insert_kids, unused, kept_move, move_kids, moved_entry, kept_remove, kept_set, entry_revise, kids_revise}
+use Rattle.ss_tree.proofs.Kept.{insert_free, move_free, remove_free, takes_parts, kept_insert, insert_kids, kept_move, move_kids, moved_entry, kept_remove, kept_set, entry_revise, kids_revise}
 use Rattle.ss_tree.specs.declared.cells.Cell.{Cell}
 use Rattle.ss_tree.specs.declared.cells.TheConstants.{END}
-use Rattle.ss_tree.specs.Cells.{IsPlace, blank, cell_at, next_of, prev_of, seat, seat_at, link_of, Joins, Attaches, SameLinks, listing, Lies, IsLinked}
-use Rattle.ss_tree.proofs.Kin.{under_from, entry_kid, kid_once, kid_apart}
+use Rattle.ss_tree.specs.Cells.{IsPlace, blank, cell_at, next_of, prev_of, seat, seat_at, link_of, Joins, Attaches, Frees, SameLinks, Seats, listing, Lies, IsLinked}
+use Rattle.ss_tree.proofs.Kin.{under_from, entry_kid, kid_entry, kid_once, kid_apart}
+use Rattle.ss_tree.proofs.Listed.{absent}
 use Rattle.ss_tree.proofs.Sibs.{times-gone, times-kept, times-without}
 use Rattle.ss_tree.proofs.Ids.{node_kept, node_more, node_less}
 use Rattle.ss_tree.proofs.Live.{live_above}
@@ -44,6 +45,15 @@ strung_from cells es kept lies = record {
 pub strung_same : {cells new : List Cell} {lists : ℕ → List ℕ} → Strung cells lists → ((p k : ℕ) → next_of new p k ≡ next_of cells p k) → ((p k : ℕ) → prev_of new p k ≡ prev_of cells p k) → Strung new lists
 strung_same {cells} {new} {lists} strung next prev = record {
   rows = λ p. path_kept (next_of cells p) (prev_of cells p) (next_of new p) (prev_of new p) END (lists p) END (next p END) (λ k t. next p k) (λ k t. prev p k) (prev p END) (strung.rows p);
+  once = strung.once;
+  apart = strung.apart;
+  inner = strung.inner;
+}
+
+-- rows stay where only a place that is in none of them has other links
+pub strung_off : {cells new : List Cell} {lists : ℕ → List ℕ} → Strung cells lists → (x : ℕ) → x ≢ END → ((p : ℕ) → times x (lists p) ≡ 0) → ((p k : ℕ) → k ≢ x → next_of new p k ≡ next_of cells p k) → ((p k : ℕ) → prev_of new p k ≡ prev_of cells p k) → Strung new lists
+strung_off {cells} {new} {lists} strung x inner off next prev = record {
+  rows = λ p. path_kept (next_of cells p) (prev_of cells p) (next_of new p) (prev_of new p) END (lists p) END (next p END (λ is. inner (sym is))) (λ k t. next p k (λ is. let none = off p in let there : 0 < times x (lists p) = subst (λ i. 0 < times i (lists p)) is t in omega arith)) (λ k t. prev p k) (prev p END) (strung.rows p);
   once = strung.once;
   apart = strung.apart;
   inner = strung.inner;
@@ -143,78 +153,70 @@ module _ (cells : List Cell) (new : Cell) where
             ap (seat k) is ∙ sym (ap (λ c. cond c (seat (length cells) new) (seat_at cells k)) other.0)
       ]
 
--- a cell whose links lead nowhere
-abbrev pub fresh : ℕ → ItemView → ℕ → Cell
-fresh p item time = record { parent = Some p; first = END; last = END; prev = END; next = END; item = Some item; time = time }
-
--- its entry
-abbrev pub seat_of : List Cell → ℕ → ItemView → ℕ → Entry
-seat_of cells p item time = record { node = length cells; parent = Some p; item = item; time = time }
-
 -- ---- insert
 
-module _ (cells : List Cell) (p : ℕ) (b : Option ℕ) (item : ItemView) (time : ℕ) (linked : IsLinked cells) (free : insert_fault (listing cells) p b item.id ≡ None) (room : length cells + 1 < END) where
+module _ (cells : List Cell) (p : ℕ) (b : Option ℕ) (e : Entry) (linked : IsLinked cells) (free : insert_fault (listing cells) p b e.item.id ≡ None) (under_p : e.parent ≡ Some p) (blank_there : seat_at cells e.node ≡ None) (seated : List Cell) (seats : Seats cells seated e) (room : length cells + 1 < END) where
+  gone : entry e.node (listing cells) ≡ None
+  gone = linked.lies.seats e.node ∙ blank_there
+
   place_in : (x : ℕ) → b ≡ Some x → 0 < times x (kids p (listing cells))
-  place_in x q = place_kid (listing cells) p x (ap (λ i. is_place p i (listing cells)) (sym q) ∙ (insert_free (listing cells) p b item.id free).0.place)
+  place_in x q = place_kid (listing cells) p x (ap (λ i. is_place p i (listing cells)) (sym q) ∙ (insert_free (listing cells) p b e.item.id free).0.place)
 
-  longer_next : (q k : ℕ) → next_of (cells ++ fresh p item time ∷ []) q k ≡ next_of cells q k
-  longer_next q k = ap₂ (λ x y. cond (k == END) x y) (read_push cells (fresh p item time) (λ c. c.first) refl q) (read_push cells (fresh p item time) (λ c. c.next) refl k)
+  seated_strung : Strung seated (λ j. kids j (listing cells))
+  seated_strung = strung_same (strung_from cells (listing cells) linked.kept linked.lies) seats.next seats.prev
 
-  longer_prev : (q k : ℕ) → prev_of (cells ++ fresh p item time ∷ []) q k ≡ prev_of cells q k
-  longer_prev q k = ap₂ (λ x y. cond (k == END) x y) (read_push cells (fresh p item time) (λ c. c.last) refl q) (read_push cells (fresh p item time) (λ c. c.prev) refl k)
+  seat_inner : e.node ≢ END
+  seat_inner is = let low = seats.inside in let within = seats.within in omega arith
 
-  longer_strung : Strung (cells ++ fresh p item time ∷ []) (λ j. kids j (listing cells))
-  longer_strung = strung_same (strung_from cells (listing cells) linked.kept linked.lies) longer_next longer_prev
-
-  absent_at : (j : ℕ) → times (length cells) (kids j (listing cells)) ≡ 0
-  absent_at j =
-      elim (cases_lt 0 (times (length cells) (kids j (listing cells)))) [
-        | inl there ↦ let low = kid_below cells (listing cells) linked.kept linked.lies j (length cells) there in absurd (omega arith)
-        | inr none ↦ omega arith
-      ]
+  absent_at : (j : ℕ) → times e.node (kids j (listing cells)) ≡ 0
+  absent_at j = absent e.node (kids j (listing cells)) (λ there. let r = kid_entry j e.node (listing cells) linked.kept.is_tree.nodes there in none_some (sym gone ∙ r.1))
 
   -- the neighbours of the new node are places
-  pub insert_places : IsPlace (cells ++ fresh p item time ∷ []) (link_of b) × IsPlace (cells ++ fresh p item time ∷ []) (prev_of (cells ++ fresh p item time ∷ []) p (link_of b))
+  pub insert_places : IsPlace seated (link_of b) × IsPlace seated (prev_of seated p (link_of b))
   insert_places =
-      let low : (x : ℕ) → 0 < times x (kids p (listing cells)) → x < length (cells ++ fresh p item time ∷ []) = λ x there.
-      let l = kid_below cells (listing cells) linked.kept linked.lies p x there in omega (arith, length-append cells (fresh p item time ∷ [])) in
-      let sides = beside longer_strung p (length cells) (λ is. omega arith) absent_at b place_in in
-      (row_place (cells ++ fresh p item time ∷ []) (λ j. kids j (listing cells)) p (link_of b) low sides.1, row_place (cells ++ fresh p item time ∷ []) (λ j. kids j (listing cells)) p (prev_of (cells ++ fresh p item time ∷ []) p (link_of b)) low sides.0)
+      let longer = seats.longer in
+      let low : (x : ℕ) → 0 < times x (kids p (listing cells)) → x < length seated = λ x there.
+      let l = kid_below cells (listing cells) linked.kept linked.lies p x there in omega arith in
+      let sides = beside seated_strung p e.node seat_inner absent_at b place_in in
+      (row_place seated (λ j. kids j (listing cells)) p (link_of b) low sides.1, row_place seated (λ j. kids j (listing cells)) p (prev_of seated p (link_of b)) low sides.0)
 
-  module _ (new : List Cell) (attaches : Attaches (cells ++ fresh p item time ∷ []) new p (length cells) (link_of b)) where
-    pub inserted_long : length new ≡ length cells + 1
+  pub insert_under : p < length seated
+  insert_under = let low : p < length cells = linked.kept.below p (insert_parent (listing cells) p b e.item.id free) in let longer = seats.longer in omega arith
+
+  module _ (new : List Cell) (attaches : Attaches seated new p e.node (link_of b)) where
+    pub inserted_long : length new ≡ length seated
     inserted_long =
         let a = attaches.after_left.long in
         let c = attaches.before_right.long in
-        omega (arith, length-append cells (fresh p item time ∷ []))
+        omega arith
 
-    inserted_strung : Strung new (λ j. cond (j == p) (put_before b (length cells) (kids j (listing cells))) (kids j (listing cells)))
-    inserted_strung = attached longer_strung p (length cells) (λ is. omega arith) absent_at b place_in attaches.after_left attaches.before_right
+    inserted_strung : Strung new (λ j. cond (j == p) (put_before b e.node (kids j (listing cells))) (kids j (listing cells)))
+    inserted_strung = attached seated_strung p e.node seat_inner absent_at b place_in attaches.after_left attaches.before_right
 
-    inserted_seat : (k : ℕ) → entry k (put_entry b (seat_of cells p item time) (listing cells)) ≡ seat_at new k
+    inserted_seat : (k : ℕ) → entry k (put_entry b e (listing cells)) ≡ seat_at new k
     inserted_seat k =
-        entry_put b (seat_of cells p item time) (listing cells) k (unused (listing cells) (length cells) linked.kept)
-        ∙ (ap (cond (k == length cells) (Some (seat_of cells p item time))) (linked.lies.seats k)
-        ∙ (sym (seat_push cells (fresh p item time) k) ∙ (sym (attaches.after_left.seats k) ∙ sym (attaches.before_right.seats k))))
+        entry_put b e (listing cells) k gone
+        ∙ (ap (cond (k == e.node) (Some e)) (linked.lies.seats k)
+        ∙ (sym (seats.seats k) ∙ (sym (attaches.after_left.seats k) ∙ sym (attaches.before_right.seats k))))
 
-    pub inserted : Holds new (put_entry b (seat_of cells p item time) (listing cells))
+    pub inserted : Holds new (put_entry b e (listing cells))
     inserted = record {
-      kept = subst (IsKept (put_entry b (seat_of cells p item time) (listing cells))) (sym inserted_long) (kept_insert (listing cells) (length cells) p b (seat_of cells p item time) linked.kept free refl refl);
+      kept = subst (IsKept (put_entry b e (listing cells))) (sym inserted_long) (kept_insert (listing cells) (length cells) (length seated) p b e linked.kept free gone seats.inside seats.longer under_p);
       lies = record {
         seats = inserted_seat;
-        rows = λ j. subst (λ ks. Path (next_of new j) (prev_of new j) END ks END) (sym (insert_kids (listing cells) p b (seat_of cells p item time) free refl j)) (inserted_strung.rows j);
-        room = let long = inserted_long in omega arith;
+        rows = λ j. subst (λ ks. Path (next_of new j) (prev_of new j) END ks END) (sym (insert_kids (listing cells) p b e free under_p j)) (inserted_strung.rows j);
+        room = let long = inserted_long in let within = seats.within in omega arith;
       };
     }
 
-    pub inserted_entry : (j : ℕ) → entry j (listing new) ≡ cond (j == length cells) (Some (seat_of cells p item time)) (entry j (listing cells))
-    inserted_entry j = holds_entry inserted j ∙ entry_put b (seat_of cells p item time) (listing cells) j (unused (listing cells) (length cells) linked.kept)
+    pub inserted_entry : (j : ℕ) → entry j (listing new) ≡ cond (j == e.node) (Some e) (entry j (listing cells))
+    inserted_entry j = holds_entry inserted j ∙ entry_put b e (listing cells) j gone
 
-    pub inserted_kids : (j : ℕ) → kids j (listing new) ≡ cond (j == p) (put_before b (length cells) (kids j (listing cells))) (kids j (listing cells))
-    inserted_kids j = holds_kids inserted j ∙ insert_kids (listing cells) p b (seat_of cells p item time) free refl j
+    pub inserted_kids : (j : ℕ) → kids j (listing new) ≡ cond (j == p) (put_before b e.node (kids j (listing cells))) (kids j (listing cells))
+    inserted_kids j = holds_kids inserted j ∙ insert_kids (listing cells) p b e free under_p j
 
-    pub inserted_ids : (x : List ℕ) → node_of x (listing new) ≡ cond (bytes_eq item.id x) (Some (length cells)) (node_of x (listing cells))
-    inserted_ids x = node_more (listing cells) (listing new) linked.kept.is_tree (holds_linked inserted).kept.is_tree x (length cells) (seat_of cells p item time) (unused (listing cells) (length cells) linked.kept) inserted_entry
+    pub inserted_ids : (x : List ℕ) → node_of x (listing new) ≡ cond (bytes_eq e.item.id x) (Some e.node) (node_of x (listing cells))
+    inserted_ids x = node_more (listing cells) (listing new) linked.kept.is_tree (holds_linked inserted).kept.is_tree x e.node e gone inserted_entry
 
 -- ---- a node that leaves its row
 
@@ -320,7 +322,7 @@ module _ (cells : List Cell) (k p : ℕ) (linked : IsLinked cells) (up : above (
 
     -- ---- remove
 
-    module _ (new : List Cell) (free : remove_fault (listing cells) k ≡ None) (same : SameLinks middle new) (seats : (j : ℕ) → seat_at new j ≡ cond (k == j) None (seat_at middle j)) where
+    module _ (new : List Cell) (vacant : ℕ) (free : remove_fault (listing cells) k ≡ None) (same : Frees middle new k vacant) (seats : (j : ℕ) → seat_at new j ≡ cond (k == j) None (seat_at middle j)) where
       removed_long : length new ≡ length cells
       removed_long = let l = same.long in let m = joins.long in omega arith
 
@@ -329,7 +331,7 @@ module _ (cells : List Cell) (k p : ℕ) (linked : IsLinked cells) (up : above (
         kept = subst (IsKept (without_entry k (listing cells))) (sym removed_long) (kept_remove (listing cells) (length cells) k linked.kept free);
         lies = record {
           seats = λ j. entry_without k (listing cells) j ∙ (ap (cond (k == j) None) (linked.lies.seats j ∙ sym (joins.seats j)) ∙ sym (seats j));
-          rows = λ j. let strung = strung_same left_strung same.next same.prev in subst (λ ks. Path (next_of new j) (prev_of new j) END ks END) (sym (kids_without j k (listing cells))) (strung.rows j);
+          rows = λ j. let strung = strung_off left_strung k node_inner (λ p. times-gone k (kids p (listing cells))) same.next same.prev in subst (λ ks. Path (next_of new j) (prev_of new j) END ks END) (sym (kids_without j k (listing cells))) (strung.rows j);
           room = let long = removed_long in let room = linked.lies.room in omega arith;
         };
       }

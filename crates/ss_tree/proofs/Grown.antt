@@ -14,7 +14,7 @@ use Rattle.ss_tree.specs.Entries.{entry, entry_ids, is_live, is_place, stands_un
 use Rattle.ss_tree.proofs.Edits.{entry_put, entry-nil, kids-nil, kids_put}
 use Rattle.ss_tree.specs.declared.cells.Cell.{Cell}
 use Rattle.ss_tree.specs.declared.cells.TheConstants.{END}
-use Rattle.ss_tree.specs.Cells.{IsPlace, blank, next_of, prev_of, seat, seat_at}
+use Rattle.ss_tree.specs.Cells.{Seats, IsPlace, blank, next_of, prev_of, seat, seat_at}
 use Rattle.ss_tree.specs.Built.{ArePlaced, lone, HasParent, AddsUnder, Adds}
 use Rattle.ss_tree.proofs.Kin.{under_is}
 use Rattle.ss_tree.proofs.Listed.{absent}
@@ -51,18 +51,33 @@ strung_lists {cells} {lists} {others} same strung = record {
   inner = λ p. subst (λ ks. times END ks ≡ 0) (sym (same p)) (strung.inner p);
 }
 
+-- ---- one more cell
+
+longer_next : (cells : List Cell) (e : Entry) (q k : ℕ) → next_of (cells ++ lone e ∷ []) q k ≡ next_of cells q k
+longer_next cells e q k = ap₂ (λ x y. cond (k == END) x y) (read_push cells (lone e) (λ c. c.first) refl q) (read_push cells (lone e) (λ c. c.next) refl k)
+
+longer_prev : (cells : List Cell) (e : Entry) (q k : ℕ) → prev_of (cells ++ lone e ∷ []) q k ≡ prev_of cells q k
+longer_prev cells e q k = ap₂ (λ x y. cond (k == END) x y) (read_push cells (lone e) (λ c. c.last) refl q) (read_push cells (lone e) (λ c. c.prev) refl k)
+
+own_seat : (cells : List Cell) (e : Entry) → e.node ≡ length cells → seat (length cells) (lone e) ≡ Some e
+own_seat cells e at = ap (λ n. Some (record { node = n; parent = e.parent; item = e.item; time = e.time })) (sym at)
+
+pub seats_more : (cells : List Cell) (e : Entry) (new : List Cell) → e.node ≡ length cells → new ≡ cells ++ lone e ∷ [] → Seats cells new e
+seats_more cells e new at is = subst (λ l. Seats cells l e) (sym is) (record {
+  inside = omega (arith, at, length-append cells (lone e ∷ []));
+  longer = omega (arith, length-append cells (lone e ∷ []));
+  within = omega (arith, length-append cells (lone e ∷ []));
+  next = longer_next cells e;
+  prev = longer_prev cells e;
+  seats = λ k. seat_push cells (lone e) k ∙ (ap (λ o. cond (k == length cells) o (seat_at cells k)) (own_seat cells e at) ∙ ap (λ n. cond (k == n) (Some e) (seat_at cells k)) (sym at));
+})
+
 module _ (cells : List Cell) (es : List Entry) (e : Entry) (built : Built cells es) (at : e.node ≡ length cells) (room : length cells < END) where
   gone : entry e.node es ≡ None
   gone = built.seats e.node ∙ (ap (seat_at cells) at ∙ ap (seat (length cells)) (get_or_past cells (length cells) blank (omega arith)))
 
-  longer_next : (q k : ℕ) → next_of (cells ++ lone e ∷ []) q k ≡ next_of cells q k
-  longer_next q k = ap₂ (λ x y. cond (k == END) x y) (read_push cells (lone e) (λ c. c.first) refl q) (read_push cells (lone e) (λ c. c.next) refl k)
-
-  longer_prev : (q k : ℕ) → prev_of (cells ++ lone e ∷ []) q k ≡ prev_of cells q k
-  longer_prev q k = ap₂ (λ x y. cond (k == END) x y) (read_push cells (lone e) (λ c. c.last) refl q) (read_push cells (lone e) (λ c. c.prev) refl k)
-
   longer : Strung (cells ++ lone e ∷ []) (λ p. kids p es)
-  longer = strung_same built.strung longer_next longer_prev
+  longer = strung_same built.strung (longer_next cells e) (longer_prev cells e)
 
   nowhere : (j : ℕ) → times (length cells) (kids j es) ≡ 0
   nowhere j = absent (length cells) (kids j es) (λ t. let l = built.low j (length cells) t in absurd (omega arith))
@@ -73,14 +88,11 @@ module _ (cells : List Cell) (es : List Entry) (e : Entry) (built : Built cells 
       let sides = beside built.strung p (length cells) (λ is. omega arith) nowhere None (λ b q. cc) in
       row_place cells (λ j. kids j es) p (prev_of cells p END) (built.low p) sides.0
 
-  own_seat : seat (length cells) (lone e) ≡ Some e
-  own_seat = ap (λ n. Some (record { node = n; parent = e.parent; item = e.item; time = e.time })) (sym at)
-
   longer_seat : (k : ℕ) → entry k (es ++ e ∷ []) ≡ seat_at (cells ++ lone e ∷ []) k
   longer_seat k =
       entry_put None e es k gone
       ∙ (ap₂ (λ n o. cond (k == n) (Some e) o) at (built.seats k)
-      ∙ (ap (λ o. cond (k == length cells) o (seat_at cells k)) (sym own_seat) ∙ sym (seat_push cells (lone e) k)))
+      ∙ (ap (λ o. cond (k == length cells) o (seat_at cells k)) (sym (own_seat cells e at)) ∙ sym (seat_push cells (lone e) k)))
 
   kids_more : (j : ℕ) → kids j (es ++ e ∷ []) ≡ cond (stands_under j e) (kids j es ++ e.node ∷ []) (kids j es)
   unfolding is_place

@@ -1,5 +1,5 @@
 -- The calls keep a tree.
-use Rattle.std.proofs.Common.{◌≡◌, ◌≢◌, ℕ, zero, suc, ◌+◌, ◌-◌, ◌<◌, ◌==◌, List, [], ◌∷◌, map, Bool, true, false, not, cond, ◌||◌, ◌⊎◌, inl, inr, refl, sym, ap, ap₂, ◌∙◌, subst, arith, Option, Some, None, option_map, unwrap_or, is_some, codes, lit<}
+use Rattle.std.proofs.Common.{◌≡◌, ◌≢◌, ℕ, zero, suc, ◌+◌, ◌-◌, ◌<◌, ◌≤◌, ◌==◌, List, [], ◌∷◌, map, Bool, true, false, not, cond, ◌||◌, ◌⊎◌, inl, inr, refl, sym, ap, ap₂, ◌∙◌, subst, arith, Option, Some, None, option_map, unwrap_or, is_some, codes, lit<}
 use Rattle.std.specs.List.{flat_map}
 use Rattle.std.proofs.lemmas.Bool.{false≢true, eqb-true, or_parts, and_parts, not-true}
 use Rattle.ss_record.specs.Ids.{has, Apart, places, roots}
@@ -96,42 +96,38 @@ same_is x = same_number x x refl
 
 -- ---- insert
 
-pub unused : (es : List Entry) (next : ℕ) → IsKept es next → entry next es ≡ None
-unused es next h = dead next es (λ l. let lt : next < next = h.below next l in omega arith)
-
-pub kept_insert : (es : List Entry) (next p : ℕ) (b : Option ℕ) (e : Entry) → IsKept es next → insert_fault es p b e.item.id ≡ None → e.node ≡ next → e.parent ≡ Some p → IsKept (put_entry b e es) (next + 1)
-kept_insert es next p b e h free at under_p = record { is_tree = kept; below = low }
+pub kept_insert : (es : List Entry) (next m p : ℕ) (b : Option ℕ) (e : Entry) → IsKept es next → insert_fault es p b e.item.id ≡ None → entry e.node es ≡ None → e.node < m → next ≤ m → e.parent ≡ Some p → IsKept (put_entry b e es) m
+kept_insert es next m p b e h free none inside longer under_p = record { is_tree = kept; below = low }
   where
     look : (j : ℕ) → entry j (put_entry b e es) ≡ cond (j == e.node) (Some e) (entry j es)
-    look j = entry_put b e es j (ap (λ i. entry i es) at ∙ unused es next h)
+    look j = entry_put b e es j none
 
     kept : IsTree (put_entry b e es)
     kept =
         let f = insert_free es p b e.item.id free in
         let t = takes_parts p es f.0.takes in
         let top : is_live 0 es ≡ true = ap is_some h.is_tree.top in
-        let none : entry e.node es ≡ None = ap (λ i. entry i es) at ∙ unused es next h in
         changed_tree es (put_entry b e es) h.is_tree e.node p e t.1.0 look (nodes_put b e es h.is_tree.nodes none) (ids_put b e es h.is_tree.ids f.1)
         (kid_ids_put 0 b e es (ap (λ o. unwrap_or (option_map (λ q. 0 == q) o) false) under_p ∙ (number_sym 0 p ∙ t.0)) ∙ h.is_tree.under_top)
-        (inside none top) under_p t.0 t.1.1 t.1.2 (λ g q. absurd (none_some (sym none ∙ q)))
-        (λ i q. no_live none (ap (λ x. is_some (entry x es)) (sym q) ∙ live_steps es h.is_tree i p (ap is_some t.1.1)))
+        (not_top top) under_p t.0 t.1.1 t.1.2 (λ g q. absurd (none_some (sym none ∙ q)))
+        (λ i q. no_live (ap (λ x. is_some (entry x es)) (sym q) ∙ live_steps es h.is_tree i p (ap is_some t.1.1)))
       where
-        inside : entry e.node es ≡ None → is_live 0 es ≡ true → (e.node == 0) ≡ false
-        inside none top = pick (e.node == 0) refl
+        not_top : is_live 0 es ≡ true → (e.node == 0) ≡ false
+        not_top top = pick (e.node == 0) refl
           where
             pick : (c : Bool) → (e.node == 0) ≡ c → c ≡ false
             pick true q = absurd (false≢true (sym (ap is_some none) ∙ (ap (λ x. is_some (entry x es)) (eqb-true e.node 0 q) ∙ top)))
             pick false q = refl
 
-        no_live : entry e.node es ≡ None → is_some (entry e.node es) ≡ true → ⊥
-        no_live none l = false≢true (sym (ap is_some none) ∙ l)
+        no_live : is_some (entry e.node es) ≡ true → ⊥
+        no_live l = false≢true (sym (ap is_some none) ∙ l)
 
-    low : (j : ℕ) → is_live j (put_entry b e es) ≡ true → j < next + 1
+    low : (j : ℕ) → is_live j (put_entry b e es) ≡ true → j < m
     low j l = pick (j == e.node) refl (sym (ap is_some (look j)) ∙ l)
       where
-        pick : (c : Bool) → (j == e.node) ≡ c → is_some (cond c (Some e) (entry j es)) ≡ true → j < next + 1
-        pick true q k = let is : j ≡ next = eqb-true j e.node q ∙ at in omega arith
-        pick false q k = let lt : j < next = h.below j k in omega arith
+        pick : (c : Bool) → (j == e.node) ≡ c → is_some (cond c (Some e) (entry j es)) ≡ true → j < m
+        pick true q k = let is : j ≡ e.node = eqb-true j e.node q in omega (arith, inside)
+        pick false q k = let lt : j < next = h.below j k in omega (arith, longer)
 
 pub insert_kids : (es : List Entry) (p : ℕ) (b : Option ℕ) (e : Entry) → insert_fault es p b e.item.id ≡ None → e.parent ≡ Some p → (j : ℕ) → kids j (put_entry b e es) ≡ cond (j == p) (put_before b e.node (kids j es)) (kids j es)
 insert_kids es p b e free under_p j =

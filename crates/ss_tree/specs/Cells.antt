@@ -1,5 +1,5 @@
 -- How a tree lies in a list of cells.
-use Rattle.std.specs.Prelude.{◌≡◌, ◌≢◌, ◌==◌, ◌<◌, ℕ, zero, suc, List, [], ◌∷◌, length, Option, None, Bool, false, option_map, unwrap_or, map, slice_index_or, if◌then◌else◌}
+use Rattle.std.specs.Prelude.{◌≡◌, ◌≢◌, ◌==◌, ◌<◌, ◌≤◌, ◌+◌, ℕ, zero, suc, List, [], ◌∷◌, length, Option, Some, None, Bool, false, option_map, unwrap_or, map, slice_index_or, if◌then◌else◌}
 use Rattle.std.specs.List.{flat_map}
 use Rattle.ss_tree.specs.declared.cells.Cell.{Cell}
 use Rattle.ss_tree.specs.declared.cells.TheConstants.{END}
@@ -81,6 +81,22 @@ pub record SameLinks (old new : List Cell) : Type 0 where
   pub long : length new ≡ length old
   pub next : (p k : ℕ) → next_of new p k ≡ next_of old p k
   pub prev : (p k : ℕ) → prev_of new p k ≡ prev_of old p k
+
+-- the place of a node that leaves leads to another one; no other link has changed
+pub record Frees (old new : List Cell) (node vacant : ℕ) : Type 0 where
+  pub long : length new ≡ length old
+  pub leads : (cell_at new node).next ≡ vacant
+  pub next : (p k : ℕ) → k ≢ node → next_of new p k ≡ next_of old p k
+  pub prev : (p k : ℕ) → prev_of new p k ≡ prev_of old p k
+
+-- an entry has its cell, which there was or is one more; no link has changed
+pub record Seats (old new : List Cell) (e : Entry) : Type 0 where
+  pub inside : e.node < length new
+  pub longer : length old ≤ length new
+  pub within : length new ≤ length old + 1
+  pub next : (p k : ℕ) → next_of new p k ≡ next_of old p k
+  pub prev : (p k : ℕ) → prev_of new p k ≡ prev_of old p k
+  pub seats : (k : ℕ) → seat_at new k ≡ (if k == e.node then Some e else seat_at old k)
 
 -- ---- the entries that cells stand for
 

@@ -1,8 +1,8 @@
 //! Cells of a tree in a list, linked by their places.
 
 ghost use Rattle.ss_tree.specs.Entries.{revised, under};
-ghost use Rattle.std.specs.Prelude.{true, IsSome, ◌≡◌, ◌≢◌, ◌==◌, ◌<◌, ℕ, Some, None, length, option_map, option_and_then, IfOk, if◌then◌else◌};
-ghost use Rattle.ss_tree.specs.Cells.{Attaches, IsPlace, is_fit_item, Joins, SameLinks, SetsNext, SetsPrev, cell_at, link_of, next_of, prev_of, seat_at};
+ghost use Rattle.std.specs.Prelude.{true, IsSome, ◌≡◌, ◌≢◌, ◌==◌, ◌<◌, ◌≤◌, ℕ, vec_len, vec_capacity, Some, None, length, option_map, option_and_then, IfOk, if◌then◌else◌};
+ghost use Rattle.ss_tree.specs.Cells.{Attaches, Frees, IsPlace, is_fit_item, Joins, SameLinks, Seats, SetsNext, SetsPrev, cell_at, link_of, next_of, prev_of, seat_at};
 
 use crate::entries::{Entry, Node};
 use ss_record::Item;
@@ -12,7 +12,8 @@ use std::alloc::{AllocError, Global};
 /// The place that stands for both ends of a row of siblings.
 pub(crate) const END: usize = usize::MAX;
 
-/// A node of the tree, or a blank place. Siblings are linked both ways, and their parent leads to the first and the last.
+/// A node of the tree, or a blank place. Siblings are linked both ways, and their parent leads to the first and the last;
+/// a blank place leads by `next` to the one that was left before it.
 #[derive(Drop, Debug)]
 pub(crate) struct Cell {
     pub(crate) parent: Option<Node>,
@@ -164,15 +165,57 @@ pub(crate) fn set_parent(cells: &mut [Cell], node: usize, parent: Node)
     cells[node].parent = Some(parent);
 }
 
-/// Takes a node's item away.
-pub(crate) fn vacate(cells: &mut [Cell], node: usize) -> Item
+/// Takes the item of a node that is in no row, whose place then leads to another blank one.
+pub(crate) fn vacate(cells: &mut [Cell], node: usize, vacant: usize) -> Item
     requires node { node < length cells.old }
     requires item { IsSome (cell_at cells.old node).item }
     ensures item { (cell_at cells.old node).item ≡ Some result }
-    ensures links { SameLinks cells.old cells.new }
+    ensures links { Frees cells.old cells.new node vacant }
     ensures seats { (k : ℕ) → seat_at cells.new k ≡ (if node == k then None else seat_at cells.old k) }
 {
-    cells[node].item.take().unwrap()
+    let cell = &mut cells[node];
+    cell.next = vacant;
+    cell.item.take().unwrap()
+}
+
+/// The place for one more node: that which was left last, or a new one at the end.
+pub(crate) fn place_for(cells: &[Cell], vacant: usize) -> usize
+    ensures inside { result ≤ length cells.now }
+    ensures blank { seat_at cells.now result ≡ None }
+    ensures again { vacant < length cells.now → seat_at cells.now vacant ≡ None → result ≡ vacant }
+{
+    match cells.get(vacant) {
+        Some(cell) => {
+            if cell.item.is_none() {
+                vacant
+            } else {
+                cells.len()
+            }
+        }
+        None => cells.len(),
+    }
+}
+
+/// Gives an entry its cell: a blank one, or one more at the end, for which there is room.
+pub(crate) fn occupy(cells: &mut Vec<Cell>, entry: Entry)
+    requires room { vec_len cells.old < vec_capacity cells.old }
+    requires place { entry.node ≤ length cells.old.items }
+    ensures { Seats cells.old.items cells.new.items entry }
+{
+    let node = entry.node.number();
+    if node < cells.len() {
+        fill(cells.as_mut_slice(), entry);
+    } else {
+        cells.push_reserved(Cell {
+            parent: entry.parent,
+            first: END,
+            last: END,
+            prev: END,
+            next: END,
+            item: Some(entry.item),
+            time: entry.time,
+        });
+    }
 }
 
 /// Gives a node's item another content and time.

@@ -220,6 +220,10 @@ impl Dice {
     }
 }
 
+/// The most nodes at a time in random changes: `places`, the roots, and 300 items. A place that a removed node has left is
+/// used again, so no node has this number, or a greater one.
+const MOST: usize = 305;
+
 /// The id of a number; every third item is a folder.
 fn name_of(alloc: Global, number: u32) -> Result<String, Fail> {
     let text = match number {
@@ -277,10 +281,10 @@ fn insert_one(alloc: Global, tree: &mut Tree, number: u32, place: Place) -> Resu
         None => None,
     };
     match find(alloc, tree, name_of(alloc, place.parent)?.as_str())? {
-        Some(parent) => Ok(
-            tree.insert(alloc, parent, before, item, Stamp::clamp(7))
-                .is_err(),
-        ),
+        Some(parent) => match tree.insert(alloc, parent, before, item, Stamp::clamp(7)) {
+            Ok(node) if node.number() >= MOST => Err(Fail::from("a place was left unused")),
+            other => Ok(other.is_err()),
+        },
         None => Ok(true),
     }
 }

@@ -15,8 +15,8 @@ ghost use Rattle.ss_tree.specs.Entries.{preorder, new_entries, top_entry, tree, 
 
 use crate::building::{add, blanks, place};
 use crate::cells::{
-    Cell, END, attach, copy_cells, detach, first_at, item_at, link_of, next_at, of_link, parent_at,
-    revise, set_parent, vacate,
+    Cell, END, attach, copy_cells, detach, first_at, item_at, link_of, next_at, occupy, of_link,
+    parent_at, place_for, revise, set_parent, vacate,
 };
 use crate::entries::{Entry, Node};
 use crate::faults::{MoveFault, RemoveFault, TreeFault};
@@ -32,6 +32,8 @@ use std::marker::Model;
 pub struct Tree {
     cells: Vec<Cell>,
     index: HashMap<Id, Node>,
+    /// The place that was left last, which leads to the others; `END` where there is none.
+    vacant: usize,
 }
 
 impl Model for Tree {
@@ -119,7 +121,11 @@ impl Tree {
         for entry in entries {
             add(alloc, &mut cells, &mut index, entry)?;
         }
-        Ok(Tree { cells, index })
+        Ok(Tree {
+            cells,
+            index,
+            vacant: END,
+        })
     }
 
     /// The tree of these entries, whose nodes are numbered below their count, and where siblings stand in their order.
@@ -137,7 +143,11 @@ impl Tree {
         for entry in entries {
             place(alloc, &mut cells, &mut index, entry)?;
         }
-        Ok(Tree { cells, index })
+        Ok(Tree {
+            cells,
+            index,
+            vacant: END,
+        })
     }
 
     /// The item of a node.
@@ -316,7 +326,8 @@ impl Tree {
         None
     }
 
-    /// Puts an item under a folder, before one of its children or last, and gives its node.
+    /// Puts an item under a folder, before one of its children or last, and gives its node. A place that a removed node
+    /// has left is used again.
     pub fn insert(
         &mut self,
         alloc: Global,
@@ -334,32 +345,30 @@ impl Tree {
         if let Some(fault) = self.insert_fault(parent, &before, item.id()) {
             return Err(fault);
         }
-        let place = self.cells.len();
-        if place >= END - 1 {
+        if self.cells.len() >= END - 1 {
             return Err(TreeFault::Memory);
         }
         if self.cells.reserve(1).is_err() {
             return Err(TreeFault::Memory);
         }
-        let Ok(()) = enter(alloc, &mut self.index, item.id(), Node::new(place)) else {
+        let place = place_for(&self.cells, self.vacant);
+        let node = Node::new(place);
+        let Ok(()) = enter(alloc, &mut self.index, item.id(), node) else {
             return Err(TreeFault::Memory);
         };
-        self.cells.push_reserved(Cell {
-            parent: Some(parent),
-            first: END,
-            last: END,
-            prev: END,
-            next: END,
-            item: Some(item),
-            time,
-        });
-        attach(
-            self.cells.as_mut_slice(),
-            parent.number(),
-            place,
-            link_of(before),
+        self.vacant = next_at(&self.cells, place);
+        occupy(
+            &mut self.cells,
+            Entry {
+                node,
+                parent: Some(parent),
+                item,
+                time,
+            },
         );
-        Ok(Node::new(place))
+        let cells = self.cells.as_mut_slice();
+        attach(cells, parent.number(), place, link_of(before));
+        Ok(node)
     }
 
     /// Puts a node, with all below it, under a folder, before one of its children or last. It takes no memory.
@@ -388,7 +397,8 @@ impl Tree {
         Ok(())
     }
 
-    /// Takes a node without children away, and gives its item. It takes no memory.
+    /// Takes a node without children away, and gives its item. It takes no memory. The node names none in the tree until
+    /// its place is used again.
     pub fn remove(&mut self, node: Node) -> Result<Item, RemoveFault>
         requires { IsTrue (is_live node self.old) }
         ensures refused { MatchResult result (λ _. remove_fault self.old node ≡ None) (λ e. remove_fault self.old node ≡ Some e) }
@@ -405,7 +415,8 @@ impl Tree {
         };
         let cells = self.cells.as_mut_slice();
         detach(cells, above.number(), node.number());
-        let item = vacate(cells, node.number());
+        let item = vacate(cells, node.number(), self.vacant);
+        self.vacant = node.number();
         leave(&mut self.index, item.id());
         Ok(item)
     }
@@ -500,7 +511,11 @@ impl Tree {
     {
         let index = self.copy_index(alloc)?;
         let cells = copy_cells(alloc, &self.cells)?;
-        Ok(Tree { cells, index })
+        Ok(Tree {
+            cells,
+            index,
+            vacant: self.vacant,
+        })
     }
 }
 

@@ -1,10 +1,11 @@
-use Rattle.std.proofs.Common.{◌≡◌, ◌+◌, ◌<◌, List, [], ◌∷◌, ◌++◌, Some, None, length, cond, sym, ap, ◌∙◌, arith, bytes_eq, length-append}
+use Rattle.std.proofs.Common.{◌≡◌, ◌+◌, ◌<◌, List, Some, None, length, cond, sym, ap, refl, ◌∙◌, arith, bytes_eq}
 use Rattle.ss_list.proofs.Calls.{whole_slice}
+use Rattle.ss_tree.specs.declared.entries.Entry.{Entry}
 use Rattle.ss_tree.specs.Entries.{insert_fault}
 use Rattle.ss_tree.specs.declared.cells.TheConstants.{END}
 use Rattle.ss_tree.specs.declared.cells.Cell.{Cell}
-use Rattle.ss_tree.specs.Cells.{link_of, listing, Attaches, IsLinked}
-use Rattle.ss_tree.proofs.Changed.{holds_linked, fresh, insert_parent, insert_places, inserted, inserted_entry, inserted_kids, inserted_ids}
+use Rattle.ss_tree.specs.Cells.{link_of, listing, seat_at, Attaches, Seats, IsLinked}
+use Rattle.ss_tree.proofs.Changed.{holds_linked, insert_places, insert_under, inserted, inserted_entry, inserted_kids, inserted_ids}
 use Rattle.ss_tree.proofs.trees.Tree.insert.Goals as goal
 
 pub attach-requires-clause-parent : goal.attach-requires-clause-parent
@@ -12,95 +13,97 @@ attach-requires-clause-parent c =
     let cells = c.self.inside.cells.items in
     let p = c.args.parent in
     let b = c.args.before in
-    let item = c.args.item in
-    let time = c.args.time in
+    let k = c.place_for-place.result in
+    let e : Entry = record { node = k; parent = Some p; item = c.args.item; time = c.args.time } in
     let linked : IsLinked cells = c.self.invariant.0 in
-    let free : insert_fault (listing cells) p b item.id ≡ None = rw (c.self.view_is, ← c.id.ensures.id) (sym c.insert_fault.ensures ∙ c.in_default.is) in
-    let place_is : c.len-place.result ≡ length cells = omega (arith, c.len-place.ensures) in
-    let room : length cells + 1 < END = omega (arith, c.if-place.false) in
-    let is : c.as_mut_slice.result.now ≡ cells ++ fresh p item time ∷ [] = c.as_mut_slice.ensures.value ∙ (c.push_reserved.ensures.items ∙ ap (λ l. l ++ fresh p item time ∷ []) c.reserve.ensures.items) in
-    let low : p < length cells = linked.kept.below p (insert_parent (listing cells) p b item.id free) in
-    rw (is, c.number.ensures) (omega (arith, low, length-append cells (fresh p item time ∷ [])))
+    let free : insert_fault (listing cells) p b e.item.id ≡ None = rw (c.self.view_is, ← c.id.ensures.id) (sym c.insert_fault.ensures ∙ c.in_default.is) in
+    let room : length cells + 1 < END = omega (arith, c.if-len.false) in
+    let blank_there : seat_at cells k ≡ None = rw (c.deref.ensures.value, c.reserve.ensures.items) at c.place_for-place.ensures.blank in
+    let seated : List Cell = c.occupy.new.cells.items in
+    let seats : Seats cells seated e = rw (c.reserve.ensures.items, c.new-node.ensures) at c.occupy.ensures in
+    rw (c.as_mut_slice-cells.ensures.value, c.number.ensures) (insert_under cells p b e linked free refl blank_there seated seats room)
 
 pub attach-requires-clause-right : goal.attach-requires-clause-right
 attach-requires-clause-right c =
     let cells = c.self.inside.cells.items in
     let p = c.args.parent in
     let b = c.args.before in
-    let item = c.args.item in
-    let time = c.args.time in
+    let k = c.place_for-place.result in
+    let e : Entry = record { node = k; parent = Some p; item = c.args.item; time = c.args.time } in
     let linked : IsLinked cells = c.self.invariant.0 in
-    let free : insert_fault (listing cells) p b item.id ≡ None = rw (c.self.view_is, ← c.id.ensures.id) (sym c.insert_fault.ensures ∙ c.in_default.is) in
-    let place_is : c.len-place.result ≡ length cells = omega (arith, c.len-place.ensures) in
-    let room : length cells + 1 < END = omega (arith, c.if-place.false) in
-    let is : c.as_mut_slice.result.now ≡ cells ++ fresh p item time ∷ [] = c.as_mut_slice.ensures.value ∙ (c.push_reserved.ensures.items ∙ ap (λ l. l ++ fresh p item time ∷ []) c.reserve.ensures.items) in
-    rw (is, c.link_of.ensures) (insert_places cells p b item time linked free room).0
+    let free : insert_fault (listing cells) p b e.item.id ≡ None = rw (c.self.view_is, ← c.id.ensures.id) (sym c.insert_fault.ensures ∙ c.in_default.is) in
+    let room : length cells + 1 < END = omega (arith, c.if-len.false) in
+    let blank_there : seat_at cells k ≡ None = rw (c.deref.ensures.value, c.reserve.ensures.items) at c.place_for-place.ensures.blank in
+    let seated : List Cell = c.occupy.new.cells.items in
+    let seats : Seats cells seated e = rw (c.reserve.ensures.items, c.new-node.ensures) at c.occupy.ensures in
+    rw (c.as_mut_slice-cells.ensures.value, c.link_of.ensures) (insert_places cells p b e linked free refl blank_there seated seats room).0
 
 pub attach-requires-clause-left : goal.attach-requires-clause-left
 attach-requires-clause-left c =
     let cells = c.self.inside.cells.items in
     let p = c.args.parent in
     let b = c.args.before in
-    let item = c.args.item in
-    let time = c.args.time in
+    let k = c.place_for-place.result in
+    let e : Entry = record { node = k; parent = Some p; item = c.args.item; time = c.args.time } in
     let linked : IsLinked cells = c.self.invariant.0 in
-    let free : insert_fault (listing cells) p b item.id ≡ None = rw (c.self.view_is, ← c.id.ensures.id) (sym c.insert_fault.ensures ∙ c.in_default.is) in
-    let place_is : c.len-place.result ≡ length cells = omega (arith, c.len-place.ensures) in
-    let room : length cells + 1 < END = omega (arith, c.if-place.false) in
-    let is : c.as_mut_slice.result.now ≡ cells ++ fresh p item time ∷ [] = c.as_mut_slice.ensures.value ∙ (c.push_reserved.ensures.items ∙ ap (λ l. l ++ fresh p item time ∷ []) c.reserve.ensures.items) in
-    rw (is, c.number.ensures, c.link_of.ensures) (insert_places cells p b item time linked free room).1
+    let free : insert_fault (listing cells) p b e.item.id ≡ None = rw (c.self.view_is, ← c.id.ensures.id) (sym c.insert_fault.ensures ∙ c.in_default.is) in
+    let room : length cells + 1 < END = omega (arith, c.if-len.false) in
+    let blank_there : seat_at cells k ≡ None = rw (c.deref.ensures.value, c.reserve.ensures.items) at c.place_for-place.ensures.blank in
+    let seated : List Cell = c.occupy.new.cells.items in
+    let seats : Seats cells seated e = rw (c.reserve.ensures.items, c.new-node.ensures) at c.occupy.ensures in
+    rw (c.as_mut_slice-cells.ensures.value, c.number.ensures, c.link_of.ensures) (insert_places cells p b e linked free refl blank_there seated seats room).1
 
 pub invariant_of-self-2 : goal.invariant_of-self-2
 invariant_of-self-2 c =
     let cells = c.self.inside.cells.items in
     let p = c.args.parent in
     let b = c.args.before in
-    let item = c.args.item in
-    let time = c.args.time in
+    let k = c.place_for-place.result in
+    let e : Entry = record { node = k; parent = Some p; item = c.args.item; time = c.args.time } in
     let linked : IsLinked cells = c.self.invariant.0 in
-    let free : insert_fault (listing cells) p b item.id ≡ None = rw (c.self.view_is, ← c.id.ensures.id) (sym c.insert_fault.ensures ∙ c.in_default.is) in
-    let place_is : c.len-place.result ≡ length cells = omega (arith, c.len-place.ensures) in
-    let room : length cells + 1 < END = omega (arith, c.if-place.false) in
-    let is : c.as_mut_slice.result.now ≡ cells ++ fresh p item time ∷ [] = c.as_mut_slice.ensures.value ∙ (c.push_reserved.ensures.items ∙ ap (λ l. l ++ fresh p item time ∷ []) c.reserve.ensures.items) in
+    let free : insert_fault (listing cells) p b e.item.id ≡ None = rw (c.self.view_is, ← c.id.ensures.id) (sym c.insert_fault.ensures ∙ c.in_default.is) in
+    let room : length cells + 1 < END = omega (arith, c.if-len.false) in
+    let blank_there : seat_at cells k ≡ None = rw (c.deref.ensures.value, c.reserve.ensures.items) at c.place_for-place.ensures.blank in
+    let seated : List Cell = c.occupy.new.cells.items in
+    let seats : Seats cells seated e = rw (c.reserve.ensures.items, c.new-node.ensures) at c.occupy.ensures in
     let new : List Cell = c.attach.new.cells in
-    let attaches : Attaches (cells ++ fresh p item time ∷ []) new p (length cells) (link_of b) = rw (is, c.number.ensures, place_is, c.link_of.ensures) at c.attach.ensures in
-    let pushed : c.push_reserved.new.self.items ≡ cells ++ fresh p item time ∷ [] = c.push_reserved.ensures.items ∙ ap (λ l. l ++ fresh p item time ∷ []) c.reserve.ensures.items in
-    let whole = whole_slice c.push_reserved.new.self.len c.push_reserved.new.self.items new (omega arith) (attaches.before_right.long ∙ (attaches.after_left.long ∙ sym (ap length pushed))) in
-    let entered = rw (c.id-2.ensures.id, c.new.ensures, place_is) at c.in-Ok.ensures.entered in
-    rw whole (holds_linked (inserted cells p b item time linked free room new attaches), λ x. entered x ∙ (ap (λ o. cond (bytes_eq item.id x) (Some (length cells)) o) (c.self.invariant.1 x) ∙ sym (inserted_ids cells p b item time linked free room new attaches x)))
+    let attaches : Attaches seated new p k (link_of b) = rw (c.as_mut_slice-cells.ensures.value, c.number.ensures, c.link_of.ensures) at c.attach.ensures in
+    let whole = whole_slice c.occupy.new.cells.len seated new (omega arith) (attaches.before_right.long ∙ attaches.after_left.long) in
+    let entered = rw (c.id-2.ensures.id, c.new-node.ensures) at c.in-Ok.ensures.entered in
+    rw whole (holds_linked (inserted cells p b e linked free refl blank_there seated seats room new attaches), λ x. entered x ∙ (ap (λ o. cond (bytes_eq e.item.id x) (Some k) o) (c.self.invariant.1 x) ∙ sym (inserted_ids cells p b e linked free refl blank_there seated seats room new attaches x)))
 
 pub returns-clause-entries : goal.returns-clause-entries
 returns-clause-entries c =
     let cells = c.self.inside.cells.items in
     let p = c.args.parent in
     let b = c.args.before in
-    let item = c.args.item in
-    let time = c.args.time in
+    let k = c.place_for-place.result in
+    let e : Entry = record { node = k; parent = Some p; item = c.args.item; time = c.args.time } in
     let linked : IsLinked cells = c.self.invariant.0 in
-    let free : insert_fault (listing cells) p b item.id ≡ None = rw (c.self.view_is, ← c.id.ensures.id) (sym c.insert_fault.ensures ∙ c.in_default.is) in
-    let place_is : c.len-place.result ≡ length cells = omega (arith, c.len-place.ensures) in
-    let room : length cells + 1 < END = omega (arith, c.if-place.false) in
-    let is : c.as_mut_slice.result.now ≡ cells ++ fresh p item time ∷ [] = c.as_mut_slice.ensures.value ∙ (c.push_reserved.ensures.items ∙ ap (λ l. l ++ fresh p item time ∷ []) c.reserve.ensures.items) in
+    let free : insert_fault (listing cells) p b e.item.id ≡ None = rw (c.self.view_is, ← c.id.ensures.id) (sym c.insert_fault.ensures ∙ c.in_default.is) in
+    let room : length cells + 1 < END = omega (arith, c.if-len.false) in
+    let blank_there : seat_at cells k ≡ None = rw (c.deref.ensures.value, c.reserve.ensures.items) at c.place_for-place.ensures.blank in
+    let seated : List Cell = c.occupy.new.cells.items in
+    let seats : Seats cells seated e = rw (c.reserve.ensures.items, c.new-node.ensures) at c.occupy.ensures in
     let new : List Cell = c.attach.new.cells in
-    let attaches : Attaches (cells ++ fresh p item time ∷ []) new p (length cells) (link_of b) = rw (is, c.number.ensures, place_is, c.link_of.ensures) at c.attach.ensures in
-    let pushed : c.push_reserved.new.self.items ≡ cells ++ fresh p item time ∷ [] = c.push_reserved.ensures.items ∙ ap (λ l. l ++ fresh p item time ∷ []) c.reserve.ensures.items in
-    let whole = whole_slice c.push_reserved.new.self.len c.push_reserved.new.self.items new (omega arith) (attaches.before_right.long ∙ (attaches.after_left.long ∙ sym (ap length pushed))) in
-    rw (whole, ← c.self.view_is, c.new-2.ensures, place_is) (inserted_entry cells p b item time linked free room new attaches)
+    let attaches : Attaches seated new p k (link_of b) = rw (c.as_mut_slice-cells.ensures.value, c.number.ensures, c.link_of.ensures) at c.attach.ensures in
+    let whole = whole_slice c.occupy.new.cells.len seated new (omega arith) (attaches.before_right.long ∙ attaches.after_left.long) in
+    rw (whole, ← c.self.view_is, c.new-node.ensures) (inserted_entry cells p b e linked free refl blank_there seated seats room new attaches)
 
 pub returns-clause-kids : goal.returns-clause-kids
 returns-clause-kids c =
     let cells = c.self.inside.cells.items in
     let p = c.args.parent in
     let b = c.args.before in
-    let item = c.args.item in
-    let time = c.args.time in
+    let k = c.place_for-place.result in
+    let e : Entry = record { node = k; parent = Some p; item = c.args.item; time = c.args.time } in
     let linked : IsLinked cells = c.self.invariant.0 in
-    let free : insert_fault (listing cells) p b item.id ≡ None = rw (c.self.view_is, ← c.id.ensures.id) (sym c.insert_fault.ensures ∙ c.in_default.is) in
-    let place_is : c.len-place.result ≡ length cells = omega (arith, c.len-place.ensures) in
-    let room : length cells + 1 < END = omega (arith, c.if-place.false) in
-    let is : c.as_mut_slice.result.now ≡ cells ++ fresh p item time ∷ [] = c.as_mut_slice.ensures.value ∙ (c.push_reserved.ensures.items ∙ ap (λ l. l ++ fresh p item time ∷ []) c.reserve.ensures.items) in
+    let free : insert_fault (listing cells) p b e.item.id ≡ None = rw (c.self.view_is, ← c.id.ensures.id) (sym c.insert_fault.ensures ∙ c.in_default.is) in
+    let room : length cells + 1 < END = omega (arith, c.if-len.false) in
+    let blank_there : seat_at cells k ≡ None = rw (c.deref.ensures.value, c.reserve.ensures.items) at c.place_for-place.ensures.blank in
+    let seated : List Cell = c.occupy.new.cells.items in
+    let seats : Seats cells seated e = rw (c.reserve.ensures.items, c.new-node.ensures) at c.occupy.ensures in
     let new : List Cell = c.attach.new.cells in
-    let attaches : Attaches (cells ++ fresh p item time ∷ []) new p (length cells) (link_of b) = rw (is, c.number.ensures, place_is, c.link_of.ensures) at c.attach.ensures in
-    let pushed : c.push_reserved.new.self.items ≡ cells ++ fresh p item time ∷ [] = c.push_reserved.ensures.items ∙ ap (λ l. l ++ fresh p item time ∷ []) c.reserve.ensures.items in
-    let whole = whole_slice c.push_reserved.new.self.len c.push_reserved.new.self.items new (omega arith) (attaches.before_right.long ∙ (attaches.after_left.long ∙ sym (ap length pushed))) in
-    rw (whole, ← c.self.view_is, c.new-2.ensures, place_is) (inserted_kids cells p b item time linked free room new attaches)
+    let attaches : Attaches seated new p k (link_of b) = rw (c.as_mut_slice-cells.ensures.value, c.number.ensures, c.link_of.ensures) at c.attach.ensures in
+    let whole = whole_slice c.occupy.new.cells.len seated new (omega arith) (attaches.before_right.long ∙ attaches.after_left.long) in
+    rw (whole, ← c.self.view_is, c.new-node.ensures) (inserted_kids cells p b e linked free refl blank_there seated seats room new attaches)

@@ -3,7 +3,7 @@ use Rattle.ss_list.proofs.Calls.{whole_slice}
 use Rattle.ss_tree.specs.declared.entries.Entry.{Entry}
 use Rattle.ss_tree.specs.Entries.{above, entry, remove_fault}
 use Rattle.ss_tree.specs.declared.cells.Cell.{Cell}
-use Rattle.ss_tree.specs.Cells.{cell_at, next_of, prev_of, seat_at, listing, Joins, SameLinks, IsLinked}
+use Rattle.ss_tree.specs.Cells.{cell_at, next_of, prev_of, seat_at, listing, Joins, Frees, IsLinked}
 use Rattle.ss_tree.proofs.Changed.{holds_linked, remove_loose, has_parent, leave_places, removed, removed_entries, removed_kids, removed_ids}
 use Rattle.ss_tree.proofs.trees.Tree.remove.Goals as goal
 
@@ -46,16 +46,17 @@ invariant_of-self c =
     let middle : List Cell = c.detach.new.cells in
     let joins : Joins cells middle p (prev_of cells p k) (next_of cells p k) = rw (c.as_mut_slice-cells.ensures.value, c.number.ensures, c.number-2.ensures) at c.detach.ensures in
     let new : List Cell = c.vacate-item.new.cells in
-    let same : SameLinks middle new = c.vacate-item.ensures.links in
+    let vacant = c.self.inside.vacant in
+    let same : Frees middle new k vacant = rw c.number-3.ensures at c.vacate-item.ensures.links in
     let seats : (j : ℕ) → seat_at new j ≡ cond (k == j) None (seat_at middle j) = rw c.number-3.ensures at c.vacate-item.ensures.seats in
     let whole = whole_slice c.self.inside.cells.len cells new (omega arith) (same.long ∙ joins.long) in
     let item : (cell_at middle k).item ≡ Some c.vacate-item.result = rw c.number-3.ensures at c.vacate-item.ensures.item in
     let d : Entry = record { node = k; parent = (cell_at middle k).parent; item = c.vacate-item.result; time = (cell_at middle k).time } in
     let at : entry k (listing cells) ≡ Some d = linked.lies.seats k ∙ (sym (joins.seats k) ∙ ap (option_map (λ i. record { node = k; parent = (cell_at middle k).parent; item = i; time = (cell_at middle k).time })) item) in
     rw whole (
-      holds_linked (removed cells k p linked up middle joins new free same seats),
+      holds_linked (removed cells k p linked up middle joins new vacant free same seats),
       λ x.
-          c.leave.ensures x ∙ (ap₂ (λ y o. cond (bytes_eq y x) None o) c.id.ensures.id (c.self.invariant.1 x) ∙ sym (removed_ids cells k p linked up middle joins new free same seats d at x)),
+          c.leave.ensures x ∙ (ap₂ (λ y o. cond (bytes_eq y x) None o) c.id.ensures.id (c.self.invariant.1 x) ∙ sym (removed_ids cells k p linked up middle joins new vacant free same seats d at x)),
     )
 
 pub returns-clause-entries : goal.returns-clause-entries
@@ -69,10 +70,11 @@ returns-clause-entries c =
     let middle : List Cell = c.detach.new.cells in
     let joins : Joins cells middle p (prev_of cells p k) (next_of cells p k) = rw (c.as_mut_slice-cells.ensures.value, c.number.ensures, c.number-2.ensures) at c.detach.ensures in
     let new : List Cell = c.vacate-item.new.cells in
-    let same : SameLinks middle new = c.vacate-item.ensures.links in
+    let vacant = c.self.inside.vacant in
+    let same : Frees middle new k vacant = rw c.number-3.ensures at c.vacate-item.ensures.links in
     let seats : (j : ℕ) → seat_at new j ≡ cond (k == j) None (seat_at middle j) = rw c.number-3.ensures at c.vacate-item.ensures.seats in
     let whole = whole_slice c.self.inside.cells.len cells new (omega arith) (same.long ∙ joins.long) in
-    rw (whole, ← c.self.view_is) (removed_entries cells k p linked up middle joins new free same seats)
+    rw (whole, ← c.self.view_is) (removed_entries cells k p linked up middle joins new vacant free same seats)
 
 pub returns-clause-kids : goal.returns-clause-kids
 returns-clause-kids c =
@@ -85,7 +87,8 @@ returns-clause-kids c =
     let middle : List Cell = c.detach.new.cells in
     let joins : Joins cells middle p (prev_of cells p k) (next_of cells p k) = rw (c.as_mut_slice-cells.ensures.value, c.number.ensures, c.number-2.ensures) at c.detach.ensures in
     let new : List Cell = c.vacate-item.new.cells in
-    let same : SameLinks middle new = c.vacate-item.ensures.links in
+    let vacant = c.self.inside.vacant in
+    let same : Frees middle new k vacant = rw c.number-3.ensures at c.vacate-item.ensures.links in
     let seats : (j : ℕ) → seat_at new j ≡ cond (k == j) None (seat_at middle j) = rw c.number-3.ensures at c.vacate-item.ensures.seats in
     let whole = whole_slice c.self.inside.cells.len cells new (omega arith) (same.long ∙ joins.long) in
-    rw (whole, ← c.self.view_is) (removed_kids cells k p linked up middle joins new free same seats)
+    rw (whole, ← c.self.view_is) (removed_kids cells k p linked up middle joins new vacant free same seats)

@@ -11,3 +11,4 @@ pub mod Newness
 pub mod Alike
 pub mod Adding
 pub mod Depths
+pub mod Exactly

@@ -1,0 +1,30 @@
+-- The journal as the desk sees it: what no call changes, and the entries.
+use Rattle.std.specs.Prelude.{◌≡◌, ◌-◌, ℕ, List, length, Option, Some}
+use Rattle.ss_query.specs.declared.replies.Reply.{Reply}
+use Rattle.ss_desk.specs.declared.journaled.Full.{Full}
+use Rattle.ss_laws.specs.declared.journal.Entry.{Entry}
+use Rattle.ss_laws.specs.Journal.{Journal}
+use Rattle.ss_laws.specs.Journals.{reply_at, IsLegal}
+use Rattle.ss_booked.specs.declared.booked.Asked.{Asked}
+use Rattle.ss_booked.specs.declared.booked.Terms.{Terms}
+use Rattle.ss_booked.specs.Sizes.{full_of}
+
+-- what was asked by the call of an entry
+abbrev pub ask_of : Entry → Asked
+ask_of entry = record { now = entry.now; request = entry.request }
+
+-- the journal with these entries
+abbrev pub journal_on : Terms → List Entry → Journal
+journal_on terms entries = record { opening = terms.opening; most = terms.most; entries = entries }
+
+-- it is legal
+abbrev pub IsLegalOn : Terms → List Entry → Type 0
+IsLegalOn terms entries = IsLegal (journal_on terms entries)
+
+-- the reply at its last place
+abbrev pub RepliesLast : Terms → List Entry → Reply → Type 0
+RepliesLast terms entries reply = reply_at (journal_on terms entries) (length entries - 1) ≡ Some reply
+
+-- where it is full, its two numbers
+abbrev pub full_on : Terms → List Entry → Option Full
+full_on terms entries = full_of (journal_on terms entries)

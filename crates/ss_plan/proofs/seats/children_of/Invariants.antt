@@ -1,0 +1,6 @@
+use Rattle.std.proofs.Common.{◌≡◌, take, map}
+use Rattle.ss_plan.specs.Plan.{id_at}
+use Rattle.ss_plan.proofs.seats.children_of.Given as goal
+
+abbrev pub invariant-loop-child : goal.invariant-loop-child
+invariant-loop-child l = l.ids.items ≡ map (id_at l.tree) (take l.child-index l.child-items)

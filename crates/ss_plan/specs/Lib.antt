@@ -1,0 +1,4 @@
+pub mod Plan
+pub mod Seats
+pub mod Refusals
+pub mod Written

@@ -14,3 +14,4 @@ pub mod Whole
 pub mod Stable
 pub mod Marking
 pub mod Folding
+pub mod Told

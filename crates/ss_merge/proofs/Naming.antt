@@ -7,18 +7,18 @@ use Rattle.std.specs.Cmp.Lexicographic.{texts_ties}
 use Rattle.std.specs.Map.{lookup}
 use Rattle.ss_text.specs.Texts.{text_cmp}
 use Rattle.ss_record.specs.Ids.{Apart, has}
-use Rattle.ss_record.proofs.IdLists.{same_id, bytes_eq-same, bytes_eq-sym, has-nil, has-cons, Apart-head, Apart-tail}
+use Rattle.ss_record.proofs.IdLists.{same_id, bytes_eq-same, bytes_eq-sym, has-nil, has-cons, has-head, has-tail, Apart-head, Apart-tail}
 use Rattle.ss_tree.specs.Trees.{IsValidTree, Placed, node}
 use Rattle.ss_dupe.specs.Looks.{Id, Look, look, is_in}
 use Rattle.ss_dupe.specs.Sides.{sides}
 use Rattle.ss_dupe.specs.Pairs.{ArePairs}
 use Rattle.ss_dupe.specs.Renaming.{named, renamed, renamed_item}
-use Rattle.ss_dupe.specs.Plains.{AreIds, look_of}
-use Rattle.ss_dupe.specs.declared.plain.Plain.{Plain}
-use Rattle.ss_dupe.proofs.Basics.{two_ways, no_way, false_from}
+use Rattle.ss_dupe.specs.Plains.{placed_at}
+use Rattle.ss_dupe.specs.declared.plain.Seat.{Seat}
+use Rattle.ss_dupe.proofs.Basics.{two_ways, no_way, false_from, has-cases}
 use Rattle.ss_dupe.proofs.Shapes.{in-of_none, of-in, shape}
 use Rattle.ss_dupe.proofs.Renamed.{names_apart, look-renamed, from-renamed}
-use Rattle.ss_merge.specs.Links.{AreNames, IsRenamed, by_map}
+use Rattle.ss_merge.specs.Links.{AreNames, IsRenamed, TakesIn, by_map, look_by, or_else}
 use Rattle.ss_merge.proofs.Holding.{has-more, has_item}
 
 -- ---- a map of pairs
@@ -95,40 +95,41 @@ is_none f z h = none (f z) h
     none None h = refl
     none (Some n) h = cc
 
-pub record SoFar (t : Look) (name : Id → Id) (u : Plain) (seen : List Id) : Type 0 where
-  pub named : (x : Id) → has x seen ≡ true → look_of u (name x) ≡ option_map (renamed_item name) (t x)
-  pub from : (q : Id) → is_in (look_of u) q ≡ true → (x : Id) × (has x seen ≡ true) × (q ≡ name x)
-  pub ids : AreIds u
+in_some : (f : Look) (q z : Id) (n : Placed) → f z ≡ Some n → q ≡ z → is_in f q ≡ true
+unfolding is_in
+in_some f q z n e k = ap is_some (ap f k ∙ e)
 
-pub none_so_far : (t : Look) (name : Id → Id) (u : Plain) → ((x : Id) → look_of u x ≡ None) → u.ids.items ≡ [] → SoFar t name u []
-none_so_far t name u none empty = record {
+pub record SoFar (t : Look) (name : Id → Id) (u : Look) (seen : List Id) : Type 0 where
+  pub named : (x : Id) → has x seen ≡ true → u (name x) ≡ option_map (renamed_item name) (t x)
+  pub from : (q : Id) → is_in u q ≡ true → (x : Id) × (has x seen ≡ true) × (q ≡ name x)
+
+none_so_far : (t : Look) (name : Id → Id) (u : Look) → ((x : Id) → u x ≡ None) → SoFar t name u []
+none_so_far t name u none = record {
   named = λ x h. no_way (has x []) h (has-nil x);
-  from = λ q h. no_way (is_in (look_of u) q) h (in-of_none (look_of u) q (none q));
-  ids = λ x. ap (has x) empty ∙ has-nil x ∙ sym (in-of_none (look_of u) x (none x));
+  from = λ q h. no_way (is_in u q) h (in-of_none u q (none q));
 }
 
-pub one_more : (t : Look) (name : Id → Id) (u v : Plain) (ids : List Id) (i : ℕ) (y k : Id) (n : Placed) → AreNames t name → ((x : Id) → has x ids ≡ is_in t x) → i < length ids → y ≡ get_or ids i y
-    → Some n ≡ option_map (renamed_item name) (t y) → k ≡ n.id → ((x : Id) → look_of v x ≡ cond (bytes_eq k x) (Some n) (look_of u x)) → (AreIds u → AreIds v) → SoFar t name u (take i ids) → SoFar t name v (take (i + 1) ids)
-one_more t name u v ids i y k n names are lt e given key put kept s = record {
+-- an id that was met before
+met_again : (t : Look) (name : Id → Id) (u : Look) (ids : List Id) (i : ℕ) (y : Id) → i < length ids → y ≡ get_or ids i y → has y (take i ids) ≡ true → SoFar t name u (take i ids) → SoFar t name u (take (i + 1) ids)
+met_again t name u ids i y lt e there s = record {
+  named = λ x h. s.named x (cases x (has x (take i ids)) refl (bytes_eq x y) refl (sym (has-more x y ids i lt e) ∙ h));
+  from = λ q h. let f = s.from q h in (f.0, has-more f.0 y ids i lt e ∙ ap (λ b. b || bytes_eq f.0 y) f.1, f.2);
+}
+  where
+    cases : (x : Id) (a : Bool) → has x (take i ids) ≡ a → (b : Bool) → bytes_eq x y ≡ b → (has x (take i ids) || bytes_eq x y) ≡ true → has x (take i ids) ≡ true
+    cases x true p b q h = p
+    cases x false p true q h = ap (λ z. has z (take i ids)) (same_id x y q) ∙ there
+    cases x false p false q h = let no : (has x (take i ids) || bytes_eq x y) ≡ false = ap₂ (λ c d. c || d) p q in cc
+
+one_more : (t : Look) (name : Id → Id) (u v : Look) (ids : List Id) (i : ℕ) (y : Id) (n : Placed) → AreNames t name → ((x : Id) → has x ids ≡ is_in t x) → i < length ids → y ≡ get_or ids i y
+    → Some n ≡ option_map (renamed_item name) (t y) → ((x : Id) → v x ≡ cond (bytes_eq (name y) x) (Some n) (u x)) → SoFar t name u (take i ids) → SoFar t name v (take (i + 1) ids)
+one_more t name u v ids i y n names are lt e given at s = record {
   named = λ x h. named x (two_ways (bytes_eq (name y) (name x))) h;
   from = λ q h. from q (two_ways (bytes_eq (name y) q)) h;
-  ids = kept s.ids;
 }
   where
     inside : is_in t y ≡ true
     inside = sym (are y) ∙ has_item ids i y lt e
-
-    some_same : (a b : Placed) → Some a ≡ Some b → a ≡ b
-    some_same a b h = cc
-
-    key_is : k ≡ name y
-    key_is =
-        let m = of-in t y inside in
-        let same = some_same n (renamed_item name m.0) (given ∙ ap (option_map (renamed_item name)) m.1) in
-        key ∙ ap (λ (z : Placed). z.id) same ∙ ap name (names.own y m.0 m.1)
-
-    at : (x : Id) → look_of v x ≡ cond (bytes_eq (name y) x) (Some n) (look_of u x)
-    at x = put x ∙ ap (λ z. cond (bytes_eq z x) (Some n) (look_of u x)) key_is
 
     or_rest : (a b : Bool) → (a || b) ≡ true → b ≡ false → a ≡ true
     or_rest true b e f = refl
@@ -147,12 +148,12 @@ one_more t name u v ids i y k n names are lt e given key put kept s = record {
             over true b c f h = refl
             over false b c f h = f h
 
-    named : (x : Id) → (bytes_eq (name y) (name x) ≡ true) ⊎ (bytes_eq (name y) (name x) ≡ false) → has x (take (i + 1) ids) ≡ true → look_of v (name x) ≡ option_map (renamed_item name) (t x)
+    named : (x : Id) → (bytes_eq (name y) (name x) ≡ true) ⊎ (bytes_eq (name y) (name x) ≡ false) → has x (take (i + 1) ids) ≡ true → v (name x) ≡ option_map (renamed_item name) (t x)
     named x (inl hit) h =
         let same = names.apart y x inside (inside_of x h) (same_id (name y) (name x) hit) in
-        at (name x) ∙ ap (λ b. cond b (Some n) (look_of u (name x))) hit ∙ given ∙ ap (λ z. option_map (renamed_item name) (t z)) same
+        at (name x) ∙ ap (λ b. cond b (Some n) (u (name x))) hit ∙ given ∙ ap (λ z. option_map (renamed_item name) (t z)) same
     named x (inr miss) h =
-        at (name x) ∙ ap (λ b. cond b (Some n) (look_of u (name x))) miss
+        at (name x) ∙ ap (λ b. cond b (Some n) (u (name x))) miss
         ∙ s.named x (or_rest (has x (take i ids)) (bytes_eq x y) (sym (has-more x y ids i lt e) ∙ h)
         (false_from (bytes_eq x y) (λ f. no_way (bytes_eq (name y) (name x)) (bytes_eq-same (name y) (name x) (ap name (sym (same_id x y f)))) miss)))
 
@@ -160,16 +161,108 @@ one_more t name u v ids i y k n names are lt e given key put kept s = record {
     or_true true = refl
     or_true false = refl
 
-    from : (q : Id) → (bytes_eq (name y) q ≡ true) ⊎ (bytes_eq (name y) q ≡ false) → is_in (look_of v) q ≡ true → (x : Id) × (has x (take (i + 1) ids) ≡ true) × (q ≡ name x)
+    from : (q : Id) → (bytes_eq (name y) q ≡ true) ⊎ (bytes_eq (name y) q ≡ false) → is_in v q ≡ true → (x : Id) × (has x (take (i + 1) ids) ≡ true) × (q ≡ name x)
     from q (inl hit) h = (y, has-more y y ids i lt e ∙ ap (λ b. has y (take i ids) || b) (bytes_eq-same y y refl) ∙ or_true (has y (take i ids)), sym (same_id (name y) q hit))
     from q (inr miss) h =
-        let f = s.from q (in_same (look_of v) (look_of u) q (at q ∙ ap (λ b. cond b (Some n) (look_of u q)) miss) h) in
+        let f = s.from q (in_same v u q (at q ∙ ap (λ b. cond b (Some n) (u q)) miss) h) in
         (f.0, has-more f.0 y ids i lt e ∙ ap (λ b. b || bytes_eq f.0 y) f.1, f.2)
 
-pub renamed_all : (t : Look) (name : Id → Id) (u : Plain) (ids : List Id) (i : ℕ) → ((x : Id) → has x ids ≡ is_in t x) → length ids ≤ i → SoFar t name u (take i ids) → IsRenamed t name (look_of u)
+renamed_all : (t : Look) (name : Id → Id) (u : Look) (ids : List Id) (i : ℕ) → ((x : Id) → has x ids ≡ is_in t x) → length ids ≤ i → SoFar t name u (take i ids) → IsRenamed t name u
 renamed_all t name u ids i are le s =
     let w = subst (SoFar t name u) (take_all i ids le) s in
     record { named = λ x h. w.named x (are x ∙ h); from = λ q h. let f = w.from q h in (f.0, sym (are f.0) ∙ f.1, f.2) }
+
+-- ---- items that are moved from a map to one by other names
+
+pub record Moved (name : Id → Id) (first rest : Id → Option Seat) (u : Look) (seen : List Id) : Type 0 where
+  pub done : SoFar (look_by first) name u seen
+  pub left : (x : Id) → rest x ≡ cond (has x seen) None (first x)
+
+pub none_moved : (name : Id → Id) (first : Id → Option Seat) (u : Look) → ((x : Id) → u x ≡ None) → Moved name first first u []
+none_moved name first u none = record { done = none_so_far (look_by first) name u none; left = λ x. sym (ap (λ b. cond b None (first x)) (has-nil x)) }
+
+pub one_moved : (name : Id → Id) (first rest later : Id → Option Seat) (u v : Look) (ids : List Id) (i : ℕ) (y : Id) → AreNames (look_by first) name → ((x : Id) → has x ids ≡ is_in (look_by first) x) → i < length ids → y ≡ get_or ids i y
+    → ((x : Id) → later x ≡ cond (bytes_eq y x) None (rest x)) → TakesIn name y (look_by rest) u v → Moved name first rest u (take i ids) → Moved name first later v (take (i + 1) ids)
+one_moved name first rest later u v ids i y names are lt e gone takes m = record { done = done (rest y) refl (has y (take i ids)) refl; left = left }
+  where
+    merge : (a b : Bool) (o : Option Seat) → cond b None (cond a None o) ≡ cond (a || b) None o
+    merge true true o = refl
+    merge true false o = refl
+    merge false true o = refl
+    merge false false o = refl
+
+    left : (x : Id) → later x ≡ cond (has x (take (i + 1) ids)) None (first x)
+    left x =
+        gone x ∙ ap (cond (bytes_eq y x) None) (m.left x) ∙ merge (has x (take i ids)) (bytes_eq y x) (first x)
+        ∙ ap (λ b. cond (has x (take i ids) || b) None (first x)) (bytes_eq-sym y x) ∙ sym (ap (λ b. cond b None (first x)) (has-more x y ids i lt e))
+
+    first_at : has y (take i ids) ≡ false → first y ≡ rest y
+    first_at h = sym (m.left y ∙ ap (λ b. cond b None (first y)) h)
+
+    stays : rest y ≡ None → (x : Id) → v x ≡ u x
+    stays q x = takes x ∙ ap (λ o. cond (bytes_eq (name y) x) (or_else (option_map (renamed_item name) (option_map placed_at o)) (u x)) (u x)) q ∙ same (bytes_eq (name y) x)
+      where
+        same : (b : Bool) → cond b (u x) (u x) ≡ u x
+        same true = refl
+        same false = refl
+
+    done : (o : Option Seat) → rest y ≡ o → (b : Bool) → has y (take i ids) ≡ b → SoFar (look_by first) name v (take (i + 1) ids)
+    done None q true h = met_again (look_by first) name v ids i y lt e h (subst (λ w. SoFar (look_by first) name w (take i ids)) (λ j x. sym (stays q x) j) m.done)
+    done None q false h =
+        no_way (is_in (look_by first) y) (sym (are y) ∙ has_item ids i y lt e) (in-of_none (look_by first) y (ap (option_map placed_at) (first_at h ∙ q)))
+    done (Some s) q true h = let none : rest y ≡ None = m.left y ∙ ap (λ b. cond b None (first y)) h in cc
+    done (Some s) q false h =
+        one_more (look_by first) name u v ids i y (renamed_item name (placed_at s)) names are lt e
+        (sym (ap (λ o. option_map (renamed_item name) (option_map placed_at o)) (first_at h ∙ q)))
+        (λ x. takes x ∙ ap (λ o. cond (bytes_eq (name y) x) (or_else (option_map (renamed_item name) (option_map placed_at o)) (u x)) (u x)) q) m.done
+
+pub all_moved : (name : Id → Id) (first rest : Id → Option Seat) (u : Look) (ids : List Id) (i : ℕ) → ((x : Id) → has x ids ≡ is_in (look_by first) x) → length ids ≤ i → Moved name first rest u (take i ids) → IsRenamed (look_by first) name u
+all_moved name first rest u ids i are le m = renamed_all (look_by first) name u ids i are le m.done
+
+-- one item that is put in
+pub takes_some : (name : Id → Id) (y : Id) (t old new : Look) (k : Id) (p n : Placed) → k ≡ name y → t y ≡ Some p → n ≡ renamed_item name p → ((x : Id) → new x ≡ cond (bytes_eq k x) (Some n) (old x)) → TakesIn name y t old new
+takes_some name y t old new k p n key there is put x =
+    put x ∙ ap₂ (λ z m. cond (bytes_eq z x) (Some m) (old x)) key is ∙ sym (ap (λ o. cond (bytes_eq (name y) x) (or_else (option_map (renamed_item name) o) (old x)) (old x)) there)
+
+pub takes_none : (name : Id → Id) (y : Id) (t old : Look) → t y ≡ None → TakesIn name y t old old
+takes_none name y t old none x = sym (ap (λ o. cond (bytes_eq (name y) x) (or_else (option_map (renamed_item name) o) (old x)) (old x)) none ∙ same (bytes_eq (name y) x))
+  where
+    same : (b : Bool) → cond b (old x) (old x) ≡ old x
+    same true = refl
+    same false = refl
+
+-- the ids by other names are those of the tree by them
+pub ids_renamed : (t : Look) (name : Id → Id) (u : Look) (ids : List Id) → ((x : Id) → has x ids ≡ is_in t x) → IsRenamed t name u → (q : Id) → has q (map name ids) ≡ is_in u q
+ids_renamed t name u ids are is q = both (has q (map name ids)) (is_in u q) to from
+  where
+    both : (a b : Bool) → (a ≡ true → b ≡ true) → (b ≡ true → a ≡ true) → a ≡ b
+    both true b f g = sym (f refl)
+    both false true f g = g refl
+    both false false f g = refl
+
+    found : (xs : List Id) → has q (map name xs) ≡ true → (x : Id) × (has x xs ≡ true) × (q ≡ name x)
+    found [] h = no_way (has q []) h (has-nil q)
+    found (x ∷ xs) h = elim (has-cases q (name x) (map name xs) h) [
+      | inl k ↦ (x, has-head x xs, k)
+      | inr k ↦ let f = found xs k in (f.0, has-tail f.0 x xs f.1, f.2)
+    ]
+
+    put : (x : Id) (xs : List Id) → has x xs ≡ true → has (name x) (map name xs) ≡ true
+    put x [] h = no_way (has x []) h (has-nil x)
+    put x (z ∷ zs) h = elim (has-cases x z zs h) [
+      | inl k ↦ ap (λ w. has (name w) (map name (z ∷ zs))) k ∙ has-head (name z) (map name zs)
+      | inr k ↦ has-tail (name x) (name z) (map name zs) (put x zs k)
+    ]
+
+    to : has q (map name ids) ≡ true → is_in u q ≡ true
+    to h =
+        let f = found ids h in
+        let there : is_in t f.0 ≡ true = sym (are f.0) ∙ f.1 in
+        let m = of-in t f.0 there in
+        in_some u q (name f.0) (renamed_item name m.0) (is.named f.0 there ∙ ap (option_map (renamed_item name)) m.1) f.2
+
+    from : is_in u q ≡ true → has q (map name ids) ≡ true
+    from h = let f = is.from q h in ap (λ w. has w (map name ids)) f.2 ∙ put f.0 ids (are f.0 ∙ f.1)
 
 -- ---- the renamed local tree
 

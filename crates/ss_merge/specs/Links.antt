@@ -3,7 +3,9 @@ use Rattle.std.specs.Prelude.{◌≡◌, ◌&&◌, not, true, Bool, List, Option
 use Rattle.ss_record.specs.Ids.{Apart, has}
 use Rattle.ss_tree.specs.Trees.{Placed}
 use Rattle.ss_build.specs.declared.claims.Claim.{Claim}
+use Rattle.ss_dupe.specs.declared.plain.Seat.{Seat}
 use Rattle.ss_dupe.specs.Looks.{Id, Look, is_in, is_root}
+use Rattle.ss_dupe.specs.Plains.{placed_at}
 use Rattle.ss_dupe.specs.Walks.{passes}
 use Rattle.ss_dupe.specs.Sides.{Sides}
 use Rattle.ss_dupe.specs.Renaming.{renamed_item}
@@ -35,6 +37,14 @@ claim_by s f x = record {
 -- the name that a map gives an id; each other id stays
 abbrev pub by_map : (Id → Option Id) → Id → Id
 by_map f x = unwrap_or (f x) x
+
+-- the items of a map, in their places
+abbrev pub look_by : (Id → Option Seat) → Look
+look_by g x = option_map placed_at (g x)
+
+-- the item of y, where t has it, is put in by its name
+abbrev pub TakesIn : (Id → Id) → Id → Look → Look → Look → Type 0
+TakesIn name y t old new = (x : Id) → new x ≡ (if bytes_eq (name y) x then or_else (option_map (renamed_item name) (t y)) (old x) else old x)
 
 -- no two ids of a tree get one name, and each item has its own id
 pub record AreNames (t : Look) (name : Id → Id) : Type 0 where

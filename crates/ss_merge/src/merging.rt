@@ -1,10 +1,10 @@
 //! Merging.
 
-ghost use Rattle.std.specs.Prelude.{◌≡◌, ◌⊎◌, ◌↔◌, true, IfOk};
-ghost use Rattle.ss_record.specs.Ids.{has, places};
+ghost use Rattle.std.specs.Prelude.{◌≡◌, ◌⊎◌, ◌↔◌, ◌&&◌, not, true, map, IfOk};
+ghost use Rattle.ss_record.specs.Ids.{Apart, has, places};
 ghost use Rattle.ss_tree.specs.Entries.{tree};
 ghost use Rattle.ss_tree.specs.Trees.{IsSame, IsValidTree, node_ids};
-ghost use Rattle.ss_dupe.specs.Looks.{Id as Text};
+ghost use Rattle.ss_dupe.specs.Looks.{Id as Text, is_places};
 ghost use Rattle.ss_dupe.specs.Pairs.{ArePairs};
 ghost use Rattle.ss_dupe.specs.Plains.{view};
 ghost use Rattle.ss_dupe.specs.Renaming.{paired};
@@ -63,6 +63,8 @@ pub fn merge(alloc: Global, sides: &Sides) -> Result<Merged, AllocError>
     ensures valid { IfOk result (λ m. IsValidTree (tree m.tree)) }
     ensures survivors { IfOk result (λ m. (x : Text) → (has x (node_ids (tree m.tree)) ≡ true) ↔ ((x ≡ places) ⊎ (survives (paired m.renamed.items sides.now) x ≡ true))) }
     ensures from { IfOk result (λ m. m.from.items ≡ origins (paired m.renamed.items sides.now) m.tree) }
+    ensures from_once { IfOk result (λ m. Apart (map (λ p. p.0) m.from.items)) }
+    ensures from_all { IfOk result (λ m. (x : Text) → has x (map (λ p. p.0) m.from.items) ≡ (has x (node_ids (tree m.tree)) && not (is_places x))) }
     ensures gone { IfOk result (λ m. m.gone ≡ gone_of (paired m.renamed.items sides.now) (all_ids m.renamed.items sides.now)) }
     ensures renamed { IfOk result (λ m. ArePairs (asked sides.now) m.renamed.items) }
 {

@@ -1,16 +1,16 @@
 //! The sides of a merge, read out, with the remote ids for the local items of duplicate pairs.
 
-ghost use Rattle.std.specs.Prelude.{◌≡◌, true, Some, IfOk, option_map, bytes_eq, map};
+ghost use Rattle.std.specs.Prelude.{◌≡◌, None, IfOk, OnOk, option_map, bytes_eq, map, if◌then◌else◌};
 ghost use Rattle.std.specs.HashMap.{get};
 ghost use Rattle.std.specs.Map.{lookup};
-ghost use Rattle.ss_record.specs.Ids.{Apart};
+ghost use Rattle.ss_record.specs.Ids.{Apart, has};
 ghost use Rattle.ss_dupe.specs.Looks.{Id as Text, is_in};
 ghost use Rattle.ss_dupe.specs.Pairs.{ArePairs};
 ghost use Rattle.ss_dupe.specs.Plains.{AreIds, look_of, placed_at, view};
 ghost use Rattle.ss_dupe.specs.Renaming.{paired, renamed_item};
 ghost use Rattle.ss_dupe.specs.Shapes.{AreShaped};
 ghost use Rattle.ss_dupe.specs.Sides.{asked};
-ghost use Rattle.ss_merge.specs.Links.{AreNames, IsRenamed, by_map};
+ghost use Rattle.ss_merge.specs.Links.{AreNames, IsRenamed, TakesIn, by_map, look_by};
 
 use ss_dupe::{Plain, Plains, Seat, pair_read};
 use ss_text::Id;
@@ -31,21 +31,21 @@ fn names_of(alloc: Global, pairs: &[(Id, Id)]) -> Result<HashMap<Id, Id>, AllocE
 }
 
 /// The name that an id gets; it stays where it gets none.
-fn name_of(alloc: Global, names: &HashMap<Id, Id>, id: &Id) -> Result<Id, AllocError>
-    ensures { IfOk result (λ name. name ≡ by_map (get bytes_eq names.now) id.now) }
+fn name_of(alloc: Global, names: &HashMap<Id, Id>, id: Id) -> Result<Id, AllocError>
+    ensures { IfOk result (λ name. name ≡ by_map (get bytes_eq names.now) id) }
 {
-    match names.get(id) {
+    match names.get(&id) {
         Some(name) => Ok(name.copy(alloc)?),
-        None => Ok(id.copy(alloc)?),
+        None => Ok(id),
     }
 }
 
 fn name_of_parent(
     alloc: Global,
     names: &HashMap<Id, Id>,
-    parent: &Option<Id>,
+    parent: Option<Id>,
 ) -> Result<Option<Id>, AllocError>
-    ensures { IfOk result (λ name. name ≡ option_map (by_map (get bytes_eq names.now)) parent.now) }
+    ensures { IfOk result (λ name. name ≡ option_map (by_map (get bytes_eq names.now)) parent) }
 {
     match parent {
         Some(id) => Ok(Some(name_of(alloc, names, id)?)),
@@ -53,8 +53,8 @@ fn name_of_parent(
     }
 }
 
-fn names_of_all(alloc: Global, names: &HashMap<Id, Id>, ids: &[Id]) -> Result<Vec<Id>, AllocError>
-    ensures { IfOk result (λ found. found.items ≡ map (by_map (get bytes_eq names.now)) ids.now) }
+fn names_of_all(alloc: Global, names: &HashMap<Id, Id>, ids: Vec<Id>) -> Result<Vec<Id>, AllocError>
+    ensures { IfOk result (λ found. found.items ≡ map (by_map (get bytes_eq names.now)) ids.items) }
 {
     let mut found = Vec::with_capacity(alloc, ids.len())?;
     for id in ids {
@@ -67,51 +67,81 @@ fn names_of_all(alloc: Global, names: &HashMap<Id, Id>, ids: &[Id]) -> Result<Ve
 fn rename_seat<'a>(
     alloc: Global,
     names: &HashMap<Id, Id>,
-    seat: &Seat<'a>,
+    seat: Seat<'a>,
 ) -> Result<Seat<'a>, AllocError>
-    ensures { IfOk result (λ named. placed_at named ≡ renamed_item (by_map (get bytes_eq names.now)) (placed_at seat.now)) }
+    ensures { IfOk result (λ named. placed_at named ≡ renamed_item (by_map (get bytes_eq names.now)) (placed_at seat.entry)) }
 {
+    let Seat {
+        id,
+        item,
+        parent,
+        children,
+        time,
+    } = seat;
     Ok(Seat {
-        id: name_of(alloc, names, &seat.id)?,
-        item: seat.item,
-        parent: name_of_parent(alloc, names, &seat.parent)?,
-        children: names_of_all(alloc, names, &seat.children)?,
-        time: seat.time,
+        id: name_of(alloc, names, id)?,
+        item,
+        parent: name_of_parent(alloc, names, parent)?,
+        children: names_of_all(alloc, names, children)?,
+        time,
     })
 }
 
-/// The renamed item of an id.
-fn rename_at<'a>(
+/// Moves the item of an id, where there is one, from its tree to that of other names.
+fn move_seat<'a>(
     alloc: Global,
     names: &HashMap<Id, Id>,
-    plain: &Plain<'a>,
     id: &Id,
-) -> Result<Seat<'a>, AllocError>
-    requires { is_in (look_of plain.now) id.now ≡ true }
-    ensures { IfOk result (λ named. Some (placed_at named) ≡ option_map (renamed_item (by_map (get bytes_eq names.now))) (look_of plain.now id.now)) }
+    rest: &mut HashMap<Id, Seat<'a>>,
+    named: &mut HashMap<Id, Seat<'a>>,
+) -> Result<(), AllocError>
+    ensures rest { OnOk result ((x : Text) → get bytes_eq rest.new x ≡ (if bytes_eq id.now x then None else get bytes_eq rest.old x)) }
+    ensures named { OnOk result (TakesIn (by_map (get bytes_eq names.now)) id.now (look_by (get bytes_eq rest.old)) (look_by (get bytes_eq named.old)) (look_by (get bytes_eq named.new))) }
 {
-    match plain.get(id) {
-        Some(seat) => Ok(rename_seat(alloc, names, seat)?),
-        None => unreachable!(),
+    match rest.remove_entry(id) {
+        Some((key, seat)) => {
+            let name = name_of(alloc, names, key)?;
+            named.insert(name, rename_seat(alloc, names, seat)?)?;
+            Ok(())
+        }
+        None => Ok(()),
     }
 }
 
-/// A tree that was read out, by other names.
+/// The items of some ids, which are all that there are, by other names.
+fn rename_seats<'a>(
+    alloc: Global,
+    names: &HashMap<Id, Id>,
+    seats: HashMap<Id, Seat<'a>>,
+    ids: &[Id],
+) -> Result<HashMap<Id, Seat<'a>>, AllocError>
+    requires ids { (x : Text) → has x ids.now ≡ is_in (look_by (get bytes_eq seats)) x }
+    requires names { AreNames (look_by (get bytes_eq seats)) (by_map (get bytes_eq names.now)) }
+    ensures { IfOk result (λ named. IsRenamed (look_by (get bytes_eq seats.entry)) (by_map (get bytes_eq names.now)) (look_by (get bytes_eq named))) }
+{
+    let mut rest = seats;
+    let mut named = HashMap::new(alloc);
+    for id in ids {
+        move_seat(alloc, names, id, &mut rest, &mut named)?;
+    }
+    Ok(named)
+}
+
+/// A tree that was read out, by other names. Its items and ids are moved there; only the names are copied.
 fn rename<'a>(
     alloc: Global,
     names: &HashMap<Id, Id>,
-    plain: &Plain<'a>,
+    plain: Plain<'a>,
 ) -> Result<Plain<'a>, AllocError>
-    requires ids { AreIds plain.now }
-    requires names { AreNames (look_of plain.now) (by_map (get bytes_eq names.now)) }
-    ensures looks { IfOk result (λ named. IsRenamed (look_of plain.now) (by_map (get bytes_eq names.now)) (look_of named)) }
+    requires ids { AreIds plain }
+    requires names { AreNames (look_of plain) (by_map (get bytes_eq names.now)) }
+    ensures looks { IfOk result (λ named. IsRenamed (look_of plain.entry) (by_map (get bytes_eq names.now)) (look_of named)) }
     ensures ids { IfOk result AreIds }
 {
-    let mut named = Plain::empty(alloc);
-    for id in &plain.ids {
-        named.put(alloc, rename_at(alloc, names, plain, id)?)?;
-    }
-    Ok(named)
+    let Plain { seats, ids } = plain;
+    let seats = rename_seats(alloc, names, seats, &ids)?;
+    let ids = names_of_all(alloc, names, ids)?;
+    Ok(Plain { seats, ids })
 }
 
 /// The sides of a merge, read out, in which the local items of the duplicate pairs have the remote ids, and these pairs.
@@ -132,14 +162,14 @@ pub(crate) fn read_paired<'a>(alloc: Global, sides: &Sides<'a>) -> Result<Paired
     let read = Plains::read(alloc, sides)?;
     let renamed = pair_read(alloc, &read)?;
     let names = names_of(alloc, &renamed)?;
-    let local = rename(alloc, &names, &read.local)?;
     let Plains {
         mirror,
+        local,
         remote,
         local_dead,
         remote_dead,
-        ..
     } = read;
+    let local = rename(alloc, &names, local)?;
     let plains = Plains {
         mirror,
         local,

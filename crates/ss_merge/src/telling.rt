@@ -1,7 +1,10 @@
 //! What is told beside the merged tree.
 
-ghost use Rattle.std.specs.Prelude.{◌≡◌, ◌&&◌, ◌||◌, not, IfOk};
-ghost use Rattle.ss_dupe.specs.Looks.{is_in, is_places};
+ghost use Rattle.std.specs.Prelude.{◌≡◌, ◌&&◌, ◌||◌, not, map, IfOk};
+ghost use Rattle.ss_record.specs.Ids.{Apart, has};
+ghost use Rattle.ss_tree.specs.Entries.{tree as by_ids};
+ghost use Rattle.ss_tree.specs.Trees.{node_ids};
+ghost use Rattle.ss_dupe.specs.Looks.{Id as Text, is_in, is_places};
 ghost use Rattle.ss_dupe.specs.Plains.{view};
 ghost use Rattle.ss_merge.specs.Survivors.{same_content, survives, taken};
 ghost use Rattle.ss_merge.specs.Merged.{gone_of, origin_of, origins, walk_ids};
@@ -51,7 +54,9 @@ fn origin_of(plains: &Plains, id: &Id) -> Origin
 /// The ids of a tree but `places`, in preorder.
 #[tactic(auto, unfolding(crate::specs::Merged::walk_ids, ss_dupe::specs::Looks::is_places))]
 fn walk_ids(alloc: Global, tree: &Tree) -> Result<Vec<Id>, AllocError>
-    ensures { IfOk result (λ ids. ids.items ≡ walk_ids tree.now) }
+    ensures ids { IfOk result (λ ids. ids.items ≡ walk_ids tree.now) }
+    ensures once { IfOk result (λ ids. Apart ids.items) }
+    ensures all { IfOk result (λ ids. (x : Text) → has x ids.items ≡ (has x (node_ids (by_ids tree.now)) && not (is_places x))) }
 {
     let nodes = tree.walk(alloc)?;
     let mut ids = Vec::with_capacity(alloc, nodes.len())?;
@@ -71,7 +76,9 @@ pub(crate) fn origins(
     plains: &Plains,
     tree: &Tree,
 ) -> Result<Vec<(Id, Origin)>, AllocError>
-    ensures { IfOk result (λ from. from.items ≡ origins (view plains.now) tree.now) }
+    ensures from { IfOk result (λ from. from.items ≡ origins (view plains.now) tree.now) }
+    ensures once { IfOk result (λ from. Apart (map (λ p. p.0) from.items)) }
+    ensures all { IfOk result (λ from. (x : Text) → has x (map (λ p. p.0) from.items) ≡ (has x (node_ids (by_ids tree.now)) && not (is_places x))) }
 {
     let ids = walk_ids(alloc, tree)?;
     let mut from = Vec::with_capacity(alloc, ids.len())?;

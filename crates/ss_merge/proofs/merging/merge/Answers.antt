@@ -35,7 +35,7 @@ returns-clause-survivors c =
 pub returns-clause-from : goal.returns-clause-from
 returns-clause-from c =
     let same : view c.in_ok-paired.paired.plains ≡ paired c.in_ok-paired.paired.renamed.items c.args.sides.now = c.in_ok-paired.ensures.same in
-    c.in_ok-from.ensures ∙ ap (λ s. origins s c.in_ok-tree.tree) same
+    c.in_ok-from.ensures.from ∙ ap (λ s. origins s c.in_ok-tree.tree) same
 
 pub returns-clause-gone : goal.returns-clause-gone
 returns-clause-gone c =

@@ -41,11 +41,11 @@ rises-snoc xs n rises below = λ k lt.
     let inside : k < length xs = omega (arith, len, lt) in
     let front : get_or (xs ++ n ∷ []) k 0 ≡ get_or xs k 0 = get_or_append_left xs (n ∷ []) 0 k inside in
     dite (dec_lt (k + 1) (length xs))
-      (λ more. omega (arith, front, get_or_append_left xs (n ∷ []) 0 (k + 1) more, rises k more))
-      (λ past.
-          let last : k + 1 ≡ length xs = omega (arith, past, inside) in
-          let seam : get_or (xs ++ n ∷ []) (k + 1) 0 ≡ n = subst (λ i. get_or (xs ++ n ∷ []) i 0 ≡ n) (sym last) (get-seam xs n) in
-          omega (arith, front, seam, below k 0 inside))
+    (λ more. omega (arith, front, get_or_append_left xs (n ∷ []) 0 (k + 1) more, rises k more))
+    (λ past.
+    let last : k + 1 ≡ length xs = omega (arith, past, inside) in
+    let seam : get_or (xs ++ n ∷ []) (k + 1) 0 ≡ n = subst (λ i. get_or (xs ++ n ∷ []) i 0 ≡ n) (sym last) (get-seam xs n) in
+    omega (arith, front, seam, below k 0 inside))
 
 pub legal-entered : (journal : Journal) (entry : Entry) → IsLegal journal → IsFitRequest entry.request → All (λ (e : Entry). e.ticket < entry.ticket) journal.entries → length journal.entries < journal.most → IsLegal (with_entry journal entry)
 legal-entered journal entry legal fits above room = record {

@@ -5,6 +5,8 @@
 
 mod opening;
 mod passes;
+#[cfg(test)]
+mod tests;
 mod town;
 
 pub use opening::TownFault;

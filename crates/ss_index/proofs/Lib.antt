@@ -1,6 +1,7 @@
 pub mod Drawers
 pub mod Walks
 pub mod Shelves
+pub mod Pages
 pub mod Picks
 pub mod Changing
 pub mod Filling

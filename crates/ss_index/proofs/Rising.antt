@@ -1,5 +1,5 @@
 -- Changes whose times rise, after the rows that are there.
-use Rattle.std.specs.Prelude.{◌≡◌, ℕ, ◌+◌, ◌≤◌, ◌<◌, Bool, true, false, not, cond, List, [], ◌∷◌, ◌++◌, length, take, get_or, filter, Option, Some, None, bytes_eq, refl}
+use Rattle.std.specs.Prelude.{◌≡◌, ℕ, ◌+◌, ◌≤◌, ◌<◌, Bool, true, false, not, cond, List, [], ◌∷◌, ◌++◌, length, take, get_or, filter, Some, None, bytes_eq, refl}
 use Rattle.std.proofs.Common.{sym, ap, subst, ◌∙◌, arith, inl, inr}
 use Rattle.std.proofs.lemmas.Bool.Decides.{leb_tells}
 use Rattle.std.proofs.lemmas.List.{take_more}
@@ -10,7 +10,6 @@ use Rattle.ss_bso.specs.declared.changes.RowChange.{RowChange}
 use Rattle.ss_bso.specs.declared.changes.RowChange.TheVariants as row
 use Rattle.ss_bso.specs.Account.{is_alive, is_at}
 use Rattle.ss_bso.specs.Changes.{row_changed, rows_but}
-use Rattle.ss_bso.specs.Limits.{rows_of}
 use Rattle.ss_bso.specs.Lists.{Each, Pairs}
 use Rattle.ss_bso.proofs.Lists.{Each-and, Each-append, Each-filter, Each-imp, Pairs-append}
 use Rattle.indexmap.specs.IndexMap.{IndexMap}

@@ -4,11 +4,11 @@ use Rattle.std.proofs.Common.{sym, ap, subst, ◌∙◌, arith}
 use Rattle.std.proofs.lemmas.Bool.Decides.{Decides-eqb}
 use Rattle.std.specs.Map.{keys_of, values_of}
 use Rattle.ss_bso.specs.declared.rows.Row.{Row}
-use Rattle.ss_bso.specs.Lists.{Each, Pairs}
+use Rattle.ss_bso.specs.Lists.{Each}
 use Rattle.ss_bso.specs.Limits.{row_bytes}
 use Rattle.ss_bso.proofs.Lists.{Each-filter}
 use Rattle.ss_index.specs.Held.{Held, some_rows, IsSized}
-use Rattle.ss_index.specs.Shelved.{rows_in, has_rows, Named, NamesApart, IsShelf}
+use Rattle.ss_index.specs.Shelved.{rows_in, has_rows, NamesApart, IsShelf}
 use Rattle.ss_index.specs.Sweep.{Outlives}
 
 no_rows : (rows : List Row) → some_rows rows ≡ false → rows ≡ []

@@ -6,12 +6,12 @@ ghost use Rattle.ss_bso.specs.Limits.{row_bytes};
 ghost use Rattle.ss_index.specs.Held.{has_id, rows_but_id, picked, some_rows, IsSized};
 ghost use Rattle.ss_bso.specs.Write.{is_among};
 ghost use Rattle.ss_text.specs.Texts.{Reordered};
-ghost use Rattle.ss_query.specs.Answer.{is_asked};
+ghost use Rattle.ss_query.specs.Answer.{answer, answer_of, is_asked};
 ghost use Rattle.ss_bso.specs.Lists.{Each, OtherId, Pairs};
 ghost use Rattle.ss_index.specs.Sweep.{Outlives};
 ghost use Rattle.ss_index.specs.Walk.{is_above};
 
-use crate::walk::{note, walk};
+use crate::walk::{note, walk, walked};
 use indexmap::IndexMap;
 use ss_bso::Row;
 use ss_list::{At, Chain, Steps};
@@ -127,7 +127,7 @@ impl Drawer {
             sort: Sort::Newest,
             full: true,
         };
-        let found = self.found(alloc, &all, steps)?;
+        let found = walk(alloc, &self.rows, &all, None, steps)?;
         copy_each(alloc, rows, found.as_slice())
     }
 
@@ -296,22 +296,21 @@ impl Drawer {
         Ok(found)
     }
 
-    /// The rows that a query asks for, lent in some order. Without `ids` it follows at most one link for each row above the
-    /// query's `newer`.
+    /// Rows, lent in some order, over which the answer of a query is the answer over all rows: by ids those alone, and a page in
+    /// the order of time takes the rows up to its end. Without `ids` it follows at most one link for each row above the query's
+    /// `newer`.
     pub(crate) fn found<'a, L: Ledger>(
         &'a self,
         alloc: Global,
         query: &Query,
         steps: &mut Steps<L>,
     ) -> Result<Vec<&'a Row>, AllocError>
-        ensures found { IfOk result (λ found. Reordered (filter (is_asked query.now) self.now.rows) (map (λ row. row.now) found.items)) }
-        ensures apart { Pairs OtherId self.now.rows }
+        ensures answer { IfOk result (λ found. answer_of (map (λ row. row.now) found.items) query.now ≡ answer self.now.rows query.now) }
         ensures steps { steps.new ≤ steps.old + count_by (is_above query.now.newer) self.now.rows }
     {
-        let found = match &query.ids {
-            Some(ids) => self.named(alloc, ids.as_slice(), query)?,
-            None => walk(alloc, &self.rows, query, steps)?,
-        };
-        Ok(found)
+        match &query.ids {
+            Some(ids) => self.named(alloc, ids.as_slice(), query),
+            None => walked(alloc, &self.rows, query, steps),
+        }
     }
 }

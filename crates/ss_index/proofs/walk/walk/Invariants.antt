@@ -7,6 +7,6 @@ abbrev pub invariant-loop : goal.invariant-loop
 invariant-loop g l = record {
   live : IfSome l.at (IsLive l.rows);
   whole : IsWhole l.rows;
-  walked : Walked l.query l.rows.nodes l.at (map (λ row. row.now) l.found.items) l.counter;
+  walked : Walked l.query l.rows.nodes l.at l.time (map (λ row. row.now) l.found.items) l.counter;
   steps : l.steps ≡ l.initial.steps + l.counter;
 }

@@ -1,4 +1,4 @@
-use Rattle.std.proofs.Common.{arith, length, filter}
+use Rattle.std.proofs.Common.{arith, filter}
 use Rattle.ss_bso.specs.Account.{is_alive}
 use Rattle.ss_index.specs.Shelved.{rows_in}
 use Rattle.ss_bso.proofs.Lists.{length-filter_le}

@@ -1,4 +1,4 @@
-use Rattle.std.proofs.Common.{arith, length}
+use Rattle.std.proofs.Common.{arith}
 use Rattle.ss_text.specs.Texts.{chain}
 use Rattle.ss_bso.specs.Lists.{Apart}
 use Rattle.ss_bso.proofs.Lists.{Pairs-from_AllPairs}

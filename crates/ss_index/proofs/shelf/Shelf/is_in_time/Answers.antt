@@ -1,4 +1,4 @@
-use Rattle.std.proofs.Common.{◌≡◌, take, filter, subst, ◌∙◌}
+use Rattle.std.proofs.Common.{◌≡◌, take, subst, ◌∙◌}
 use Rattle.std.proofs.lemmas.List.{take_all}
 use Rattle.ss_index.specs.Shelved.{dropped_names, rows_in}
 use Rattle.ss_index.proofs.Rising.{Rising, rising-more, rising_in_time}

@@ -1,25 +1,23 @@
 -- Batches that end: what is left of those that a keeper tells, by the numbers of the ones that ended.
-use Rattle.std.specs.Prelude.{◌≡◌, ◌≢◌, ℕ, ◌+◌, ◌≤◌, ◌<◌, nat_lt, Bool, true, false, not, ◌&&◌, ◌||◌, ◌==◌, cond, List, [], ◌∷◌, ◌++◌, length, filter, filter_map, fold, map, bytes_eq, Option, Some, None, All, AllPairs, refl}
+use Rattle.std.specs.Prelude.{◌≡◌, ◌≢◌, ℕ, ◌+◌, ◌≤◌, Bool, true, false, not, ◌&&◌, ◌||◌, ◌==◌, cond, List, [], ◌∷◌, ◌++◌, length, filter, filter_map, fold, map, All, refl}
 use Rattle.std.specs.List.{list_any}
 use Rattle.std.proofs.Common.{sym, ap, subst, ◌∙◌, arith}
 use Rattle.std.proofs.lemmas.Bool.Decides.{nat_tests}
-use Rattle.std.proofs.lemmas.List.{append-nil, length-append, length-map}
+use Rattle.std.proofs.lemmas.List.{append-nil}
 use Rattle.std.proofs.lemmas.List.Elements.{filter_agree}
 use Rattle.ss_text.specs.Texts.{Reordered}
-use Rattle.ss_text.specs.Time.{after}
 use Rattle.ss_bso.specs.declared.account.Staged.{Staged}
 use Rattle.ss_bso.specs.declared.changes.BatchChange.{BatchChange}
 use Rattle.ss_bso.specs.declared.changes.BatchChange.TheVariants.{End as EndBatch}
-use Rattle.ss_bso.specs.declared.parts.Part.{Part}
-use Rattle.ss_bso.specs.Account.{batch_life, is_open}
+use Rattle.ss_bso.specs.Account.{is_open}
 use Rattle.ss_bso.specs.Changes.{batch_grown, batches_changed, begun_by, ends}
 use Rattle.ss_bso.specs.Lists.{Each, Pairs}
-use Rattle.ss_bso.proofs.Lists.{Each-and, Each-imp, Each-any, Each-from_All, All-from_Each}
+use Rattle.ss_bso.proofs.Lists.{Each-and, Each-imp, Each-from_All, All-from_Each}
 use Rattle.ss_bso.proofs.Reordering.{reordered-filter, Each-reordered}
 use Rattle.ss_bso.proofs.Texts.{not_true}
 use Rattle.ss_account.specs.Keeping.{has_ended}
-use Rattle.ss_account.specs.Pending.{numbers_of}
-use Rattle.ss_account.proofs.Changing.{filter-true, filter-both, or_false}
+use Rattle.ss_writes.specs.Pending.{numbers_of}
+use Rattle.ss_writes.proofs.Changing.{filter-true, filter-both}
 
 abbrev pub OtherNumber : Staged → Staged → Type 0
 OtherNumber batch other = batch.number ≢ other.number

@@ -6,7 +6,7 @@ use Rattle.std.proofs.Common.{subst, sym, ap, ◌∙◌, arith}
 use Rattle.std.proofs.lemmas.Bool.Decides.{nat_tests}
 use Rattle.std.proofs.lemmas.List.{append-nil, map-append}
 use Rattle.std.proofs.lemmas.List.Elements.{filter_agree}
-use Rattle.ss_text.specs.Texts.{Reordered}
+use Rattle.ss_text.specs.Texts.{Reordered, chain}
 use Rattle.ss_text.specs.Time.{after}
 use Rattle.ss_bso.specs.declared.rows.Row.{Row}
 use Rattle.ss_bso.specs.declared.account.Plain.{Plain}
@@ -20,23 +20,23 @@ use Rattle.ss_bso.specs.declared.changes.RowChange.TheVariants.{Put as PutRow}
 use Rattle.ss_bso.specs.declared.changes.CollectionChange.TheVariants.{Drop as DropName}
 use Rattle.ss_bso.specs.Account.{is_alive, is_open, tick, time_of}
 use Rattle.ss_bso.specs.Batches.{batches_without, grown}
-use Rattle.ss_bso.specs.Changes.{batches_changed, changed, drops, row_changed}
-use Rattle.ss_bso.specs.Validity.{IsValid}
+use Rattle.ss_bso.specs.Changes.{batches_changed, changed, drops, kept_of, row_changed}
+use Rattle.ss_bso.specs.Validity.{IsValid, SameAccount}
 use Rattle.ss_bso.specs.Write.{is_among, rows_without}
 use Rattle.ss_batch.specs.Stage.{appended, begun}
 use Rattle.ss_keeper.specs.Keeping.{changed_by}
 use Rattle.ss_account.specs.Keeping.{IsHeldBy, IsKept, IsKeptBeside, IsKeptBesideBy, IsKeptBy, IsSwept, IsWhole, has_ended}
 use Rattle.ss_account.specs.Steps.{stage_of, with_stage}
-use Rattle.ss_account.specs.declared.pending.Pending.{Pending}
-use Rattle.ss_account.specs.declared.pending.Pending.TheVariants.{Put, Cut, DropCollection, DropAll}
-use Rattle.ss_account.specs.Pending.{IsReady, IsPutReady, append_changes, applied, batch_changes, batches_left, begin_changes, changes_to, ended_by, numbers_of}
+use Rattle.ss_writes.specs.declared.pending.Pending.{Pending}
+use Rattle.ss_writes.specs.declared.pending.Pending.TheVariants.{Put, Cut, DropCollection, DropAll}
+use Rattle.ss_writes.specs.Pending.{IsReady, IsPutReady, append_changes, applied, batch_changes, batches_left, begin_changes, changes_to, ended_by, numbers_of}
 use Rattle.ss_bso.proofs.Lists.{Each-imp, Each-from_All, Pairs-from_AllPairs}
-use Rattle.ss_bso.proofs.Reordering.{reordered-filter, reordered-append_right, reordered-map}
+use Rattle.ss_bso.proofs.Reordering.{reordered-filter, reordered-append_right, reordered-map, reordered-refl, reordered-sym}
 use Rattle.ss_bso.proofs.Texts.{bytes_eq-same}
 use Rattle.ss_bso.specs.Lists.{Each, Apart}
 use Rattle.ss_laws.proofs.Written.{IsItem}
 use Rattle.ss_account.proofs.Ending.{Noted, OtherNumber, batches-ended, batches-one, filter-all_gone, filter-ended, filter-named, noted-later, noted-none, noted-open, number-turned}
-use Rattle.ss_account.proofs.Changing.{filter-true, filter-absorb, filter-none, bytes_eq-sym, or_false, is_covered, puts_are, covered_is, drops_are, no_times}
+use Rattle.ss_writes.proofs.Changing.{filter-true, filter-absorb, filter-none, bytes_eq-sym, or_false, is_covered, puts_are, covered_is, drops_are, no_times}
 
 -- what is alive later is alive earlier
 alive_before : (earlier later : ℕ) (expires : Option ℕ) → earlier ≤ later → option_map_or (λ expiry. nat_lt later expiry) expires true ≡ true → option_map_or (λ expiry. nat_lt earlier expiry) expires true ≡ true
@@ -108,7 +108,7 @@ put_is collection targets made rows ids here =
     (λ row. ap not (covered_is collection made row here ∙ ap (λ (names : List (List ℕ)). bytes_eq row.collection collection && is_among names row.id) ids)) rows
 
 changed-put : (kept : Kept) (account : Plain) (time : ℕ) (collection : List ℕ) (targets : List (List ℕ)) (made : List Row) (batch : Option ℕ)
-    → IsPutReady account collection targets made batch → (rows : List Row) → fold row_changed rows (map PutRow made) ≡ rows_without collection targets rows ++ made
+    → IsPutReady account time collection targets made batch → (rows : List Row) → fold row_changed rows (map PutRow made) ≡ rows_without collection targets rows ++ made
 changed-put kept account time collection targets made batch ready rows =
     puts_are rows made (Pairs-from_AllPairs Apart made ready.apart)
     ∙ ap (λ (left : List Row). left ++ made) (put_is collection targets made rows ready.ids (Each-from_All (λ (row : Row). row.collection ≡ collection) made ready.here))
@@ -163,7 +163,7 @@ batches-applied ended kept account pending valid h =
     (reordered-filter (λ batch. not (has_ended more batch)) h.batches))
 
 -- after a write
-whole-applied : (ended : List ℕ) (kept : Kept) (account : Plain) (time : ℕ) (pending : Pending) → IsValid account → IsReady account pending → IsSwept account → IsKeptBeside ended kept account
+pub whole-applied : (ended : List ℕ) (kept : Kept) (account : Plain) (time : ℕ) (pending : Pending) → IsValid account → IsReady account time pending → IsSwept account → IsKeptBeside ended kept account
     → IsWhole (changed kept (changes_to account ended time pending)) (applied account time pending)
 whole-applied ended kept account time (Put collection targets made batch) valid ready swept h =
     let alive : List Row = filter (is_alive account.moment) kept.rows in
@@ -229,6 +229,32 @@ whole-applied ended kept account time DropAll valid ready swept h =
       counter = refl;
     }
 
+-- what is held of an account is held of one that is the same
+whole-same : (kept : Kept) (account other : Plain) → SameAccount account other → IsWhole kept account → IsWhole kept other
+whole-same kept account other s h = record {
+  rows = chain (reordered-sym s.rows) h.rows;
+  collections = chain (reordered-sym s.collections) h.collections;
+  batches = chain (reordered-sym s.batches) h.batches;
+  store = sym s.store ∙ h.store;
+  last_delete = sym s.last_delete ∙ h.last_delete;
+  counter = sym s.counter ∙ h.counter;
+}
+
+held_by-same : (told : Option Kept) (account other : Plain) → SameAccount account other → IsHeldBy told account → IsHeldBy told other
+held_by-same None account other s h = h
+held_by-same (Some kept) account other s h = whole-same kept account other s h
+
+-- an account is what is kept of it
+pub whole-own : (account : Plain) → IsWhole (kept_of account) account
+whole-own account = record {
+  rows = reordered-refl account.rows;
+  collections = reordered-refl account.collections;
+  batches = reordered-refl account.batches;
+  store = refl;
+  last_delete = refl;
+  counter = refl;
+}
+
 -- what is told after changes that make it the account
 held-after : (told now : Option Kept) (changes with : Changes) (left : Plain) → ((kept : Kept) → told ≡ Some kept → IsWhole (changed kept with) left) → changes ≡ with → now ≡ changed_by changes told → IsHeldBy now left
 held-after None now changes with left whole c e = subst (λ (t : Option Kept). IsHeldBy t left) (sym e) tt
@@ -239,10 +265,10 @@ beside-told : (ended : List ℕ) (told : Option Kept) (account : Plain) (kept : 
 beside-told ended None account kept h e = cc
 beside-told ended (Some x) account kept h e = let same : x ≡ kept = cc in subst (λ (k : Kept). IsKeptBeside ended k account) same h
 
-pub held_by-applied : (ended : List ℕ) (told now : Option Kept) (account left : Plain) (time : ℕ) (pending : Pending) (changes : Changes) → IsValid account → IsReady account pending → IsSwept account
-    → changes ≡ changes_to account ended time pending → now ≡ changed_by changes told → left ≡ applied account time pending → IsKeptBesideBy ended told account → IsHeldBy now left
+pub held_by-applied : (ended : List ℕ) (told now : Option Kept) (account left : Plain) (time : ℕ) (pending : Pending) (changes : Changes) → IsValid account → IsReady account time pending → IsSwept account
+    → changes ≡ changes_to account ended time pending → now ≡ changed_by changes told → SameAccount (applied account time pending) left → IsKeptBesideBy ended told account → IsHeldBy now left
 held_by-applied ended told now account left time pending changes valid ready swept c e l h =
-    subst (λ (a : Plain). IsHeldBy now a) (sym l)
+    held_by-same now (applied account time pending) left l
     (held-after told now changes (changes_to account ended time pending) (applied account time pending)
     (λ kept is. whole-applied ended kept account time pending valid ready swept (beside-told ended told account kept h is)) c e)
 

@@ -1,12 +1,10 @@
 pub mod Batching
 pub mod Begun
-pub mod Changing
 pub mod Ending
 pub mod Keeping
-pub mod Made
-pub mod Making
 pub mod Opened
 pub mod Ready
+pub mod Shelving
 pub mod Sorted
 pub mod Sound
 pub mod Stepped

@@ -19,16 +19,15 @@ use Rattle.ss_bso.specs.Limits.{is_too_much, most_batch_bytes, most_batch_record
 use Rattle.ss_bso.specs.Validity.{IsValid, IsValidBatch, SameAccount}
 use Rattle.ss_account.specs.Keeping.{IsHeldBy}
 use Rattle.ss_account.specs.Opening.{IsGood, first_bad, is_astray, is_bad_batch, is_bad_collection, is_bad_row}
-use Rattle.ss_account.specs.Steps.{or_else}
+use Rattle.ss_writes.specs.Parts.{or_else}
 use Rattle.ss_bso.proofs.Lists.{Each-and, Each-imp, Each-from_All, Pairs-from_AllPairs, All-from_Each, AllPairs-from_Pairs}
-use Rattle.ss_bso.proofs.Reordering.{reordered-refl}
 use Rattle.ss_bso.proofs.SameRows.{clash}
 use Rattle.ss_bso.proofs.Texts.{both_left, both_right, bytes_eq-flip, not_false}
 use Rattle.ss_bso.specs.Lists.{Each, Pairs, Apart}
 use Rattle.ss_laws.proofs.Written.{IsItem}
 use Rattle.ss_query.proofs.Orders.{NamedApart}
 use Rattle.ss_account.proofs.Ending.{OtherNumber, open_now, other_number}
-use Rattle.ss_account.proofs.Changing.{bytes_eq-sym, filter-absorb}
+use Rattle.ss_writes.proofs.Changing.{bytes_eq-sym, filter-absorb}
 use Rattle.ss_laws.proofs.SameValid.{apart_flip, valid-same}
 
 or_left : (p q : Bool) → (p || q) ≡ false → p ≡ false

@@ -9,26 +9,28 @@ use Rattle.ss_bso.specs.declared.changes.Kept.{Kept}
 use Rattle.ss_bso.specs.Account.{is_open, tick}
 use Rattle.ss_bso.specs.Changes.{kept_of, opened, plain_of}
 use Rattle.ss_bso.specs.Limits.{most_live_batches}
-use Rattle.ss_bso.specs.Validity.{IsValid}
-use Rattle.ss_bso.proofs.Reordering.{reordered-refl}
+use Rattle.ss_bso.specs.Validity.{IsValid, SameAccount}
+use Rattle.ss_bso.proofs.Reordering.{reordered-sym}
 use Rattle.ss_keeper.specs.Keeping.{IsTold}
+use Rattle.ss_laws.proofs.SameApi.{tick-same}
+use Rattle.ss_laws.proofs.SameValid.{valid-same}
 use Rattle.ss_laws.proofs.Valid.{valid-tick}
 use Rattle.ss_account.specs.Keeping.{IsHeldBy, IsKeptBeside, IsKeptBesideBy, IsOpened, IsSound, IsWhole}
 use Rattle.ss_account.specs.Opening.{IsGood}
-use Rattle.ss_account.specs.Pending.{numbers_of}
+use Rattle.ss_writes.specs.Pending.{numbers_of}
 use Rattle.ss_account.proofs.Ending.{length-parted}
 use Rattle.ss_account.proofs.Keeping.{beside-tick, beside-whole, beside_by-held, kept_by-beside}
 use Rattle.ss_account.proofs.Opened.{good-held, opened-again, valid-plain_of}
 
--- the account that what is kept stands for
-whole-plain_of : (kept : Kept) → IsWhole kept (plain_of kept)
-whole-plain_of kept = record {
-  rows = reordered-refl kept.rows;
-  collections = reordered-refl kept.collections;
-  batches = reordered-refl kept.batches;
-  store = refl;
-  last_delete = refl;
-  counter = refl;
+-- an account that is the one that what is kept stands for
+whole-plain_of : (kept : Kept) (account : Plain) → SameAccount (plain_of kept) account → IsWhole kept account
+whole-plain_of kept account s = record {
+  rows = reordered-sym s.rows;
+  collections = reordered-sym s.collections;
+  batches = reordered-sym s.batches;
+  store = sym s.store;
+  last_delete = sym s.last_delete;
+  counter = sym s.counter;
 }
 
 -- what is told where this was given
@@ -75,21 +77,21 @@ sound-tick told account left ended more now l e h =
     by (Some kept) k = beside-tick ended kept account now h.valid k
 
 -- an account that was opened
-pub opened-sound : (told : Option Kept) (kept : Kept) (account left : Plain) (ended more : List ℕ) → IsTold kept told → IsGood kept → account.moment ≤ last_stamp → account ≡ plain_of kept → ended ≡ []
+pub opened-sound : (told : Option Kept) (kept : Kept) (account left : Plain) (ended more : List ℕ) → IsTold kept told → IsGood kept → account.moment ≤ last_stamp → SameAccount (plain_of kept) account → account ≡ plain_of (kept_of account) → ended ≡ []
     → left ≡ tick account 0 → more ≡ ended ++ numbers_of (filter (λ batch. not (is_open left.moment batch)) account.batches) → IsOpened told left more
-opened-sound told kept account left ended more is good last a e l m =
-    let valid : IsValid (plain_of kept) = valid-plain_of kept (subst (λ (p : Plain). p.moment ≤ last_stamp) a last) good in
-    let few : length kept.batches ≤ most_live_batches = valid.few in
-    let begin : IsSound told (plain_of kept) [] = record {
+opened-sound told kept account left ended more is good last a own e l m =
+    let valid : IsValid account = valid-same (plain_of kept) account (valid-plain_of kept (subst (λ (moment : ℕ). moment ≤ last_stamp) (sym a.moment) last) good) a in
+    let few : length account.batches ≤ most_live_batches = valid.few in
+    let begin : IsSound told account [] = record {
       valid = valid;
-      kept = told-as told kept (λ (k : Kept). IsKeptBeside [] k (plain_of kept)) is (beside-whole kept (plain_of kept) (whole-plain_of kept));
+      kept = told-as told kept (λ (k : Kept). IsKeptBeside [] k account) is (beside-whole kept account (whole-plain_of kept account a));
       again = told-as told kept IsGood is good;
       few = omega (arith, few);
     } in
-    let sound = sound-tick told account left ended more 0 l m (sound-same told told (plain_of kept) account [] ended refl a e begin) in
+    let sound = sound-tick told account left ended more 0 l m (sound-same told told account account [] ended refl refl e begin) in
     record {
       sound = sound;
       kept = kept_by-beside more told left sound.kept;
-      stands = told-as told kept (λ (k : Kept). left ≡ opened k) is (l ∙ ap (λ (p : Plain). tick p 0) a);
-      begins = l ∙ ap (λ (p : Plain). tick p 0) a ∙ sym (opened-again kept) ∙ ap (λ (p : Plain). opened (kept_of p)) (sym (l ∙ ap (λ (p : Plain). tick p 0) a));
+      stands = told-as told kept (λ (k : Kept). SameAccount (opened k) left) is (subst (λ (p : Plain). SameAccount (opened kept) p) (sym l) (tick-same (plain_of kept) account 0 a));
+      begins = l ∙ ap (λ (p : Plain). tick p 0) own ∙ sym (opened-again (kept_of account)) ∙ ap (λ (p : Plain). opened (kept_of p)) (sym (l ∙ ap (λ (p : Plain). tick p 0) own));
     }

@@ -18,6 +18,7 @@ use Rattle.ss_laws.specs.Journals.{marked}
 use Rattle.ss_account.specs.Steps.{plain_reply}
 use Rattle.ss_bso.proofs.Reordering.{same-self}
 use Rattle.ss_account.proofs.Stepping.{api-mark}
+use Rattle.ss_laws.proofs.SameValid.{valid-same}
 use Rattle.ss_laws.proofs.Valid.{valid-tick, valid-api}
 
 -- told and counted before and after
@@ -35,16 +36,15 @@ pub record Stepped (account : Plain) (now : ℕ) (request : Request) (reply : Re
   pub cause : mark_of reply ≡ Keeper → Rose s.faults s.faults_after
 
 pub stepped-done : (account ticked : Plain) (now : ℕ) (request : Request) (reply : Reply) (left : Plain) (s : Sides) → ticked ≡ tick account now → IsValid account → IsFitRequest request
-    → reply ≡ (outcome ticked request (refusal ticked request)).reply → left ≡ (outcome ticked request (refusal ticked request)).account → Stepped account now request reply left s
+    → reply ≡ (outcome ticked request (refusal ticked request)).reply → SameAccount (outcome ticked request (refusal ticked request)).account left → Stepped account now request reply left s
 stepped-done account ticked now request reply left s e valid fit_request r l =
     let told : reply ≡ (api account now request).reply = r ∙ ap (λ (t : Plain). (outcome t request (refusal t request)).reply) e in
-    let same : left ≡ (api account now request).account = l ∙ ap (λ (t : Plain). (outcome t request (refusal t request)).account) e in
+    let same : SameAccount (api account now request).account left = subst (λ (t : Plain). SameAccount (outcome t request (refusal t request)).account left) e l in
     let mark : mark_of reply ≡ Done = ap mark_of told ∙ api-mark (tick account now) request (refusal (tick account now) request) in
     record {
-      same = subst (λ m. SameAccount (marked account now request m).account left) (sym mark)
-          (subst (λ (a : Plain). SameAccount (api account now request).account a) (sym same) (same-self (api account now request).account));
+      same = subst (λ m. SameAccount (marked account now request m).account left) (sym mark) same;
       told = subst (λ m. reply ≡ (marked account now request m).reply) (sym mark) told;
-      valid = subst IsValid (sym same) (valid-api account now request valid fit_request);
+      valid = valid-same (api account now request).account left (valid-api account now request valid fit_request) same;
       refused = λ no. absurd (no mark);
       cause = λ k. absurd (let no : Done ≡ Keeper = sym mark ∙ k in cc);
     }

@@ -1,5 +1,5 @@
 -- What the parts of a step come to.
-use Rattle.std.specs.Prelude.{◌≡◌, ℕ, ◌≤◌, ◌+◌, Bool, true, false, cond, List, [], ◌∷◌, ◌&&◌, nat_le, length, filter, map, not, bytes_eq, Option, Some, None, option_map, Result, IfOk, refl}
+use Rattle.std.specs.Prelude.{◌≡◌, ℕ, ◌≤◌, ◌+◌, Bool, true, false, cond, List, [], ◌∷◌, ◌&&◌, nat_le, length, filter, map, not, bytes_eq, is_none, Option, Some, None, option_map, Result, IfOk, refl}
 use Rattle.std.proofs.Common.{sym, ap, subst, ◌∙◌, arith}
 use Rattle.ss_text.specs.Time.{last_stamp}
 use Rattle.ss_text.specs.declared.stamps.Cond.TheVariants.{Free}
@@ -13,7 +13,8 @@ use Rattle.ss_query.specs.Marks.{mark_of}
 use Rattle.ss_bso.specs.Write.{is_among, rows_without}
 use Rattle.ss_bso.specs.Limits.{most_payload_bytes, most_rows_and_collections, rows_of, row_bytes}
 use Rattle.ss_bso.proofs.Full.{within-both, within-bytes, within-number}
-use Rattle.ss_bso.specs.Validity.{IsWithinLimits}
+use Rattle.ss_bso.specs.Validity.{IsWithinLimits, SameAccount}
+use Rattle.ss_bso.proofs.Reordering.{same-self}
 use Rattle.ss_query.specs.Refused.{Refusal, NoItem, NotModified, WasModified, NoMoreBatches, NoBatch, BatchFull, ClockEnded, AccountFull, target_time}
 use Rattle.ss_query.specs.Effect.{effect, is_over, is_write, stamp_in}
 use Rattle.ss_query.specs.Told.{body_of, by_name, count_of, next_of, ok_status, per_collection}
@@ -21,10 +22,10 @@ use Rattle.ss_query.specs.declared.replies.Body.{Body}
 use Rattle.ss_query.specs.Api.{first_some, outcome, time_told, where_so}
 use Rattle.ss_account.specs.declared.infos.Measure.{Measure}
 use Rattle.ss_account.specs.declared.infos.Measure.TheVariants.{Records, Bytes}
-use Rattle.ss_account.specs.declared.sizes.Size.{Size}
-use Rattle.ss_account.specs.declared.pending.Pending.{Pending}
-use Rattle.ss_account.specs.Pending.{Settles, Tells}
-use Rattle.ss_account.specs.Steps.{IsSize, counted, late_refusal, number_of, plain_reply}
+use Rattle.ss_writes.specs.declared.pending.Pending.{Pending}
+use Rattle.ss_writes.specs.Pending.{Settles, Tells, applied}
+use Rattle.ss_index.specs.Numbers.{capped}
+use Rattle.ss_account.specs.Steps.{counted, late_refusal, number_of, plain_reply}
 use Rattle.ss_bso.proofs.Lists.{length-filter_le, sum_by-filter_le}
 use Rattle.ss_laws.proofs.CommitLaw.{over_test}
 
@@ -71,6 +72,33 @@ written-reply account request time pending body writes clock is t =
     sym (ap (λ why. (outcome account request why).reply) none
     ∙ (λ i. record { status = told.status i; moment = moved i; modified = Some (shown i); count = told.count i; next = told.next i; body = says i }))
 
+-- and the account that it leaves
+pub written-account : (account : Plain) (request : Request) (time : ℕ) (pending : Pending) (body : Body) → is_write account request ≡ true → nat_le last_stamp account.store ≡ false
+    → Tells account time (effect account request) (body_of account request (stamp_in account)) (Some (pending, body))
+    → (outcome account request (late_refusal account request)).account ≡ applied account time pending
+written-account account request time pending body writes clock t =
+    let none : late_refusal account request ≡ None = λ i. first_some (where_so (writes i && clock i) ClockEnded ∷ where_so (writes i && t.0 i) AccountFull ∷ []) in
+    ap (λ why. (outcome account request why).account) none ∙ sym t.1
+
+-- a request that is refused leaves the account
+pub refused-account : (account : Plain) (request : Request) (why : Option Refusal) → is_none why ≡ false → SameAccount (outcome account request why).account account
+refused-account account request None e = cc
+refused-account account request (Some why) e = same-self account
+
+-- a write is refused at the clock's end, and past the limits; what is no write isn't refused so
+pub late-clock : (account : Plain) (request : Request) → is_write account request ≡ true → nat_le last_stamp account.store ≡ true → is_none (late_refusal account request) ≡ false
+late-clock account request writes clock = λ i. is_none (first_some (where_so (writes i && clock i) ClockEnded ∷ where_so (is_write account request && is_over (effect account request)) AccountFull ∷ []))
+
+pub late-full : (account : Plain) (request : Request) → is_write account request ≡ true → nat_le last_stamp account.store ≡ false → is_over (effect account request) ≡ true → is_none (late_refusal account request) ≡ false
+late-full account request writes clock over = λ i. is_none (first_some (where_so (writes i && clock i) ClockEnded ∷ where_so (writes i && over i) AccountFull ∷ []))
+
+pub late-quiet : (account : Plain) (request : Request) → is_write account request ≡ false → late_refusal account request ≡ None
+late-quiet account request quiet = λ i. first_some (where_so (quiet i && nat_le last_stamp account.store) ClockEnded ∷ where_so (quiet i && is_over (effect account request)) AccountFull ∷ [])
+
+-- an account that is another is the same
+pub same-from : (one other : Plain) → other ≡ one → SameAccount one other
+same-from one other e = subst (SameAccount one) (sym e) (same-self one)
+
 -- the rows without ids, whatever their order
 pub cut-same : (collection : List ℕ) (one other : List (List ℕ)) (rows : List Row) → ((id : List ℕ) → is_among one id ≡ is_among other id) → rows_without collection one rows ≡ rows_without collection other rows
 cut-same collection one other rows same i = filter (λ (row : Row). not (bytes_eq row.collection collection && same row.id i)) rows
@@ -88,10 +116,7 @@ over-deleted account collection within =
 
 -- a count within the limits is exact
 pub counted-exact : (measure : Measure) (account : Plain) (name : List ℕ) → IsWithinLimits account → counted measure (rows_of name account.rows) ≡ number_of measure (rows_of name account.rows)
-counted-exact Records account name within =
-    let rows : length (rows_of name account.rows) ≤ length account.rows = length-filter_le (λ (row : Row). bytes_eq row.collection name) account.rows in
-    let all : length account.rows + length account.collections ≤ most_rows_and_collections = within-number account.rows (length account.collections) within.within in
-    omega (arith, rows, all)
+counted-exact Records account name within = refl
 counted-exact Bytes account name within =
     let bytes : row_bytes (rows_of name account.rows) ≤ row_bytes account.rows = sum_by-filter_le (λ (row : Row). bytes_eq row.collection name) (λ (row : Row). length row.payload) account.rows in
     let all : row_bytes account.rows ≤ most_payload_bytes = within-bytes account.rows (length account.collections) within.within in
@@ -101,9 +126,8 @@ pub numbers-exact : (measure : Measure) (account : Plain) → IsWithinLimits acc
     → map (λ (entry : List ℕ × ℕ). (entry.0, counted measure (rows_of entry.0 account.rows))) (by_name account.collections) ≡ per_collection (number_of measure) account
 numbers-exact measure account within = λ i. map (λ (entry : List ℕ × ℕ). (entry.0, counted-exact measure account entry.0 within i)) (by_name account.collections)
 
-pub used-exact : (account : Plain) (size : Size) → IsWithinLimits account → IsSize account.rows size → size.bytes ≡ row_bytes account.rows
-used-exact account size within is =
-    let bytes = is.bytes in
+pub used-exact : (account : Plain) (total : ℕ) → IsWithinLimits account → total ≡ capped (row_bytes account.rows) → total ≡ row_bytes account.rows
+used-exact account total within bytes =
     let all : row_bytes account.rows ≤ most_payload_bytes = within-bytes account.rows (length account.collections) within.within in
     omega (arith, bytes, all)
 

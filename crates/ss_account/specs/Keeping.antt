@@ -8,7 +8,7 @@ use Rattle.ss_bso.specs.declared.changes.Kept.{Kept}
 use Rattle.ss_bso.specs.Account.{is_alive, is_open}
 use Rattle.ss_bso.specs.Changes.{kept_of, opened}
 use Rattle.ss_bso.specs.Limits.{most_live_batches}
-use Rattle.ss_bso.specs.Validity.{IsValid}
+use Rattle.ss_bso.specs.Validity.{IsValid, SameAccount}
 use Rattle.ss_query.specs.declared.requests.Request.{Request}
 use Rattle.ss_query.specs.Effect.{is_write}
 use Rattle.ss_query.specs.Api.{refusal}
@@ -71,11 +71,12 @@ pub record IsSound (told : Option Kept) (account : Plain) (ended : List ℕ) : T
   pub again : IfSome told IsGood
   pub few : length ended + length account.batches ≤ most_live_batches
 
--- an account that is opened: it is sound, it is what is told when the clock reads 0, and opened once more it is the same
+-- an account that is opened: it is sound, it is what is told when the clock reads 0, whatever the order of the rows, and opened
+-- once more it is the same
 pub record IsOpened (told : Option Kept) (account : Plain) (ended : List ℕ) : Type 0 where
   pub sound : IsSound told account ended
   pub kept : IsKeptBy told account
-  pub stands : IfSome told (λ kept. account ≡ opened kept)
+  pub stands : IfSome told (λ kept. SameAccount (opened kept) account)
   pub begins : account ≡ opened (kept_of account)
 
 -- whether a step asks the keeper: for a write, a begin, an append and a commit, where no rule refuses it

@@ -48,7 +48,7 @@ impl<K: Keeper> Account<K> {
     /// left out. The keeper comes back with why there is none: a collection, a row or a batch that is bad, by its number counted
     /// from 1, collections first and batches last; that the keeper failed; or that memory is wanting. What the keeper holds is left.
     pub fn open(alloc: Global, keeper: K) -> Result<Account<K>, (K, OpenFault)>
-        ensures opened { IfOk result (λ account. IfSome (K.told keeper) (λ kept. account.plain ≡ opened kept)) }
+        ensures opened { IfOk result (λ account. IfSome (K.told keeper) (λ kept. SameAccount (opened kept) account.plain)) }
         ensures good { IfOk result (λ account. IfSome (K.told keeper) IsGood) }
         ensures begins { IfOk result (λ account. account.plain ≡ opened (kept_of account.plain)) }
         ensures valid { IfOk result (λ account. IsValid account.plain) }
@@ -125,8 +125,7 @@ impl<K: Keeper> Account<K> {
         ensures kept { IsKeptBy (K.told self.now.keeper) self.now.plain }
         ensures again { IfSome (K.told self.now.keeper) IsGood }
     {
-        let plain = self.state.plain(alloc)?;
-        Ok(plain)
+        self.state.plain(alloc)
     }
 
     /// The keeper, lent.

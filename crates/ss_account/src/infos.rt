@@ -1,13 +1,12 @@
 //! What is told of an account as a whole.
 
-ghost use Rattle.std.specs.Prelude.{◌≡◌, List, map, IfOk};
-ghost use Rattle.ss_bso.specs.declared.rows.Row.{Row as RowValue};
+ghost use Rattle.std.specs.Prelude.{◌≡◌, map, IfOk};
 ghost use Rattle.ss_query.specs.Told.{by_name};
 ghost use Rattle.ss_bso.specs.Limits.{rows_of};
-ghost use Rattle.ss_account.specs.Steps.{IsSize, counted};
+ghost use Rattle.ss_index.specs.Shelved.{rows_in};
+ghost use Rattle.ss_account.specs.Steps.{counted};
 
-use crate::sizes::Size;
-use ss_bso::Row;
+use ss_index::Shelf;
 use ss_text::{Name, Stamp};
 use std::alloc::{AllocError, Global};
 
@@ -19,12 +18,12 @@ pub(crate) enum Measure {
 }
 
 impl Measure {
-    fn of(self, size: Size) -> u64
-        ensures { (rows : List RowValue) → IsSize rows size → result ≡ counted self rows }
+    fn of(self, shelf: &Shelf, collection: &Name) -> u64
+        ensures { result ≡ counted self (rows_of collection.now (rows_in shelf.now)) }
     {
         match self {
-            Measure::Records => size.rows,
-            Measure::Bytes => size.bytes,
+            Measure::Records => shelf.count_of(collection),
+            Measure::Bytes => shelf.bytes_of(collection),
         }
     }
 }
@@ -57,16 +56,16 @@ pub(crate) fn by_name(
 /// Each collection, upwards by name, with what its rows count, each up to the greatest u64.
 pub(crate) fn per_collection(
     alloc: Global,
-    rows: &[Row],
+    shelf: &Shelf,
     times: &[(Name, Stamp)],
     measure: Measure,
 ) -> Result<Vec<(Name, u64)>, AllocError>
-    ensures { IfOk result (λ numbers. numbers.items ≡ map (λ entry. (entry.0, counted measure (rows_of entry.0 rows.now))) (by_name times.now)) }
+    ensures { IfOk result (λ numbers. numbers.items ≡ map (λ entry. (entry.0, counted measure (rows_of entry.0 (rows_in shelf.now)))) (by_name times.now)) }
 {
     let ordered = by_name(alloc, times)?;
     let mut numbers = Vec::with_capacity(alloc, ordered.len())?;
     for entry in ordered.as_slice() {
-        let number = measure.of(Size::within(rows, &entry.0));
+        let number = measure.of(shelf, &entry.0);
         numbers.push((entry.0.copy(alloc)?, number))?;
     }
     Ok(numbers)

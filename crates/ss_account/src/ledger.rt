@@ -3,9 +3,9 @@
 ghost use Rattle.std.specs.Prelude.{◌≡◌, [], OnOk, OnErr};
 ghost use Rattle.ss_keeper.specs.Keeping.{HasCause, changed_by};
 
-use crate::ended::Ended;
 use ss_bso::Changes;
 use ss_keeper::{KeepFault, Keeper};
+use ss_writes::Ended;
 use std::alloc::Global;
 
 /// A keeper, and the numbers of the batches that ended since its last commit.

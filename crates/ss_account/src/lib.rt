@@ -4,20 +4,13 @@
 #![tactic(auto)]
 
 mod account;
-mod editing;
-mod ended;
 mod faults;
-mod finding;
 mod infos;
 mod ledger;
 mod opening;
-mod pending;
 mod places;
-mod sizes;
 mod state;
-mod targets;
 mod telling;
-mod writing;
 
 pub use account::Account;
 pub use faults::OpenFault;

@@ -14,15 +14,15 @@ ghost use Rattle.ss_keeper.specs.Keeping.{IsTold};
 ghost use Rattle.ss_account.specs.declared.faults.OpenFault.TheVariants.{Keeper as OpenKeeper};
 ghost use Rattle.ss_account.specs.Opening.{IsBatchesFault, IsFaultOf, IsGood, IsRowsFault, IsTimesFault, first_bad, is_bad_batch, is_bad_collection, is_bad_row};
 ghost use Rattle.ss_account.specs.Places.{is_placed};
-ghost use Rattle.ss_account.specs.Steps.{IsSize, or_else};
+ghost use Rattle.ss_writes.specs.Parts.{IsSize, or_else};
 
 use crate::faults::OpenFault;
 use crate::places::Place;
-use crate::sizes::{Size, is_fit};
 use ss_bso::limits::{MOST_LIVE_BATCHES, MOST_ROWS_AND_COLLECTIONS};
 use ss_bso::{Kept, Row, Staged};
 use ss_keeper::{KeepFault, Keeper};
 use ss_text::{Name, Stamp};
+use ss_writes::{Size, is_fit};
 use std::alloc::{AllocError, Global};
 use std::collections::{HashMap, HashSet};
 

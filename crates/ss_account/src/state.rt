@@ -1,12 +1,13 @@
-//! An account over plain lists, and what each request makes of it.
+//! An account over a shelf and a stage, and what each request makes of it.
 
 ghost use Rattle.std.specs.Prelude.{◌≡◌, ◌≤◌, ◌<◌, ◌+◌, ◌-◌, ℕ, None, Some, Err, IfOk, OnOk, OnErr, IfErr, IfSome, IsSome, IsSomeAnd, true, false, [], ◌++◌, is_none, not, option_map, map, filter, length, if◌then◌else◌};
 ghost use Rattle.ss_bso.specs.Account.{is_open, tick, row_at};
 ghost use Rattle.ss_bso.specs.declared.changes.BatchChange.TheVariants.{End as EndChange};
 ghost use Rattle.ss_bso.specs.Batches.{batches_without};
-ghost use Rattle.ss_bso.specs.Changes.{plain_of};
-ghost use Rattle.ss_bso.specs.Limits.{most_live_batches, row_bytes};
-ghost use Rattle.ss_bso.specs.Validity.{IsValid, IsWithinLimits};
+ghost use Rattle.ss_bso.specs.Changes.{kept_of, plain_of};
+ghost use Rattle.ss_bso.specs.Limits.{most_live_batches, most_rows_and_collections, row_bytes};
+ghost use Rattle.ss_bso.specs.Lists.{Pairs};
+ghost use Rattle.ss_bso.specs.Validity.{IsValid, IsWithinLimits, SameAccount};
 ghost use Rattle.ss_bso.specs.Write.{ids_of, rows_without, rows_written, stamped, write};
 ghost use Rattle.ss_batch.specs.Stage.{append_fault, appended, begin_fault, begun, numbered, shortened};
 ghost use Rattle.ss_keeper.specs.Keeping.{HasCause};
@@ -22,38 +23,37 @@ ghost use Rattle.ss_account.specs.Keeping.{IsHeldBy, IsKeptBesideBy, IsOpened, I
 ghost use Rattle.ss_account.specs.Opening.{IsFaultOf, IsGood};
 ghost use Rattle.ss_account.specs.declared.faults.OpenFault.TheVariants.{Keeper as OpenKeeper};
 ghost use Rattle.ss_outside.specs.Causes.{Rose};
-ghost use Rattle.ss_account.specs.Pending.{IsReady, Settles, Tells, applied, append_changes, batch_changes, begin_changes, changes_to, numbers_of, without_batch};
+ghost use Rattle.ss_writes.specs.Pending.{IsReady, Settles, Tells, applied, append_changes, batch_changes, begin_changes, changes_to, numbers_of, without_batch};
 ghost use Rattle.ss_account.specs.Steps.{batch_cause, committed, fault_body, late_refusal, list_reply, number_of, one_part, plain_reply, stage_of, staged_reply, with_stage};
+ghost use Rattle.ss_writes.specs.Parts.{OtherText};
 
-use crate::editing::{copy_batches, copy_parts, copy_rows, count_others, drop_dead};
-use crate::ended::Ended;
 use crate::faults::OpenFault;
-use crate::finding::{find_row, find_time, rows_found};
 use crate::infos::{Measure, by_name, copies, per_collection};
 use crate::ledger::Ledger;
 use crate::opening::{latest, load};
-use crate::pending::{Pending, with_body};
-use crate::sizes::{Size, would_be_full};
-use crate::targets::Targets;
 use crate::telling::{
     Page, condition_of, fault_body, is_of_batch, page_of, posted, staged, stop_body, told_of,
 };
-use crate::writing::made_rows;
 use ss_batch::{Stage, StageFault};
 use ss_bso::{
     BatchChange, BatchChanges, Batches, Changes, CollectionChanges, Fields, Kept, Part, Parts,
     Plain, Records, Row, RowChanges, Rows, Staged, Times,
 };
+use ss_index::Shelf;
 use ss_keeper::{KeepFault, Keeper};
 use ss_query::{Body, Info, Mode, Numbers, Query, Reply, Request, Said};
 use ss_text::{Id, LAST, Name, Stamp};
+use ss_writes::{
+    Ended, Pending, Targets, copy_batches, copy_parts, count_others, find_time, made_rows,
+    with_body, would_be_full,
+};
 use std::alloc::{AllocError, Global};
 use std::marker::Model;
 
 /// One account's rows, collections, times and batches.
 #[derive(Drop)]
 pub(crate) struct State {
-    rows: Vec<Row>,
+    shelf: Shelf,
     collections: Vec<(Name, Stamp)>,
     store: Stamp,
     last_delete: Stamp,
@@ -66,8 +66,10 @@ impl Model for State {
 
     ghost Value = { Plain };
 
+    ghost use Rattle.ss_index.specs.Shelved.{rows_in};
+
     ghost view = { λ a. record {
-      rows = a.rows.items;
+      rows = rows_in a.shelf;
       collections = a.collections.items;
       store = a.store;
       last_delete = a.last_delete;
@@ -88,27 +90,29 @@ pub(crate) fn prepare<K: Keeper>(alloc: Global, keeper: &mut K) -> Result<(State
 {
     let kept = load(alloc, keeper)?;
     let mut ended = Ended::new(alloc)?;
-    let mut state = State::of(kept);
+    let mut state = State::of(alloc, kept)?;
     state.tick(0, &mut ended);
     Ok((state, ended))
 }
 
 impl State {
     /// The account that what is kept stands for: its moment is the latest of the store's time and the begins of the batches.
-    pub(crate) fn of(kept: Kept) -> State
+    pub(crate) fn of(alloc: Global, kept: Kept) -> Result<State, AllocError>
         requires { IsGood kept }
-        ensures account { result ≡ plain_of kept }
-        ensures moment { result.moment ≤ 999999999999 }
+        ensures account { IfOk result (λ state. SameAccount (plain_of kept) state) }
+        ensures stands { IfOk result (λ state. state ≡ plain_of (kept_of state)) }
+        ensures moment { IfOk result (λ state. state.moment ≤ 999999999999) }
     {
         let moment = latest(kept.store, kept.batches.as_slice());
-        State {
-            rows: kept.rows.into_vec(),
+        let shelf = Shelf::from_rows(alloc, kept.rows.into_vec())?;
+        Ok(State {
+            shelf,
             collections: kept.collections.into_vec(),
             store: kept.store,
             last_delete: kept.last_delete,
             moment,
             stage: Stage::from_staged(kept.counter, kept.batches.into_vec()),
-        }
+        })
     }
 
     /// Reads the clock: the moment doesn't fall, and what has ended by then goes. The numbers of the batches among that are noted.
@@ -118,7 +122,7 @@ impl State {
         ensures ended { ended.new ≡ ended.old ++ numbers_of (filter (λ batch. not (is_open self.new.moment batch)) self.old.batches) }
     {
         self.moment = self.moment.max(Stamp::clamp(now));
-        drop_dead(&mut self.rows, self.moment);
+        self.shelf.sweep(self.moment);
         ended.note(self.stage.batches(), self.moment);
         self.stage.expire(self.moment);
     }
@@ -160,7 +164,7 @@ impl State {
     fn item_time(&self, collection: &Name, id: &Id) -> Option<Stamp>
         ensures { result ≡ option_map (λ row. row.modified) (row_at collection.now id.now self.now.rows) }
     {
-        let row = find_row(self.rows.as_slice(), collection, id)?;
+        let row = self.shelf.get(collection, id)?;
         Some(row.modified)
     }
 
@@ -290,7 +294,7 @@ impl State {
         requires told { IsKeptBesideBy ledger.old.ended (K.told ledger.old.keeper) self.old }
         requires fits { IsFitRequest request.now }
         ensures reply { IfOk result (λ reply. reply ≡ (outcome self.old request.now (refusal self.old request.now)).reply) }
-        ensures account { OnOk result (self.new ≡ (outcome self.old request.now (refusal self.old request.now)).account) }
+        ensures account { OnOk result (SameAccount (outcome self.old request.now (refusal self.old request.now)).account self.new) }
         ensures err { OnErr result (self.new ≡ self.old) }
         ensures cleared { is_for_keeper self.old request.now ≡ true → OnOk result (ledger.new.ended ≡ []) }
         ensures refused { OnErr result (K.told ledger.new.keeper ≡ K.told ledger.old.keeper) }
@@ -326,8 +330,9 @@ impl State {
         requires valid { IsValid self.old }
         requires swept { IsSwept self.old }
         requires told { IsKeptBesideBy ledger.old.ended (K.told ledger.old.keeper) self.old }
+        requires fits { IsFitRequest request.now }
         ensures reply { IfOk result (λ reply. reply ≡ (outcome self.old request.now (late_refusal self.old request.now)).reply) }
-        ensures account { OnOk result (self.new ≡ (outcome self.old request.now (late_refusal self.old request.now)).account) }
+        ensures account { OnOk result (SameAccount (outcome self.old request.now (late_refusal self.old request.now)).account self.new) }
         ensures err { OnErr result (self.new ≡ self.old) }
         ensures cleared { is_none (late_refusal self.old request.now) ≡ true → OnOk result (ledger.new.ended ≡ []) }
         ensures refused { OnErr result (K.told ledger.new.keeper ≡ K.told ledger.old.keeper) }
@@ -374,6 +379,7 @@ impl State {
         requires write { is_write self.now request.now ≡ true }
         requires batch { batch_cause self.now request.now ≡ None }
         requires valid { IsValid self.now }
+        requires fits { IsFitRequest request.now }
         ensures { IfOk result (λ found. Tells self.now stamp (effect self.now request.now) (body_of self.now request.now (stamp_in self.now)) found) }
     {
         match request {
@@ -425,6 +431,8 @@ impl State {
         ids: &[Id],
         stamp: Stamp,
     ) -> Result<Option<Pending>, AllocError>
+        requires valid { IsValid self.now }
+        requires few { length ids.now ≤ most_rows_and_collections }
         ensures { IfOk result (λ found. Settles self.now stamp (stamped self.now collection.now stamp (rows_without collection.now ids.now self.now.rows)) found) }
     {
         let targets = Targets::of_ids(alloc, ids)?;
@@ -446,6 +454,7 @@ impl State {
         fields: &Fields,
         stamp: Stamp,
     ) -> Result<Option<Pending>, AllocError>
+        requires { IsValid self.now }
         ensures { IfOk result (λ found. Settles self.now stamp (write self.now collection.now (one_part id.now fields.now) stamp) found) }
     {
         let part = Part {
@@ -463,6 +472,7 @@ impl State {
         records: &Records,
         stamp: Stamp,
     ) -> Result<Option<(Pending, Body)>, AllocError>
+        requires { IsValid self.now }
         ensures { IfOk result (λ found. Tells self.now stamp (write self.now collection.now records.now.parts stamp) (Posted stamp (ids_of records.now.parts) (first_failures records.now.failed)) found) }
     {
         let told = told_of(alloc, records)?;
@@ -501,19 +511,12 @@ impl State {
         batch: Option<u64>,
         stamp: Stamp,
     ) -> Result<Option<Pending>, AllocError>
-        requires { IfSome batch (λ number. IsSome (numbered number self.now.batches)) }
+        requires live { IfSome batch (λ number. IsSome (numbered number self.now.batches)) }
+        requires valid { IsValid self.now }
         ensures { IfOk result (λ found. Settles self.now stamp (without_batch batch (write self.now collection.now (first.now ++ more.now) stamp)) found) }
     {
         let targets = Targets::of_parts(alloc, first, more)?;
-        let rows = made_rows(
-            alloc,
-            self.rows.as_slice(),
-            collection,
-            first,
-            more,
-            &targets,
-            stamp,
-        )?;
+        let rows = made_rows(alloc, &self.shelf, collection, first, more, stamp)?;
         if self.would_be_over(collection, &targets, rows.as_slice()) {
             return Ok(None);
         }
@@ -528,10 +531,12 @@ impl State {
 
     /// Whether the account passes its limits once rows take the place of those that are named.
     fn would_be_over(&self, collection: &Name, targets: &Targets, made: &[Row]) -> bool
+        requires valid { IsValid self.now }
+        requires apart { Pairs OtherText targets.now }
         ensures { (time : ℕ) → result ≡ is_over (stamped self.now collection.now time (rows_without collection.now targets.now self.now.rows ++ made.now)) }
     {
         let collections = count_others(self.collections.as_slice(), collection) + 1;
-        would_be_full(self.rows.as_slice(), collection, targets, made, collections)
+        would_be_full(&self.shelf, collection, targets, made, collections)
     }
 
     /// What a keeper is told of a write.
@@ -571,8 +576,9 @@ impl State {
         requires valid { IsValid self.old }
         requires swept { IsSwept self.old }
         requires told { IsKeptBesideBy ledger.old.ended (K.told ledger.old.keeper) self.old }
-        requires ready { IsReady self.old pending }
-        ensures ok { OnOk result (self.new ≡ applied self.old stamp pending) }
+        requires ready { IsReady self.old stamp pending }
+        requires stamp { self.old.store < stamp }
+        ensures ok { OnOk result (SameAccount (applied self.old stamp pending) self.new) }
         ensures err { OnErr result (self.new ≡ self.old) }
         ensures held { OnOk result (IsHeldBy (K.told ledger.new.keeper) self.new) }
         ensures cleared { OnOk result (ledger.new.ended ≡ []) }
@@ -581,19 +587,22 @@ impl State {
         ensures cause { HasCause (K.keep_faults ledger.old.keeper) (K.keep_faults ledger.new.keeper) result }
     {
         let changes = self.changes(alloc, &ledger.ended, &pending, stamp)?;
-        self.rows.reserve(pending.made())?;
         self.collections.reserve(1)?;
-        ledger.commit(alloc, &changes)?;
-        pending.apply(
-            &mut self.rows,
-            &mut self.collections,
-            &mut self.stage,
-            stamp,
-        );
-        self.store = stamp;
-        self.last_delete = changes.last_delete;
-        self.moment = stamp;
-        Ok(())
+        let ready = self.shelf.prepare(alloc, &changes)?;
+        match ledger.commit(alloc, &changes) {
+            Ok(()) => {
+                self.shelf.apply(ready);
+                pending.apply(&mut self.collections, &mut self.stage, stamp);
+                self.store = stamp;
+                self.last_delete = changes.last_delete;
+                self.moment = stamp;
+                Ok(())
+            }
+            Err(fault) => {
+                self.shelf.cancel(ready);
+                Err(fault)
+            }
+        }
     }
 
     /// A begin, an append, or a commit that puts nothing.
@@ -890,11 +899,7 @@ impl State {
                 ..
             } => return self.list(alloc, collection, query, time),
             Request::Info { what, .. } => self.info(alloc, *what)?,
-            Request::Get { collection, id, .. } => match find_row(
-                self.rows.as_slice(),
-                collection,
-                id,
-            ) {
+            Request::Get { collection, id, .. } => match self.shelf.get(collection, id) {
                 Some(row) => Body::One(row.copy(alloc)?),
                 None => Body::Empty,
             },
@@ -919,12 +924,7 @@ impl State {
         requires { IsWithinLimits self.now }
         ensures { IfOk result (λ numbers. numbers ≡ per_collection (number_of measure) self.now) }
     {
-        let numbers = per_collection(
-            alloc,
-            self.rows.as_slice(),
-            self.collections.as_slice(),
-            measure,
-        )?;
+        let numbers = per_collection(alloc, &self.shelf, self.collections.as_slice(), measure)?;
         Ok(Numbers::new(numbers))
     }
 
@@ -933,7 +933,7 @@ impl State {
         requires { IsWithinLimits self.now }
         ensures { result ≡ row_bytes self.now.rows }
     {
-        Size::of(self.rows.as_slice()).bytes
+        self.shelf.total()
     }
 
     fn info(&self, alloc: Global, what: Info) -> Result<Body, AllocError>
@@ -961,8 +961,7 @@ impl State {
     ) -> Result<Reply, AllocError>
         ensures { IfOk result (λ reply. reply ≡ list_reply self.now.moment time (picked self.now collection.now query.now) query.now.full) }
     {
-        let found = rows_found(alloc, self.rows.as_slice(), collection, query)?;
-        let Page { body, count, next } = page_of(alloc, found, query)?;
+        let Page { body, count, next } = page_of(alloc, &self.shelf, collection, query)?;
         Ok(Reply {
             status: 200,
             moment: self.moment,
@@ -988,10 +987,18 @@ impl State {
     }
 
     pub(crate) fn plain(&self, alloc: Global) -> Result<Plain, AllocError>
-        ensures { IfOk result (λ plain. plain ≡ self.now) }
+        ensures { IfOk result (λ plain. SameAccount self.now plain) }
+    {
+        let rows = self.shelf.copy_rows(alloc)?;
+        self.with_rows(alloc, rows)
+    }
+
+    /// The account as plain data, with these rows.
+    fn with_rows(&self, alloc: Global, rows: Rows) -> Result<Plain, AllocError>
+        ensures { IfOk result (λ plain. plain ≡ record self.now { rows = rows }) }
     {
         Ok(Plain {
-            rows: Rows::new(copy_rows(alloc, self.rows.as_slice())?),
+            rows,
             collections: Times::new(copies(alloc, self.collections.as_slice())?),
             store: self.store,
             last_delete: self.last_delete,

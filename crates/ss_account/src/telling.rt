@@ -1,24 +1,27 @@
 //! What requests ask in common, and the bodies that tell of them.
 
-ghost use Rattle.std.specs.Prelude.{◌≡◌, IfOk, length, map};
-ghost use Rattle.ss_query.specs.Answer.{answer_of};
+ghost use Rattle.std.specs.Prelude.{◌≡◌, ◌<◌, IfOk, length};
+ghost use Rattle.ss_bso.specs.Limits.{rows_of};
+ghost use Rattle.ss_query.specs.Answer.{answer};
 ghost use Rattle.ss_bso.specs.Write.{ids_of};
 ghost use Rattle.ss_query.specs.declared.replies.Body.TheVariants.{Posted, Staged as StagedBody};
 ghost use Rattle.ss_query.specs.Api.{why_stopped};
 ghost use Rattle.ss_query.specs.Refused.{condition_of, said_by};
 ghost use Rattle.ss_query.specs.Told.{first_failures, rows_body};
+ghost use Rattle.ss_index.specs.Shelved.{rows_in};
 ghost use Rattle.ss_laws.specs.Laws.{is_of_batch};
 ghost use Rattle.ss_account.specs.Steps.{fault_body};
 
-use crate::targets::Targets;
-use crate::writing::first_failures;
 use ss_batch::StageFault;
-use ss_bso::{Failures, Records, Row};
-use ss_query::{
-    Body, Cond, Mode, Picked, PickedIds, Query, Request, Said, answer_found, ids_found,
-};
-use ss_text::{Ids, Stamp};
+use ss_bso::{Failures, Records};
+use ss_index::Shelf;
+use ss_list::Steps;
+use ss_query::{Body, Cond, Mode, Picked, PickedIds, Query, Request, Said};
+use ss_text::{Ids, Name, Stamp};
+use ss_writes::{Targets, first_failures};
 use std::alloc::{AllocError, Global};
+use std::marker::Brand;
+use std::sync::ledger::{Blank, Ledger};
 
 /// The condition of a request.
 pub(crate) fn condition_of(request: &Request) -> Cond
@@ -114,19 +117,42 @@ pub(crate) struct Page {
     pub(crate) next: Option<u64>,
 }
 
-/// The page of a query over the rows that it asks for. No payload is copied for a list of ids.
-pub(crate) fn page_of(alloc: Global, found: Vec<&Row>, query: &Query) -> Result<Page, AllocError>
-    ensures body { IfOk result (λ page. page.body ≡ rows_body query.now.full (answer_of (map (λ row. row.now) found.entry.items) query.now).rows) }
-    ensures count { IfOk result (λ page. page.count ≡ length (answer_of (map (λ row. row.now) found.entry.items) query.now).rows) }
-    ensures next { IfOk result (λ page. page.next ≡ (answer_of (map (λ row. row.now) found.entry.items) query.now).next) }
+/// The page of a query over the rows of a collection. No payload is copied for a list of ids.
+pub(crate) fn page_of(
+    alloc: Global,
+    shelf: &Shelf,
+    collection: &Name,
+    query: &Query,
+) -> Result<Page, AllocError>
+    ensures body { IfOk result (λ page. page.body ≡ rows_body query.now.full (answer (rows_of collection.now (rows_in shelf.now)) query.now).rows) }
+    ensures count { IfOk result (λ page. page.count ≡ length (answer (rows_of collection.now (rows_in shelf.now)) query.now).rows) }
+    ensures next { IfOk result (λ page. page.next ≡ (answer (rows_of collection.now (rows_in shelf.now)) query.now).next) }
 {
+    page_counting::<Brand>(alloc, shelf, collection, query, Blank::new(1))
+}
+
+fn page_counting<L: Ledger>(
+    alloc: Global,
+    shelf: &Shelf,
+    collection: &Name,
+    query: &Query,
+    blank: Blank,
+) -> Result<Page, AllocError>
+    requires name { blank.name ≡ L.name }
+    requires parts { blank.parts ≡ L.parts }
+    requires some_part { 0 < blank.parts }
+    ensures body { IfOk result (λ page. page.body ≡ rows_body query.now.full (answer (rows_of collection.now (rows_in shelf.now)) query.now).rows) }
+    ensures count { IfOk result (λ page. page.count ≡ length (answer (rows_of collection.now (rows_in shelf.now)) query.now).rows) }
+    ensures next { IfOk result (λ page. page.next ≡ (answer (rows_of collection.now (rows_in shelf.now)) query.now).next) }
+{
+    let mut steps = Steps::<L>::new(blank);
     if query.full {
-        let Picked { rows, next } = answer_found(alloc, found, query)?;
+        let Picked { rows, next } = shelf.select(alloc, collection, query, &mut steps)?;
         let count = rows.as_slice().len() as u64;
         let body = Body::Rows(rows);
         Ok(Page { body, count, next })
     } else {
-        let PickedIds { ids, next } = ids_found(alloc, found, query)?;
+        let PickedIds { ids, next } = shelf.select_ids(alloc, collection, query, &mut steps)?;
         let count = ids.as_slice().len() as u64;
         let body = Body::Ids(ids);
         Ok(Page { body, count, next })

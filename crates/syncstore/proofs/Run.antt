@@ -10,7 +10,8 @@ use Rattle.ss_bso.specs.Account.{fresh}
 use Rattle.ss_bso.specs.Validity.{IsValid, SameAccount}
 use Rattle.ss_query.specs.declared.replies.Reply.{Reply}
 use Rattle.ss_laws.proofs.JournalOrder.{marked-same}
-use Rattle.ss_bso.proofs.Reordering.{same-self, same-back, same-through}
+use Rattle.ss_text.specs.Texts.{Reordered}
+use Rattle.ss_bso.proofs.Reordering.{length-reordered, same-self, same-back, same-through}
 use Rattle.ss_http.specs.declared.message.Message.{Message}
 use Rattle.ss_http.specs.declared.fault.MsgFault.{MsgFault}
 use Rattle.ss_http.specs.declared.fault.MsgFault.TheVariants as faults
@@ -493,6 +494,22 @@ ended_early uid at input output coming = record {
   cause = (tt, refl);
   faults = (refl, refl);
   fewer = omega arith;
+}
+
+-- an account that is the same as a fresh one is it
+none-left : {X : Type 0} (xs : List X) → Reordered [] xs → xs ≡ []
+none-left [] r = refl
+none-left (x ∷ xs) r = let size : 0 ≡ length xs + 1 = length-reordered r in absurd (omega (arith, size))
+
+pub fresh-alone : (account : Plain) → SameAccount fresh account → account ≡ fresh
+fresh-alone account s = λ i. record {
+  rows = none-left account.rows s.rows i;
+  collections = none-left account.collections s.collections i;
+  store = sym s.store i;
+  last_delete = sym s.last_delete i;
+  moment = sym s.moment i;
+  counter = sym s.counter i;
+  batches = none-left account.batches s.batches i;
 }
 
 -- an account that nothing was asked of is valid

@@ -3,7 +3,7 @@ use Rattle.std.specs.HashMap.{get}
 use Rattle.ss_bso.specs.declared.rows.Row.{Row}
 use Rattle.ss_account.specs.Opening.{is_bad_row}
 use Rattle.ss_account.specs.Places.{is_placed}
-use Rattle.ss_account.specs.Steps.{IsSize}
+use Rattle.ss_writes.specs.Parts.{IsSize}
 use Rattle.ss_account.proofs.Opened.{bad-at, none-at, one-more, places-more, row_bad}
 use Rattle.ss_account.proofs.opening.check_rows.Goals as goal
 

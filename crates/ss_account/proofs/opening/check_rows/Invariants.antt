@@ -2,7 +2,7 @@ use Rattle.std.proofs.Common.{◌≡◌, ℕ, ◌&&◌, List, None, bytes_eq, ta
 use Rattle.std.specs.List.{list_any}
 use Rattle.ss_account.specs.Opening.{first_bad, is_bad_row}
 use Rattle.ss_account.specs.Places.{is_placed}
-use Rattle.ss_account.specs.Steps.{IsSize}
+use Rattle.ss_writes.specs.Parts.{IsSize}
 use Rattle.ss_account.proofs.opening.check_rows.Given as goal
 
 abbrev pub invariant-loop-row : goal.invariant-loop-row

@@ -3,7 +3,7 @@ use Rattle.std.specs.Prelude.{Option, Some}
 use Rattle.std.specs.HashMap.{get}
 use Rattle.ss_bso.specs.Account.{time_of}
 use Rattle.ss_account.specs.Opening.{is_bad_collection}
-use Rattle.ss_account.specs.Steps.{or_else}
+use Rattle.ss_writes.specs.Parts.{or_else}
 use Rattle.ss_account.proofs.Opened.{bad-at, none-at, one-more, time-more, time_bad}
 use Rattle.ss_account.proofs.opening.times_of.Goals as goal
 

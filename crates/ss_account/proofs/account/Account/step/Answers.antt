@@ -5,7 +5,6 @@ use Rattle.ss_outside.specs.Causes.{Rose}
 use Rattle.ss_bso.specs.declared.account.Plain.{Plain}
 use Rattle.ss_bso.specs.Account.{tick}
 use Rattle.ss_bso.specs.Validity.{SameAccount}
-use Rattle.ss_keeper.specs.declared.faults.KeepFault.TheVariants.{Fault, Memory}
 use Rattle.ss_query.specs.declared.replies.Mark.TheVariants.{Done, Keeper as KeeperMark, Memory as MemoryMark}
 use Rattle.ss_query.specs.Marks.{mark_of}
 use Rattle.ss_query.specs.Api.{outcome, refusal}
@@ -55,7 +54,7 @@ stepped g c =
     elim c.match-answer.branch [
       | in-Ok w ↦ stepped-done account ticked now request c.match-answer.result left (sides g c) c.tick.ensures.account c.self.invariant.valid c.requires
           (w.result-is ∙ subst (λ o. IfOk o (λ reply. reply ≡ (outcome ticked request (refusal ticked request)).reply)) w.in-Ok.is c.answer.ensures.reply)
-          (subst (λ o. OnOk o (left ≡ (outcome ticked request (refusal ticked request)).account)) w.in-Ok.is c.answer.ensures.account)
+          (subst (λ o. OnOk o (SameAccount (outcome ticked request (refusal ticked request)).account left)) w.in-Ok.is c.answer.ensures.account)
       | in-Err-Memory w ↦ stepped-memory account ticked now request c.match-answer.result left (sides g c) c.tick.ensures.account c.self.invariant.valid (w.result-is ∙ w.out_of_memory.ensures)
           (subst (λ o. OnErr o (left ≡ ticked)) w.in-Err-Memory.is c.answer.ensures.err)
           (subst (λ o. OnErr o (after ≡ told)) w.in-Err-Memory.is c.answer.ensures.refused)

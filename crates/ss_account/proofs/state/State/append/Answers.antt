@@ -3,7 +3,7 @@ use Rattle.std.specs.Prelude.{List, ◌≤◌, IsSomeAnd}
 use Rattle.ss_bso.specs.declared.account.Staged.{Staged}
 use Rattle.ss_bso.specs.declared.parts.Part.{Part}
 use Rattle.ss_batch.specs.Stage.{appended, numbered, shortened}
-use Rattle.ss_account.specs.Pending.{append_changes}
+use Rattle.ss_writes.specs.Pending.{append_changes}
 use Rattle.ss_account.specs.Steps.{stage_of, with_stage}
 use Rattle.ss_account.proofs.Begun.{appended-back, appended-long}
 use Rattle.ss_account.proofs.Keeping.{held_by-append}

@@ -1,5 +1,5 @@
 use Rattle.std.proofs.Common.{ap, ◌∙◌}
-use Rattle.ss_account.specs.Pending.{begin_changes}
+use Rattle.ss_writes.specs.Pending.{begin_changes}
 use Rattle.ss_account.proofs.Begun.{begun-back, begun-live}
 use Rattle.ss_account.proofs.Keeping.{held_by-begin}
 use Rattle.ss_account.proofs.state.State.begin.Goals as goal

@@ -8,8 +8,8 @@ use Rattle.ss_account.proofs.state.State.numbers.Goals as goal
 
 pub returns : goal.returns
 returns c =
-    let rows = c.as_slice.ensures.value ∙ ap (λ (a : Plain). a.rows) c.self.view_is in
-    let times = c.as_slice-2.ensures.value ∙ ap (λ (a : Plain). a.collections) c.self.view_is in
+    let rows = ap (λ (a : Plain). a.rows) c.self.view_is in
+    let times = c.as_slice.ensures.value ∙ ap (λ (a : Plain). a.collections) c.self.view_is in
     c.new.ensures
     ∙ c.in_ok-numbers.ensures
     ∙ (λ i. map (λ entry. (entry.0, counted c.args.measure (rows_of entry.0 (rows i)))) (by_name (times i)))

@@ -8,8 +8,8 @@ use Rattle.ss_query.specs.declared.replies.Body.TheVariants.{Gone, Posted}
 use Rattle.ss_query.specs.Effect.{effect, is_over, is_write, stamp_in}
 use Rattle.ss_query.specs.Told.{body_of, first_failures}
 use Rattle.ss_account.specs.Steps.{committed}
-use Rattle.ss_account.specs.declared.pending.Pending.TheVariants.{DropCollection}
-use Rattle.ss_account.specs.Pending.{Tells, applied}
+use Rattle.ss_writes.specs.declared.pending.Pending.TheVariants.{DropCollection}
+use Rattle.ss_writes.specs.Pending.{Tells, applied}
 use Rattle.ss_account.proofs.Batching.{committed-effect}
 use Rattle.ss_account.proofs.Stepping.{over-deleted, told-as}
 use Rattle.ss_account.proofs.state.State.prepare.Goals as goal

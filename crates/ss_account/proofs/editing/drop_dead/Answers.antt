@@ -1,7 +1,0 @@
-use Rattle.std.proofs.Common.{rules}
-use Rattle.std.proofs.lemmas.Fn.{filter_same}
-use Rattle.ss_bso.specs.Account.{is_alive}
-use Rattle.ss_account.proofs.editing.drop_dead.Goals as goal
-
-pub returns : goal.returns
-returns c = filter_same _ (is_alive c.args.moment) _ (λ x b f h. search rules) c.args.rows.now.items c.retain.new.self.items c.retain.ensures.filtered

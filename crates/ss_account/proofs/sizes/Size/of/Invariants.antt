@@ -1,6 +1,0 @@
-use Rattle.std.proofs.Common.{take}
-use Rattle.ss_account.specs.Steps.{IsSize}
-use Rattle.ss_account.proofs.sizes.Size.of.Given as goal
-
-abbrev pub invariant-loop-row : goal.invariant-loop-row
-invariant-loop-row l = IsSize (take l.row-index l.rows) l.size

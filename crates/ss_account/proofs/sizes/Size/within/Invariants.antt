@@ -1,7 +1,0 @@
-use Rattle.std.proofs.Common.{take}
-use Rattle.ss_bso.specs.Limits.{rows_of}
-use Rattle.ss_account.specs.Steps.{IsSize}
-use Rattle.ss_account.proofs.sizes.Size.within.Given as goal
-
-abbrev pub invariant-loop-row : goal.invariant-loop-row
-invariant-loop-row l = IsSize (rows_of l.collection (take l.row-index l.rows)) l.size

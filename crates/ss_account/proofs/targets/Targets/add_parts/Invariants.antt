@@ -1,6 +1,0 @@
-use Rattle.std.proofs.Common.{◌≡◌, fold, take}
-use Rattle.ss_account.specs.Steps.{with_part_id}
-use Rattle.ss_account.proofs.targets.Targets.add_parts.Given as goal
-
-abbrev pub invariant-loop-part : goal.invariant-loop-part
-invariant-loop-part l = l.self ≡ fold with_part_id l.initial.self (take l.part-index l.parts)

@@ -1,0 +1,4 @@
+pub mod Changing
+pub mod Made
+pub mod Making
+pub mod Replacing

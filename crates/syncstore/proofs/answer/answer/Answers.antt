@@ -41,6 +41,10 @@ returns-in-Err-clause-answered g c =
     (g.C.Clock.coming c.args.clock.now) (g.C.Clock.coming c.turns.clock) (g.C.Clock.coming c.stop.new.clock)
     c.turns.buffer c.turns.account.plain c.turns.count c.in-Err.fault takes.0 c.stop.result p c.turns-test.true takes.1 takes.2.2 ended cause c.stop.ensures.stops
 
+pub returns-in-Err-write-clause-unread : goal.returns-in-Err-write-clause-unread
+returns-in-Err-write-clause-unread g c =
+    unread_further c.args.command.at c.args.clock.now c.turns.clock c.reading-now.new.clock c.turns.invariant.1 c.reading-now.ensures.unread
+
 pub returns-in-Err-write-clause-answered : goal.returns-in-Err-write-clause-answered
 returns-in-Err-write-clause-answered g c =
     let p = c.turns.invariant.0 in
@@ -54,6 +58,10 @@ returns-in-Err-write-clause-answered g c =
     (g.C.Clock.coming c.args.clock.now) (g.C.Clock.coming c.turns.clock) (g.C.Clock.coming c.reading-now.new.clock)
     c.turns.buffer c.read_message.new.buffer c.turns.account.plain c.respond-response.new.account.plain c.turns.count c.reading-now.result m takes.0 (bytes_of c.respond-response.result)
     p c.turns-test.true takes.1 takes.2.0 cause c.reading-now.ensures.reading (subst T c.closes-last.ensures c.respond-response.ensures.turn) c.in-Err-write.ensures.cut
+
+pub returns-then-message-clause-unread : goal.returns-then-message-clause-unread
+returns-then-message-clause-unread g c =
+    unread_further c.args.command.at c.args.clock.now c.turns.clock c.reading-now.new.clock c.turns.invariant.1 c.reading-now.ensures.unread
 
 pub returns-then-message-clause-answered : goal.returns-then-message-clause-answered
 returns-then-message-clause-answered g c =

@@ -499,7 +499,7 @@ ended_early uid at input output coming = record {
 -- an account that is the same as a fresh one is it
 none-left : {X : Type 0} (xs : List X) → Reordered [] xs → xs ≡ []
 none-left [] r = refl
-none-left (x ∷ xs) r = let size : 0 ≡ length xs + 1 = length-reordered r in absurd (omega (arith, size))
+none-left (x ∷ xs) r = absurd (omega (arith, length-reordered r))
 
 pub fresh-alone : (account : Plain) → SameAccount fresh account → account ≡ fresh
 fresh-alone account s = λ i. record {

@@ -5,6 +5,8 @@
 
 mod faults;
 mod stage;
+#[cfg(test)]
+mod tests;
 
 pub use faults::StageFault;
 pub use stage::Stage;

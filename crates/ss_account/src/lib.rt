@@ -11,8 +11,6 @@ mod opening;
 mod places;
 mod state;
 mod telling;
-#[cfg(test)]
-mod tests;
 
 pub use account::Account;
 pub use faults::OpenFault;

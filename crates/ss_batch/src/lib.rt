@@ -5,8 +5,6 @@
 
 mod faults;
 mod stage;
-#[cfg(test)]
-mod tests;
 
 pub use faults::StageFault;
 pub use stage::Stage;

@@ -11,8 +11,6 @@ mod making;
 mod memory;
 mod names;
 mod row_edits;
-#[cfg(test)]
-mod tests;
 mod time_edits;
 
 pub use faults::KeepFault;

@@ -7,8 +7,6 @@ mod answers;
 mod queries;
 mod replies;
 mod requests;
-#[cfg(test)]
-mod tests;
 
 pub use answers::{answer_found, answer_query, asks_for, ids_found};
 pub use queries::{QueryFault, read_ids, read_parameter, read_query};

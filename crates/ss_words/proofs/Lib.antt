@@ -1,0 +1,6 @@
+pub mod Choices
+pub mod Steps
+pub mod Heard
+pub mod Written
+pub mod Asked
+pub mod Counted

@@ -1,0 +1,293 @@
+//! The commands, and the words that ask them.
+
+ghost use Rattle.std.specs.Prelude.{◌≡◌, ◌≤◌, Some, None, map, string_bytes, IfOk, IfErr, IsTrue, IsFalse};
+ghost use Rattle.std.specs.Net.Grammar.{IsSocketV4Text};
+ghost use Rattle.std.specs.declared.net.socket_addr.SocketAddrV4.{SocketAddrV4};
+ghost use Rattle.ss_words.specs.Refused.{IsRefused};
+ghost use Rattle.ss_words.specs.Commands.{answer_in, answer_words, edit_in, merge_words, rehearse_words, sync_in, sync_words, serve_in, serve_words, command_in, HasAddress, HasRange, AsksOf, Asks};
+
+use crate::actions::{Action, action_in, wrong_count};
+use crate::lines::{Line, read_line};
+use crate::names::{Name, OptionName};
+use crate::refusals::{Cause, WordsFault};
+use crate::urls::{Server, read_server};
+use crate::values::{Uids, accounts_in, copied, given, number_given, number_in, uid_in};
+use ss_text::Word;
+use std::alloc::Global;
+use std::net::SocketAddrV4;
+
+/// The greatest number of 12 digits.
+const MOST: u64 = 999_999_999_999;
+
+/// `answer UID [--at N]`
+#[derive(Drop, Debug)]
+pub struct AnswerCommand {
+    /// The account's number.
+    pub uid: u32,
+
+    /// The first reading of the clock, in hundredths of a second, from which it counts upwards; None is the clock that is handed in.
+    pub at: Option<u64>,
+}
+
+/// `edit ACTION .. [--at N]`
+#[derive(Drop, Debug)]
+pub struct EditCommand {
+    pub action: Action,
+
+    /// The time of the change, in hundredths of a second; None is the reading of the clock that is handed in.
+    pub at: Option<u64>,
+}
+
+/// `rehearse N S`
+#[derive(Drop, Debug)]
+pub struct RehearseCommand {
+    /// How many items: 1 to 15,000.
+    pub items: u64,
+
+    /// What the random choices begin from: up to 999,999,999,999.
+    pub seed: u64,
+}
+
+/// `sync URL FILE [--newer]`
+#[derive(Drop, Debug)]
+pub struct SyncCommand {
+    pub server: Server,
+
+    /// The name of the device's file.
+    pub file: Word,
+
+    /// Whether only what is newer is fetched.
+    pub newer: bool,
+}
+
+/// `serve ADDRESS FOLDER UID .. [--workers N] [--connections N] [--terms N]`
+#[derive(Drop, Debug)]
+pub struct ServeCommand {
+    /// An IPv4 address, a colon and a port.
+    pub address: Word,
+
+    /// The folder that holds `<uid>.db` for each account.
+    pub folder: Word,
+
+    /// 1 to 8 accounts, none twice.
+    pub uids: Uids,
+
+    /// 1 to 16, 4 where nothing is said.
+    pub workers: u64,
+
+    /// Of one term: 1 to 1,000, 100 where nothing is said.
+    pub connections: u64,
+
+    /// 0, which is the default, means without end.
+    pub terms: u64,
+}
+
+/// What words ask.
+#[derive(Drop, Debug)]
+pub enum Command {
+    Answer(AnswerCommand),
+    Edit(EditCommand),
+    Merge,
+    Rehearse(RehearseCommand),
+    Sync(SyncCommand),
+    Serve(ServeCommand),
+}
+
+#[tactic(auto, unfolding(crate::specs::Commands::answer_in))]
+fn answer_in<'a>(line: &Line<'a>) -> Result<Command, WordsFault<'a>>
+    ensures ok { IfOk result (λ command. answer_in line.now ≡ Some command) }
+    ensures range { IfOk result HasRange }
+    ensures refused { IfErr result (λ fault. answer_in line.now ≡ None) }
+{
+    let at = number_given(line, OptionName::At, 0, MOST)?;
+    match line.positionals() {
+        [uid] => Ok(Command::Answer(AnswerCommand {
+            uid: uid_in(uid)?,
+            at,
+        })),
+        words => Err(wrong_count(words, 1)),
+    }
+}
+
+#[tactic(auto, unfolding(crate::specs::Commands::edit_in))]
+fn edit_in<'a>(alloc: Global, line: &Line<'a>) -> Result<Command, WordsFault<'a>>
+    ensures ok { IfOk result (λ command. edit_in line.now ≡ Some command) }
+    ensures range { IfOk result HasRange }
+    ensures refused { IfErr result (λ fault. IsRefused fault → edit_in line.now ≡ None) }
+{
+    let at = number_given(line, OptionName::At, 0, MOST)?;
+    let action = action_in(alloc, line.positionals())?;
+    Ok(Command::Edit(EditCommand { action, at }))
+}
+
+fn merge_in<'a>(line: &Line<'a>) -> Result<Command, WordsFault<'a>>
+    ensures ok { IfOk result (λ command. merge_words line.now.positionals ≡ Some command) }
+    ensures range { IfOk result HasRange }
+    ensures refused { IfErr result (λ fault. merge_words line.now.positionals ≡ None) }
+{
+    match line.positionals() {
+        [] => Ok(Command::Merge),
+        words => Err(wrong_count(words, 0)),
+    }
+}
+
+fn rehearse_in<'a>(line: &Line<'a>) -> Result<Command, WordsFault<'a>>
+    ensures ok { IfOk result (λ command. rehearse_words line.now.positionals ≡ Some command) }
+    ensures range { IfOk result HasRange }
+    ensures refused { IfErr result (λ fault. rehearse_words line.now.positionals ≡ None) }
+{
+    match line.positionals() {
+        [items, seed] => Ok(Command::Rehearse(RehearseCommand {
+            items: number_in(items, 1, 15_000)?,
+            seed: number_in(seed, 0, MOST)?,
+        })),
+        words => Err(wrong_count(words, 2)),
+    }
+}
+
+#[tactic(auto, unfolding(crate::specs::Commands::sync_in))]
+fn sync_in<'a>(alloc: Global, line: &Line<'a>) -> Result<Command, WordsFault<'a>>
+    ensures ok { IfOk result (λ command. sync_in line.now ≡ Some command) }
+    ensures range { IfOk result HasRange }
+    ensures refused { IfErr result (λ fault. IsRefused fault → sync_in line.now ≡ None) }
+{
+    let newer = given(line, OptionName::Newer)?.is_some();
+    match line.positionals() {
+        [url, file] => Ok(Command::Sync(SyncCommand {
+            server: read_server(alloc, url)?,
+            file: copied(alloc, file)?,
+            newer,
+        })),
+        words => Err(wrong_count(words, 2)),
+    }
+}
+
+/// The numbers of a server: of its workers, of the connections of one term, and of its terms.
+#[derive(Clone, Copy)]
+struct Sizes {
+    workers: u64,
+    connections: u64,
+    terms: u64,
+}
+
+fn serve_words<'a>(
+    alloc: Global,
+    sizes: Sizes,
+    words: &[&'a str],
+) -> Result<Command, WordsFault<'a>>
+    requires workers { (1 ≤ sizes.workers) × (sizes.workers ≤ 16) }
+    requires connections { (1 ≤ sizes.connections) × (sizes.connections ≤ 1000) }
+    requires terms { sizes.terms ≤ 999999999999 }
+    ensures ok { IfOk result (λ command. serve_words sizes.workers sizes.connections sizes.terms (map (λ word. word.now) words.now) ≡ Some command) }
+    ensures range { IfOk result HasRange }
+    ensures refused { IfErr result (λ fault. IsRefused fault → serve_words sizes.workers sizes.connections sizes.terms (map (λ word. word.now) words.now) ≡ None) }
+{
+    match words {
+        [address, folder, uids @ ..] => Ok(Command::Serve(ServeCommand {
+            address: copied(alloc, address)?,
+            folder: copied(alloc, folder)?,
+            uids: accounts_in(alloc, uids)?,
+            workers: sizes.workers,
+            connections: sizes.connections,
+            terms: sizes.terms,
+        })),
+        _ => Err(WordsFault::missing(Cause::TooFew)),
+    }
+}
+
+#[tactic(auto, unfolding(crate::specs::Commands::serve_in))]
+fn serve_in<'a>(alloc: Global, line: &Line<'a>) -> Result<Command, WordsFault<'a>>
+    ensures ok { IfOk result (λ command. serve_in line.now ≡ Some command) }
+    ensures range { IfOk result HasRange }
+    ensures refused { IfErr result (λ fault. IsRefused fault → serve_in line.now ≡ None) }
+{
+    let workers = number_given(line, OptionName::Workers, 1, 16)?;
+    let connections = number_given(line, OptionName::Connections, 1, 1_000)?;
+    let terms = number_given(line, OptionName::Terms, 0, MOST)?;
+    let sizes = Sizes {
+        workers: workers.unwrap_or(4),
+        connections: connections.unwrap_or(100),
+        terms: terms.unwrap_or(0),
+    };
+    serve_words(alloc, sizes, line.positionals())
+}
+
+fn command_in<'a>(alloc: Global, name: Name, line: &Line<'a>) -> Result<Command, WordsFault<'a>>
+    ensures ok { IfOk result (λ command. command_in name line.now ≡ Some command) }
+    ensures range { IfOk result HasRange }
+    ensures refused { IfErr result (λ fault. IsRefused fault → command_in name line.now ≡ None) }
+{
+    match name {
+        Name::Answer => answer_in(line),
+        Name::Edit => edit_in(alloc, line),
+        Name::Merge => merge_in(line),
+        Name::Rehearse => rehearse_in(line),
+        Name::Sync => sync_in(alloc, line),
+        Name::Serve => serve_in(alloc, line),
+    }
+}
+
+/// Whether a text is an IPv4 address, a colon and a port.
+fn is_address(text: &str) -> bool
+    ensures yes { IsTrue result → (address : SocketAddrV4) × IsSocketV4Text text.now address }
+    ensures no { IsFalse result → (address : SocketAddrV4) → IsSocketV4Text text.now address → ⊥ }
+{
+    match SocketAddrV4::parse_ascii(text.as_bytes()) {
+        Ok(_) => true,
+        Err(_) => false,
+    }
+}
+
+/// Whether the address of a server is one.
+fn has_address(command: &Command) -> bool
+    ensures yes { IsTrue result → HasAddress command.now }
+    ensures no { IsFalse result → HasAddress command.now → ⊥ }
+{
+    match command {
+        Command::Serve(serve) => is_address(serve.address.as_str()),
+        Command::Answer(_)
+        | Command::Edit(_)
+        | Command::Merge
+        | Command::Rehearse(_)
+        | Command::Sync(_) => true,
+    }
+}
+
+/// What the words behind the name of a command ask.
+fn read_named<'a>(alloc: Global, name: Name, words: &'a [String]) -> Result<Command, WordsFault<'a>>
+    ensures range { IfOk result HasRange }
+    ensures ok { IfOk result (λ command. AsksOf name (map (λ word. string_bytes word) words.now) command) }
+    ensures refused { IfErr result (λ fault. IsRefused fault → (command : Command) → AsksOf name (map (λ word. string_bytes word) words.now) command → ⊥) }
+{
+    let line = match read_line(alloc, name, words) {
+        Ok(line) => line,
+        Err(fault) => return Err(fault),
+    };
+    let command = match command_in(alloc, name, &line) {
+        Ok(command) => command,
+        Err(fault) => return Err(fault),
+    };
+    if has_address(&command) {
+        Ok(command)
+    } else {
+        match line.positionals().first() {
+            Some(word) => Err(WordsFault::at(Cause::Address, word)),
+            None => Err(WordsFault::missing(Cause::Address)),
+        }
+    }
+}
+
+/// What the words ask; the first is the command's name. `Refused` comes exactly where they ask nothing.
+pub fn read_command<'a>(alloc: Global, words: &'a [String]) -> Result<Command, WordsFault<'a>>
+    ensures range { IfOk result HasRange }
+    ensures asks { IfOk result (λ command. Asks (map (λ word. string_bytes word) words.now) command) }
+    ensures refused { IfErr result (λ fault. IsRefused fault → (command : Command) → Asks (map (λ word. string_bytes word) words.now) command → ⊥) }
+{
+    match words {
+        [] => Err(WordsFault::missing(Cause::NoCommand)),
+        [first, others @ ..] => match Name::read(first.as_str()) {
+            Some(name) => read_named(alloc, name, others),
+            None => Err(WordsFault::at(Cause::NoCommand, first.as_str())),
+        },
+    }
+}

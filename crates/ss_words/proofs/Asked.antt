@@ -60,3 +60,12 @@ words_there f (word ∷ words) first some at =
 pub weaker : {T E : Type 0} (r : Result T E) (P Q : E → Type 0) → ((fault : E) → P fault → Q fault) → IfErr r P → IfErr r Q
 weaker (Ok value) P Q so is = is
 weaker (Err fault) P Q so is = so fault is
+
+-- two commands that the same words ask are one
+pub one_command : (words : List (List ℕ)) (one other : Command) → Asks words one → Asks words other → one ≡ other
+one_command words one other asks also =
+    let found = asks_first asks.first asks.others other (subst (λ ws. Asks ws other) asks.words_are also) in
+    let same : found.0 ≡ asks.name = ap (λ o. unwrap_or o asks.name) (sym found.1 ∙ asks.is_name) in
+    let there : AsksOf asks.name asks.others other = subst (λ (n : Name). AsksOf n asks.others other) same found.2 in
+    let says = asked_there asks.name asks.others asks.asks.line other asks.asks.is_line there in
+    ap (λ o. unwrap_or o one) (sym asks.asks.says ∙ says)

@@ -5,6 +5,7 @@
 
 mod actions;
 mod commands;
+mod laws;
 mod lines;
 mod names;
 mod refusals;
@@ -17,6 +18,7 @@ pub use actions::Action;
 pub use commands::{
     AnswerCommand, Command, EditCommand, RehearseCommand, ServeCommand, SyncCommand, read_command,
 };
+pub use laws::words_ask_one;
 pub use lines::Place;
 pub use names::{Name, OptionName};
 pub use refusals::{Cause, Refusal, WordsFault};

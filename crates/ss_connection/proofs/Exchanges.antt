@@ -1,0 +1,80 @@
+-- One message more that was answered.
+use Rattle.std.proofs.Common.{◌≡◌, ◌⊎◌, inl, inr, ℕ, ◌+◌, ◌≤◌, Bool, List, [], ◌∷◌, ◌++◌, length, length-append, map, drop, Option, refl, sym, ap, ◌∙◌, subst, append_assoc, arith}
+use Rattle.std.specs.Prelude.{IsFalse}
+use Rattle.std.proofs.lemmas.List.{append-nil, map-append, drop-append-le}
+use Rattle.std.proofs.lemmas.List.Elements.{All-push}
+use Rattle.std.proofs.lemmas.Grind.{flat_map-append}
+use Rattle.std.specs.List.{flat_map}
+use mathlib.Core.Option.{some}
+use lib.ListN.{get_elem?}
+use Rattle.ss_desk.proofs.Lists.{at_end}
+use Rattle.ss_desk.specs.Journal.{Begins}
+use Rattle.ss_outside.specs.Told.{TakesFirst}
+use Rattle.ss_http.specs.declared.message.Message.{Message}
+use Rattle.ss_http.specs.Messages.{Reads, ReadsMessage}
+use Rattle.ss_http.proofs.MessageLemmas.{reads_append, reads_further}
+use Rattle.ss_connection.specs.Known.{Known}
+use Rattle.ss_connection.specs.Turns.{Exchange, SaysEach, SaysTurn, closes}
+use Rattle.ss_connection.specs.Calls.{added}
+use Rattle.ss_connection.specs.Ends.{AreReadings, GoesOn}
+use Rattle.ss_connection.specs.declared.notes.TurnNote.{TurnNote}
+
+abbrev pub message_in : Exchange → Message
+message_in x = x.message
+
+abbrev pub note_in : Exchange → TurnNote
+note_in x = x.note
+
+abbrev pub now_in : Exchange → ℕ
+now_in x = x.note.now
+
+abbrev pub response_in : Exchange → List ℕ
+response_in x = x.response
+
+pub says_push : (uids : List ℕ) (known : ℕ → Known) (xs : List Exchange) (x : Exchange) → SaysEach uids known xs
+    → SaysTurn uids known x.message x.note.now (closes (length xs) x.message) x.note.turn x.response → SaysEach uids known (xs ++ x ∷ [])
+says_push uids known xs x each one k y at = elim (at_end xs x y k at) [
+  | inl old ↦ each k y old
+  | inr new ↦
+      let S : ℕ → Exchange → Type 0 = λ n z. SaysTurn uids known z.message z.note.now (closes n z.message) z.note.turn z.response in
+      subst (λ n. S n y) (sym new.0) (subst (λ z. S (length xs) z) new.1 one)
+]
+
+pub readings_push : (rs : List ℕ) (now : ℕ) (coming coming' coming2 : Option (List ℕ)) → AreReadings rs coming coming' → TakesFirst coming' coming2 now → AreReadings (rs ++ now ∷ []) coming coming2
+readings_push [] now coming coming' coming2 are one = (coming2, (let P : Option (List ℕ) → Type 0 = λ c. TakesFirst c coming2 now in subst P are one), refl)
+readings_push (r ∷ rs) now coming coming' coming2 are one = (are.0, are.1, readings_push rs now are.0 coming' coming2 are.2 one)
+
+-- the readings of one connection after another's
+pub readings_then : (rs qs : List ℕ) (coming coming' coming2 : Option (List ℕ)) → AreReadings rs coming coming' → AreReadings qs coming' coming2 → AreReadings (rs ++ qs) coming coming2
+readings_then [] qs coming coming' coming2 are more = let P : Option (List ℕ) → Type 0 = λ c. AreReadings qs c coming2 in subst P are more
+readings_then (r ∷ rs) qs coming coming' coming2 are more = (are.0, are.1, readings_then rs qs are.0 coming' coming2 are.2 more)
+
+pub clock_push : (xs : List Exchange) (x : Exchange) (coming coming' coming2 : Option (List ℕ)) → AreReadings (map now_in xs) coming coming' → TakesFirst coming' coming2 x.note.now
+    → AreReadings (map now_in (xs ++ x ∷ [])) coming coming2
+clock_push xs x coming coming' coming2 are one =
+    let P : List ℕ → Type 0 = λ rs. AreReadings rs coming coming2 in
+    subst P (sym (map-append now_in xs (x ∷ []))) (readings_push (map now_in xs) x.note.now coming coming' coming2 are one)
+
+pub split_push : (taken got : List ℕ) (xs : List Exchange) (x : Exchange) (kept kept' : List ℕ)
+    → Reads taken (map message_in xs) kept → ReadsMessage (kept ++ got) x.message kept' → Reads (taken ++ got) (map message_in (xs ++ x ∷ [])) kept'
+split_push taken got xs x kept kept' split reads =
+    let P : List Message → Type 0 = λ ms. Reads (taken ++ got) ms kept' in
+    subst P (sym (map-append message_in xs (x ∷ [])))
+    (reads_further (taken ++ got) (map message_in xs) x.message (kept ++ got) kept' (reads_append taken got (map message_in xs) kept split) reads)
+
+pub goes_push : (xs : List Exchange) (x : Exchange) → GoesOn xs → IsFalse x.message.last → GoesOn (xs ++ x ∷ [])
+goes_push xs x on one = All-push (λ (y : Exchange). IsFalse y.message.last) xs x on one
+
+pub sends_push : (sent : List ℕ) (xs : List Exchange) (x : Exchange) → sent ≡ flat_map response_in xs → sent ++ x.response ≡ flat_map response_in (xs ++ x ∷ [])
+sends_push sent xs x is =
+    ap (λ l. l ++ x.response) is ∙ (ap (λ l. flat_map response_in xs ++ l) (sym (append-nil x.response)) ∙ sym (flat_map-append response_in xs (x ∷ [])))
+
+pub noted_push : (turns turns' : List TurnNote) (xs : List Exchange) (x : Exchange) → turns' ≡ turns ++ map note_in xs → turns' ++ x.note ∷ [] ≡ turns ++ map note_in (xs ++ x ∷ [])
+noted_push turns turns' xs x is =
+    ap (λ l. l ++ x.note ∷ []) is ∙ (append_assoc turns (map note_in xs) (x.note ∷ []) ∙ ap (λ l. turns ++ l) (sym (map-append note_in xs (x ∷ []))))
+
+-- the turns that were added, after one more
+pub added_push : (turns turns' : List TurnNote) (note : TurnNote) → Begins turns turns' → added turns (turns' ++ note ∷ []) ≡ added turns turns' ++ note ∷ []
+added_push turns turns' note begins =
+    let within : length turns ≤ length turns' = omega (arith, ap length begins.1, length-append turns begins.0) in
+    drop-append-le (length turns) turns' (note ∷ []) within

@@ -1,0 +1,5 @@
+pub mod Later
+pub mod Passing
+pub mod Exchanges
+pub mod Moving
+pub mod Run

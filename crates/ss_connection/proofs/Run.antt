@@ -1,0 +1,413 @@
+-- What one message more, and an end, make of the progress of a connection.
+use Rattle.std.proofs.Common.{◌≡◌, ◌<◌, ◌≤◌, ℕ, ◌+◌, Bool, true, false, List, [], ◌∷◌, ◌++◌, length, length-append, map, drop, Option, None, Some, refl, sym, ◌∙◌, ap, subst, append_assoc, inl, inr, arith}
+use Rattle.std.specs.Prelude.{IsFalse}
+use Rattle.std.specs.List.{flat_map}
+use Rattle.std.proofs.lemmas.List.{append-nil}
+use Rattle.std.proofs.lemmas.List.Elements.{All-nil}
+use Rattle.std.proofs.Math.Seq.{drop-append_seam}
+use Rattle.ss_desk.specs.Journal.{Begins}
+use mathlib.Core.Option.{some}
+use mathlib.Core.Option as maybe
+use lib.ListN.{get_elem?}
+use Rattle.ss_outside.specs.Told.{Meanings, HasRead, TakesFirst}
+use Rattle.ss_outside.specs.Causes.{Rose}
+use Rattle.ss_http.specs.declared.message.Message.{Message}
+use Rattle.ss_http.specs.declared.fault.MsgFault.{MsgFault}
+use Rattle.ss_http.specs.declared.fault.MsgFault.TheVariants as faults
+use Rattle.ss_http.specs.Messages.{Reads, ReadsMessage}
+use Rattle.ss_http.specs.Faults.{IsFaultOf}
+use Rattle.ss_http.specs.Buffers.{Kept}
+use Rattle.ss_http.specs.Reading.{EndsWith, RisesWith}
+use Rattle.ss_http.proofs.MessageLemmas.{reads_append}
+use Rattle.ss_route.specs.declared.routed.Local.{Local}
+use Rattle.ss_route.specs.Wire.{refusal_of}
+use Rattle.ss_connection.specs.Known.{Known, KnowsMore}
+use Rattle.ss_connection.specs.Sending.{WasSent, WasCut}
+use Rattle.ss_connection.specs.Turns.{Exchange, SaysEach, SaysTurn, closes, most_messages}
+use Rattle.ss_connection.specs.Calls.{added}
+use Rattle.ss_connection.specs.Ends.{AreReadings, GoesOn, Moves, Refusal, IsRefused, responses, readings, Served, EndsIn}
+use Rattle.ss_connection.specs.Progress.{Progress, Refuses, Stops, end_of}
+use Rattle.ss_connection.specs.declared.notes.End.{End}
+use Rattle.ss_connection.specs.declared.notes.End.TheVariants as ends
+use Rattle.ss_connection.specs.declared.notes.TurnNote.{TurnNote}
+use Rattle.ss_connection.proofs.Later.{each_later}
+use Rattle.ss_connection.proofs.Moving.{moves_none, moves_read, moves_write}
+use Rattle.ss_connection.proofs.Exchanges.{message_in, note_in, now_in, response_in, says_push, readings_push, clock_push, split_push, goes_push, sends_push, noted_push}
+
+no_exchange : (x : Exchange) (k : ℕ) → get_elem? {A = Exchange} [] k ≡ some x → ⊥
+no_exchange x k e = maybe.some-ne-none x (sym e)
+
+-- the beginning
+pub begun : (uids : List ℕ) (known : ℕ → Known) (link : Meanings) (coming : Option (List ℕ)) (turns : List TurnNote)
+    → Progress uids known link link coming coming (record { bytes = []; stop = None }) turns turns 0
+begun uids known link coming turns = record {
+  exchanges = [];
+  taken = [];
+  sent = [];
+  noted = sym (append-nil turns);
+  says = λ k x at. absurd (no_exchange x k at);
+  moves = moves_none link;
+  split = refl;
+  sends = refl;
+  clock = refl;
+  goes_on = All-nil (λ (x : Exchange). IsFalse x.message.last);
+  going_on = refl;
+  counted = refl;
+  within = omega arith;
+  read_faults = refl;
+  write_faults = refl;
+}
+
+-- one message more: what was read, and what its turn says
+pub record Answers (uids : List ℕ) (known : ℕ → Known) (link link' : Meanings) (coming coming' : Option (List ℕ)) (kept kept' : Kept) (count : ℕ) (message : Message) (note : TurnNote) (bytes : List ℕ) : Type 0 where
+  pub few : count < most_messages
+  pub got : List ℕ
+  pub read : HasRead got link link'
+  pub reads : ReadsMessage (kept.bytes ++ got) message kept'.bytes
+  pub going_on : kept'.stop ≡ None
+  pub quiet : link'.read_faults ≡ link.read_faults
+  pub reading : TakesFirst coming coming' note.now
+  pub says : SaysTurn uids known message note.now (closes count message) note.turn bytes
+
+abbrev pub exchange : Message → TurnNote → List ℕ → Exchange
+exchange message note bytes = record { message = message; note = note; response = bytes }
+
+module _ (uids : List ℕ) (known known' : ℕ → Known) (more : KnowsMore known known') (link link' link2 link3 : Meanings) (coming coming' coming2 : Option (List ℕ)) (kept kept' : Kept) (turns turns' : List TurnNote)
+    (count : ℕ) (message : Message) (note : TurnNote) (bytes : List ℕ) (p : Progress uids known link link' coming coming' kept turns turns' count)
+    (a : Answers uids known' link' link2 coming' coming2 kept kept' count message note bytes) where
+  says_one : SaysEach uids known' (p.exchanges ++ exchange message note bytes ∷ [])
+  says_one =
+      let S : ℕ → Type 0 = λ n. SaysTurn uids known' message note.now (closes n message) note.turn bytes in
+      says_push uids known' p.exchanges (exchange message note bytes) (each_later uids known known' more p.exchanges p.says) (subst S p.counted a.says)
+
+  long_one : length (p.exchanges ++ exchange message note bytes ∷ []) ≡ count + 1
+  long_one = omega (arith, p.counted, length-append p.exchanges (exchange message note bytes ∷ []))
+
+  few_one : length (p.exchanges ++ exchange message note bytes ∷ []) ≤ most_messages
+  few_one = let few = a.few in let e = long_one in omega arith
+
+  added_one : added turns (turns' ++ note ∷ []) ≡ map note_in (p.exchanges ++ exchange message note bytes ∷ [])
+  added_one = ap (drop (length turns)) (noted_push turns turns' p.exchanges (exchange message note bytes) p.noted) ∙ drop-append_seam turns (map note_in (p.exchanges ++ exchange message note bytes ∷ []))
+
+  -- it was answered, and the connection goes on
+  pub goes_on : WasSent bytes link2 link3 → message.last ≡ false → Progress uids known' link link3 coming coming2 kept' turns (turns' ++ note ∷ []) (count + 1)
+  goes_on sent stays = record {
+    exchanges = p.exchanges ++ exchange message note bytes ∷ [];
+    taken = p.taken ++ a.got;
+    sent = p.sent ++ bytes;
+    noted = noted_push turns turns' p.exchanges (exchange message note bytes) p.noted;
+    says = says_one;
+    moves = moves_write (p.taken ++ a.got) p.sent bytes link link2 link3 (moves_read p.taken p.sent a.got link link' link2 p.moves a.read) sent.write;
+    split = split_push p.taken a.got p.exchanges (exchange message note bytes) kept.bytes kept'.bytes p.split a.reads;
+    sends = sends_push p.sent p.exchanges (exchange message note bytes) p.sends;
+    clock = clock_push p.exchanges (exchange message note bytes) coming coming' coming2 p.clock a.reading;
+    goes_on = goes_push p.exchanges (exchange message note bytes) p.goes_on stays;
+    going_on = a.going_on;
+    counted = sym long_one;
+    within = (let few = a.few in omega arith);
+    read_faults = sent.write.read_faults ∙ (a.quiet ∙ p.read_faults);
+    write_faults = sent.faults ∙ (a.read.write_faults ∙ p.write_faults);
+  }
+
+  -- it was answered, and had asked to close
+  pub ended_asked : WasSent bytes link2 link3 → message.last ≡ true → Served uids known' ends.Asked link link3 coming coming2 (added turns (turns' ++ note ∷ []))
+  ended_asked sent closed = record {
+    exchanges = p.exchanges ++ exchange message note bytes ∷ [];
+    refusal = None;
+    taken = p.taken ++ a.got;
+    rest = kept'.bytes;
+    sent = p.sent ++ bytes;
+    noted = added_one;
+    says = says_one;
+    moves = moves_write (p.taken ++ a.got) p.sent bytes link link2 link3 (moves_read p.taken p.sent a.got link link' link2 p.moves a.read) sent.write;
+    split = split_push p.taken a.got p.exchanges (exchange message note bytes) kept.bytes kept'.bytes p.split a.reads;
+    sends = sends_push p.sent p.exchanges (exchange message note bytes) p.sends ∙ sym (append-nil (flat_map response_in (p.exchanges ++ exchange message note bytes ∷ [])));
+    clock = (let P : List ℕ → Type 0 = λ rs. AreReadings rs coming coming2 in
+        subst P (sym (append-nil (map now_in (p.exchanges ++ exchange message note bytes ∷ [])))) (clock_push p.exchanges (exchange message note bytes) coming coming' coming2 p.clock a.reading));
+    cause = (record { before = p.exchanges; last = exchange message note bytes; all = refl; goes_on = p.goes_on }, closed, refl);
+    faults = (sent.write.read_faults ∙ (a.quiet ∙ p.read_faults), sent.faults ∙ (a.read.write_faults ∙ p.write_faults));
+    fewer = few_one;
+  }
+
+  -- of its response a front was written
+  pub ended_cut : WasCut bytes link2 link3 → Served uids known' ends.WriteFault link link3 coming coming2 (added turns (turns' ++ note ∷ []))
+  ended_cut cut =
+      let R : ℕ → Type 0 = λ n. Rose n link3.write_faults in
+      record {
+        exchanges = p.exchanges ++ exchange message note bytes ∷ [];
+        refusal = None;
+        taken = p.taken ++ a.got;
+        rest = kept'.bytes;
+        sent = p.sent ++ cut.sent;
+        noted = added_one;
+        says = says_one;
+        moves = moves_write (p.taken ++ a.got) p.sent cut.sent link link2 link3 (moves_read p.taken p.sent a.got link link' link2 p.moves a.read) cut.write;
+        split = split_push p.taken a.got p.exchanges (exchange message note bytes) kept.bytes kept'.bytes p.split a.reads;
+        sends = (
+          cut.rest,
+          append-nil (flat_map response_in (p.exchanges ++ exchange message note bytes ∷ []))
+              ∙ (sym (sends_push p.sent p.exchanges (exchange message note bytes) p.sends)
+              ∙ (ap (λ l. p.sent ++ l) cut.cut ∙ sym (append_assoc p.sent cut.sent cut.rest))),
+        );
+        clock = (let P : List ℕ → Type 0 = λ rs. AreReadings rs coming coming2 in
+            subst P (sym (append-nil (map now_in (p.exchanges ++ exchange message note bytes ∷ [])))) (clock_push p.exchanges (exchange message note bytes) coming coming' coming2 p.clock a.reading));
+        cause = (
+          subst R (a.read.write_faults ∙ p.write_faults) cut.rose,
+          inl (record { before = p.exchanges; last = exchange message note bytes; all = refl; goes_on = p.goes_on }, refl),
+        );
+        faults = cut.write.read_faults ∙ (a.quiet ∙ p.read_faults);
+        fewer = few_one;
+      }
+
+-- a fault that is answered is none of the source
+quiet : (fault : MsgFault) (local : Local) (before now : ℕ) → refusal_of fault ≡ Some local → RisesWith fault before now → now ≡ before
+quiet faults.End local before now answered rises = rises
+quiet faults.Cut local before now answered rises = rises
+quiet faults.BadHead local before now answered rises = rises
+quiet faults.HeadTooLong local before now answered rises = rises
+quiet faults.Coded local before now answered rises = rises
+quiet faults.BadLength local before now answered rises = rises
+quiet (faults.TooLarge n) local before now answered rises = rises
+quiet faults.ReadFault local before now answered rises = cc
+quiet faults.Memory local before now answered rises = rises
+
+-- the next bytes have a fault
+pub record Faults (link link' : Meanings) (kept : Kept) (count : ℕ) (fault : MsgFault) : Type 0 where
+  pub few : count < most_messages
+  pub got : List ℕ
+  pub read : HasRead got link link'
+  pub is : IsFaultOf fault (kept.bytes ++ got)
+  pub ended : EndsWith fault link'
+  pub rises : RisesWith fault link.read_faults link'.read_faults
+
+module _ (uids : List ℕ) (known : ℕ → Known) (link link' link2 link3 : Meanings) (coming coming' coming2 : Option (List ℕ)) (kept : Kept) (turns turns' : List TurnNote) (count : ℕ) (fault : MsgFault)
+    (p : Progress uids known link link' coming coming' kept turns turns' count) where
+  added_none : added turns turns' ≡ map note_in p.exchanges
+  added_none = ap (drop (length turns)) p.noted ∙ drop-append_seam turns (map note_in p.exchanges)
+
+  few_none : count < most_messages → length p.exchanges < most_messages
+  few_none few = let e = p.counted in omega arith
+
+  clock_none : AreReadings (readings p.exchanges None) coming coming'
+  clock_none = let P : List ℕ → Type 0 = λ rs. AreReadings rs coming coming' in subst P (sym (append-nil (map now_in p.exchanges))) p.clock
+
+  sends_none : p.sent ≡ responses p.exchanges None
+  sends_none = p.sends ∙ sym (append-nil (flat_map response_in p.exchanges))
+
+  module _ (f : Faults link' link2 kept count fault) where
+    split_more : Reads (p.taken ++ f.got) (map message_in p.exchanges) (kept.bytes ++ f.got)
+    split_more = reads_append p.taken f.got (map message_in p.exchanges) kept.bytes p.split
+
+    module _ (now : ℕ) (bytes : List ℕ) (r : Refuses fault now coming' coming2 bytes) where
+      is_refused : IsRefused (kept.bytes ++ f.got) (record { fault = fault; now = now; response = bytes })
+      is_refused = record { cause = f.is; local = r.local; answered = r.answered; response = r.response }
+
+      clock_refused : AreReadings (map now_in p.exchanges ++ now ∷ []) coming coming2
+      clock_refused = readings_push (map now_in p.exchanges) now coming coming' coming2 p.clock r.reading
+
+      -- the refusal was sent
+      ended_refusing : WasSent bytes link2 link3 → Served uids known (ends.BadMessage now) link link3 coming coming2 (added turns turns')
+      ended_refusing sent = record {
+        exchanges = p.exchanges;
+        refusal = Some (record { fault = fault; now = now; response = bytes });
+        taken = p.taken ++ f.got;
+        rest = kept.bytes ++ f.got;
+        sent = p.sent ++ bytes;
+        noted = added_none;
+        says = p.says;
+        moves = moves_write (p.taken ++ f.got) p.sent bytes link link2 link3 (moves_read p.taken p.sent f.got link link' link2 p.moves f.read) sent.write;
+        split = split_more;
+        sends = ap (λ l. l ++ bytes) p.sends;
+        clock = clock_refused;
+        cause = (record { fault = fault; now = now; response = bytes }, refl, refl, is_refused, p.goes_on);
+        faults = (
+          sent.write.read_faults ∙ (quiet fault r.local link'.read_faults link2.read_faults r.answered f.rises ∙ p.read_faults),
+          sent.faults ∙ (f.read.write_faults ∙ p.write_faults),
+        );
+        fewer = few_none f.few;
+      }
+
+      -- a front of it was
+      ended_refusing_in_part : WasCut bytes link2 link3 → Served uids known ends.WriteFault link link3 coming coming2 (added turns turns')
+      ended_refusing_in_part cut =
+          let R : ℕ → Type 0 = λ n. Rose n link3.write_faults in
+          record {
+            exchanges = p.exchanges;
+            refusal = Some (record { fault = fault; now = now; response = bytes });
+            taken = p.taken ++ f.got;
+            rest = kept.bytes ++ f.got;
+            sent = p.sent ++ cut.sent;
+            noted = added_none;
+            says = p.says;
+            moves = moves_write (p.taken ++ f.got) p.sent cut.sent link link2 link3 (moves_read p.taken p.sent f.got link link' link2 p.moves f.read) cut.write;
+            split = split_more;
+            sends = (
+              cut.rest,
+              ap (λ l. l ++ bytes) (sym p.sends) ∙ (ap (λ l. p.sent ++ l) cut.cut ∙ sym (append_assoc p.sent cut.sent cut.rest)),
+            );
+            clock = clock_refused;
+            cause = (
+              subst R (f.read.write_faults ∙ p.write_faults) cut.rose,
+              inr (record { fault = fault; now = now; response = bytes }, refl, is_refused, p.goes_on),
+            );
+            faults = cut.write.read_faults ∙ (quiet fault r.local link'.read_faults link2.read_faults r.answered f.rises ∙ p.read_faults);
+            fewer = (let few : length p.exchanges < most_messages = few_none f.few in let e : length p.exchanges ≤ most_messages = omega arith in e);
+          }
+
+-- the input ended or failed, or no memory was found for the message
+ended_unanswered : (uids : List ℕ) (known : ℕ → Known) (link link' link2 : Meanings) (coming coming' : Option (List ℕ)) (kept : Kept) (turns turns' : List TurnNote) (count : ℕ) (fault : MsgFault)
+    → Progress uids known link link' coming coming' kept turns turns' count → Faults link' link2 kept count fault → refusal_of fault ≡ None
+    → Served uids known (end_of fault) link link2 coming coming' (added turns turns')
+ended_unanswered uids known link link' link2 coming coming' kept turns turns' count faults.End p f none = record {
+  exchanges = p.exchanges;
+  refusal = None;
+  taken = p.taken ++ f.got;
+  rest = kept.bytes ++ f.got;
+  sent = p.sent;
+  noted = added_none uids known link link' link2 link2 coming coming' coming' kept turns turns' count faults.End p;
+  says = p.says;
+  moves = moves_read p.taken p.sent f.got link link' link2 p.moves f.read;
+  split = reads_append p.taken f.got (map message_in p.exchanges) kept.bytes p.split;
+  sends = sends_none uids known link link' link2 link2 coming coming' coming' kept turns turns' count faults.End p;
+  clock = clock_none uids known link link' link2 link2 coming coming' coming' kept turns turns' count faults.End p;
+  cause = (f.is, f.ended, p.goes_on, refl);
+  faults = (f.rises ∙ p.read_faults, f.read.write_faults ∙ p.write_faults);
+  fewer = few_none uids known link link' link2 link2 coming coming' coming' kept turns turns' count faults.End p f.few;
+}
+ended_unanswered uids known link link' link2 coming coming' kept turns turns' count faults.Cut p f none = record {
+  exchanges = p.exchanges;
+  refusal = None;
+  taken = p.taken ++ f.got;
+  rest = kept.bytes ++ f.got;
+  sent = p.sent;
+  noted = added_none uids known link link' link2 link2 coming coming' coming' kept turns turns' count faults.Cut p;
+  says = p.says;
+  moves = moves_read p.taken p.sent f.got link link' link2 p.moves f.read;
+  split = reads_append p.taken f.got (map message_in p.exchanges) kept.bytes p.split;
+  sends = sends_none uids known link link' link2 link2 coming coming' coming' kept turns turns' count faults.Cut p;
+  clock = clock_none uids known link link' link2 link2 coming coming' coming' kept turns turns' count faults.Cut p;
+  cause = (f.is, f.ended, p.goes_on, refl);
+  faults = (f.rises ∙ p.read_faults, f.read.write_faults ∙ p.write_faults);
+  fewer = few_none uids known link link' link2 link2 coming coming' coming' kept turns turns' count faults.Cut p f.few;
+}
+ended_unanswered uids known link link' link2 coming coming' kept turns turns' count faults.ReadFault p f none = record {
+  exchanges = p.exchanges;
+  refusal = None;
+  taken = p.taken ++ f.got;
+  rest = kept.bytes ++ f.got;
+  sent = p.sent;
+  noted = added_none uids known link link' link2 link2 coming coming' coming' kept turns turns' count faults.ReadFault p;
+  says = p.says;
+  moves = moves_read p.taken p.sent f.got link link' link2 p.moves f.read;
+  split = reads_append p.taken f.got (map message_in p.exchanges) kept.bytes p.split;
+  sends = sends_none uids known link link' link2 link2 coming coming' coming' kept turns turns' count faults.ReadFault p;
+  clock = clock_none uids known link link' link2 link2 coming coming' coming' kept turns turns' count faults.ReadFault p;
+  cause = ((let P : ℕ → Type 0 = λ n. Rose n link2.read_faults in subst P p.read_faults f.rises), p.goes_on, refl);
+  faults = f.read.write_faults ∙ p.write_faults;
+  fewer = few_none uids known link link' link2 link2 coming coming' coming' kept turns turns' count faults.ReadFault p f.few;
+}
+ended_unanswered uids known link link' link2 coming coming' kept turns turns' count faults.Memory p f none = record {
+  exchanges = p.exchanges;
+  refusal = None;
+  taken = p.taken ++ f.got;
+  rest = kept.bytes ++ f.got;
+  sent = p.sent;
+  noted = added_none uids known link link' link2 link2 coming coming' coming' kept turns turns' count faults.Memory p;
+  says = p.says;
+  moves = moves_read p.taken p.sent f.got link link' link2 p.moves f.read;
+  split = reads_append p.taken f.got (map message_in p.exchanges) kept.bytes p.split;
+  sends = sends_none uids known link link' link2 link2 coming coming' coming' kept turns turns' count faults.Memory p;
+  clock = clock_none uids known link link' link2 link2 coming coming' coming' kept turns turns' count faults.Memory p;
+  cause = (p.goes_on, refl);
+  faults = (f.rises ∙ p.read_faults, f.read.write_faults ∙ p.write_faults);
+  fewer = few_none uids known link link' link2 link2 coming coming' coming' kept turns turns' count faults.Memory p f.few;
+}
+ended_unanswered uids known link link' link2 coming coming' kept turns turns' count faults.BadHead p f none = cc
+ended_unanswered uids known link link' link2 coming coming' kept turns turns' count faults.HeadTooLong p f none = cc
+ended_unanswered uids known link link' link2 coming coming' kept turns turns' count faults.Coded p f none = cc
+ended_unanswered uids known link link' link2 coming coming' kept turns turns' count faults.BadLength p f none = cc
+ended_unanswered uids known link link' link2 coming coming' kept turns turns' count (faults.TooLarge n) p f none = cc
+
+-- nothing was written, the clock wasn't read, and the end is the fault's
+unanswered : (uids : List ℕ) (known : ℕ → Known) (link link' link2 link3 : Meanings) (coming coming' coming2 : Option (List ℕ)) (kept : Kept) (turns turns' : List TurnNote) (count : ℕ) (fault : MsgFault) (end : End)
+    → Progress uids known link link' coming coming' kept turns turns' count → Faults link' link2 kept count fault
+    → (refusal_of fault ≡ None) × (end ≡ end_of fault) × (link3 ≡ link2) × (coming2 ≡ coming')
+    → Served uids known end link link3 coming coming2 (added turns turns')
+unanswered uids known link link' link2 link3 coming coming' coming2 kept turns turns' count fault end p f stops =
+    let E : End → Type 0 = λ e. Served uids known e link link3 coming coming2 (added turns turns') in
+    let M : Meanings → Type 0 = λ m. Served uids known (end_of fault) link m coming coming2 (added turns turns') in
+    let C : Option (List ℕ) → Type 0 = λ c. Served uids known (end_of fault) link link2 coming c (added turns turns') in
+    subst E (sym stops.1) (subst M (sym stops.2) (subst C (sym stops.3)
+    (ended_unanswered uids known link link' link2 coming coming' kept turns turns' count fault p f stops.0)))
+
+-- the connection stopped as a message was to be read
+pub stopped : (uids : List ℕ) (known : ℕ → Known) (link link' link2 link3 : Meanings) (coming coming' coming2 : Option (List ℕ)) (kept : Kept) (turns turns' : List TurnNote) (count : ℕ) (fault : MsgFault) (end : End)
+    → Progress uids known link link' coming coming' kept turns turns' count → Faults link' link2 kept count fault
+    → Stops end fault link2 link3 coming' coming2 → Served uids known end link link3 coming coming2 (added turns turns')
+stopped uids known link link' link2 link3 coming coming' coming2 kept turns turns' count fault (ends.BadMessage now) p f stops =
+    ended_refusing uids known link link' link2 link3 coming coming' coming2 kept turns turns' count fault p f now stops.0 stops.1 stops.2
+stopped uids known link link' link2 link3 coming coming' coming2 kept turns turns' count fault ends.WriteFault p f stops =
+    ended_refusing_in_part uids known link link' link2 link3 coming coming' coming2 kept turns turns' count fault p f stops.1 stops.0 stops.2 stops.3
+stopped uids known link link' link2 link3 coming coming' coming2 kept turns turns' count fault ends.Closed p f stops =
+    unanswered uids known link link' link2 link3 coming coming' coming2 kept turns turns' count fault ends.Closed p f stops
+stopped uids known link link' link2 link3 coming coming' coming2 kept turns turns' count fault ends.Asked p f stops =
+    unanswered uids known link link' link2 link3 coming coming' coming2 kept turns turns' count fault ends.Asked p f stops
+stopped uids known link link' link2 link3 coming coming' coming2 kept turns turns' count fault ends.Count p f stops =
+    unanswered uids known link link' link2 link3 coming coming' coming2 kept turns turns' count fault ends.Count p f stops
+stopped uids known link link' link2 link3 coming coming' coming2 kept turns turns' count fault ends.Cut p f stops =
+    unanswered uids known link link' link2 link3 coming coming' coming2 kept turns turns' count fault ends.Cut p f stops
+stopped uids known link link' link2 link3 coming coming' coming2 kept turns turns' count fault ends.ReadFault p f stops =
+    unanswered uids known link link' link2 link3 coming coming' coming2 kept turns turns' count fault ends.ReadFault p f stops
+stopped uids known link link' link2 link3 coming coming' coming2 kept turns turns' count fault ends.Memory p f stops =
+    unanswered uids known link link' link2 link3 coming coming' coming2 kept turns turns' count fault ends.Memory p f stops
+
+module _ (uids : List ℕ) (known : ℕ → Known) (link link' : Meanings) (coming coming' : Option (List ℕ)) (kept : Kept) (turns turns' : List TurnNote) (count : ℕ)
+    (p : Progress uids known link link' coming coming' kept turns turns' count) where
+  -- as many messages were answered as may be
+  pub ended_counting : most_messages ≤ count → Served uids known ends.Count link link' coming coming' (added turns turns')
+  ended_counting full =
+      let most : count ≤ most_messages = p.within in
+      let long : length p.exchanges ≡ most_messages = (let e = p.counted in omega arith) in
+      record {
+        exchanges = p.exchanges;
+        refusal = None;
+        taken = p.taken;
+        rest = kept.bytes;
+        sent = p.sent;
+        noted = added_none uids known link link' link' link' coming coming' coming' kept turns turns' count faults.End p;
+        says = p.says;
+        moves = p.moves;
+        split = p.split;
+        sends = sends_none uids known link link' link' link' coming coming' coming' kept turns turns' count faults.End p;
+        clock = clock_none uids known link link' link' link' coming coming' coming' kept turns turns' count faults.End p;
+        cause = (long, p.goes_on, refl);
+        faults = (p.read_faults, p.write_faults);
+        fewer = omega arith;
+      }
+
+  -- no memory was found for one turn more
+  pub ended_early : count < most_messages → Served uids known ends.Memory link link' coming coming' (added turns turns')
+  ended_early few = record {
+    exchanges = p.exchanges;
+    refusal = None;
+    taken = p.taken;
+    rest = kept.bytes;
+    sent = p.sent;
+    noted = added_none uids known link link' link' link' coming coming' coming' kept turns turns' count faults.End p;
+    says = p.says;
+    moves = p.moves;
+    split = p.split;
+    sends = sends_none uids known link link' link' link' coming coming' coming' kept turns turns' count faults.End p;
+    clock = clock_none uids known link link' link' link' coming coming' coming' kept turns turns' count faults.End p;
+    cause = (p.goes_on, refl);
+    faults = (p.read_faults, p.write_faults);
+    fewer = few_none uids known link link' link' link' coming coming' coming' kept turns turns' count faults.End p few;
+  }
+
+  -- the turns were added to those that were there
+  pub begins : Begins turns turns'
+  begins = (map note_in p.exchanges, p.noted)
+
+-- no memory was found for the connection
+pub unserved : (uids : List ℕ) (known : ℕ → Known) (link : Meanings) (coming : Option (List ℕ)) (turns : List TurnNote) → Served uids known ends.Memory link link coming coming (added turns turns)
+unserved uids known link coming turns = ended_early uids known link link coming coming (record { bytes = []; stop = None }) turns turns 0 (begun uids known link coming turns) (omega arith)

@@ -1,0 +1,118 @@
+-- What a connection is: its messages and their responses in order, what was taken from its link, and how it ended.
+use Rattle.std.specs.Prelude.{◌≡◌, ◌<◌, ◌≤◌, ◌⊎◌, ℕ, Bool, true, List, [], ◌∷◌, ◌++◌, length, map, Option, None, Some, All, IsTrue, IsFalse, if◌then◌else◌, ⊤}
+use Rattle.std.specs.List.{flat_map}
+use Rattle.std.specs.Option.{option_map_or}
+use Rattle.ss_outside.specs.Told.{Meanings, IsUsedUp, Takes, Loses, Writes, TakesFirst}
+use Rattle.ss_outside.specs.Causes.{Rose}
+use Rattle.ss_http.specs.declared.fault.MsgFault.{MsgFault}
+use Rattle.ss_http.specs.declared.fault.MsgFault.TheVariants as faults
+use Rattle.ss_http.specs.declared.message.Message.{Message}
+use Rattle.ss_http.specs.Faults.{IsFaultOf}
+use Rattle.ss_http.specs.Messages.{Reads}
+use Rattle.ss_http.specs.Responses.{memory_response}
+use Rattle.ss_route.specs.declared.routed.Local.{Local}
+use Rattle.ss_route.specs.Wire.{local_wire, refusal_of}
+use Rattle.ss_connection.specs.Known.{Known}
+use Rattle.ss_connection.specs.Sending.{clamped, OrMemory}
+use Rattle.ss_connection.specs.Turns.{Exchange, SaysEach, most_messages}
+use Rattle.ss_connection.specs.declared.notes.End.{End}
+use Rattle.ss_connection.specs.declared.notes.End.TheVariants as ends
+use Rattle.ss_connection.specs.declared.notes.TurnNote.{TurnNote}
+
+-- reads brought these bytes, and writes took those
+pub record Moves (got sent : List ℕ) (link link' : Meanings) : Type 0 where
+  pub taken : Takes got link.taken link'.taken
+  pub left : Loses got link.left link'.left
+  pub written : Writes sent link.written link'.written
+  pub idle : sent ≡ [] → link'.written ≡ link.written
+
+-- these readings were taken of a clock, one after the other
+abbrev pub AreReadings : List ℕ → Option (List ℕ) → Option (List ℕ) → Type 0
+AreReadings [] coming coming' = coming' ≡ coming
+AreReadings (now ∷ readings) coming coming' = (between : Option (List ℕ)) × TakesFirst coming between now × AreReadings readings between coming'
+
+-- bytes that are no message and were refused: why, the reading of the clock then, and the response
+pub record Refusal : Type 0 where
+  pub fault : MsgFault
+  pub now : ℕ
+  pub response : List ℕ
+
+-- The bytes behind the messages have a fault that is answered, and this is the response; it closes the connection
+pub record IsRefused (rest : List ℕ) (refusal : Refusal) : Type 0 where
+  pub cause : IsFaultOf refusal.fault rest
+  pub local : Local
+  pub answered : refusal_of refusal.fault ≡ Some local
+  pub response : OrMemory (local_wire local (clamped refusal.now) true) (clamped refusal.now) true refusal.response
+
+-- the responses of a connection, in order, the one to refused bytes at their end
+abbrev pub responses : List Exchange → Option Refusal → List ℕ
+responses exchanges refusal = flat_map (λ x. x.response) exchanges ++ option_map_or (λ refused. refused.response) refusal []
+
+-- the readings of the clock, one for each response
+abbrev pub readings : List Exchange → Option Refusal → List ℕ
+readings exchanges refusal = map (λ x. x.note.now) exchanges ++ option_map_or (λ refused. refused.now ∷ []) refusal []
+
+-- no message so far asked to close
+abbrev pub GoesOn : List Exchange → Type 0
+GoesOn exchanges = All (λ x. IsFalse x.message.last) exchanges
+
+-- there is a last message, and none before it asked to close
+pub record EndsIn (exchanges : List Exchange) : Type 0 where
+  pub before : List Exchange
+  pub last : Exchange
+  pub all : exchanges ≡ before ++ last ∷ []
+  pub goes_on : GoesOn before
+
+-- The cause of an end: the messages, the refusal, the bytes behind the messages, and what the link tells
+abbrev pub Cause : End → List Exchange → Option Refusal → List ℕ → Meanings → Meanings → Type 0
+Cause ends.Closed exchanges refusal rest link link' = (rest ≡ []) × IsUsedUp link' × GoesOn exchanges × (refusal ≡ None)
+Cause ends.Asked exchanges refusal rest link link' = (end : EndsIn exchanges) × IsTrue end.last.message.last × (refusal ≡ None)
+Cause ends.Count exchanges refusal rest link link' = (length exchanges ≡ most_messages) × GoesOn exchanges × (refusal ≡ None)
+Cause ends.Cut exchanges refusal rest link link' = IsFaultOf faults.Cut rest × IsUsedUp link' × GoesOn exchanges × (refusal ≡ None)
+Cause (ends.BadMessage now) exchanges refusal rest link link' =
+    (refused : Refusal) × (refusal ≡ Some refused) × (refused.now ≡ now) × IsRefused rest refused × GoesOn exchanges
+Cause ends.ReadFault exchanges refusal rest link link' = Rose link.read_faults link'.read_faults × GoesOn exchanges × (refusal ≡ None)
+Cause ends.WriteFault exchanges refusal rest link link' =
+    Rose link.write_faults link'.write_faults
+    × ((EndsIn exchanges × (refusal ≡ None)) ⊎ ((refused : Refusal) × (refusal ≡ Some refused) × IsRefused rest refused × GoesOn exchanges))
+Cause ends.Memory exchanges refusal rest link link' = GoesOn exchanges × (refusal ≡ None)
+
+-- what was written of the responses: all; after a failure of the link a front
+abbrev pub Sends : End → List ℕ → List ℕ → Type 0
+Sends ends.WriteFault sent whole = (rest : List ℕ) × (whole ≡ sent ++ rest)
+Sends _ sent whole = sent ≡ whole
+
+-- the link's counts of faults stand where they stood, but for the one that the end tells of
+abbrev pub Unfaulted : End → Meanings → Meanings → Type 0
+Unfaulted ends.ReadFault link link' = link'.write_faults ≡ link.write_faults
+Unfaulted ends.WriteFault link link' = link'.read_faults ≡ link.read_faults
+Unfaulted _ link link' = (link'.read_faults ≡ link.read_faults) × (link'.write_faults ≡ link.write_faults)
+
+-- how many messages there were: who looked for one more had answered fewer than may be
+abbrev pub IsFewer : End → ℕ → Type 0
+IsFewer ends.Asked count = count ≤ most_messages
+IsFewer ends.Count count = count ≤ most_messages
+IsFewer ends.WriteFault count = count ≤ most_messages
+IsFewer _ count = count < most_messages
+
+-- A connection that had these turns, over what is known of the accounts. Whoever knows more of them can say it too (`served_later`)
+pub record Served (uids : List ℕ) (known : ℕ → Known) (end : End) (link link' : Meanings) (coming coming' : Option (List ℕ)) (notes : List TurnNote) : Type 0 where
+  pub exchanges : List Exchange
+  pub refusal : Option Refusal
+  pub taken : List ℕ
+  pub rest : List ℕ
+  pub sent : List ℕ
+  -- The turns are those of the messages, and each response is what its turn says.
+  pub noted : notes ≡ map (λ x. x.note) exchanges
+  pub says : SaysEach uids known exchanges
+  -- What was taken from the link are the messages, and then the rest, of which the cause tells.
+  pub moves : Moves taken sent link link'
+  pub split : Reads taken (map (λ x. x.message) exchanges) rest
+  -- What was written to it are the responses, in order.
+  pub sends : Sends end sent (responses exchanges refusal)
+  -- The clock's readings are one for each response.
+  pub clock : AreReadings (readings exchanges refusal) coming coming'
+  -- Why it ended.
+  pub cause : Cause end exchanges refusal rest link link'
+  pub faults : Unfaulted end link link'
+  pub fewer : IsFewer end (length exchanges)

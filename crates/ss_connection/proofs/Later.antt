@@ -25,10 +25,10 @@ pub knows_itself : (known : ℕ → Known) → KnowsMore known known
 knows_itself known = record { number = λ i. refl; fixed = λ i. refl; journal = λ i. begins_itself (known i).journal }
 
 pub knows_then : (known known' known2 : ℕ → Known) → KnowsMore known known' → KnowsMore known' known2 → KnowsMore known known2
-knows_then known known' known2 first then = record {
-  number = λ i. then.number i ∙ first.number i;
-  fixed = λ i. then.fixed i ∙ first.fixed i;
-  journal = λ i. begins_then (known i).journal (known' i).journal (known2 i).journal (first.journal i) (then.journal i);
+knows_then known known' known2 first next = record {
+  number = λ i. next.number i ∙ first.number i;
+  fixed = λ i. next.fixed i ∙ first.fixed i;
+  journal = λ i. begins_then (known i).journal (known' i).journal (known2 i).journal (first.journal i) (next.journal i);
 }
 
 -- a journal's front up to a place stays

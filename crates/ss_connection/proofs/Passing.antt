@@ -197,7 +197,7 @@ module _ {T : Type 0} (uids : List ℕ) where
 
   -- turns one after the other
   pub enters_then : (ps qs rs : List (RawPass T Terms Entry)) (notes more : List TurnNote) → Enters uids ps qs notes → Enters uids qs rs more → Enters uids ps rs (notes ++ more)
-  enters_then ps qs rs notes more first then = λ i uid at.
-      then i uid at ∙ (ap (λ l. l ++ calls_to uid more) (first i uid at)
+  enters_then ps qs rs notes more first next = λ i uid at.
+      next i uid at ∙ (ap (λ l. l ++ calls_to uid more) (first i uid at)
       ∙ (append_assoc (own_tickets (known_by ps i)) (calls_to uid notes) (calls_to uid more)
       ∙ ap (λ l. own_tickets (known_by ps i) ++ l) (sym (flat_map-append (λ (note : TurnNote). call_to uid note.turn) notes more))))

@@ -3,13 +3,10 @@
 //! one-account API's reply at the place of that account's journal that bears the turn's ticket; and each end and turn has its cause.
 #![tactic(auto)]
 
-mod answering;
 mod connection;
 mod limits;
 mod notes;
 mod response;
-#[cfg(test)]
-mod tests;
 
 pub use connection::serve_connection;
 pub use limits::MOST_MESSAGES;

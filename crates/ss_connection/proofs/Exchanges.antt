@@ -4,6 +4,7 @@ use Rattle.std.specs.Prelude.{IsFalse}
 use Rattle.std.proofs.lemmas.List.{append-nil, map-append, drop-append-le}
 use Rattle.std.proofs.lemmas.List.Elements.{All-push}
 use Rattle.std.proofs.lemmas.Grind.{flat_map-append}
+use Rattle.std.proofs.Math.Seq.{drop-append_seam}
 use Rattle.std.specs.List.{flat_map}
 use mathlib.Core.Option.{some}
 use lib.ListN.{get_elem?}
@@ -78,3 +79,7 @@ pub added_push : (turns turns' : List TurnNote) (note : TurnNote) → Begins tur
 added_push turns turns' note begins =
     let within : length turns ≤ length turns' = omega (arith, ap length begins.1, length-append turns begins.0) in
     drop-append-le (length turns) turns' (note ∷ []) within
+
+-- where none was added
+pub added_nothing : (turns : List TurnNote) → added turns turns ≡ []
+added_nothing turns = ap (drop (length turns)) (sym (append-nil turns)) ∙ drop-append_seam turns []

@@ -26,10 +26,11 @@ use Rattle.ss_booked.specs.declared.booked.Terms.{Terms}
 use Rattle.ss_booked.specs.Turns.{ask_of, full_on, journal_on, IsLegalOn, RepliesLast}
 use Rattle.ss_connection.specs.Known.{Known, KnowsMore, known_by, SeeMore}
 use Rattle.ss_connection.specs.Turns.{Called, WasFull}
-use Rattle.ss_connection.specs.Calls.{call_to, calls_to, own_tickets, Enters}
+use Rattle.ss_connection.specs.Calls.{added, call_to, calls_to, own_tickets, Enters}
 use Rattle.ss_connection.specs.declared.notes.Turn.{Turn}
 use Rattle.ss_connection.specs.declared.notes.Turn.TheVariants as turns
 use Rattle.ss_connection.specs.declared.notes.TurnNote.{TurnNote}
+use Rattle.ss_connection.proofs.Exchanges.{added_push, added_nothing}
 
 -- a call of an account that was entered, and one that found its journal full
 abbrev pub IsEntered : View Terms Entry → View Terms Entry → ℕ → Asked → Reply → Type 0
@@ -201,3 +202,12 @@ module _ {T : Type 0} (uids : List ℕ) where
       next i uid at ∙ (ap (λ l. l ++ calls_to uid more) (first i uid at)
       ∙ (append_assoc (own_tickets (known_by ps i)) (calls_to uid notes) (calls_to uid more)
       ∙ ap (λ l. own_tickets (known_by ps i) ++ l) (sym (flat_map-append (λ (note : TurnNote). call_to uid note.turn) notes more))))
+
+  -- where no turn was added, and where one was
+  pub enters_nothing : (ps : List (RawPass T Terms Entry)) (turns : List TurnNote) → Enters uids ps ps (added turns turns)
+  enters_nothing ps turns = enters_none ps (added turns turns) (λ uid. ap (calls_to uid) (added_nothing turns))
+
+  pub enters_push : (ps qs rs : List (RawPass T Terms Entry)) (turns turns' : List TurnNote) (note : TurnNote) → Begins turns turns'
+      → Enters uids ps qs (added turns turns') → Enters uids qs rs (note ∷ []) → Enters uids ps rs (added turns (turns' ++ note ∷ []))
+  enters_push ps qs rs turns turns' note begins first one =
+      subst (λ notes. Enters uids ps rs notes) (sym (added_push turns turns' note begins)) (enters_then ps qs rs (added turns turns') (note ∷ []) first one)

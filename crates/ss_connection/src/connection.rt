@@ -10,14 +10,53 @@ ghost use Rattle.ss_connection.specs.Turns.{closes};
 ghost use Rattle.ss_connection.specs.Ends.{Served};
 ghost use Rattle.ss_connection.specs.Progress.{end_of, Stops};
 
+use crate::answering::answer;
+use crate::limits::MOST_MESSAGES;
 use crate::notes::{End, TurnNote};
+use crate::response::Response;
 use ss_booked::Booked;
+use ss_http::{Buffer, Message, MsgFault, read_message};
 use ss_keeper::Keeper;
 use ss_links::Gate;
 use ss_outside::{Clock, Sink, Source};
+use ss_route::refused;
 use ss_town::{Passes, Town};
 use std::alloc::Global;
 use std::sync::Wait;
+
+/// Whether the response to a message closes, before which so many were answered.
+fn closes(count: u64, message: &Message) -> bool
+    requires { count < MOST_MESSAGES }
+    ensures { result ≡ closes count message.now }
+{
+    message.last || count + 1 == MOST_MESSAGES
+}
+
+/// The end to which a fault leads that isn't answered.
+fn end_of(fault: MsgFault) -> End
+    ensures { result ≡ end_of fault }
+{
+    match fault {
+        MsgFault::End => End::Closed,
+        MsgFault::Cut => End::Cut,
+        MsgFault::ReadFault => End::ReadFault,
+        _ => End::Memory,
+    }
+}
+
+/// Ends a connection whose next bytes have a fault: those that are no message are answered by a refusal, which takes a reading.
+fn stop<L: Sink, C: Clock>(alloc: Global, fault: MsgFault, link: &mut L, clock: &mut C) -> End
+    ensures { Stops result fault (L.Told.told link.old) (L.Told.told link.new) (C.coming clock.old) (C.coming clock.new) }
+{
+    let Some(local) = refused(fault) else {
+        return end_of(fault);
+    };
+    let now = clock.now();
+    match Response::to_local(alloc, &local, now, true).write(link) {
+        Ok(()) => End::BadMessage { now },
+        Err(_) => End::WriteFault,
+    }
+}
 
 /// Answers the messages of a link, one reading of the clock and one turn each, until one of the connection's ends. The worker passes
 /// the gate with its own number and the number of the message, both from 0, after each message was read. The turns are added to those
@@ -45,5 +84,29 @@ pub fn serve_connection<L: Source + Sink, C: Clock, K: Keeper + Drop, G: Gate, R
     // The passes' new entries are those of the calls, in order, account by account.
     ensures enters { Enters (uids_of town.now) (passes_of passes.old) (passes_of passes.new) (added turns.old.items turns.new.items) }
 {
-    End::Memory
+    let Ok(mut buffer) = Buffer::new(alloc) else {
+        return End::Memory;
+    };
+    'messages: for count in 0..MOST_MESSAGES {
+        if turns.reserve(1).is_err() {
+            return End::Memory;
+        }
+        let message = match read_message(alloc, &mut buffer, link) {
+            Ok(message) => message,
+            Err(fault) => return stop(alloc, fault, link, clock),
+        };
+        let now = clock.now();
+        gate.pass(worker, count);
+        let last = closes(count, &message);
+        let (turn, response) = answer(rt, alloc, town, passes, now, last, &message);
+        turns.push_reserved(TurnNote { now, turn });
+        match response.write(link) {
+            Ok(()) => {}
+            Err(_) => return End::WriteFault,
+        }
+        if message.last {
+            return End::Asked;
+        }
+    }
+    End::Count
 }

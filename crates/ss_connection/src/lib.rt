@@ -3,6 +3,7 @@
 //! one-account API's reply at the place of that account's journal that bears the turn's ticket; and each end and turn has its cause.
 #![tactic(auto)]
 
+mod answering;
 mod connection;
 mod limits;
 mod notes;

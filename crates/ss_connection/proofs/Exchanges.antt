@@ -17,7 +17,7 @@ use Rattle.ss_http.proofs.MessageLemmas.{reads_append, reads_further}
 use Rattle.ss_connection.specs.Known.{Known}
 use Rattle.ss_connection.specs.Turns.{Exchange, SaysEach, SaysTurn, closes}
 use Rattle.ss_connection.specs.Calls.{added}
-use Rattle.ss_connection.specs.Ends.{AreReadings, GoesOn}
+use Rattle.ss_connection.specs.Ends.{AreRead, AreReadings, GoesOn}
 use Rattle.ss_connection.specs.declared.notes.TurnNote.{TurnNote}
 
 abbrev pub message_in : Exchange → Message
@@ -31,6 +31,9 @@ now_in x = x.note.now
 
 abbrev pub response_in : Exchange → List ℕ
 response_in x = x.response
+
+abbrev pub got_in : Exchange → List ℕ
+got_in x = x.got
 
 pub says_push : (uids : List ℕ) (known : ℕ → Known) (xs : List Exchange) (x : Exchange) → SaysEach uids known xs
     → SaysTurn uids known x.message x.note.now (closes (length xs) x.message) x.note.turn x.response → SaysEach uids known (xs ++ x ∷ [])
@@ -69,6 +72,18 @@ goes_push xs x on one = All-push (λ (y : Exchange). IsFalse y.message.last) xs 
 pub sends_push : (sent : List ℕ) (xs : List Exchange) (x : Exchange) → sent ≡ flat_map response_in xs → sent ++ x.response ≡ flat_map response_in (xs ++ x ∷ [])
 sends_push sent xs x is =
     ap (λ l. l ++ x.response) is ∙ (ap (λ l. flat_map response_in xs ++ l) (sym (append-nil x.response)) ∙ sym (flat_map-append response_in xs (x ∷ [])))
+
+pub gets_push : (taken : List ℕ) (xs : List Exchange) (x : Exchange) → taken ≡ flat_map got_in xs → taken ++ x.got ≡ flat_map got_in (xs ++ x ∷ [])
+gets_push taken xs x is =
+    ap (λ l. l ++ x.got) is ∙ (ap (λ l. flat_map got_in xs ++ l) (sym (append-nil x.got)) ∙ sym (flat_map-append got_in xs (x ∷ [])))
+
+pub read_push : (kept : List ℕ) (xs : List Exchange) (x : Exchange) (mid kept' : List ℕ) → AreRead kept xs mid → ReadsMessage (mid ++ x.got) x.message kept'
+    → ((m : Message) (rest : List ℕ) → ReadsMessage mid m rest → x.got ≡ []) → AreRead kept (xs ++ x ∷ []) kept'
+read_push kept [] x mid kept' are reads spare =
+    let R : List ℕ → Type 0 = λ k. ReadsMessage (k ++ x.got) x.message kept' in
+    let S : List ℕ → Type 0 = λ k. (m : Message) (rest : List ℕ) → ReadsMessage k m rest → x.got ≡ [] in
+    (kept', subst R (sym are) reads, subst S (sym are) spare, refl)
+read_push kept (y ∷ xs) x mid kept' are reads spare = (are.0, are.1, are.2, read_push are.0 xs x mid kept' are.3 reads spare)
 
 pub noted_push : (turns turns' : List TurnNote) (xs : List Exchange) (x : Exchange) → turns' ≡ turns ++ map note_in xs → turns' ++ x.note ∷ [] ≡ turns ++ map note_in (xs ++ x ∷ [])
 noted_push turns turns' xs x is =

@@ -98,6 +98,10 @@ module _ (uids : List ℕ) (known known' : ℕ → Known) (more : KnowsMore know
     says = each_later h.exchanges h.says;
     moves = h.moves;
     split = h.split;
+    more = h.more;
+    gets = h.gets;
+    sparing = h.sparing;
+    no_more = h.no_more;
     sends = h.sends;
     clock = h.clock;
     cause = h.cause;

@@ -1,5 +1,7 @@
 -- What reads and writes of one link make of what it tells.
-use Rattle.std.proofs.Common.{◌≡◌, ℕ, List, [], ◌++◌, Option, refl, sym, ◌∙◌, subst}
+use Rattle.std.proofs.Common.{◌≡◌, ℕ, List, [], ◌++◌, Option, Some, refl, sym, ap, ◌∙◌, subst}
+use Rattle.std.specs.Option.{option_map}
+use Rattle.ss_desk.proofs.Lists.{append_fixed}
 use Rattle.ss_outside.specs.Told.{Meanings, HasRead, HasWritten, Takes, Loses, Writes}
 use Rattle.ss_outside.proofs.Telling.{Takes-none, Takes-append, Loses-none, Loses-append, Writes-none, Writes-append, idle_append}
 use Rattle.ss_connection.specs.Ends.{Moves}
@@ -27,3 +29,13 @@ moves_write got sent more a b c m w = record {
   written = Writes-append sent more a.written b.written c.written m.written w.written;
   idle = idle_append sent more a.written b.written c.written m.idle w.idle;
 }
+
+-- a call that left what is told brought no bytes, where they are told
+pub took_nothing : (got z : List ℕ) (a b : Meanings) → a.taken ≡ Some z → b ≡ a → Takes got a.taken b.taken → got ≡ []
+took_nothing got z a b told same takes =
+    let e : Some (z ++ got) ≡ Some z = sym (takes ∙ ap (option_map (λ x. x ++ got)) told) ∙ (ap (λ (m : Meanings). m.taken) same ∙ told) in
+    append_fixed z got (cc)
+
+-- what was taken is told as long as it was at first
+pub still_told : (got sent bytes : List ℕ) (a b : Meanings) → Moves got sent a b → a.taken ≡ Some bytes → b.taken ≡ Some (bytes ++ got)
+still_told got sent bytes a b m told = m.taken ∙ ap (option_map (λ x. x ++ got)) told

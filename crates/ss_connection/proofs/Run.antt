@@ -25,14 +25,14 @@ use Rattle.ss_connection.specs.Known.{Known, KnowsMore}
 use Rattle.ss_connection.specs.Sending.{WasSent, WasCut}
 use Rattle.ss_connection.specs.Turns.{Exchange, SaysEach, SaysTurn, closes, most_messages}
 use Rattle.ss_connection.specs.Calls.{added}
-use Rattle.ss_connection.specs.Ends.{AreReadings, GoesOn, Moves, Refusal, IsRefused, responses, readings, Served, EndsIn}
+use Rattle.ss_connection.specs.Ends.{AreRead, AreReadings, IsSparing, GoesOn, Moves, Refusal, IsRefused, responses, readings, Served, EndsIn}
 use Rattle.ss_connection.specs.Progress.{Progress, Refuses, Stops, end_of}
 use Rattle.ss_connection.specs.declared.notes.End.{End}
 use Rattle.ss_connection.specs.declared.notes.End.TheVariants as ends
 use Rattle.ss_connection.specs.declared.notes.TurnNote.{TurnNote}
 use Rattle.ss_connection.proofs.Later.{each_later}
-use Rattle.ss_connection.proofs.Moving.{moves_none, moves_read, moves_write}
-use Rattle.ss_connection.proofs.Exchanges.{message_in, note_in, now_in, response_in, says_push, readings_push, clock_push, split_push, goes_push, sends_push, noted_push}
+use Rattle.ss_connection.proofs.Moving.{moves_none, moves_read, moves_write, took_nothing, still_told}
+use Rattle.ss_connection.proofs.Exchanges.{message_in, note_in, now_in, response_in, got_in, gets_push, read_push, says_push, readings_push, clock_push, split_push, goes_push, sends_push, noted_push}
 
 no_exchange : (x : Exchange) (k : ℕ) → get_elem? {A = Exchange} [] k ≡ some x → ⊥
 no_exchange x k e = maybe.some-ne-none x (sym e)
@@ -48,6 +48,8 @@ begun uids known link coming turns = record {
   says = λ k x at. absurd (no_exchange x k at);
   moves = moves_none link;
   split = refl;
+  gets = refl;
+  sparing = λ bytes told. refl;
   sends = refl;
   clock = refl;
   goes_on = All-nil (λ (x : Exchange). IsFalse x.message.last);
@@ -66,42 +68,55 @@ pub record Answers (uids : List ℕ) (known : ℕ → Known) (link link' : Meani
   pub reads : ReadsMessage (kept.bytes ++ got) message kept'.bytes
   pub going_on : kept'.stop ≡ None
   pub quiet : link'.read_faults ≡ link.read_faults
+  pub spare : (m : Message) (rest : List ℕ) → ReadsMessage kept.bytes m rest → link' ≡ link
   pub reading : TakesFirst coming coming' note.now
   pub says : SaysTurn uids known message note.now (closes count message) note.turn bytes
 
-abbrev pub exchange : Message → TurnNote → List ℕ → Exchange
-exchange message note bytes = record { message = message; note = note; response = bytes }
+abbrev pub exchange : List ℕ → Message → TurnNote → List ℕ → Exchange
+exchange got message note bytes = record { got = got; message = message; note = note; response = bytes }
 
 module _ (uids : List ℕ) (known known' : ℕ → Known) (more : KnowsMore known known') (link link' link2 link3 : Meanings) (coming coming' coming2 : Option (List ℕ)) (kept kept' : Kept) (turns turns' : List TurnNote)
     (count : ℕ) (message : Message) (note : TurnNote) (bytes : List ℕ) (p : Progress uids known link link' coming coming' kept turns turns' count)
     (a : Answers uids known' link' link2 coming' coming2 kept kept' count message note bytes) where
-  says_one : SaysEach uids known' (p.exchanges ++ exchange message note bytes ∷ [])
+  says_one : SaysEach uids known' (p.exchanges ++ exchange a.got message note bytes ∷ [])
   says_one =
       let S : ℕ → Type 0 = λ n. SaysTurn uids known' message note.now (closes n message) note.turn bytes in
-      says_push uids known' p.exchanges (exchange message note bytes) (each_later uids known known' more p.exchanges p.says) (subst S p.counted a.says)
+      says_push uids known' p.exchanges (exchange a.got message note bytes) (each_later uids known known' more p.exchanges p.says) (subst S p.counted a.says)
 
-  long_one : length (p.exchanges ++ exchange message note bytes ∷ []) ≡ count + 1
-  long_one = omega (arith, p.counted, length-append p.exchanges (exchange message note bytes ∷ []))
+  long_one : length (p.exchanges ++ exchange a.got message note bytes ∷ []) ≡ count + 1
+  long_one = omega (arith, p.counted, length-append p.exchanges (exchange a.got message note bytes ∷ []))
 
-  few_one : length (p.exchanges ++ exchange message note bytes ∷ []) ≤ most_messages
+  few_one : length (p.exchanges ++ exchange a.got message note bytes ∷ []) ≤ most_messages
   few_one = let few = a.few in let e = long_one in omega arith
 
-  added_one : added turns (turns' ++ note ∷ []) ≡ map note_in (p.exchanges ++ exchange message note bytes ∷ [])
-  added_one = ap (drop (length turns)) (noted_push turns turns' p.exchanges (exchange message note bytes) p.noted) ∙ drop-append_seam turns (map note_in (p.exchanges ++ exchange message note bytes ∷ []))
+  read_one : (told : List ℕ) → link.taken ≡ Some told → AreRead [] (p.exchanges ++ exchange a.got message note bytes ∷ []) kept'.bytes
+  read_one told is = read_push [] p.exchanges (exchange a.got message note bytes) kept.bytes kept'.bytes (p.sparing told is) a.reads
+      (λ m rest whole. took_nothing a.got (told ++ p.taken) link' link2 (still_told p.taken p.sent told link link' p.moves is) (a.spare m rest whole) a.read.taken)
+
+  sparing_one : (told : List ℕ) → link.taken ≡ Some told → IsSparing (p.exchanges ++ exchange a.got message note bytes ∷ []) kept'.bytes []
+  sparing_one told is = record { kept = kept'.bytes; read = read_one told is; behind = sym (append-nil kept'.bytes) }
+
+  gets_one : p.taken ++ a.got ≡ flat_map got_in (p.exchanges ++ exchange a.got message note bytes ∷ [])
+  gets_one = gets_push p.taken p.exchanges (exchange a.got message note bytes) p.gets
+
+  added_one : added turns (turns' ++ note ∷ []) ≡ map note_in (p.exchanges ++ exchange a.got message note bytes ∷ [])
+  added_one = ap (drop (length turns)) (noted_push turns turns' p.exchanges (exchange a.got message note bytes) p.noted) ∙ drop-append_seam turns (map note_in (p.exchanges ++ exchange a.got message note bytes ∷ []))
 
   -- it was answered, and the connection goes on
   pub goes_on : WasSent bytes link2 link3 → message.last ≡ false → Progress uids known' link link3 coming coming2 kept' turns (turns' ++ note ∷ []) (count + 1)
   goes_on sent stays = record {
-    exchanges = p.exchanges ++ exchange message note bytes ∷ [];
+    exchanges = p.exchanges ++ exchange a.got message note bytes ∷ [];
     taken = p.taken ++ a.got;
     sent = p.sent ++ bytes;
-    noted = noted_push turns turns' p.exchanges (exchange message note bytes) p.noted;
+    noted = noted_push turns turns' p.exchanges (exchange a.got message note bytes) p.noted;
     says = says_one;
     moves = moves_write (p.taken ++ a.got) p.sent bytes link link2 link3 (moves_read p.taken p.sent a.got link link' link2 p.moves a.read) sent.write;
-    split = split_push p.taken a.got p.exchanges (exchange message note bytes) kept.bytes kept'.bytes p.split a.reads;
-    sends = sends_push p.sent p.exchanges (exchange message note bytes) p.sends;
-    clock = clock_push p.exchanges (exchange message note bytes) coming coming' coming2 p.clock a.reading;
-    goes_on = goes_push p.exchanges (exchange message note bytes) p.goes_on stays;
+    split = split_push p.taken a.got p.exchanges (exchange a.got message note bytes) kept.bytes kept'.bytes p.split a.reads;
+    gets = gets_one;
+    sparing = read_one;
+    sends = sends_push p.sent p.exchanges (exchange a.got message note bytes) p.sends;
+    clock = clock_push p.exchanges (exchange a.got message note bytes) coming coming' coming2 p.clock a.reading;
+    goes_on = goes_push p.exchanges (exchange a.got message note bytes) p.goes_on stays;
     going_on = a.going_on;
     counted = sym long_one;
     within = (let few = a.few in omega arith);
@@ -112,7 +127,7 @@ module _ (uids : List ℕ) (known known' : ℕ → Known) (more : KnowsMore know
   -- it was answered, and had asked to close
   pub ended_asked : WasSent bytes link2 link3 → message.last ≡ true → Served uids known' ends.Asked link link3 coming coming2 (added turns (turns' ++ note ∷ []))
   ended_asked sent closed = record {
-    exchanges = p.exchanges ++ exchange message note bytes ∷ [];
+    exchanges = p.exchanges ++ exchange a.got message note bytes ∷ [];
     refusal = None;
     taken = p.taken ++ a.got;
     rest = kept'.bytes;
@@ -120,11 +135,15 @@ module _ (uids : List ℕ) (known known' : ℕ → Known) (more : KnowsMore know
     noted = added_one;
     says = says_one;
     moves = moves_write (p.taken ++ a.got) p.sent bytes link link2 link3 (moves_read p.taken p.sent a.got link link' link2 p.moves a.read) sent.write;
-    split = split_push p.taken a.got p.exchanges (exchange message note bytes) kept.bytes kept'.bytes p.split a.reads;
-    sends = sends_push p.sent p.exchanges (exchange message note bytes) p.sends ∙ sym (append-nil (flat_map response_in (p.exchanges ++ exchange message note bytes ∷ [])));
+    split = split_push p.taken a.got p.exchanges (exchange a.got message note bytes) kept.bytes kept'.bytes p.split a.reads;
+    more = [];
+    gets = gets_one ∙ sym (append-nil (flat_map got_in (p.exchanges ++ exchange a.got message note bytes ∷ [])));
+    sparing = sparing_one;
+    no_more = refl;
+    sends = sends_push p.sent p.exchanges (exchange a.got message note bytes) p.sends ∙ sym (append-nil (flat_map response_in (p.exchanges ++ exchange a.got message note bytes ∷ [])));
     clock = (let P : List ℕ → Type 0 = λ rs. AreReadings rs coming coming2 in
-        subst P (sym (append-nil (map now_in (p.exchanges ++ exchange message note bytes ∷ [])))) (clock_push p.exchanges (exchange message note bytes) coming coming' coming2 p.clock a.reading));
-    cause = (record { before = p.exchanges; last = exchange message note bytes; all = refl; goes_on = p.goes_on }, closed, refl);
+        subst P (sym (append-nil (map now_in (p.exchanges ++ exchange a.got message note bytes ∷ [])))) (clock_push p.exchanges (exchange a.got message note bytes) coming coming' coming2 p.clock a.reading));
+    cause = (record { before = p.exchanges; last = exchange a.got message note bytes; all = refl; goes_on = p.goes_on }, closed, refl);
     faults = (sent.write.read_faults ∙ (a.quiet ∙ p.read_faults), sent.faults ∙ (a.read.write_faults ∙ p.write_faults));
     fewer = few_one;
   }
@@ -134,7 +153,7 @@ module _ (uids : List ℕ) (known known' : ℕ → Known) (more : KnowsMore know
   ended_cut cut =
       let R : ℕ → Type 0 = λ n. Rose n link3.write_faults in
       record {
-        exchanges = p.exchanges ++ exchange message note bytes ∷ [];
+        exchanges = p.exchanges ++ exchange a.got message note bytes ∷ [];
         refusal = None;
         taken = p.taken ++ a.got;
         rest = kept'.bytes;
@@ -142,18 +161,22 @@ module _ (uids : List ℕ) (known known' : ℕ → Known) (more : KnowsMore know
         noted = added_one;
         says = says_one;
         moves = moves_write (p.taken ++ a.got) p.sent cut.sent link link2 link3 (moves_read p.taken p.sent a.got link link' link2 p.moves a.read) cut.write;
-        split = split_push p.taken a.got p.exchanges (exchange message note bytes) kept.bytes kept'.bytes p.split a.reads;
+        split = split_push p.taken a.got p.exchanges (exchange a.got message note bytes) kept.bytes kept'.bytes p.split a.reads;
+        more = [];
+        gets = gets_one ∙ sym (append-nil (flat_map got_in (p.exchanges ++ exchange a.got message note bytes ∷ [])));
+        sparing = sparing_one;
+        no_more = (λ none. refl);
         sends = (
           cut.rest,
-          append-nil (flat_map response_in (p.exchanges ++ exchange message note bytes ∷ []))
-              ∙ (sym (sends_push p.sent p.exchanges (exchange message note bytes) p.sends)
+          append-nil (flat_map response_in (p.exchanges ++ exchange a.got message note bytes ∷ []))
+              ∙ (sym (sends_push p.sent p.exchanges (exchange a.got message note bytes) p.sends)
               ∙ (ap (λ l. p.sent ++ l) cut.cut ∙ sym (append_assoc p.sent cut.sent cut.rest))),
         );
         clock = (let P : List ℕ → Type 0 = λ rs. AreReadings rs coming coming2 in
-            subst P (sym (append-nil (map now_in (p.exchanges ++ exchange message note bytes ∷ [])))) (clock_push p.exchanges (exchange message note bytes) coming coming' coming2 p.clock a.reading));
+            subst P (sym (append-nil (map now_in (p.exchanges ++ exchange a.got message note bytes ∷ [])))) (clock_push p.exchanges (exchange a.got message note bytes) coming coming' coming2 p.clock a.reading));
         cause = (
           subst R (a.read.write_faults ∙ p.write_faults) cut.rose,
-          inl (record { before = p.exchanges; last = exchange message note bytes; all = refl; goes_on = p.goes_on }, refl),
+          inl (record { before = p.exchanges; last = exchange a.got message note bytes; all = refl; goes_on = p.goes_on }, refl),
         );
         faults = cut.write.read_faults ∙ (a.quiet ∙ p.read_faults);
         fewer = few_one;
@@ -191,6 +214,18 @@ module _ (uids : List ℕ) (known : ℕ → Known) (link link' link2 link3 : Mea
   clock_none : AreReadings (readings p.exchanges None) coming coming'
   clock_none = let P : List ℕ → Type 0 = λ rs. AreReadings rs coming coming' in subst P (sym (append-nil (map now_in p.exchanges))) p.clock
 
+  gets_none : p.taken ≡ flat_map got_in p.exchanges ++ []
+  gets_none = p.gets ∙ sym (append-nil (flat_map got_in p.exchanges))
+
+  gets_more : (got : List ℕ) → p.taken ++ got ≡ flat_map got_in p.exchanges ++ got
+  gets_more got = ap (λ l. l ++ got) p.gets
+
+  sparing_none : (told : List ℕ) → link.taken ≡ Some told → IsSparing p.exchanges kept.bytes []
+  sparing_none told is = record { kept = kept.bytes; read = p.sparing told is; behind = sym (append-nil kept.bytes) }
+
+  sparing_more : (got : List ℕ) (told : List ℕ) → link.taken ≡ Some told → IsSparing p.exchanges (kept.bytes ++ got) got
+  sparing_more got told is = record { kept = kept.bytes; read = p.sparing told is; behind = refl }
+
   sends_none : p.sent ≡ responses p.exchanges None
   sends_none = p.sends ∙ sym (append-nil (flat_map response_in p.exchanges))
 
@@ -217,6 +252,10 @@ module _ (uids : List ℕ) (known : ℕ → Known) (link link' link2 link3 : Mea
         says = p.says;
         moves = moves_write (p.taken ++ f.got) p.sent bytes link link2 link3 (moves_read p.taken p.sent f.got link link' link2 p.moves f.read) sent.write;
         split = split_more;
+        more = f.got;
+        gets = gets_more f.got;
+        sparing = sparing_more f.got;
+        no_more = tt;
         sends = ap (λ l. l ++ bytes) p.sends;
         clock = clock_refused;
         cause = (record { fault = fault; now = now; response = bytes }, refl, refl, is_refused, p.goes_on);
@@ -241,6 +280,10 @@ module _ (uids : List ℕ) (known : ℕ → Known) (link link' link2 link3 : Mea
             says = p.says;
             moves = moves_write (p.taken ++ f.got) p.sent cut.sent link link2 link3 (moves_read p.taken p.sent f.got link link' link2 p.moves f.read) cut.write;
             split = split_more;
+            more = f.got;
+            gets = gets_more f.got;
+            sparing = sparing_more f.got;
+            no_more = λ none. cc;
             sends = (
               cut.rest,
               ap (λ l. l ++ bytes) (sym p.sends) ∙ (ap (λ l. p.sent ++ l) cut.cut ∙ sym (append_assoc p.sent cut.sent cut.rest)),
@@ -268,6 +311,10 @@ ended_unanswered uids known link link' link2 coming coming' kept turns turns' co
   says = p.says;
   moves = moves_read p.taken p.sent f.got link link' link2 p.moves f.read;
   split = reads_append p.taken f.got (map message_in p.exchanges) kept.bytes p.split;
+  more = f.got;
+  gets = gets_more uids known link link' link2 link2 coming coming' coming' kept turns turns' count faults.End p f.got;
+  sparing = sparing_more uids known link link' link2 link2 coming coming' coming' kept turns turns' count faults.End p f.got;
+  no_more = tt;
   sends = sends_none uids known link link' link2 link2 coming coming' coming' kept turns turns' count faults.End p;
   clock = clock_none uids known link link' link2 link2 coming coming' coming' kept turns turns' count faults.End p;
   cause = (f.is, f.ended, p.goes_on, refl);
@@ -284,6 +331,10 @@ ended_unanswered uids known link link' link2 coming coming' kept turns turns' co
   says = p.says;
   moves = moves_read p.taken p.sent f.got link link' link2 p.moves f.read;
   split = reads_append p.taken f.got (map message_in p.exchanges) kept.bytes p.split;
+  more = f.got;
+  gets = gets_more uids known link link' link2 link2 coming coming' coming' kept turns turns' count faults.Cut p f.got;
+  sparing = sparing_more uids known link link' link2 link2 coming coming' coming' kept turns turns' count faults.Cut p f.got;
+  no_more = tt;
   sends = sends_none uids known link link' link2 link2 coming coming' coming' kept turns turns' count faults.Cut p;
   clock = clock_none uids known link link' link2 link2 coming coming' coming' kept turns turns' count faults.Cut p;
   cause = (f.is, f.ended, p.goes_on, refl);
@@ -300,6 +351,10 @@ ended_unanswered uids known link link' link2 coming coming' kept turns turns' co
   says = p.says;
   moves = moves_read p.taken p.sent f.got link link' link2 p.moves f.read;
   split = reads_append p.taken f.got (map message_in p.exchanges) kept.bytes p.split;
+  more = f.got;
+  gets = gets_more uids known link link' link2 link2 coming coming' coming' kept turns turns' count faults.ReadFault p f.got;
+  sparing = sparing_more uids known link link' link2 link2 coming coming' coming' kept turns turns' count faults.ReadFault p f.got;
+  no_more = tt;
   sends = sends_none uids known link link' link2 link2 coming coming' coming' kept turns turns' count faults.ReadFault p;
   clock = clock_none uids known link link' link2 link2 coming coming' coming' kept turns turns' count faults.ReadFault p;
   cause = ((let P : ℕ → Type 0 = λ n. Rose n link2.read_faults in subst P p.read_faults f.rises), p.goes_on, refl);
@@ -316,6 +371,10 @@ ended_unanswered uids known link link' link2 coming coming' kept turns turns' co
   says = p.says;
   moves = moves_read p.taken p.sent f.got link link' link2 p.moves f.read;
   split = reads_append p.taken f.got (map message_in p.exchanges) kept.bytes p.split;
+  more = f.got;
+  gets = gets_more uids known link link' link2 link2 coming coming' coming' kept turns turns' count faults.Memory p f.got;
+  sparing = sparing_more uids known link link' link2 link2 coming coming' coming' kept turns turns' count faults.Memory p f.got;
+  no_more = tt;
   sends = sends_none uids known link link' link2 link2 coming coming' coming' kept turns turns' count faults.Memory p;
   clock = clock_none uids known link link' link2 link2 coming coming' coming' kept turns turns' count faults.Memory p;
   cause = (p.goes_on, refl);
@@ -378,6 +437,10 @@ module _ (uids : List ℕ) (known : ℕ → Known) (link link' : Meanings) (comi
         says = p.says;
         moves = p.moves;
         split = p.split;
+        more = [];
+        gets = gets_none uids known link link' link' link' coming coming' coming' kept turns turns' count faults.End p;
+        sparing = sparing_none uids known link link' link' link' coming coming' coming' kept turns turns' count faults.End p;
+        no_more = refl;
         sends = sends_none uids known link link' link' link' coming coming' coming' kept turns turns' count faults.End p;
         clock = clock_none uids known link link' link' link' coming coming' coming' kept turns turns' count faults.End p;
         cause = (long, p.goes_on, refl);
@@ -397,6 +460,10 @@ module _ (uids : List ℕ) (known : ℕ → Known) (link link' : Meanings) (comi
     says = p.says;
     moves = p.moves;
     split = p.split;
+    more = [];
+    gets = gets_none uids known link link' link' link' coming coming' coming' kept turns turns' count faults.End p;
+    sparing = sparing_none uids known link link' link' link' coming coming' coming' kept turns turns' count faults.End p;
+    no_more = tt;
     sends = sends_none uids known link link' link' link' coming coming' coming' kept turns turns' count faults.End p;
     clock = clock_none uids known link link' link' link' coming coming' coming' kept turns turns' count faults.End p;
     cause = (p.goes_on, refl);

@@ -8,7 +8,7 @@ use Rattle.ss_http.specs.declared.fault.MsgFault.{MsgFault}
 use Rattle.ss_http.specs.declared.fault.MsgFault.TheVariants as faults
 use Rattle.ss_http.specs.declared.message.Message.{Message}
 use Rattle.ss_http.specs.Faults.{IsFaultOf}
-use Rattle.ss_http.specs.Messages.{Reads}
+use Rattle.ss_http.specs.Messages.{Reads, ReadsMessage}
 use Rattle.ss_http.specs.Responses.{memory_response}
 use Rattle.ss_route.specs.declared.routed.Local.{Local}
 use Rattle.ss_route.specs.Wire.{local_wire, refusal_of}
@@ -88,6 +88,26 @@ Unfaulted ends.ReadFault link link' = link'.write_faults ≡ link.write_faults
 Unfaulted ends.WriteFault link link' = link'.read_faults ≡ link.read_faults
 Unfaulted _ link link' = (link'.read_faults ≡ link.read_faults) × (link'.write_faults ≡ link.write_faults)
 
+-- The messages were read one after the other, each from the bytes that were kept and those that were taken for it. Where it was kept
+-- whole, none were
+abbrev pub AreRead : List ℕ → List Exchange → List ℕ → Type 0
+AreRead kept [] kept' = kept ≡ kept'
+AreRead kept (x ∷ exchanges) kept' =
+    (after : List ℕ) × ReadsMessage (kept ++ x.got) x.message after × ((m : Message) (rest : List ℕ) → ReadsMessage kept m rest → x.got ≡ []) × AreRead after exchanges kept'
+
+-- the bytes that were taken after the last message that was answered: none, where no further one was looked for
+abbrev pub TakesNoMore : End → Option Refusal → List ℕ → Type 0
+TakesNoMore ends.Asked refusal more = more ≡ []
+TakesNoMore ends.Count refusal more = more ≡ []
+TakesNoMore ends.WriteFault refusal more = refusal ≡ None → more ≡ []
+TakesNoMore _ refusal more = ⊤
+
+-- of a link that tells: it was read no further than for the messages, and for the rest behind them
+pub record IsSparing (exchanges : List Exchange) (rest more : List ℕ) : Type 0 where
+  pub kept : List ℕ
+  pub read : AreRead [] exchanges kept
+  pub behind : rest ≡ kept ++ more
+
 -- how many messages there were: who looked for one more had answered fewer than may be
 abbrev pub IsFewer : End → ℕ → Type 0
 IsFewer ends.Asked count = count ≤ most_messages
@@ -108,6 +128,11 @@ pub record Served (uids : List ℕ) (known : ℕ → Known) (end : End) (link li
   -- What was taken from the link are the messages, and then the rest, of which the cause tells.
   pub moves : Moves taken sent link link'
   pub split : Reads taken (map (λ x. x.message) exchanges) rest
+  -- No more was taken than for each message, and for the one behind them where one was looked for.
+  pub more : List ℕ
+  pub gets : taken ≡ flat_map (λ x. x.got) exchanges ++ more
+  pub sparing : (bytes : List ℕ) → link.taken ≡ Some bytes → IsSparing exchanges rest more
+  pub no_more : TakesNoMore end refusal more
   -- What was written to it are the responses, in order.
   pub sends : Sends end sent (responses exchanges refusal)
   -- The clock's readings are one for each response.

@@ -1,5 +1,5 @@
 -- What stands after some messages of a connection, while it goes on, and how it stops where the next bytes have a fault.
-use Rattle.std.specs.Prelude.{◌≡◌, ◌≤◌, ◌++◌, ℕ, true, List, length, map, Option, Some, None}
+use Rattle.std.specs.Prelude.{◌≡◌, ◌≤◌, ◌++◌, ℕ, true, List, [], length, map, Option, Some, None}
 use Rattle.std.specs.List.{flat_map}
 use Rattle.ss_outside.specs.Told.{Meanings, TakesFirst}
 use Rattle.ss_http.specs.declared.fault.MsgFault.{MsgFault}
@@ -11,7 +11,7 @@ use Rattle.ss_route.specs.Wire.{local_wire, refusal_of}
 use Rattle.ss_connection.specs.Known.{Known}
 use Rattle.ss_connection.specs.Sending.{clamped, OrMemory, WasSent, WasCut}
 use Rattle.ss_connection.specs.Turns.{Exchange, SaysEach, most_messages}
-use Rattle.ss_connection.specs.Ends.{AreReadings, GoesOn, Moves}
+use Rattle.ss_connection.specs.Ends.{AreRead, AreReadings, GoesOn, Moves}
 use Rattle.ss_connection.specs.declared.notes.End.{End}
 use Rattle.ss_connection.specs.declared.notes.End.TheVariants as ends
 use Rattle.ss_connection.specs.declared.notes.TurnNote.{TurnNote}
@@ -24,6 +24,8 @@ pub record Progress (uids : List ℕ) (known : ℕ → Known) (link link' : Mean
   pub says : SaysEach uids known exchanges
   pub moves : Moves taken sent link link'
   pub split : Reads taken (map (λ x. x.message) exchanges) kept.bytes
+  pub gets : taken ≡ flat_map (λ x. x.got) exchanges
+  pub sparing : (bytes : List ℕ) → link.taken ≡ Some bytes → AreRead [] exchanges kept.bytes
   pub sends : sent ≡ flat_map (λ x. x.response) exchanges
   pub clock : AreReadings (map (λ x. x.note.now) exchanges) coming coming'
   pub goes_on : GoesOn exchanges

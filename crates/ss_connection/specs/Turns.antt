@@ -108,8 +108,9 @@ SaysTurn uids known message now last (turns.Call uid ticket) bytes = SaysCall ui
 SaysTurn uids known message now last (turns.Full uid entries size) bytes = SaysFull uids known message now last uid (record { entries = entries; bytes = size }) bytes
 SaysTurn uids known message now last turns.Memory bytes = bytes ≡ memory_response (clamped now) last
 
--- a message that was answered, the note of its turn, and the response
+-- the bytes that were taken from the link for a message, the message that was answered, the note of its turn, and the response
 pub record Exchange : Type 0 where
+  pub got : List ℕ
   pub message : Message
   pub note : TurnNote
   pub response : List ℕ

@@ -6,10 +6,10 @@ use Rattle.ss_connection.specs.Turns.{SaysTurn}
 use Rattle.ss_connection.specs.Calls.{added, Enters}
 use Rattle.ss_connection.specs.Ends.{Served}
 use Rattle.ss_connection.specs.Progress.{Progress}
-use Rattle.ss_connection.specs.declared.notes.End.TheVariants.{WriteFault, Asked}
+use Rattle.ss_connection.specs.declared.notes.End.TheVariants.{WriteFault, Asked, Memory}
 use Rattle.ss_connection.specs.declared.notes.TurnNote.{TurnNote}
 use Rattle.ss_connection.proofs.Passing.{see_itself, see_then, knows_more, enters_nothing, enters_push}
-use Rattle.ss_connection.proofs.Run.{Answers, begins, begun, ended_asked, ended_cut, goes_on, stopped, unserved}
+use Rattle.ss_connection.proofs.Run.{Answers, begins, begun, ended_asked, ended_counting, ended_cut, ended_early, goes_on, stopped, unserved}
 use Rattle.ss_connection.proofs.connection.serve_connection.Goals as goal
 
 pub returns-in_default-clause-served : goal.returns-in_default-clause-served
@@ -61,6 +61,7 @@ returns-in-Err-write-clause-served g c =
       reads = takes.2.0;
       going_on = takes.2.1;
       quiet = cause;
+      spare = rw p.going_on at c.in-Ok-read_message.ensures.ready;
       reading = c.now-now.ensures;
       says = subst S c.closes-last.ensures c.answer-turn.ensures.says;
     } in
@@ -97,6 +98,7 @@ returns-then-message-clause-served g c =
       reads = takes.2.0;
       going_on = takes.2.1;
       quiet = cause;
+      spare = rw p.going_on at c.in-Ok-read_message.ensures.ready;
       reading = c.now-now.ensures;
       says = subst S c.closes-last.ensures c.answer-turn.ensures.says;
     } in
@@ -130,6 +132,7 @@ messages-preserved g c =
       reads = takes.2.0;
       going_on = takes.2.1;
       quiet = cause;
+      spare = rw p.going_on at c.in-Ok-read_message.ensures.ready;
       reading = c.now-now.ensures;
       says = subst S c.closes-last.ensures c.answer-turn.ensures.says;
     } in
@@ -141,3 +144,15 @@ messages-preserved g c =
       enters = subst (λ ts. Enters uids ps rs (added c.args.turns.now.items ts)) (sym turns)
           (enters_push uids ps qs rs c.args.turns.now.items c.messages.turns.items note (begins uids (known_by qs) (g.L.Told.told c.args.link.now) (g.L.Told.told c.messages.link) (g.C.Clock.coming c.args.clock.now) (g.C.Clock.coming c.messages.clock) c.messages.buffer c.args.turns.now.items c.messages.turns.items c.messages.count p) i.enters c.answer-turn.ensures.enters);
     }
+
+pub returns-then-is_err-clause-served : goal.returns-then-is_err-clause-served
+returns-then-is_err-clause-served g c =
+    let uids = c.args.town.now.uids.items in let qs = c.messages.passes.passes.items in
+    let link = g.L.Told.told c.args.link.now in let link' = g.L.Told.told c.messages.link in let coming = g.C.Clock.coming c.args.clock.now in let coming' = g.C.Clock.coming c.messages.clock in
+    subst (λ ts. Served uids (known_by qs) Memory link link' coming coming' (added c.args.turns.now.items ts)) (sym c.reserve.ensures.items) (ended_early uids (known_by qs) link link' coming coming' c.messages.buffer c.args.turns.now.items c.messages.turns.items c.messages.count c.messages.invariant.progress c.messages-test.true)
+
+pub returns-clause-served : goal.returns-clause-served
+returns-clause-served g c =
+    let uids = c.args.town.now.uids.items in let qs = c.messages.passes.passes.items in
+    let link = g.L.Told.told c.args.link.now in let link' = g.L.Told.told c.messages.link in let coming = g.C.Clock.coming c.args.clock.now in let coming' = g.C.Clock.coming c.messages.clock in
+    ended_counting uids (known_by qs) link link' coming coming' c.messages.buffer c.args.turns.now.items c.messages.turns.items c.messages.count c.messages.invariant.progress c.messages-test.false

@@ -1,4 +1,4 @@
-use Rattle.std.proofs.Common.{◌≡◌, ◌+◌, ◌++◌, ◌∷◌, [], Bool, sym, ap, ◌∙◌, subst}
+use Rattle.std.proofs.Common.{◌≡◌, ◌+◌, ◌++◌, ◌∷◌, [], Bool, List, sym, ap, ◌∙◌, subst}
 use Rattle.ss_http.specs.Buffers.{Kept}
 use Rattle.ss_connection.specs.Known.{known_by}
 use Rattle.ss_connection.specs.Sending.{bytes_of}
@@ -35,7 +35,7 @@ returns-in-Err-clause-served g c =
     let takes = rw p.going_on at c.in-Err.ensures.takes in
     let ended = rw p.going_on at c.in-Err.ensures.ended in
     let cause = rw p.going_on at c.in-Err.ensures.cause in
-    subst (λ ts. Served uids (known_by qs) c.stop.result link link3 coming coming2 (added c.args.turns.now.items ts)) (sym c.reserve.ensures.items)
+    subst (λ ts. Served uids (known_by qs) c.stop.result link link3 coming coming2 (added c.args.turns.now.items ts)) (sym {A = List TurnNote} c.reserve.ensures.items)
     (stopped uids (known_by qs) link link' link2 link3 coming coming' coming2 c.messages.buffer c.args.turns.now.items c.messages.turns.items c.messages.count c.in-Err.fault c.stop.result p
     (record { few = c.messages-test.true; got = takes.0; read = takes.1; is = takes.2.2; ended = ended; rises = cause }) c.stop.ensures)
 
@@ -65,7 +65,7 @@ returns-in-Err-write-clause-served g c =
       reading = c.now-now.ensures;
       says = subst S c.closes-last.ensures c.answer-turn.ensures.says;
     } in
-    subst (λ ts. Served uids (known_by rs) WriteFault link link3 coming coming2 (added c.args.turns.now.items ts)) (sym turns) (ended_cut uids (known_by qs) (known_by rs) (knows_more qs rs c.answer-turn.ensures.more) link link' link2 link3 coming coming' coming2 c.messages.buffer c.read_message.new.buffer c.args.turns.now.items c.messages.turns.items c.messages.count m note (bytes_of c.answer-turn.result.1) p a c.in-Err-write.ensures.cut)
+    subst (λ ts. Served uids (known_by rs) WriteFault link link3 coming coming2 (added c.args.turns.now.items ts)) (sym {A = List TurnNote} turns) (ended_cut uids (known_by qs) (known_by rs) (knows_more qs rs c.answer-turn.ensures.more) link link' link2 link3 coming coming' coming2 c.messages.buffer c.read_message.new.buffer c.args.turns.now.items c.messages.turns.items c.messages.count m note (bytes_of c.answer-turn.result.1) p a c.in-Err-write.ensures.cut)
 
 pub returns-in-Err-write-clause-enters : goal.returns-in-Err-write-clause-enters
 returns-in-Err-write-clause-enters g c =
@@ -73,7 +73,7 @@ returns-in-Err-write-clause-enters g c =
     let uids = c.args.town.now.uids.items in let ps = c.args.passes.now.passes.items in let qs = c.messages.passes.passes.items in let rs = c.answer-turn.new.passes.passes.items in
     let note : TurnNote = record { now = c.now-now.result; turn = c.answer-turn.result.0 } in
     let turns : c.push_reserved.new.self.items ≡ c.messages.turns.items ++ note ∷ [] = c.push_reserved.ensures.items ∙ ap (λ ts. ts ++ note ∷ []) c.reserve.ensures.items in
-    subst (λ ts. Enters uids ps rs (added c.args.turns.now.items ts)) (sym turns)
+    subst (λ ts. Enters uids ps rs (added c.args.turns.now.items ts)) (sym {A = List TurnNote} turns)
     (enters_push uids ps qs rs c.args.turns.now.items c.messages.turns.items note (begins uids (known_by qs) (g.L.Told.told c.args.link.now) (g.L.Told.told c.messages.link) (g.C.Clock.coming c.args.clock.now) (g.C.Clock.coming c.messages.clock) c.messages.buffer c.args.turns.now.items c.messages.turns.items c.messages.count p) i.enters c.answer-turn.ensures.enters)
 
 pub returns-then-message-clause-more : goal.returns-then-message-clause-more
@@ -102,7 +102,7 @@ returns-then-message-clause-served g c =
       reading = c.now-now.ensures;
       says = subst S c.closes-last.ensures c.answer-turn.ensures.says;
     } in
-    subst (λ ts. Served uids (known_by rs) Asked link link3 coming coming2 (added c.args.turns.now.items ts)) (sym turns) (ended_asked uids (known_by qs) (known_by rs) (knows_more qs rs c.answer-turn.ensures.more) link link' link2 link3 coming coming' coming2 c.messages.buffer c.read_message.new.buffer c.args.turns.now.items c.messages.turns.items c.messages.count m note (bytes_of c.answer-turn.result.1) p a c.in-Ok-write.ensures.sent c.if-message.true)
+    subst (λ ts. Served uids (known_by rs) Asked link link3 coming coming2 (added c.args.turns.now.items ts)) (sym {A = List TurnNote} turns) (ended_asked uids (known_by qs) (known_by rs) (knows_more qs rs c.answer-turn.ensures.more) link link' link2 link3 coming coming' coming2 c.messages.buffer c.read_message.new.buffer c.args.turns.now.items c.messages.turns.items c.messages.count m note (bytes_of c.answer-turn.result.1) p a c.in-Ok-write.ensures.sent c.if-message.true)
 
 pub returns-then-message-clause-enters : goal.returns-then-message-clause-enters
 returns-then-message-clause-enters g c =
@@ -110,7 +110,7 @@ returns-then-message-clause-enters g c =
     let uids = c.args.town.now.uids.items in let ps = c.args.passes.now.passes.items in let qs = c.messages.passes.passes.items in let rs = c.answer-turn.new.passes.passes.items in
     let note : TurnNote = record { now = c.now-now.result; turn = c.answer-turn.result.0 } in
     let turns : c.push_reserved.new.self.items ≡ c.messages.turns.items ++ note ∷ [] = c.push_reserved.ensures.items ∙ ap (λ ts. ts ++ note ∷ []) c.reserve.ensures.items in
-    subst (λ ts. Enters uids ps rs (added c.args.turns.now.items ts)) (sym turns)
+    subst (λ ts. Enters uids ps rs (added c.args.turns.now.items ts)) (sym {A = List TurnNote} turns)
     (enters_push uids ps qs rs c.args.turns.now.items c.messages.turns.items note (begins uids (known_by qs) (g.L.Told.told c.args.link.now) (g.L.Told.told c.messages.link) (g.C.Clock.coming c.args.clock.now) (g.C.Clock.coming c.messages.clock) c.messages.buffer c.args.turns.now.items c.messages.turns.items c.messages.count p) i.enters c.answer-turn.ensures.enters)
 
 pub messages-preserved : goal.messages-preserved
@@ -139,9 +139,9 @@ messages-preserved g c =
     record {
       of = c.answer-turn.ensures.of;
       more = see_then ps qs rs i.more c.answer-turn.ensures.more;
-      progress = subst (λ ts. Progress uids (known_by rs) link link3 coming coming2 c.read_message.new.buffer c.args.turns.now.items ts (c.messages.count + 1)) (sym turns)
+      progress = subst (λ ts. Progress uids (known_by rs) link link3 coming coming2 c.read_message.new.buffer c.args.turns.now.items ts (c.messages.count + 1)) (sym {A = List TurnNote} turns)
           (goes_on uids (known_by qs) (known_by rs) (knows_more qs rs c.answer-turn.ensures.more) link link' link2 link3 coming coming' coming2 c.messages.buffer c.read_message.new.buffer c.args.turns.now.items c.messages.turns.items c.messages.count m note (bytes_of c.answer-turn.result.1) p a c.in-Ok-write.ensures.sent c.if-message.false);
-      enters = subst (λ ts. Enters uids ps rs (added c.args.turns.now.items ts)) (sym turns)
+      enters = subst (λ ts. Enters uids ps rs (added c.args.turns.now.items ts)) (sym {A = List TurnNote} turns)
           (enters_push uids ps qs rs c.args.turns.now.items c.messages.turns.items note (begins uids (known_by qs) (g.L.Told.told c.args.link.now) (g.L.Told.told c.messages.link) (g.C.Clock.coming c.args.clock.now) (g.C.Clock.coming c.messages.clock) c.messages.buffer c.args.turns.now.items c.messages.turns.items c.messages.count p) i.enters c.answer-turn.ensures.enters);
     }
 
@@ -149,7 +149,7 @@ pub returns-then-is_err-clause-served : goal.returns-then-is_err-clause-served
 returns-then-is_err-clause-served g c =
     let uids = c.args.town.now.uids.items in let qs = c.messages.passes.passes.items in
     let link = g.L.Told.told c.args.link.now in let link' = g.L.Told.told c.messages.link in let coming = g.C.Clock.coming c.args.clock.now in let coming' = g.C.Clock.coming c.messages.clock in
-    subst (λ ts. Served uids (known_by qs) Memory link link' coming coming' (added c.args.turns.now.items ts)) (sym c.reserve.ensures.items) (ended_early uids (known_by qs) link link' coming coming' c.messages.buffer c.args.turns.now.items c.messages.turns.items c.messages.count c.messages.invariant.progress c.messages-test.true)
+    subst (λ ts. Served uids (known_by qs) Memory link link' coming coming' (added c.args.turns.now.items ts)) (sym {A = List TurnNote} c.reserve.ensures.items) (ended_early uids (known_by qs) link link' coming coming' c.messages.buffer c.args.turns.now.items c.messages.turns.items c.messages.count c.messages.invariant.progress c.messages-test.true)
 
 pub returns-clause-served : goal.returns-clause-served
 returns-clause-served g c =

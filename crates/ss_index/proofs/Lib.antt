@@ -11,3 +11,4 @@ pub mod SweepingAll
 pub mod Tidying
 pub mod Counting
 pub mod Rising
+pub mod Newer

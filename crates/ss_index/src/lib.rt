@@ -6,6 +6,8 @@ mod drawer;
 mod numbers;
 mod ready;
 mod shelf;
+#[cfg(test)]
+mod tests;
 mod walk;
 
 pub use ready::Ready;

@@ -1,13 +1,11 @@
 -- One message more that was answered.
-use Rattle.std.proofs.Common.{◌≡◌, ◌⊎◌, inl, inr, ℕ, ◌+◌, ◌≤◌, Bool, List, [], ◌∷◌, ◌++◌, length, length-append, map, drop, Option, refl, sym, ap, ◌∙◌, subst, append_assoc, arith}
+use Rattle.std.proofs.Common.{◌≡◌, inl, inr, ℕ, ◌≤◌, List, [], ◌∷◌, ◌++◌, length, length-append, map, drop, Option, refl, sym, ap, ◌∙◌, subst, append_assoc, arith}
 use Rattle.std.specs.Prelude.{IsFalse}
 use Rattle.std.proofs.lemmas.List.{append-nil, map-append, drop-append-le}
 use Rattle.std.proofs.lemmas.List.Elements.{All-push}
 use Rattle.std.proofs.lemmas.Grind.{flat_map-append}
 use Rattle.std.proofs.Math.Seq.{drop-append_seam}
 use Rattle.std.specs.List.{flat_map}
-use mathlib.Core.Option.{some}
-use lib.ListN.{get_elem?}
 use Rattle.ss_desk.proofs.Lists.{at_end}
 use Rattle.ss_desk.specs.Journal.{Begins}
 use Rattle.ss_outside.specs.Told.{TakesFirst}
@@ -98,3 +96,6 @@ added_push turns turns' note begins =
 -- where none was added
 pub added_nothing : (turns : List TurnNote) → added turns turns ≡ []
 added_nothing turns = ap (drop (length turns)) (sym (append-nil turns)) ∙ drop-append_seam turns []
+
+pub pushed_on : (new now old : List TurnNote) (note : TurnNote) → new ≡ now ++ note ∷ [] → now ≡ old → new ≡ old ++ note ∷ []
+pushed_on new now old note is same = is ∙ ap (λ ts. ts ++ note ∷ []) same

@@ -1,5 +1,5 @@
 -- What one message more, and an end, make of the progress of a connection.
-use Rattle.std.proofs.Common.{◌≡◌, ◌<◌, ◌≤◌, ℕ, ◌+◌, Bool, true, false, List, [], ◌∷◌, ◌++◌, length, length-append, map, drop, Option, None, Some, refl, sym, ◌∙◌, ap, subst, append_assoc, inl, inr, arith}
+use Rattle.std.proofs.Common.{◌≡◌, ◌<◌, ◌≤◌, ℕ, ◌+◌, true, false, List, [], ◌∷◌, ◌++◌, length, length-append, map, drop, Option, None, Some, refl, sym, ◌∙◌, ap, subst, append_assoc, inl, inr, arith}
 use Rattle.std.specs.Prelude.{IsFalse}
 use Rattle.std.specs.List.{flat_map}
 use Rattle.std.proofs.lemmas.List.{append-nil}
@@ -25,7 +25,7 @@ use Rattle.ss_connection.specs.Known.{Known, KnowsMore}
 use Rattle.ss_connection.specs.Sending.{WasSent, WasCut}
 use Rattle.ss_connection.specs.Turns.{Exchange, SaysEach, SaysTurn, closes, most_messages}
 use Rattle.ss_connection.specs.Calls.{added}
-use Rattle.ss_connection.specs.Ends.{AreRead, AreReadings, IsSparing, GoesOn, Moves, Refusal, IsRefused, responses, readings, Served, EndsIn}
+use Rattle.ss_connection.specs.Ends.{AreRead, AreReadings, IsSparing, IsRefused, responses, readings, Served}
 use Rattle.ss_connection.specs.Progress.{Progress, Refuses, Stops, end_of}
 use Rattle.ss_connection.specs.declared.notes.End.{End}
 use Rattle.ss_connection.specs.declared.notes.End.TheVariants as ends

@@ -1,5 +1,5 @@
 -- What a connection is: its messages and their responses in order, what was taken from its link, and how it ended.
-use Rattle.std.specs.Prelude.{◌≡◌, ◌<◌, ◌≤◌, ◌⊎◌, ℕ, Bool, true, List, [], ◌∷◌, ◌++◌, length, map, Option, None, Some, All, IsTrue, IsFalse, if◌then◌else◌, ⊤}
+use Rattle.std.specs.Prelude.{◌≡◌, ◌<◌, ◌≤◌, ◌⊎◌, ℕ, true, List, [], ◌∷◌, ◌++◌, length, map, Option, None, Some, All, IsTrue, IsFalse, ⊤}
 use Rattle.std.specs.List.{flat_map}
 use Rattle.std.specs.Option.{option_map_or}
 use Rattle.ss_outside.specs.Told.{Meanings, IsUsedUp, Takes, Loses, Writes, TakesFirst}
@@ -9,7 +9,6 @@ use Rattle.ss_http.specs.declared.fault.MsgFault.TheVariants as faults
 use Rattle.ss_http.specs.declared.message.Message.{Message}
 use Rattle.ss_http.specs.Faults.{IsFaultOf}
 use Rattle.ss_http.specs.Messages.{Reads, ReadsMessage}
-use Rattle.ss_http.specs.Responses.{memory_response}
 use Rattle.ss_route.specs.declared.routed.Local.{Local}
 use Rattle.ss_route.specs.Wire.{local_wire, refusal_of}
 use Rattle.ss_connection.specs.Known.{Known}

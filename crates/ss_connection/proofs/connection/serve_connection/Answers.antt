@@ -1,4 +1,4 @@
-use Rattle.std.proofs.Common.{◌≡◌, ◌+◌, ◌++◌, ◌∷◌, [], Bool, List, sym, ap, ◌∙◌, subst}
+use Rattle.std.proofs.Common.{◌≡◌, ◌+◌, ◌++◌, ◌∷◌, [], Bool, List, sym, subst}
 use Rattle.ss_http.specs.Buffers.{Kept}
 use Rattle.ss_connection.specs.Known.{known_by}
 use Rattle.ss_connection.specs.Sending.{bytes_of}
@@ -9,6 +9,7 @@ use Rattle.ss_connection.specs.Progress.{Progress}
 use Rattle.ss_connection.specs.declared.notes.End.TheVariants.{WriteFault, Asked, Memory}
 use Rattle.ss_connection.specs.declared.notes.TurnNote.{TurnNote}
 use Rattle.ss_connection.proofs.Passing.{see_itself, see_then, knows_more, enters_nothing, enters_push}
+use Rattle.ss_connection.proofs.Exchanges.{pushed_on}
 use Rattle.ss_connection.proofs.Run.{Answers, begins, begun, ended_asked, ended_counting, ended_cut, ended_early, goes_on, stopped, unserved}
 use Rattle.ss_connection.proofs.connection.serve_connection.Goals as goal
 
@@ -48,7 +49,7 @@ returns-in-Err-write-clause-served g c =
     let uids = c.args.town.now.uids.items in let ps = c.args.passes.now.passes.items in let qs = c.messages.passes.passes.items in let rs = c.answer-turn.new.passes.passes.items in
     let m = c.in-Ok-read_message.message in
     let note : TurnNote = record { now = c.now-now.result; turn = c.answer-turn.result.0 } in
-    let turns : c.push_reserved.new.self.items ≡ c.messages.turns.items ++ note ∷ [] = c.push_reserved.ensures.items ∙ ap (λ ts. ts ++ note ∷ []) c.reserve.ensures.items in
+    let turns : c.push_reserved.new.self.items ≡ c.messages.turns.items ++ note ∷ [] = pushed_on c.push_reserved.new.self.items c.reserve.new.self.items c.messages.turns.items note c.push_reserved.ensures.items c.reserve.ensures.items in
     let link = g.L.Told.told c.args.link.now in let link' = g.L.Told.told c.messages.link in let link2 = g.L.Told.told c.read_message.new.source in let link3 = g.L.Told.told c.write.new.link in
     let coming = g.C.Clock.coming c.args.clock.now in let coming' = g.C.Clock.coming c.messages.clock in let coming2 = g.C.Clock.coming c.now-now.new.self in
     let takes = rw p.going_on at c.in-Ok-read_message.ensures.takes in
@@ -72,7 +73,7 @@ returns-in-Err-write-clause-enters g c =
     let i = c.messages.invariant in let p = i.progress in
     let uids = c.args.town.now.uids.items in let ps = c.args.passes.now.passes.items in let qs = c.messages.passes.passes.items in let rs = c.answer-turn.new.passes.passes.items in
     let note : TurnNote = record { now = c.now-now.result; turn = c.answer-turn.result.0 } in
-    let turns : c.push_reserved.new.self.items ≡ c.messages.turns.items ++ note ∷ [] = c.push_reserved.ensures.items ∙ ap (λ ts. ts ++ note ∷ []) c.reserve.ensures.items in
+    let turns : c.push_reserved.new.self.items ≡ c.messages.turns.items ++ note ∷ [] = pushed_on c.push_reserved.new.self.items c.reserve.new.self.items c.messages.turns.items note c.push_reserved.ensures.items c.reserve.ensures.items in
     subst (λ ts. Enters uids ps rs (added c.args.turns.now.items ts)) (sym {A = List TurnNote} turns)
     (enters_push uids ps qs rs c.args.turns.now.items c.messages.turns.items note (begins uids (known_by qs) (g.L.Told.told c.args.link.now) (g.L.Told.told c.messages.link) (g.C.Clock.coming c.args.clock.now) (g.C.Clock.coming c.messages.clock) c.messages.buffer c.args.turns.now.items c.messages.turns.items c.messages.count p) i.enters c.answer-turn.ensures.enters)
 
@@ -85,7 +86,7 @@ returns-then-message-clause-served g c =
     let uids = c.args.town.now.uids.items in let ps = c.args.passes.now.passes.items in let qs = c.messages.passes.passes.items in let rs = c.answer-turn.new.passes.passes.items in
     let m = c.in-Ok-read_message.message in
     let note : TurnNote = record { now = c.now-now.result; turn = c.answer-turn.result.0 } in
-    let turns : c.push_reserved.new.self.items ≡ c.messages.turns.items ++ note ∷ [] = c.push_reserved.ensures.items ∙ ap (λ ts. ts ++ note ∷ []) c.reserve.ensures.items in
+    let turns : c.push_reserved.new.self.items ≡ c.messages.turns.items ++ note ∷ [] = pushed_on c.push_reserved.new.self.items c.reserve.new.self.items c.messages.turns.items note c.push_reserved.ensures.items c.reserve.ensures.items in
     let link = g.L.Told.told c.args.link.now in let link' = g.L.Told.told c.messages.link in let link2 = g.L.Told.told c.read_message.new.source in let link3 = g.L.Told.told c.write.new.link in
     let coming = g.C.Clock.coming c.args.clock.now in let coming' = g.C.Clock.coming c.messages.clock in let coming2 = g.C.Clock.coming c.now-now.new.self in
     let takes = rw p.going_on at c.in-Ok-read_message.ensures.takes in
@@ -109,7 +110,7 @@ returns-then-message-clause-enters g c =
     let i = c.messages.invariant in let p = i.progress in
     let uids = c.args.town.now.uids.items in let ps = c.args.passes.now.passes.items in let qs = c.messages.passes.passes.items in let rs = c.answer-turn.new.passes.passes.items in
     let note : TurnNote = record { now = c.now-now.result; turn = c.answer-turn.result.0 } in
-    let turns : c.push_reserved.new.self.items ≡ c.messages.turns.items ++ note ∷ [] = c.push_reserved.ensures.items ∙ ap (λ ts. ts ++ note ∷ []) c.reserve.ensures.items in
+    let turns : c.push_reserved.new.self.items ≡ c.messages.turns.items ++ note ∷ [] = pushed_on c.push_reserved.new.self.items c.reserve.new.self.items c.messages.turns.items note c.push_reserved.ensures.items c.reserve.ensures.items in
     subst (λ ts. Enters uids ps rs (added c.args.turns.now.items ts)) (sym {A = List TurnNote} turns)
     (enters_push uids ps qs rs c.args.turns.now.items c.messages.turns.items note (begins uids (known_by qs) (g.L.Told.told c.args.link.now) (g.L.Told.told c.messages.link) (g.C.Clock.coming c.args.clock.now) (g.C.Clock.coming c.messages.clock) c.messages.buffer c.args.turns.now.items c.messages.turns.items c.messages.count p) i.enters c.answer-turn.ensures.enters)
 
@@ -119,7 +120,7 @@ messages-preserved g c =
     let uids = c.args.town.now.uids.items in let ps = c.args.passes.now.passes.items in let qs = c.messages.passes.passes.items in let rs = c.answer-turn.new.passes.passes.items in
     let m = c.in-Ok-read_message.message in
     let note : TurnNote = record { now = c.now-now.result; turn = c.answer-turn.result.0 } in
-    let turns : c.push_reserved.new.self.items ≡ c.messages.turns.items ++ note ∷ [] = c.push_reserved.ensures.items ∙ ap (λ ts. ts ++ note ∷ []) c.reserve.ensures.items in
+    let turns : c.push_reserved.new.self.items ≡ c.messages.turns.items ++ note ∷ [] = pushed_on c.push_reserved.new.self.items c.reserve.new.self.items c.messages.turns.items note c.push_reserved.ensures.items c.reserve.ensures.items in
     let link = g.L.Told.told c.args.link.now in let link' = g.L.Told.told c.messages.link in let link2 = g.L.Told.told c.read_message.new.source in let link3 = g.L.Told.told c.write.new.link in
     let coming = g.C.Clock.coming c.args.clock.now in let coming' = g.C.Clock.coming c.messages.clock in let coming2 = g.C.Clock.coming c.now-now.new.self in
     let takes = rw p.going_on at c.in-Ok-read_message.ensures.takes in

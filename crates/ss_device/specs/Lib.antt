@@ -1,0 +1,6 @@
+pub mod Device
+pub mod Edits
+pub mod Lines
+pub mod Files
+pub mod Writing
+pub mod Faults

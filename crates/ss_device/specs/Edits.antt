@@ -30,6 +30,38 @@ is_within t top x = is_met t (length t) top x
 abbrev pub without_id : List ℕ → List (List ℕ) → List (List ℕ)
 without_id x xs = filter (λ y. not (bytes_eq x y)) xs
 
+-- ---- what a change makes of an item
+
+abbrev pub item_of : Placed → ItemView
+item_of n = record { id = n.id; kind = n.kind; content = n.content }
+
+-- another content and time
+abbrev pub revised_node : List ℕ → ℕ → Placed → Placed
+revised_node content time n = record { id = n.id; kind = n.kind; content = content; parent = n.parent; children = n.children; time = time }
+
+-- another time, where it has this id
+abbrev pub stamped : List ℕ → ℕ → Placed → Placed
+stamped x time n = record { id = n.id; kind = n.kind; content = n.content; parent = n.parent; children = n.children; time = if bytes_eq n.id x then time else n.time }
+
+-- a last child more
+abbrev pub with_child : List ℕ → Placed → Placed
+with_child x n = record { id = n.id; kind = n.kind; content = n.content; parent = n.parent; children = n.children ++ x ∷ []; time = n.time }
+
+-- x is no child
+abbrev pub left_node : List ℕ → Placed → Placed
+left_node x n = record { id = n.id; kind = n.kind; content = n.content; parent = n.parent; children = without_id x n.children; time = n.time }
+
+-- x went to the end of a folder, and all times stay
+abbrev pub moved_only : List ℕ → List ℕ → Placed → Placed
+moved_only x parent n = record {
+  id = n.id;
+  kind = n.kind;
+  content = n.content;
+  parent = if bytes_eq n.id x then Some parent else n.parent;
+  children = if bytes_eq n.id parent then without_id x n.children ++ x ∷ [] else without_id x n.children;
+  time = n.time;
+}
+
 -- ---- what an edit makes of the tree
 
 -- a new item without children

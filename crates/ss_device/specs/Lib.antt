@@ -4,3 +4,4 @@ pub mod Lines
 pub mod Files
 pub mod Writing
 pub mod Faults
+pub mod Refusals

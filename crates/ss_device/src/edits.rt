@@ -8,7 +8,8 @@ ghost use Rattle.ss_device.specs.declared.faults.EditFault.TheVariants.{Memory};
 use crate::device::Device;
 use crate::faults::EditFault;
 use ss_record::Item;
-use ss_text::Id;
+use crate::tree_edits::{add_to, move_in, rename_in};
+use ss_text::{Id, Stamp};
 use std::alloc::Global;
 
 impl Device {
@@ -25,7 +26,10 @@ impl Device {
         ensures added { OnOk result (IsAdded now parent.now item self.old self.new) }
         ensures unchanged { OnErr result (self.new ≡ self.old) }
     {
-        Err(EditFault::Memory)
+        let id = item.id().copy(alloc)?;
+        add_to(alloc, &mut self.tree, Stamp::clamp(now), parent, item)?;
+        self.dead.remove(&id);
+        Ok(())
     }
 
     /// Gives an item another title, and the time of this reading of the clock.
@@ -40,7 +44,7 @@ impl Device {
         ensures renamed { OnOk result (IsRenamed now id.now title.now self.old self.new) }
         ensures unchanged { OnErr result (self.new ≡ self.old) }
     {
-        Err(EditFault::Memory)
+        rename_in(alloc, &mut self.tree, Stamp::clamp(now), id, title)
     }
 
     /// Moves an item, with all below it, to the end of a folder. It and both folders have the time of this reading.
@@ -55,7 +59,7 @@ impl Device {
         ensures moved { OnOk result (IsMoved now id.now parent.now self.old self.new) }
         ensures unchanged { OnErr result (self.new ≡ self.old) }
     {
-        Err(EditFault::Memory)
+        move_in(alloc, &mut self.tree, Stamp::clamp(now), id, parent)
     }
 
     /// Deletes an item with all below it: each id is then among the deleted, with the time of this reading, which its

@@ -5,7 +5,7 @@ ghost use Rattle.ss_device.specs.declared.faults.EditFault.TheVariants.{Memory};
 ghost use Rattle.ss_device.specs.declared.faults.DeviceFault.TheVariants.{Memory as NoMemory};
 
 use ss_text::Id;
-use std::alloc::{AllocError, AllocFailed};
+use std::alloc::AllocError;
 
 /// Why an edit is refused; of several causes the first in this order is given.
 #[derive(Clone, Copy, Debug, PartialEq, Eq)]
@@ -24,10 +24,10 @@ pub enum EditFault {
     Memory,
 }
 
-impl<T: Drop> From<AllocFailed<T>> for EditFault {
+impl From<AllocError> for EditFault {
     ghost from_gives = { λ _ e. e ≡ Memory };
 
-    fn from(_: AllocFailed<T>) -> EditFault {
+    fn from(_: AllocError) -> EditFault {
         EditFault::Memory
     }
 }
@@ -45,10 +45,10 @@ pub enum DeviceFault {
     Memory,
 }
 
-impl<T: Drop> From<AllocFailed<T>> for DeviceFault {
+impl From<AllocError> for DeviceFault {
     ghost from_gives = { λ _ e. e ≡ NoMemory };
 
-    fn from(_: AllocFailed<T>) -> DeviceFault {
+    fn from(_: AllocError) -> DeviceFault {
         DeviceFault::Memory
     }
 }

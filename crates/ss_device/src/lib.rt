@@ -8,7 +8,10 @@ mod device;
 mod edits;
 mod faults;
 mod files;
+mod grafts;
 mod lines;
+mod titles;
+mod tree_edits;
 
 pub use device::Device;
 pub use faults::{DeviceFault, EditFault};

@@ -1,0 +1,194 @@
+-- What several changes of a tree come to, by ids.
+use Rattle.std.proofs.Common.{◌≡◌, ℕ, List, [], ◌∷◌, ◌++◌, map, filter, not, Bool, true, false, cond, ◌||◌, refl, sym, ap, ap₂, subst, ◌∙◌, Option, Some, None, option_map, find, is_some, bytes_eq}
+use Rattle.std.proofs.lemmas.Bool.{false≢true}
+use Rattle.ss_record.proofs.IdLists.{same_id, bytes_eq-same, bytes_eq-sym}
+use Rattle.ss_record.specs.Items.{ItemView}
+use Rattle.ss_tree.specs.Trees.{Placed, IsSame, node, parent_in}
+use Rattle.ss_tree.proofs.Changes.{some_same}
+use Rattle.ss_device.specs.Edits.{item_of, added, renamed, moved, moved_node, moved_only, new_node, with_child, with_last, with_title, titled, revised_node, stamped, without_id}
+
+-- the item of an id has it
+pub node_id : (y : List ℕ) (t : List Placed) (n : Placed) → node y t ≡ Some n → n.id ≡ y
+unfolding node
+node_id y [] n q = cc
+node_id y (m ∷ t) n q = go (bytes_eq y m.id) refl q (node_id y t n)
+  where
+    go : (b : Bool) → bytes_eq y m.id ≡ b → cond b (Some m) (find (λ k. bytes_eq y k.id) t) ≡ Some n → (find (λ k. bytes_eq y k.id) t ≡ Some n → n.id ≡ y) → n.id ≡ y
+    go true h r ih = ap (λ (k : Placed). k.id) (sym (some_same r)) ∙ sym (same_id y m.id h)
+    go false h r ih = ih r
+
+-- a change of items that leaves ids
+pub node_map : (change : Placed → Placed) → ((n : Placed) → (change n).id ≡ n.id) → (y : List ℕ) (t : List Placed) → node y (map change t) ≡ option_map change (node y t)
+unfolding node
+node_map change same y [] = refl
+node_map change same y (m ∷ t) = ap (λ x. cond (bytes_eq y x) (Some (change m)) (find (λ k. bytes_eq y k.id) (map change t))) (same m) ∙ go (bytes_eq y m.id) (node_map change same y t)
+  where
+    go : (b : Bool) → find (λ k. bytes_eq y k.id) (map change t) ≡ option_map change (find (λ k. bytes_eq y k.id) t)
+        → cond b (Some (change m)) (find (λ k. bytes_eq y k.id) (map change t)) ≡ option_map change (cond b (Some m) (find (λ k. bytes_eq y k.id) t))
+    go true ih = refl
+    go false ih = ih
+
+-- two changes that are one at an item
+pub same_change : (f g : Placed → Placed) (o : Option Placed) → ((n : Placed) → o ≡ Some n → f n ≡ g n) → option_map f o ≡ option_map g o
+same_change f g None h = refl
+same_change f g (Some n) h = ap Some (h n refl)
+
+pub twice : (f g : Placed → Placed) (o : Option Placed) → option_map f (option_map g o) ≡ option_map (λ n. f (g n)) o
+twice f g None = refl
+twice f g (Some n) = refl
+
+pub restamped : (t : List Placed) (x content : List ℕ) (time : ℕ) → ((n : Placed) → node x t ≡ Some n → n.content ≡ content) → (y : List ℕ)
+    → option_map (λ n. cond (bytes_eq n.id x) (revised_node content time n) n) (node y t) ≡ option_map (stamped x time) (node y t)
+restamped t x content time h y = same_change (λ n. cond (bytes_eq n.id x) (revised_node content time n) n) (stamped x time) (node y t) each
+  where
+    each : (n : Placed) → node y t ≡ Some n → cond (bytes_eq n.id x) (revised_node content time n) n ≡ stamped x time n
+    each n q = go (bytes_eq n.id x) refl
+      where
+        go : (b : Bool) → bytes_eq n.id x ≡ b → cond b (revised_node content time n) n ≡ record { id = n.id; kind = n.kind; content = n.content; parent = n.parent; children = n.children; time = cond b time n.time }
+        go false w = refl
+        go true w =
+            let here : node x t ≡ Some n = ap (λ z. node z t) (sym (same_id n.id x w) ∙ node_id y t n q) ∙ q in
+            ap (λ z. record { id = n.id; kind = n.kind; content = z; parent = n.parent; children = n.children; time = time }) (sym (h n here))
+
+-- ---- what holds of an item after a change
+
+pub through : (change : Placed → Placed) (o p : Option Placed) (P : Placed → Type 0) → p ≡ option_map change o → ((n : Placed) → o ≡ Some n → P (change n)) → (m : Placed) → p ≡ Some m → P m
+through change None p P q h m r = absurd (never (sym q ∙ r))
+  where
+    never : {X : Type 0} {x : X} → None ≡ Some x → ⊥
+    never f = cc
+through change (Some n) p P q h m r = subst P (some_same (sym q ∙ r)) (h n refl)
+
+pub still : (change : Placed → Placed) (o p : Option Placed) → p ≡ option_map change o → is_some o ≡ true → is_some p ≡ true
+still change None p q h = absurd (false≢true h)
+still change (Some n) p q h = ap is_some q
+
+-- ---- edits
+
+pub add_same : (old new last : List Placed) (time : ℕ) (parent : List ℕ) (i : ItemView)
+    → ((y : List ℕ) → node y new ≡ cond (bytes_eq y i.id) (Some (new_node time parent i)) (option_map (λ n. cond (bytes_eq n.id parent) (with_child i.id n) n) (node y old)))
+    → ((y : List ℕ) → node y last ≡ option_map (stamped parent time) (node y new)) → IsSame last (added time parent i old)
+unfolding added node
+add_same old new last time parent i first second y =
+    second y ∙ (ap (option_map (stamped parent time)) (first y) ∙ (go (bytes_eq y i.id) ∙ sym (ap (cond (bytes_eq y i.id) (Some (new_node time parent i))) (node_map change same y old))))
+  where
+    change : Placed → Placed
+    change n = cond (bytes_eq n.id parent) (with_last time i.id n) n
+
+    same : (n : Placed) → (change n).id ≡ n.id
+    same n = pick (bytes_eq n.id parent)
+      where
+        pick : (b : Bool) → (cond b (with_last time i.id n) n).id ≡ n.id
+        pick true = refl
+        pick false = refl
+
+    each : (n : Placed) → stamped parent time (cond (bytes_eq n.id parent) (with_child i.id n) n) ≡ change n
+    each n = pick (bytes_eq n.id parent) refl
+      where
+        at : (b : Bool) → Placed
+        at b = record { id = n.id; kind = n.kind; content = n.content; parent = n.parent; children = n.children; time = cond b time n.time }
+
+        child : (b : Bool) → Placed
+        child b = record { id = n.id; kind = n.kind; content = n.content; parent = n.parent; children = n.children ++ i.id ∷ []; time = cond b time n.time }
+
+        pick : (b : Bool) → bytes_eq n.id parent ≡ b → stamped parent time (cond b (with_child i.id n) n) ≡ cond b (with_last time i.id n) n
+        pick true h = ap child h
+        pick false h = ap at h
+
+    own : (b : Bool) → cond b time time ≡ time
+    own true = refl
+    own false = refl
+
+    go : (b : Bool) → option_map (stamped parent time) (cond b (Some (new_node time parent i)) (option_map (λ n. cond (bytes_eq n.id parent) (with_child i.id n) n) (node y old))) ≡ cond b (Some (new_node time parent i)) (option_map change (node y old))
+    go true = ap (λ s. Some (record { id = i.id; kind = i.kind; content = i.content; parent = Some parent; children = []; time = s })) (own (bytes_eq i.id parent))
+    go false = twice (stamped parent time) (λ n. cond (bytes_eq n.id parent) (with_child i.id n) n) (node y old) ∙ same_change (λ n. stamped parent time (cond (bytes_eq n.id parent) (with_child i.id n) n)) change (node y old) (λ n q. each n)
+
+pub rename_same : (old new : List Placed) (time : ℕ) (x title content : List ℕ) → ((n : Placed) → node x old ≡ Some n → titled title n.content ≡ content)
+    → ((y : List ℕ) → node y new ≡ option_map (λ n. cond (bytes_eq n.id x) (revised_node content time n) n) (node y old)) → IsSame new (renamed time x title old)
+unfolding renamed
+rename_same old new time x title content told nodes y =
+    nodes y ∙ (same_change (λ n. cond (bytes_eq n.id x) (revised_node content time n) n) change (node y old) each ∙ sym (node_map change same y old))
+  where
+    change : Placed → Placed
+    change n = cond (bytes_eq n.id x) (with_title time title n) n
+
+    same : (n : Placed) → (change n).id ≡ n.id
+    same n = pick (bytes_eq n.id x)
+      where
+        pick : (b : Bool) → (cond b (with_title time title n) n).id ≡ n.id
+        pick true = refl
+        pick false = refl
+
+    each : (n : Placed) → node y old ≡ Some n → cond (bytes_eq n.id x) (revised_node content time n) n ≡ change n
+    each n q = pick (bytes_eq n.id x) refl
+      where
+        pick : (b : Bool) → bytes_eq n.id x ≡ b → cond b (revised_node content time n) n ≡ cond b (with_title time title n) n
+        pick false h = refl
+        pick true h =
+            let here : node x old ≡ Some n = ap (λ z. node z old) (sym (same_id n.id x h) ∙ node_id y old n q) ∙ q in
+            ap (λ z. revised_node z time n) (sym (told n here))
+
+pub move_same : (old one two three last : List Placed) (time : ℕ) (x from parent : List ℕ) → from ≡ parent_in old x
+    → ((y : List ℕ) → node y one ≡ option_map (moved_only x parent) (node y old)) → ((y : List ℕ) → node y two ≡ option_map (stamped x time) (node y one))
+    → ((y : List ℕ) → node y three ≡ option_map (stamped from time) (node y two)) → ((y : List ℕ) → node y last ≡ option_map (stamped parent time) (node y three)) → IsSame last (moved time x parent old)
+unfolding moved
+move_same old one two three last time x from parent is first second third fourth y =
+    fourth y
+    ∙ (ap (option_map (stamped parent time)) (third y ∙ ap (option_map (stamped from time)) (second y ∙ ap (option_map (stamped x time)) (first y)))
+    ∙ (all (node y old)
+    ∙ (same_change (λ n. stamped parent time (stamped from time (stamped x time (moved_only x parent n)))) (moved_node time x from parent) (node y old) (λ n q. each n)
+    ∙ (ap (λ z. option_map (moved_node time x z parent) (node y old)) is ∙ sym (node_map (moved_node time x (parent_in old x) parent) (λ n. refl) y old)))))
+  where
+    all : (o : Option Placed) → option_map (stamped parent time) (option_map (stamped from time) (option_map (stamped x time) (option_map (moved_only x parent) o))) ≡ option_map (λ n. stamped parent time (stamped from time (stamped x time (moved_only x parent n)))) o
+    all None = refl
+    all (Some n) = refl
+
+    times : (a b c : Bool) (s : ℕ) → cond c time (cond b time (cond a time s)) ≡ cond (a || b || c) time s
+    times true true true s = refl
+    times true true false s = refl
+    times true false true s = refl
+    times true false false s = refl
+    times false true true s = refl
+    times false true false s = refl
+    times false false true s = refl
+    times false false false s = refl
+
+    each : (n : Placed) → stamped parent time (stamped from time (stamped x time (moved_only x parent n))) ≡ moved_node time x from parent n
+    each n = ap (λ s. record {
+      id = n.id;
+      kind = n.kind;
+      content = n.content;
+      parent = cond (bytes_eq n.id x) (Some parent) n.parent;
+      children = cond (bytes_eq n.id parent) (without_id x n.children ++ x ∷ []) (without_id x n.children);
+      time = s;
+    }) (times (bytes_eq n.id x) (bytes_eq n.id from) (bytes_eq n.id parent) n.time)
+
+-- ---- what an item that comes leaves of its parent
+
+abbrev grown : List ℕ → List ℕ → Placed → Placed
+grown parent x n = cond (bytes_eq n.id parent) (with_child x n) n
+
+grown_item : (parent x : List ℕ) (n : Placed) → item_of (grown parent x n) ≡ item_of n
+grown_item parent x n = go (bytes_eq n.id parent)
+  where
+    go : (b : Bool) → item_of (cond b (with_child x n) n) ≡ item_of n
+    go true = refl
+    go false = refl
+
+pub grown_parent : (old new : List Placed) (time : ℕ) (parent : List ℕ) (i : ItemView) → bytes_eq parent i.id ≡ false
+    → ((y : List ℕ) → node y new ≡ cond (bytes_eq y i.id) (Some (new_node time parent i)) (option_map (λ n. cond (bytes_eq n.id parent) (with_child i.id n) n) (node y old)))
+    → (P : ItemView → Type 0) → ((n : Placed) → node parent old ≡ Some n → P (item_of n)) → (m : Placed) → node parent new ≡ Some m → P (item_of m)
+grown_parent old new time parent i apart nodes P h m q =
+    through (grown parent i.id) (node parent old) (node parent new) (λ n. P (item_of n))
+    (nodes parent ∙ ap (λ b. cond b (Some (new_node time parent i)) (option_map (grown parent i.id) (node parent old))) apart)
+    (λ n r. subst P (sym (grown_item parent i.id n)) (h n r)) m q
+
+pub grown_there : (old new : List Placed) (time : ℕ) (parent : List ℕ) (i : ItemView)
+    → ((y : List ℕ) → node y new ≡ cond (bytes_eq y i.id) (Some (new_node time parent i)) (option_map (λ n. cond (bytes_eq n.id parent) (with_child i.id n) n) (node y old)))
+    → is_some (node parent old) ≡ true → is_some (node parent new) ≡ true
+grown_there old new time parent i nodes h = ap is_some (nodes parent) ∙ go (bytes_eq parent i.id) (node parent old) h
+  where
+    go : (b : Bool) (o : Option Placed) → is_some o ≡ true → is_some (cond b (Some (new_node time parent i)) (option_map (grown parent i.id) o)) ≡ true
+    go true o k = refl
+    go false None k = k
+    go false (Some n) k = refl

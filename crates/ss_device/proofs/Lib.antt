@@ -1,0 +1,6 @@
+pub mod ByIds
+pub mod Changes
+pub mod Refused
+pub mod Known
+pub mod Composed
+pub mod Retitled

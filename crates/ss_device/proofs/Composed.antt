@@ -1,11 +1,13 @@
 -- What several changes of a tree come to, by ids.
-use Rattle.std.proofs.Common.{◌≡◌, ℕ, List, [], ◌∷◌, ◌++◌, map, filter, not, Bool, true, false, cond, ◌||◌, refl, sym, ap, ap₂, subst, ◌∙◌, Option, Some, None, option_map, find, is_some, bytes_eq}
+use Rattle.std.proofs.Common.{◌≡◌, ℕ, List, [], ◌∷◌, ◌++◌, map, filter, not, Bool, true, false, cond, ◌||◌, refl, sym, ap, ap₂, subst, ◌∙◌, Option, Some, None, option_map, option_and_then, unwrap_or, find, is_some, bytes_eq}
 use Rattle.std.proofs.lemmas.Bool.{false≢true}
-use Rattle.ss_record.proofs.IdLists.{same_id, bytes_eq-same, bytes_eq-sym}
+use Rattle.ss_record.specs.Ids.{has, places}
+use Rattle.ss_record.proofs.IdLists.{same_id, bytes_eq-same, bytes_eq-sym, has-cons}
 use Rattle.ss_record.specs.Items.{ItemView}
-use Rattle.ss_tree.specs.Trees.{Placed, IsSame, node, parent_in}
+use Rattle.ss_tree.specs.Trees.{Placed, IsSame, IsUnder, IsValidTree, node, node_ids, parent_in}
 use Rattle.ss_tree.proofs.Changes.{some_same}
-use Rattle.ss_device.specs.Edits.{item_of, added, renamed, moved, moved_node, moved_only, new_node, with_child, with_last, with_title, titled, revised_node, stamped, without_id}
+use Rattle.ss_device.proofs.Known.{has_is_node}
+use Rattle.ss_device.specs.Edits.{deleted, is_within, item_of, left_node, without_child, added, renamed, moved, moved_node, moved_only, new_node, with_child, with_last, with_title, titled, revised_node, stamped, without_id}
 
 -- the item of an id has it
 pub node_id : (y : List ℕ) (t : List Placed) (n : Placed) → node y t ≡ Some n → n.id ≡ y
@@ -192,3 +194,89 @@ grown_there old new time parent i nodes h = ap is_some (nodes parent) ∙ go (by
     go true o k = refl
     go false None k = k
     go false (Some n) k = refl
+
+-- ---- a deletion
+
+node_filter : (q : List ℕ → Bool) (y : List ℕ) (t : List Placed) → node y (filter (λ n. q n.id) t) ≡ cond (q y) (node y t) None
+unfolding node
+node_filter q y [] = go (q y)
+  where
+    go : (b : Bool) → find (λ (k : Placed). bytes_eq y k.id) [] ≡ cond b (find (λ (k : Placed). bytes_eq y k.id) []) None
+    go true = refl
+    go false = refl
+node_filter q y (m ∷ t) = go (q m.id) refl (bytes_eq y m.id) refl (node_filter q y t)
+  where
+    rest : Option Placed
+    rest = find (λ k. bytes_eq y k.id) t
+
+    go : (a : Bool) → q m.id ≡ a → (b : Bool) → bytes_eq y m.id ≡ b → find (λ k. bytes_eq y k.id) (filter (λ n. q n.id) t) ≡ cond (q y) (find (λ k. bytes_eq y k.id) t) None
+        → find (λ k. bytes_eq y k.id) (cond a (m ∷ filter (λ n. q n.id) t) (filter (λ n. q n.id) t)) ≡ cond (q y) (cond b (Some m) (find (λ k. bytes_eq y k.id) t)) None
+    go true h true k ih = ap (λ b. cond b (Some m) (find (λ w. bytes_eq y w.id) (filter (λ n. q n.id) t))) k ∙ sym (ap (λ b. cond b (Some m) None) (ap q (same_id y m.id k) ∙ h))
+    go true h false k ih = ap (λ b. cond b (Some m) (find (λ w. bytes_eq y w.id) (filter (λ n. q n.id) t))) k ∙ ih
+    go false h true k ih = ih ∙ (ap (λ b. cond b (find (λ w. bytes_eq y w.id) t) None) out ∙ sym (ap (λ b. cond b (Some m) None) out))
+      where
+        out : q y ≡ false
+        out = ap q (same_id y m.id k) ∙ h
+    go false h false k ih = ih
+
+abbrev left_or : ℕ → List ℕ → List ℕ → Placed → Placed
+left_or time x from n = cond (bytes_eq n.id from) (without_child time x n) n
+
+left_or_id : (time : ℕ) (x from : List ℕ) (n : Placed) → (left_or time x from n).id ≡ n.id
+left_or_id time x from n = go (bytes_eq n.id from)
+  where
+    go : (b : Bool) → (cond b (without_child time x n) n).id ≡ n.id
+    go true = refl
+    go false = refl
+
+pub deleted_at : (time : ℕ) (x y : List ℕ) (t : List Placed) → node y (deleted time x t) ≡ option_map (left_or time x (parent_in t x)) (cond (not (is_within t x y)) (node y t) None)
+unfolding deleted
+deleted_at time x y t =
+    node_map (left_or time x (parent_in t x)) (left_or_id time x (parent_in t x)) y (filter (λ n. not (is_within t x n.id)) t) ∙ ap (option_map (left_or time x (parent_in t x))) (node_filter (λ z. not (is_within t x z)) y t)
+
+pub deleted_ids : (time : ℕ) (x y : List ℕ) (t : List Placed) → is_within t x y ≡ false → has y (node_ids (deleted time x t)) ≡ has y (node_ids t)
+deleted_ids time x y t out =
+    has_is_node y (deleted time x t) ∙ (ap is_some (deleted_at time x y t ∙ ap (λ b. option_map (left_or time x (parent_in t x)) (cond (not b) (node y t) None)) out) ∙ (some (node y t) ∙ sym (has_is_node y t)))
+  where
+    some : (o : Option Placed) → is_some (option_map (left_or time x (parent_in t x)) o) ≡ is_some o
+    some None = refl
+    some (Some n) = refl
+
+without_absent : (x : List ℕ) (ys : List (List ℕ)) → has x ys ≡ false → without_id x ys ≡ ys
+without_absent x [] h = refl
+without_absent x (y ∷ ys) h = go (bytes_eq x y) (sym (has-cons x y ys) ∙ h) (without_absent x ys)
+  where
+    go : (b : Bool) → (b || has x ys) ≡ false → (has x ys ≡ false → without_id x ys ≡ ys) → cond (not b) (y ∷ without_id x ys) (without_id x ys) ≡ y ∷ ys
+    go true k ih = absurd (false≢true (sym k))
+    go false k ih = ap (λ r. y ∷ r) (ih k)
+
+pub delete_same : (old new last : List Placed) (time : ℕ) (x from : List ℕ) → IsValidTree old → from ≡ parent_in old x
+    → ((y : List ℕ) → node y new ≡ cond (is_within old x y) None (option_map (left_node x) (node y old))) → ((y : List ℕ) → node y last ≡ option_map (stamped from time) (node y new)) → IsSame last (deleted time x old)
+unfolding parent_in IsUnder
+delete_same old new last time x from valid is first second y =
+    second y ∙ (ap (option_map (stamped from time)) (first y) ∙ (go (is_within old x y) ∙ (ap (λ z. option_map (left_or time x z) (cond (not (is_within old x y)) (node y old) None)) is ∙ sym (deleted_at time x y old))))
+  where
+    each : (n : Placed) → node y old ≡ Some n → stamped from time (left_node x n) ≡ left_or time x from n
+    each n q = pick (bytes_eq n.id from) refl
+      where
+        at : (b : Bool) → Placed
+        at b = record { id = n.id; kind = n.kind; content = n.content; parent = n.parent; children = without_id x n.children; time = cond b time n.time }
+
+        absent : (b : Bool) → has x n.children ≡ b → bytes_eq n.id from ≡ false → b ≡ false
+        absent false h k = refl
+        absent true h k =
+            let u = (valid.stands y n q x).0 h in
+            let up : parent_in old x ≡ y = ap (λ o. unwrap_or (option_and_then (λ (m : Placed). m.parent) o) places) u.1 ∙ ap (λ o. unwrap_or o places) u.2 in
+            absurd (false≢true (sym k ∙ bytes_eq-same n.id from (node_id y old n q ∙ sym (is ∙ up))))
+
+        pick : (b : Bool) → bytes_eq n.id from ≡ b → stamped from time (left_node x n) ≡ cond b (without_child time x n) n
+        pick true h = ap at h
+        pick false h = ap at h ∙ ap (λ cs. record { id = n.id; kind = n.kind; content = n.content; parent = n.parent; children = cs; time = n.time }) (without_absent x n.children (absent (has x n.children) refl h))
+
+    go : (b : Bool) → option_map (stamped from time) (cond b None (option_map (left_node x) (node y old))) ≡ option_map (left_or time x from) (cond (not b) (node y old) None)
+    go true = refl
+    go false = twice (stamped from time) (left_node x) (node y old) ∙ same_change (λ n. stamped from time (left_node x n)) (left_or time x from) (node y old) each
+
+-- the folder that is left
+pub left_change : (old new : List Placed) (x from : List ℕ) → is_within old x from ≡ false → ((y : List ℕ) → node y new ≡ cond (is_within old x y) None (option_map (left_node x) (node y old))) → node from new ≡ option_map (left_node x) (node from old)
+left_change old new x from out nodes = nodes from ∙ ap (λ b. cond b None (option_map (left_node x) (node from old))) out

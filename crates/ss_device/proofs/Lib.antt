@@ -4,3 +4,7 @@ pub mod Refused
 pub mod Known
 pub mod Composed
 pub mod Retitled
+pub mod Deaths
+pub mod Going
+pub mod Buried
+pub mod Gone

@@ -51,6 +51,13 @@ none_from (Some x) h = absurd (false≢true (sym h))
 pub not_there : (es : List Entry) (x : List ℕ) → is_some (node x (tree es)) ≡ true → node_of x es ≡ None → ⊥
 not_there es x h q = false≢true (sym (node_there es x ∙ ap is_some q) ∙ h)
 
+pub at_there : (es : List Entry) (x : List ℕ) → is_some (node x (tree es)) ≡ true → (k : ℕ) × (node_of x es ≡ Some k)
+at_there es x h = go (node_of x es) refl
+  where
+    go : (o : Option ℕ) → node_of x es ≡ o → (k : ℕ) × (node_of x es ≡ Some k)
+    go None q = absurd (not_there es x h q)
+    go (Some k) q = (k, q)
+
 -- an id that isn't refused as doubled is no other item's
 pub fresh_id : (es : List Entry) (p : ℕ) (b : Option ℕ) (x : List ℕ) → insert_fault es p b x ≡ None → (k : ℕ) (e : Entry) → entry k es ≡ Some e → bytes_eq e.item.id x ≡ false
 fresh_id es p b x h k e q = go (bytes_eq e.item.id x) refl
@@ -128,7 +135,7 @@ module _ (es : List Entry) (t : IsTree es) (x : List ℕ) (k : ℕ) (at : node_o
       let e = node_found es t x k at in
       ap (bytes_eq f.item.id) (sym e.2) ∙ (same_node es t p k f e.0 q e.1 ∙ number_sym p k)
 
-  top_misses : (n : ℕ) → is_met (tree es) n x places ≡ false
+  pub top_misses : (n : ℕ) → is_met (tree es) n x places ≡ false
   top_misses zero = here 0 top_entry t.top ∙ inner
   top_misses (suc n) = ap₂ (λ a b. a || b) (here 0 top_entry t.top ∙ inner) (ap (is_met (tree es) n x) (step_in 0 top_entry t.top) ∙ top_misses n)
 

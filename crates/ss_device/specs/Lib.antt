@@ -5,3 +5,4 @@ pub mod Files
 pub mod Writing
 pub mod Faults
 pub mod Refusals
+pub mod Removal

@@ -5,6 +5,7 @@ ghost use Rattle.ss_tree.specs.Entries.{tree as tree_of};
 ghost use Rattle.ss_device.specs.Edits.{IsAdded, IsDeleted, IsMoved, IsRenamed, add_fault, change_fault, move_fault};
 ghost use Rattle.ss_device.specs.declared.faults.EditFault.TheVariants.{Memory};
 
+use crate::deletions::{sentence, take_out, with_doomed};
 use crate::device::Device;
 use crate::faults::EditFault;
 use ss_record::Item;
@@ -44,7 +45,8 @@ impl Device {
         ensures renamed { OnOk result (IsRenamed now id.now title.now self.old self.new) }
         ensures unchanged { OnErr result (self.new ≡ self.old) }
     {
-        rename_in(alloc, &mut self.tree, Stamp::clamp(now), id, title)
+        rename_in(alloc, &mut self.tree, Stamp::clamp(now), id, title)?;
+        Ok(())
     }
 
     /// Moves an item, with all below it, to the end of a folder. It and both folders have the time of this reading.
@@ -59,7 +61,8 @@ impl Device {
         ensures moved { OnOk result (IsMoved now id.now parent.now self.old self.new) }
         ensures unchanged { OnErr result (self.new ≡ self.old) }
     {
-        move_in(alloc, &mut self.tree, Stamp::clamp(now), id, parent)
+        move_in(alloc, &mut self.tree, Stamp::clamp(now), id, parent)?;
+        Ok(())
     }
 
     /// Deletes an item with all below it: each id is then among the deleted, with the time of this reading, which its
@@ -69,6 +72,11 @@ impl Device {
         ensures deleted { OnOk result (IsDeleted now id.now self.old self.new) }
         ensures unchanged { OnErr result (self.new ≡ self.old) }
     {
-        Err(EditFault::Memory)
+        let doomed = sentence(alloc, &self.tree, id)?;
+        let time = Stamp::clamp(now);
+        let dead = with_doomed(alloc, &self.tree, id, &doomed, time, &self.dead)?;
+        take_out(&mut self.tree, id, doomed, time);
+        self.dead = dead;
+        Ok(())
     }
 }

@@ -4,12 +4,15 @@
 //! was written is read back as it was.
 #![tactic(auto)]
 
+mod burials;
+mod deletions;
 mod device;
 mod edits;
 mod faults;
 mod files;
 mod grafts;
 mod lines;
+mod removal;
 mod titles;
 mod tree_edits;
 

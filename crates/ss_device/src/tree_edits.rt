@@ -3,9 +3,9 @@
 ghost use Rattle.std.specs.Prelude.{◌≡◌, ◌⊎◌, ℕ, List, Some, None, true, false, is_some, IfOk, OnOk, OnErr, MatchResult, bytes_eq};
 ghost use Rattle.ss_record.specs.Ids.{places};
 ghost use Rattle.ss_record.specs.Items.{is_fit};
-ghost use Rattle.ss_tree.specs.Trees.{IsSame, Placed, node, parent_in};
+ghost use Rattle.ss_tree.specs.Trees.{IsSame, IsValidTree, Placed, node, parent_in};
 ghost use Rattle.ss_tree.specs.Entries.{tree as tree_of};
-ghost use Rattle.ss_device.specs.Edits.{add_fault, added, change_fault, is_fixed, move_fault, moved, renamed, titled};
+ghost use Rattle.ss_device.specs.Edits.{add_fault, added, change_fault, is_fixed, is_within, move_fault, moved, renamed, titled};
 ghost use Rattle.ss_device.specs.declared.faults.EditFault.TheVariants.{Memory};
 
 use crate::faults::EditFault;
@@ -71,12 +71,14 @@ pub(crate) fn rename_in(
 }
 
 /// The id of the folder of an item that is there, and is neither `places` nor a root.
-fn parent_of(alloc: Global, tree: &Tree, id: &Id) -> Result<Id, AllocError>
+pub(crate) fn parent_of(alloc: Global, tree: &Tree, id: &Id) -> Result<Id, AllocError>
     requires there { is_some (node id.now (tree_of tree.now)) ≡ true }
     requires loose { is_fixed id.now ≡ false }
     ensures id { IfOk result (λ parent. parent ≡ parent_in (tree_of tree.now) id.now) }
     ensures there { is_some (node (parent_in (tree_of tree.now) id.now) (tree_of tree.now)) ≡ true }
     ensures inner { bytes_eq (parent_in (tree_of tree.now) id.now) places ≡ false }
+    ensures outside { is_within (tree_of tree.now) id.now (parent_in (tree_of tree.now) id.now) ≡ false }
+    ensures valid { IsValidTree (tree_of tree.now) }
 {
     let Some(at) = tree.find(id) else {
         unreachable!();

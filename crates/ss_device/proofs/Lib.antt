@@ -8,3 +8,4 @@ pub mod Deaths
 pub mod Going
 pub mod Buried
 pub mod Gone
+pub mod Lined

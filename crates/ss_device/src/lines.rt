@@ -1,33 +1,63 @@
-//! The lines of a device's file as data.
+//! The lines of a device's file.
 
-use ss_record::{Item, Sheet};
-use ss_text::{Id, Ids, Stamp};
+ghost use Rattle.std.specs.Prelude.{◌≡◌, ◌++◌, OnOk};
+ghost use Rattle.ss_device.specs.Writing.{dead_line, item_line, row_line, stamp_line};
 
-/// An item as its line tells it: its time in hundredths of a second, and its record with its parent and, of a folder,
-/// its children.
-#[derive(Drop, Debug)]
-pub struct Told {
-    pub time: Stamp,
-    pub item: Item,
-    pub parent: Id,
-    pub children: Ids,
+use itoa::Buffer;
+use ss_record::Sheet;
+use ss_text::{Id, Stamp, Word, push_json_text, push_stamp};
+use std::alloc::AllocError;
+
+/// Appends the line of the last sync's time.
+#[tactic(auto, unfolding(crate::specs::Writing::stamp_line))]
+pub(crate) fn push_synced(out: &mut Vec<u8>, stamp: Stamp) -> Result<(), AllocError>
+    ensures { OnOk result (out.new.items ≡ out.old.items ++ stamp_line stamp) }
+{
+    out.extend_from_slice(b"[\"stamp\",\"")?;
+    push_stamp(out, stamp)?;
+    out.extend_from_slice(b"\"]\n")?;
+    Ok(())
 }
 
-/// A line of a device's file, or of the rows behind it in the input of a merge.
-#[derive(Drop, Debug)]
-pub enum Line {
-    /// The first line, with the version of the file.
-    Device(u64),
-    /// The time of the last sync.
-    Synced(Stamp),
-    /// A row of the mirror.
-    Row(Sheet),
-    /// An item of the tree.
-    Item(Told),
-    /// An id that was deleted at this time.
-    Dead(Id, Stamp),
-    /// A row of the server.
-    Remote(Sheet),
-    /// The last line.
-    End,
+/// Appends the line of a row of the mirror.
+#[tactic(auto, unfolding(crate::specs::Writing::row_line))]
+pub(crate) fn push_row(out: &mut Vec<u8>, row: &Sheet) -> Result<(), AllocError>
+    ensures { OnOk result (out.new.items ≡ out.old.items ++ row_line row.now) }
+{
+    out.extend_from_slice(b"[\"row\",\"")?;
+    push_stamp(out, row.modified)?;
+    out.extend_from_slice(b"\",")?;
+    push_json_text(out, row.id.as_str())?;
+    out.extend_from_slice(b",")?;
+    push_json_text(out, row.payload.as_str())?;
+    out.extend_from_slice(b"]\n")?;
+    Ok(())
+}
+
+/// Appends the line of an item, which has this record.
+#[tactic(auto, unfolding(crate::specs::Writing::item_line))]
+pub(crate) fn push_item(out: &mut Vec<u8>, time: Stamp, record: &Word) -> Result<(), AllocError>
+    ensures { OnOk result (out.new.items ≡ out.old.items ++ item_line time record.now) }
+{
+    let mut buffer = Buffer::new();
+    out.extend_from_slice(b"[\"item\",")?;
+    out.extend_from_slice(buffer.format(time.get()).as_bytes())?;
+    out.extend_from_slice(b",")?;
+    out.extend_from_slice(record.as_str().as_bytes())?;
+    out.extend_from_slice(b"]\n")?;
+    Ok(())
+}
+
+/// Appends the line of a deleted id.
+#[tactic(auto, unfolding(crate::specs::Writing::dead_line))]
+pub(crate) fn push_dead(out: &mut Vec<u8>, id: &Id, time: Stamp) -> Result<(), AllocError>
+    ensures { OnOk result (out.new.items ≡ out.old.items ++ dead_line (id.now, time)) }
+{
+    let mut buffer = Buffer::new();
+    out.extend_from_slice(b"[\"dead\",")?;
+    out.extend_from_slice(buffer.format(time.get()).as_bytes())?;
+    out.extend_from_slice(b",")?;
+    push_json_text(out, id.as_str())?;
+    out.extend_from_slice(b"]\n")?;
+    Ok(())
 }

@@ -1,20 +1,15 @@
 -- What changes of entries are to the tree by ids.
-use Rattle.std.proofs.Common.{◌≡◌, ◌≢◌, ◌⊎◌, ℕ, ◌==◌, ◌<◌, List, [], ◌∷◌, ◌++◌, map, filter, not, Bool, true, false, cond, refl, sym, ap, ap₂, ◌∙◌, subst, inl, inr, arith, Option, Some, None, option_map, option_and_then, unwrap_or, is_some, bytes_eq}
-use Rattle.std.specs.List.{All}
+use Rattle.std.proofs.Common.{◌≡◌, ℕ, ◌==◌, List, [], map, Bool, true, false, cond, refl, sym, ap, ap₂, ◌∙◌, Option, Some, None, option_map, option_and_then, unwrap_or, is_some, bytes_eq}
 use Rattle.std.proofs.lemmas.Bool.{false≢true, eqb-true}
-use Rattle.ss_list.specs.Chain.{times}
 use Rattle.ss_record.specs.Items.{ItemView}
-use Rattle.ss_record.specs.Ids.{has}
-use Rattle.ss_record.proofs.IdLists.{same_id, bytes_eq-same, bytes_eq-apart}
+use Rattle.ss_record.proofs.IdLists.{bytes_eq-same, bytes_eq-apart}
 use Rattle.ss_tree.specs.declared.entries.Entry.{Entry}
 use Rattle.ss_tree.specs.Trees.{Placed, node}
-use Rattle.ss_tree.specs.Entries.{entry, entry_ids, is_live, kids, kid_ids, placed, tree, under, revised, put_before, without_node, IsTree}
+use Rattle.ss_tree.specs.Entries.{entry, is_live, kids, kid_ids, placed, tree, revised, IsTree}
 use Rattle.ss_tree.proofs.Changes.{some_same}
-use Rattle.ss_tree.proofs.Edits.{same_number, other_number, entry_has}
-use Rattle.ss_tree.proofs.Valid.{In, entry_in, in_entry, one_entry, node_found, node_at}
+use Rattle.ss_tree.proofs.Edits.{other_number}
+use Rattle.ss_tree.proofs.Valid.{entry_in, in_entry, one_entry, node_found, node_at}
 use Rattle.ss_tree.proofs.Settled.{kid_ids_are}
-use Rattle.ss_tree.proofs.Kin.{kid_entry}
-use Rattle.ss_tree.proofs.Listed.{nobody}
 use Rattle.ss_device.specs.Edits.{revised_node}
 
 pub none_some : {X : Type 0} {x : X} → None ≡ Some x → ⊥
@@ -109,7 +104,6 @@ parts_same es fs ids p ks = ((λ i. option_and_then (λ k. ids k i) p), (λ i. m
 
 module _ (es fs : List Entry) (t : IsTree es) (u : IsTree fs) (k0 : ℕ) (e0 : Entry) (q0 : entry k0 es ≡ Some e0) (content : List ℕ) (time : ℕ)
     (entries : (j : ℕ) → entry j fs ≡ cond (j == k0) (option_map (revised content time) (entry j es)) (entry j es)) (same : (j : ℕ) → kids j fs ≡ kids j es) where
-
   abbrev set_change : Placed → Placed
   set_change n = cond (bytes_eq n.id e0.item.id) (revised_node content time n) n
 

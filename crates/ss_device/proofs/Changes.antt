@@ -1,16 +1,15 @@
 -- Items that come, go and move, as the tree by ids sees them.
-use Rattle.std.proofs.Common.{◌≡◌, ◌≢◌, ◌⊎◌, ℕ, ◌==◌, ◌<◌, ◌+◌, List, [], ◌∷◌, ◌++◌, map, filter, not, Bool, true, false, cond, refl, sym, ap, ap₂, ◌∙◌, subst, inl, inr, arith, Option, Some, None, option_map, option_and_then, unwrap_or, is_some, bytes_eq}
+use Rattle.std.proofs.Common.{◌≡◌, ℕ, ◌==◌, ◌<◌, List, [], ◌∷◌, ◌++◌, map, not, Bool, true, false, cond, refl, sym, ap, ap₂, ◌∙◌, subst, inl, inr, arith, Option, Some, None, option_map, option_and_then, unwrap_or, bytes_eq}
 use Rattle.std.proofs.lemmas.Bool.{false≢true, eqb-true}
 use Rattle.ss_list.specs.Chain.{times}
 use Rattle.ss_list.proofs.Times.{at_head}
 use Rattle.ss_record.specs.Items.{ItemView}
-use Rattle.ss_record.proofs.IdLists.{same_id, bytes_eq-same, bytes_eq-apart, bytes_eq-sym}
+use Rattle.ss_record.proofs.IdLists.{same_id, bytes_eq-same}
 use Rattle.ss_tree.specs.declared.entries.Entry.{Entry}
 use Rattle.ss_tree.specs.Trees.{Placed, node}
-use Rattle.ss_tree.specs.Entries.{entry, is_live, kids, placed, tree, under, put_before, without_node, top_entry, IsTree}
+use Rattle.ss_tree.specs.Entries.{entry, kids, placed, tree, under, put_before, without_node, top_entry, IsTree}
 use Rattle.ss_tree.proofs.Changes.{some_same}
 use Rattle.ss_tree.proofs.Edits.{same_number, other_number, number_sym}
-use Rattle.ss_tree.proofs.EachMet.{in_times}
 use Rattle.ss_tree.proofs.Valid.{In}
 use Rattle.ss_tree.proofs.Kin.{kid_entry, entry_kid}
 use Rattle.ss_tree.proofs.Listed.{nobody}
@@ -80,7 +79,6 @@ module _ (es : List Entry) (t : IsTree es) (k0 : ℕ) (e0 : Entry) (q0 : entry k
 module _ (es fs : List Entry) (t : IsTree es) (u : IsTree fs) (k0 : ℕ) (e0 : Entry) (q0 : entry k0 es ≡ Some e0) (p : ℕ) (d : Entry) (qd : entry p es ≡ Some d)
     (entries : (j : ℕ) → entry j fs ≡ cond (j == k0) (option_map (under p) (entry j es)) (entry j es))
     (rows : (j : ℕ) → kids j fs ≡ cond (j == p) (put_before None k0 (without_node k0 (kids j es))) (without_node k0 (kids j es))) where
-
   abbrev move_change : Placed → Placed
   move_change n = moved_only e0.item.id d.item.id n
 
@@ -140,7 +138,6 @@ module _ (es fs : List Entry) (t : IsTree es) (u : IsTree fs) (k0 : ℕ) (e0 : E
 
 module _ (es fs : List Entry) (t : IsTree es) (u : IsTree fs) (k0 : ℕ) (e0 : Entry) (q0 : entry k0 es ≡ Some e0) (childless : kids k0 es ≡ [])
     (entries : (j : ℕ) → entry j fs ≡ cond (k0 == j) None (entry j es)) (rows : (j : ℕ) → kids j fs ≡ without_node k0 (kids j es)) where
-
   abbrev left_one : Placed → Placed
   left_one n = left_node e0.item.id n
 
@@ -217,7 +214,6 @@ module _ (es fs : List Entry) (t : IsTree es) (u : IsTree fs) (m : ℕ) (i : Ite
     (new_id : (k : ℕ) (e : Entry) → entry k es ≡ Some e → bytes_eq e.item.id i.id ≡ false)
     (entries : (j : ℕ) → entry j fs ≡ cond (j == m) (Some (record { node = m; parent = Some p; item = i; time = time })) (entry j es))
     (rows : (j : ℕ) → kids j fs ≡ cond (j == p) (put_before None m (kids j es)) (kids j es)) where
-
   abbrev grown_node : Placed → Placed
   grown_node n = cond (bytes_eq n.id d.item.id) (with_child i.id n) n
 

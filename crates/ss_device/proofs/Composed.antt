@@ -1,8 +1,8 @@
 -- What several changes of a tree come to, by ids.
-use Rattle.std.proofs.Common.{◌≡◌, ℕ, List, [], ◌∷◌, ◌++◌, map, filter, not, Bool, true, false, cond, ◌||◌, refl, sym, ap, ap₂, subst, ◌∙◌, Option, Some, None, option_map, option_and_then, unwrap_or, find, is_some, bytes_eq}
+use Rattle.std.proofs.Common.{◌≡◌, ℕ, List, [], ◌∷◌, ◌++◌, map, filter, not, Bool, true, false, cond, ◌||◌, refl, sym, ap, subst, ◌∙◌, Option, Some, None, option_map, option_and_then, unwrap_or, find, is_some, bytes_eq}
 use Rattle.std.proofs.lemmas.Bool.{false≢true}
 use Rattle.ss_record.specs.Ids.{has, places}
-use Rattle.ss_record.proofs.IdLists.{same_id, bytes_eq-same, bytes_eq-sym, has-cons}
+use Rattle.ss_record.proofs.IdLists.{same_id, bytes_eq-same, has-cons}
 use Rattle.ss_record.specs.Items.{ItemView}
 use Rattle.ss_tree.specs.Trees.{Placed, IsSame, IsUnder, IsValidTree, node, node_ids, parent_in}
 use Rattle.ss_tree.proofs.Changes.{some_same}

@@ -1,5 +1,5 @@
 -- Nodes of an item and of all below it, as they can be removed.
-use Rattle.std.proofs.Common.{◌≡◌, ◌≢◌, ◌⊎◌, ℕ, zero, suc, ◌+◌, ◌-◌, ◌<◌, ◌≤◌, ◌==◌, nat_eq, List, [], ◌∷◌, ◌++◌, map, filter, length, Bool, true, false, not, cond, ◌||◌, refl, sym, ap, ap₂, subst, ◌∙◌, arith, inl, inr, Option, Some, None, option_map, option_and_then, unwrap_or, is_some, bytes_eq}
+use Rattle.std.proofs.Common.{◌≡◌, ◌≢◌, ◌⊎◌, ℕ, zero, suc, ◌+◌, ◌-◌, ◌<◌, ◌≤◌, ◌==◌, nat_eq, List, [], ◌∷◌, ◌++◌, map, filter, length, Bool, true, false, cond, ◌||◌, refl, sym, ap, subst, ◌∙◌, arith, inl, inr, Option, Some, None, option_map, option_and_then, unwrap_or, is_some}
 use Rattle.std.specs.Cmp.{both_ways, nat_eq_equiv}
 use Rattle.std.specs.List.{flat_map, IsDistinct}
 use Rattle.std.specs.Set.{is_member}
@@ -15,16 +15,16 @@ use Rattle.ss_tree.specs.Entries as entries
 use Rattle.ss_tree.proofs.Changes.{some_same, up_of}
 use Rattle.ss_tree.proofs.Edits.{same_number, other_number}
 use Rattle.ss_tree.proofs.Kin.{under_from}
-use Rattle.ss_tree.proofs.EachMet.{each_met, in_times}
+use Rattle.ss_tree.proofs.EachMet.{each_met}
 use Rattle.ss_tree.proofs.Once.{once_each}
 use Rattle.ss_tree.proofs.Valid.{In}
 use Rattle.ss_tree.proofs.Ways.{walk, length-walk, member_walk, all_apart, distinct_walk, live_member, length-nodes, stays, steps_add, first_zero, below_is, up_some}
 use Rattle.ss_tree.proofs.Changes.{live_steps}
 use Rattle.ss_device.specs.Edits.{is_fixed, is_within}
 use Rattle.ss_device.specs.Removal.{CanGo, among}
-use Rattle.ss_device.proofs.ByIds.{none_some, live_some}
+use Rattle.ss_device.proofs.ByIds.{none_some}
 use Rattle.ss_device.proofs.Changes.{kid_there, times_in}
-use Rattle.ss_device.proofs.Refused.{fixed_is, there, top_is, within_node}
+use Rattle.ss_device.proofs.Refused.{fixed_is, there, within_node}
 
 pub or_true : (a b : Bool) → (a || b) ≡ true → (a ≡ true) ⊎ (b ≡ true)
 or_true true b h = inl refl

@@ -1,16 +1,15 @@
 -- What is left of a tree when an item has gone with all below it.
-use Rattle.std.proofs.Common.{◌≡◌, ◌⊎◌, ℕ, zero, suc, ◌+◌, ◌<◌, ◌==◌, List, [], ◌∷◌, ◌++◌, map, filter, not, length, get_or, take, Bool, true, false, cond, ◌||◌, refl, sym, ap, ap₂, ◌∙◌, subst, inl, inr, arith, append_assoc, Option, Some, None, option_map, option_and_then, unwrap_or, is_some, bytes_eq}
+use Rattle.std.proofs.Common.{◌≡◌, ◌⊎◌, ℕ, zero, suc, ◌+◌, ◌<◌, ◌==◌, List, [], ◌∷◌, ◌++◌, map, filter, not, length, get_or, take, Bool, true, false, cond, ◌||◌, refl, sym, ap, ap₂, ◌∙◌, inl, inr, arith, Option, Some, None, option_map, option_and_then, unwrap_or, is_some, bytes_eq}
 use Rattle.std.specs.Cmp.{both_ways}
-use Rattle.std.proofs.lemmas.Bool.{false≢true, eqb-true}
+use Rattle.std.proofs.lemmas.Bool.{false≢true}
 use Rattle.std.proofs.lemmas.List.{take_more}
 use Rattle.ss_record.specs.Ids.{has, places}
 use Rattle.ss_record.specs.Items.{ItemView}
-use Rattle.ss_record.proofs.IdLists.{same_id, bytes_eq-same, bytes_eq-sym, has-nil, has-cons}
+use Rattle.ss_record.proofs.IdLists.{same_id, bytes_eq-same, has-nil, has-cons}
 use Rattle.ss_tree.specs.declared.entries.Entry.{Entry}
-use Rattle.ss_tree.specs.declared.faults.RemoveFault.{RemoveFault}
 use Rattle.ss_tree.specs.declared.faults.RemoveFault.TheVariants.{Root as Fixed, NotEmpty}
 use Rattle.ss_tree.specs.Trees.{Placed, node, parent_in}
-use Rattle.ss_tree.specs.Entries.{above, ancestor, entry, first_of, is_below, is_fixed as is_fixed_node, is_live, kids, node_of, placed, remove_fault, stands_under, tree, without_node, IsBelow, IsTree}
+use Rattle.ss_tree.specs.Entries.{above, ancestor, entry, first_of, is_below, is_fixed as is_fixed_node, is_live, kids, node_of, placed, remove_fault, stands_under, tree, without_node, IsTree}
 use Rattle.ss_tree.proofs.Edits.{number_sym, same_number}
 use Rattle.ss_tree.proofs.EachMet.{in_times}
 use Rattle.ss_tree.proofs.Kin.{entry_kid}
@@ -21,7 +20,7 @@ use Rattle.ss_device.specs.Edits.{is_fixed, is_met, is_within, left_node, withou
 use Rattle.ss_device.specs.Removal.{CanGo, among}
 use Rattle.ss_device.proofs.ByIds.{none_some, idof, name_at, made, placed_is, at_entry, no_entry, by_entry, live_some}
 use Rattle.ss_device.proofs.Changes.{above_there, kid_there, names_same, names_without, names-append}
-use Rattle.ss_device.proofs.Going.{among_in, closed, filter_in, in_among, or_true, kid_above, top_inner}
+use Rattle.ss_device.proofs.Going.{among_in, closed, filter_in, in_among, kid_above, top_inner}
 use Rattle.ss_device.proofs.Refused.{there, top_misses, within_node}
 
 -- ---- lists

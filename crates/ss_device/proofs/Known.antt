@@ -1,5 +1,5 @@
 -- Which items a device knows, and ids that stand by id.
-use Rattle.std.proofs.Common.{◌≡◌, ℕ, List, [], ◌∷◌, ◌++◌, map, filter_map, Bool, true, false, cond, ◌||◌, refl, sym, ap, ap₂, ◌∙◌, subst, Option, Some, None, is_some, find, bytes_eq, Ordering, Less, Equal, Greater}
+use Rattle.std.proofs.Common.{◌≡◌, ℕ, List, [], ◌∷◌, map, filter_map, Bool, true, false, cond, ◌||◌, refl, sym, ap, ap₂, ◌∙◌, subst, Some, is_some, find, bytes_eq, Less}
 use Rattle.std.specs.List.Sorted.{IsStrictlySortedBy}
 use Rattle.std.specs.List.{AllByRecursion}
 use Rattle.std.specs.Ordering.{is_eq}
@@ -8,15 +8,15 @@ use Rattle.std.proofs.lemmas.Map.Text.{is_eq-slice_cmp}
 use Rattle.ss_text.specs.Texts.{text_cmp}
 use Rattle.ss_record.specs.declared.readings.Sheet.{Sheet}
 use Rattle.ss_record.specs.Ids.{has, Apart, places, roots}
-use Rattle.ss_record.proofs.IdLists.{same_id, bytes_eq-same, bytes_eq-refl, has-nil, has-cons, Apart-nil, Apart-cons}
+use Rattle.ss_record.proofs.IdLists.{has-nil, has-cons, Apart-nil, Apart-cons}
 use Rattle.ss_tree.specs.declared.entries.Entry.{Entry}
-use Rattle.ss_tree.specs.Trees.{Placed, IsSame, IsValidTree, node, node_ids, places_node, empty_tree}
+use Rattle.ss_tree.specs.Trees.{Placed, IsSame, node, node_ids, places_node, empty_tree}
 use Rattle.ss_tree.specs.Entries.{tree}
 use Rattle.ss_build.specs.declared.claims.Claim.{Claim}
 use Rattle.ss_build.specs.Rows.{claim_of, rows_of}
-use Rattle.ss_build.specs.Built.{built, claims, ids, node_of, tree_of, with_roots, empty_root}
+use Rattle.ss_build.specs.Built.{built, claims, ids, node_of, tree_of}
 use Rattle.ss_build.proofs.OfRows.{has-with_roots}
-use Rattle.ss_device.specs.Device.{AreById, Dead, DeviceView, IsDevice, IsKnown, dead_ids, row_ids}
+use Rattle.ss_device.specs.Device.{AreById, Dead, IsDevice, IsKnown, row_ids}
 
 -- ---- by id
 

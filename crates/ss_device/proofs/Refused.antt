@@ -1,29 +1,27 @@
 -- Refusals of a tree's calls, by ids.
 use Rattle.std.proofs.Common.{◌≡◌, ℕ, zero, suc, ◌==◌, List, [], ◌∷◌, map, length, not, Bool, true, false, cond, ◌||◌, ◌&&◌, refl, sym, ap, ap₂, ◌∙◌, Option, Some, None, option_map, option_and_then, unwrap_or, is_some, bytes_eq}
 use Rattle.std.specs.Cmp.{both_ways}
-use Rattle.std.proofs.lemmas.Bool.{false≢true, eqb-true}
+use Rattle.std.proofs.lemmas.Bool.{false≢true}
 use Rattle.std.proofs.lemmas.List.{length-map}
 use Rattle.ss_record.specs.Ids.{has, places, roots}
 use Rattle.ss_record.specs.Items.{ItemView}
 use Rattle.ss_record.specs.Kinds.{is_folder}
 use Rattle.ss_record.proofs.IdLists.{bytes_eq-same, same_id}
 use Rattle.ss_tree.specs.declared.entries.Entry.{Entry}
-use Rattle.ss_tree.specs.declared.faults.TreeFault.{TreeFault}
-use Rattle.ss_tree.specs.declared.faults.TreeFault.TheVariants.{NotFolder as NoFolder, Twice as Doubled, BadPlace, Memory as NoRoom}
-use Rattle.ss_tree.specs.declared.faults.MoveFault.{MoveFault}
+use Rattle.ss_tree.specs.declared.faults.TreeFault.TheVariants.{NotFolder as NoFolder, Twice as Doubled, BadPlace}
 use Rattle.ss_tree.specs.declared.faults.MoveFault.TheVariants.{Root as Fixed, NotFolder as MoveNoFolder, Under as Below, BadPlace as MoveBadPlace}
 use Rattle.ss_tree.specs.Trees.{Placed, node, node_ids, parent_in, IsUnder, places_node}
 use Rattle.ss_tree.specs.Entries.{above, entry, entry_ids, is_below, is_place, insert_fault, kids, met, move_fault, node_of, placed, stands_under, takes_children, top_entry, tree, IsTree}
 use Rattle.ss_tree.specs.Entries as entries
 use Rattle.ss_tree.proofs.Changes.{some_same}
-use Rattle.ss_tree.proofs.Edits.{number_sym, other_number, entry_has}
+use Rattle.ss_tree.proofs.Edits.{number_sym, entry_has}
 use Rattle.ss_tree.proofs.Kept.{insert_free}
 use Rattle.ss_tree.proofs.Changed.{has_parent}
 use Rattle.ss_tree.proofs.Ids.{has_node, node_found}
 use Rattle.ss_tree.proofs.Kin.{under_from}
 use Rattle.ss_tree.proofs.Valid.{valid_tree}
 use Rattle.ss_device.specs.declared.faults.EditFault.{EditFault}
-use Rattle.ss_device.specs.declared.faults.EditFault.TheVariants.{NoItem, Root, NotFolder, Under, Twice, Memory}
+use Rattle.ss_device.specs.declared.faults.EditFault.TheVariants.{NoItem, Root, NotFolder, Under, Twice}
 use Rattle.ss_device.specs.Edits.{add_fault, change_fault, item_of, is_fixed, is_met, is_within, takes_items}
 use Rattle.ss_device.specs.Edits as edits
 use Rattle.ss_device.specs.Refusals.{edit_of_move, edit_of_tree}

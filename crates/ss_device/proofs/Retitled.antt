@@ -1,8 +1,8 @@
 -- A content with another title is one with which the item is fit.
-use Rattle.std.proofs.Common.{◌≡◌, ℕ, ◌≤◌, List, [], ◌∷◌, Bool, true, false, not, cond, ◌&&◌, ◌||◌, refl, sym, ap, ap₂, ◌∙◌, arith, Option, Some, None, option_map, unwrap_or, is_some, bytes_eq, codes, Ordering, Less, Equal, Greater, nat_cmp}
+use Rattle.std.proofs.Common.{◌≡◌, ℕ, ◌≤◌, List, true, false, not, cond, ◌&&◌, ◌||◌, refl, sym, ap, ap₂, ◌∙◌, arith, Some, option_map, unwrap_or, is_some, bytes_eq, codes, Ordering, Less, Equal, Greater, nat_cmp}
 use Rattle.std.specs.Ordering.{match_ordering}
 use Rattle.std.specs.Cmp.Lexicographic.{slice_cmp}
-use Rattle.std.proofs.lemmas.Bool.{and_parts, and_from, false≢true, not-true}
+use Rattle.std.proofs.lemmas.Bool.{and_parts, and_from, false≢true}
 use Rattle.serde_json.specs.Data.{Data, string, object, Members, no_members, member, put, depth, members_depth}
 use Rattle.serde_json.specs.Find.{get_member}
 use Rattle.serde_json.specs.Written.{members_have_float}
@@ -15,7 +15,7 @@ use Rattle.ss_record.specs.Items.{ItemView, names_of, are_content, has_content, 
 use Rattle.ss_record.specs.Kinds.{is_folder}
 use Rattle.ss_record.specs.Marks.{marked_string, said_text, members_plain, plain_text}
 use Rattle.ss_record.specs.Payloads.{lacks, is_true, payload_members}
-use Rattle.ss_record.proofs.IdLists.{bytes_eq-same, bytes_eq-refl}
+use Rattle.ss_record.proofs.IdLists.{bytes_eq-same}
 use Rattle.ss_record.proofs.Strings.{string_plain}
 use Rattle.ss_record.proofs.Sorted.{Sorted-put, Sorted-read}
 use Rattle.ss_record.proofs.Exact.{float_members, payload_parts}

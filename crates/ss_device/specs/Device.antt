@@ -1,5 +1,5 @@
 -- A device: its bookmarks, and what it remembers of its last sync.
-use Rattle.std.specs.Prelude.{◌≡◌, ◌||◌, ℕ, List, [], Option, true, map, bytes_eq, codes}
+use Rattle.std.specs.Prelude.{◌≡◌, ◌||◌, ℕ, List, [], Option, true, map, bytes_eq}
 use Rattle.std.specs.Map.{lookup}
 use Rattle.std.specs.List.Sorted.{IsStrictlySortedBy}
 use Rattle.ss_text.specs.Texts.{text_cmp}
@@ -7,7 +7,7 @@ use Rattle.ss_record.specs.declared.readings.Sheet.{Sheet}
 use Rattle.ss_record.specs.Ids.{has}
 use Rattle.ss_tree.specs.declared.entries.Entry.{Entry}
 use Rattle.ss_tree.specs.Entries.{tree}
-use Rattle.ss_tree.specs.Trees.{Placed, IsSame, empty_tree, node_ids}
+use Rattle.ss_tree.specs.Trees.{IsSame, empty_tree, node_ids}
 use Rattle.ss_build.specs.Rows.{rows_of}
 use Rattle.ss_build.specs.Built.{built}
 

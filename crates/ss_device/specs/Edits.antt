@@ -1,5 +1,5 @@
 -- What edits make of a device, and when they are refused (the rules are this project's).
-use Rattle.std.specs.Prelude.{◌≡◌, ◌&&◌, ◌||◌, ℕ, zero, suc, min, List, [], ◌∷◌, ◌++◌, Bool, true, false, not, if◌then◌else◌, Option, Some, None, length, map, filter, option_map, unwrap_or, bytes_eq, codes}
+use Rattle.std.specs.Prelude.{◌≡◌, ◌&&◌, ◌||◌, ℕ, zero, suc, min, List, [], ◌∷◌, ◌++◌, Bool, false, not, if◌then◌else◌, Option, Some, None, length, map, filter, option_map, unwrap_or, bytes_eq, codes}
 use Rattle.serde_json.specs.Data.{string, object, put}
 use Rattle.ss_text.specs.Time.{last_stamp}
 use Rattle.ss_record.specs.Ids.{has, places, roots}

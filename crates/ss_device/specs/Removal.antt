@@ -1,5 +1,5 @@
 -- Nodes that can be removed from the last to the first.
-use Rattle.std.specs.Prelude.{◌≡◌, ◌==◌, ℕ, List, [], ◌∷◌, ◌++◌, Bool, true, false, Some, is_some, bytes_eq}
+use Rattle.std.specs.Prelude.{◌≡◌, ◌==◌, ℕ, List, ◌∷◌, ◌++◌, Bool, true, false, Some, is_some, bytes_eq}
 use Rattle.std.specs.List.{list_any}
 use Rattle.ss_tree.specs.declared.entries.Entry.{Entry}
 use Rattle.ss_tree.specs.Entries.{IsTree, entry, is_fixed, is_live, kids, tree}

@@ -1,5 +1,5 @@
 -- The file of a device (the format is this project's).
-use Rattle.std.specs.Prelude.{◌==◌, ℕ, List, [], ◌∷◌, ◌++◌, if◌then◌else◌, Option, Some, None, codes, decimal, length, map, option_map, unwrap_or}
+use Rattle.std.specs.Prelude.{◌==◌, ℕ, List, [], ◌++◌, if◌then◌else◌, codes, decimal, length, option_map, unwrap_or}
 use Rattle.std.specs.List.{flat_map}
 use Rattle.serde_json.specs.Data.{string}
 use Rattle.serde_json.specs.Written.{compact_text}
@@ -8,7 +8,7 @@ use Rattle.ss_record.specs.declared.readings.Sheet.{Sheet}
 use Rattle.ss_record.specs.Records.{record_of}
 use Rattle.ss_tree.specs.declared.entries.Entry.{Entry}
 use Rattle.ss_tree.specs.Entries.{entry, placed, preorder}
-use Rattle.ss_device.specs.Device.{Dead, DeviceView}
+use Rattle.ss_device.specs.Device.{DeviceView}
 
 -- a string as JSON writes it
 abbrev pub quoted : List ℕ → List ℕ

@@ -8,21 +8,15 @@ ghost use Rattle.ss_device.specs.declared.faults.EditFault.TheVariants.{Memory};
 use crate::deletions::{sentence, take_out, with_doomed};
 use crate::device::Device;
 use crate::faults::EditFault;
-use ss_record::Item;
 use crate::tree_edits::{add_to, move_in, rename_in};
+use ss_record::Item;
 use ss_text::{Id, Stamp};
 use std::alloc::Global;
 
 impl Device {
     /// Puts a new item last under a folder, at this reading of the clock in hundredths of a second. The item and the
     /// folder have that time, at most the last stamp, and the id isn't among the deleted any more.
-    pub fn add(
-        &mut self,
-        alloc: Global,
-        now: u64,
-        parent: &Id,
-        item: Item,
-    ) -> Result<(), EditFault>
+    pub fn add(&mut self, alloc: Global, now: u64, parent: &Id, item: Item) -> Result<(), EditFault>
         ensures refused { MatchResult result (λ _. add_fault (tree_of self.old.tree) parent.now item.id ≡ None) (λ e. (e ≡ Memory) ⊎ (add_fault (tree_of self.old.tree) parent.now item.id ≡ Some e)) }
         ensures added { OnOk result (IsAdded now parent.now item self.old self.new) }
         ensures unchanged { OnErr result (self.new ≡ self.old) }
@@ -34,13 +28,7 @@ impl Device {
     }
 
     /// Gives an item another title, and the time of this reading of the clock.
-    pub fn rename(
-        &mut self,
-        alloc: Global,
-        now: u64,
-        id: &Id,
-        title: &str,
-    ) -> Result<(), EditFault>
+    pub fn rename(&mut self, alloc: Global, now: u64, id: &Id, title: &str) -> Result<(), EditFault>
         ensures refused { MatchResult result (λ _. change_fault (tree_of self.old.tree) id.now ≡ None) (λ e. (e ≡ Memory) ⊎ (change_fault (tree_of self.old.tree) id.now ≡ Some e)) }
         ensures renamed { OnOk result (IsRenamed now id.now title.now self.old self.new) }
         ensures unchanged { OnErr result (self.new ≡ self.old) }

@@ -11,6 +11,8 @@ mod faults;
 mod grafts;
 mod lines;
 mod removal;
+#[cfg(test)]
+mod tests;
 mod titles;
 mod tree_edits;
 mod writing;

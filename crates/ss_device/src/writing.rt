@@ -36,12 +36,7 @@ fn children_of(alloc: Global, tree: &Tree, node: Node) -> Result<Vec<Id>, AllocE
 }
 
 /// Appends the line of a node; `places` has none.
-fn push_node(
-    alloc: Global,
-    out: &mut Vec<u8>,
-    tree: &Tree,
-    node: Node,
-) -> Result<(), AllocError>
+fn push_node(alloc: Global, out: &mut Vec<u8>, tree: &Tree, node: Node) -> Result<(), AllocError>
     requires live { is_live node tree.now ≡ true }
     requires kept { IsTree tree.now }
     ensures { OnOk result (out.new.items ≡ out.old.items ++ node_line tree.now node) }

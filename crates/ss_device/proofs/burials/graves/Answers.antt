@@ -1,4 +1,4 @@
-use Rattle.std.proofs.Common.{◌≡◌, ◌<◌, arith, length}
+use Rattle.std.proofs.Common.{◌<◌, arith, length}
 use Rattle.ss_device.proofs.Buried.{none_yet, one_more}
 use Rattle.ss_device.proofs.burials.graves.Goals as goal
 

@@ -1,4 +1,4 @@
-use Rattle.std.proofs.Common.{◌≡◌, sym, ap, ◌∙◌}
+use Rattle.std.proofs.Common.{sym, ap, ◌∙◌}
 use Rattle.ss_build.specs.Built.{or_else}
 use Rattle.ss_device.proofs.Buried.{all_met, at, older_left, older_put}
 use Rattle.ss_device.proofs.burials.with_older.Goals as goal

@@ -1,4 +1,4 @@
-use Rattle.std.proofs.Common.{◌≡◌, Some, None, bytes_eq, is_some, sym, ap, ◌∙◌}
+use Rattle.std.proofs.Common.{bytes_eq, is_some, sym, ap, ◌∙◌}
 use Rattle.ss_record.specs.Ids.{places}
 use Rattle.ss_tree.specs.Trees.{node}
 use Rattle.ss_tree.specs.Entries.{tree}

@@ -1,6 +1,6 @@
-use Rattle.std.proofs.Common.{◌≡◌, true, sym, ap, ◌∙◌}
+use Rattle.std.proofs.Common.{◌≡◌, true}
 use Rattle.ss_record.specs.Items.{is_fit}
-use Rattle.ss_tree.specs.Trees.{Placed, node}
+use Rattle.ss_tree.specs.Trees.{node}
 use Rattle.ss_tree.specs.Entries.{tree}
 use Rattle.ss_device.specs.Edits.{item_of, left_node}
 use Rattle.ss_device.proofs.Composed.{delete_same, left_change, still, through}

@@ -1,4 +1,4 @@
-use Rattle.std.proofs.Common.{◌≡◌, Some, None, true, false, refl, sym, ap, ◌∙◌, is_some}
+use Rattle.std.proofs.Common.{true, false, sym, ap, ◌∙◌, is_some}
 use Rattle.ss_device.proofs.Refused.{change_is, no_item, none_from}
 use Rattle.ss_device.proofs.grafts.change_fault.Goals as goal
 

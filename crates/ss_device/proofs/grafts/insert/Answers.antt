@@ -1,4 +1,4 @@
-use Rattle.std.proofs.Common.{◌≡◌, Some, None, inl, inr, cond, refl, sym, ap, ◌∙◌, option_map, bytes_eq}
+use Rattle.std.proofs.Common.{Some, None, inl, inr, cond, sym, ap, ◌∙◌, option_map, bytes_eq}
 use Rattle.ss_tree.specs.Trees.{node}
 use Rattle.ss_tree.specs.Entries.{entry, tree}
 use Rattle.ss_device.specs.Edits.{new_node, with_child}

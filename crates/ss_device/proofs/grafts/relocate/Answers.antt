@@ -1,4 +1,4 @@
-use Rattle.std.proofs.Common.{◌≡◌, Some, None, refl, sym, ap, ◌∙◌, option_map}
+use Rattle.std.proofs.Common.{Some, sym, ap, ◌∙◌, option_map}
 use Rattle.ss_tree.specs.Trees.{node}
 use Rattle.ss_tree.specs.Entries.{tree}
 use Rattle.ss_device.specs.Edits.{moved_only}

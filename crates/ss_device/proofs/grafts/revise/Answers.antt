@@ -1,4 +1,4 @@
-use Rattle.std.proofs.Common.{◌≡◌, Some, cond, refl, sym, ap, ◌∙◌, option_map, bytes_eq, false, unwrap_or}
+use Rattle.std.proofs.Common.{cond, sym, ap, ◌∙◌, option_map, bytes_eq, false, unwrap_or}
 use Rattle.ss_record.specs.Items.{is_fit}
 use Rattle.ss_tree.specs.declared.entries.Entry.{Entry}
 use Rattle.ss_tree.specs.Trees.{node}

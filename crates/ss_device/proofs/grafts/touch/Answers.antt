@@ -1,8 +1,6 @@
-use Rattle.std.proofs.Common.{◌≡◌, ℕ, List, Some, None, Bool, true, false, cond, refl, sym, ap, ◌∙◌, Option, option_map, bytes_eq}
+use Rattle.std.proofs.Common.{sym, ap, ◌∙◌}
 use Rattle.ss_record.specs.Items.{is_fit}
-use Rattle.ss_tree.specs.Trees.{Placed, node}
 use Rattle.ss_tree.specs.Entries.{tree}
-use Rattle.ss_device.specs.Edits.{item_of, revised_node, stamped}
 use Rattle.ss_device.proofs.Composed.{restamped}
 use Rattle.ss_device.proofs.grafts.touch.Goals as goal
 

@@ -1,4 +1,4 @@
-use Rattle.std.proofs.Common.{◌≡◌, ◌<◌, ◌≤◌, length, map, take_all, arith, sym, ap, ◌∙◌}
+use Rattle.std.proofs.Common.{◌<◌, ◌≤◌, length, map, take_all, arith, sym, ap, ◌∙◌}
 use Rattle.ss_record.specs.Ids.{has}
 use Rattle.ss_device.proofs.ByIds.{name_at}
 use Rattle.ss_device.proofs.Going.{in_among}

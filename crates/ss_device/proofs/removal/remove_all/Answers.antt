@@ -1,5 +1,4 @@
-use Rattle.std.proofs.Common.{◌≡◌, ℕ, List, [], ◌∷◌, ◌++◌, ◌-◌, take, Some, None, sym, ap, ◌∙◌, refl, subst, append-nil, append_assoc}
-use Rattle.ss_tree.specs.Entries.{tree}
+use Rattle.std.proofs.Common.{◌≡◌, [], ◌∷◌, ◌++◌, ◌-◌, take, sym, ap, ◌∙◌, subst, append-nil, append_assoc}
 use Rattle.ss_device.proofs.Gone.{Left, all_gone, left_first, left_next, next_free, next_live}
 use Rattle.ss_device.proofs.ByIds.{none_some}
 use Rattle.ss_device.proofs.Refused.{at_there}

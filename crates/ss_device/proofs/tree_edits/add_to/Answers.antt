@@ -1,6 +1,5 @@
-use Rattle.std.proofs.Common.{◌≡◌, Some, None, inl, inr, false, true, refl, sym, ap, ◌∙◌, is_some}
+use Rattle.std.proofs.Common.{◌≡◌, inr, true, sym, ap, ◌∙◌, is_some}
 use Rattle.ss_record.specs.Items.{is_fit}
-use Rattle.ss_tree.specs.Trees.{Placed}
 use Rattle.ss_tree.specs.Entries.{tree}
 use Rattle.ss_device.proofs.Composed.{add_same, grown_parent, grown_there}
 use Rattle.ss_device.proofs.Refused.{add_apart, add_no_parent, add_parts, takes_inner, node_there, none_from}

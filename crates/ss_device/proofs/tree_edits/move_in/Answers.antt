@@ -1,10 +1,10 @@
-use Rattle.std.proofs.Common.{◌≡◌, Some, None, inl, inr, false, true, refl, sym, ap, ◌∙◌, is_some, bytes_eq}
-use Rattle.ss_record.specs.Ids.{has, places}
+use Rattle.std.proofs.Common.{◌≡◌, inr, true, sym, ap, ◌∙◌, is_some, bytes_eq}
+use Rattle.ss_record.specs.Ids.{places}
 use Rattle.ss_record.specs.Items.{is_fit}
-use Rattle.ss_tree.specs.Trees.{Placed, node, node_ids}
+use Rattle.ss_tree.specs.Trees.{node}
 use Rattle.ss_tree.specs.Entries.{tree}
 use Rattle.ss_device.specs.Edits.{item_of, moved_only, stamped}
-use Rattle.ss_device.proofs.Composed.{move_same, still, through, twice}
+use Rattle.ss_device.proofs.Composed.{move_same, still, through}
 use Rattle.ss_device.proofs.Known.{has_is_node}
 use Rattle.ss_device.proofs.Refused.{change_loose, fixed_inner, in_tree, move_from_change, move_no_parent, move_takes, node_there, none_from, takes_inner}
 use Rattle.ss_device.proofs.tree_edits.move_in.Goals as goal

@@ -1,4 +1,4 @@
-use Rattle.std.proofs.Common.{◌≡◌, Some, false, true, refl, sym, ap, ◌∙◌, bytes_eq, is_some}
+use Rattle.std.proofs.Common.{◌≡◌, sym, ap, ◌∙◌, bytes_eq, is_some}
 use Rattle.std.proofs.lemmas.Result.{IfOk-weaker}
 use Rattle.ss_record.specs.Ids.{places}
 use Rattle.ss_tree.specs.Trees.{node, parent_in}

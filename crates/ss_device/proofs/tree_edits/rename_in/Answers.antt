@@ -1,4 +1,4 @@
-use Rattle.std.proofs.Common.{◌≡◌, Some, None, inl, inr, false, true, refl, sym, ap, ◌∙◌, is_some}
+use Rattle.std.proofs.Common.{sym, ap, ◌∙◌}
 use Rattle.ss_record.specs.Items.{is_fit}
 use Rattle.ss_tree.specs.Entries.{tree}
 use Rattle.ss_device.proofs.Composed.{rename_same}

@@ -1,4 +1,4 @@
-use Rattle.std.proofs.Common.{bytes_eq, ◌≡◌, Some, refl, sym, ap, ◌∙◌}
+use Rattle.std.proofs.Common.{bytes_eq, ◌≡◌, Some, sym, ap, ◌∙◌}
 use Rattle.std.proofs.lemmas.Result.{IfOk-weaker}
 use Rattle.ss_record.specs.Ids.{places}
 use Rattle.ss_record.specs.Items.{is_fit}

@@ -1,5 +1,5 @@
-use Rattle.std.proofs.Common.{◌≡◌, ℕ, List, Some, None, cond, sym, ap, ◌∙◌, subst}
-use Rattle.ss_tree.specs.Trees.{Placed, IsSame}
+use Rattle.std.proofs.Common.{Some, cond, ap, ◌∙◌, subst}
+use Rattle.ss_tree.specs.Trees.{IsSame}
 use Rattle.ss_tree.specs.Entries.{tree}
 use Rattle.ss_device.specs.Device.{AreById, dead_at}
 use Rattle.ss_device.specs.Edits.{deleted, edit_time, is_within}

@@ -1,4 +1,4 @@
-use Rattle.std.proofs.Common.{◌≡◌, subst, sym, List, map}
+use Rattle.std.proofs.Common.{subst, sym, List, map}
 use Rattle.ss_record.specs.Ids.{Apart}
 use Rattle.ss_record.specs.declared.readings.Sheet.{Sheet}
 use Rattle.ss_device.proofs.Known.{by_id_apart}

@@ -1,4 +1,4 @@
-use Rattle.std.proofs.Common.{◌≡◌, sym, ap, ◌∙◌}
+use Rattle.std.proofs.Common.{◌∙◌}
 use Rattle.ss_tree.specs.Entries.{tree}
 use Rattle.ss_device.specs.Edits.{renamed}
 use Rattle.ss_device.proofs.Deaths.{renamed_ids, same_device}

@@ -1,0 +1,5 @@
+pub mod Bodies
+pub mod Limits
+pub mod Lists
+pub mod Posts
+pub mod Hearing

@@ -1,0 +1,3 @@
+pub mod Sizes
+pub mod Putting
+pub mod Fetching

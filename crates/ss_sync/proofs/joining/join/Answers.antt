@@ -1,0 +1,28 @@
+use Rattle.std.proofs.Common.{subst}
+use Rattle.ss_tree.specs.Trees.{IsSame}
+use Rattle.ss_tree.specs.Entries.{tree}
+use Rattle.ss_build.specs.Rows.{rows_of}
+use Rattle.ss_build.specs.Built.{built}
+use Rattle.ss_dupe.specs.Sides.{sides}
+use Rattle.ss_dupe.specs.Pairs.{ArePairs}
+use Rattle.ss_merge.specs.Merged.{all_ids}
+use Rattle.ss_sync.specs.Joined.{merged_of}
+use Rattle.ss_sync.proofs.joining.join.Goals as goal
+
+pub returns-clause-joined : goal.returns-clause-joined
+unfolding all_ids
+returns-clause-joined c =
+    let local = tree c.args.local.now in
+    let before = tree c.in_ok-before.before.tree in
+    let remote = tree c.in_ok-remote.remote.tree in
+    let pairs = c.in_ok-merged.merged.renamed.items in
+    record {
+      before = c.in_ok-before.before.tree;
+      remote = c.in_ok-remote.remote.tree;
+      pairs = pairs;
+      before_is = subst (λ rows. IsSame before (built (rows_of rows))) c.counting.ensures c.in_ok-before.ensures.tree;
+      remote_is = c.in_ok-remote.ensures.tree;
+      are_pairs = subst (λ dead. ArePairs (sides before local remote c.args.local_dead.now dead) pairs) c.in_ok-remote.ensures.dead c.in_ok-merged.ensures.renamed;
+      joined_is = subst (λ dead. IsSame (tree c.in_ok-merged.merged.tree) (merged_of pairs before local remote c.args.local_dead.now dead)) c.in_ok-remote.ensures.dead c.in_ok-merged.ensures.tree;
+      valid = c.in_ok-merged.ensures.valid;
+    }

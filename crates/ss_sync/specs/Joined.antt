@@ -1,0 +1,36 @@
+-- What a merge makes of a device's tree and of fetched rows.
+use Rattle.std.specs.Prelude.{ℕ, List, [], ◌∷◌, ◌++◌}
+use Rattle.ss_record.specs.declared.readings.Sheet.{Sheet}
+use Rattle.ss_record.specs.Ids.{by_id, firsts}
+use Rattle.ss_tree.specs.declared.entries.Entry.{Entry}
+use Rattle.ss_tree.specs.Trees.{Placed, IsSame, IsValidTree, node_ids}
+use Rattle.ss_tree.specs.Entries.{tree}
+use Rattle.ss_build.specs.Rows.{rows_of, dead}
+use Rattle.ss_build.specs.Built.{built}
+use Rattle.ss_dupe.specs.Looks.{Id}
+use Rattle.ss_dupe.specs.Sides.{sides}
+use Rattle.ss_dupe.specs.Pairs.{ArePairs}
+use Rattle.ss_dupe.specs.Renaming.{named, renamed}
+use Rattle.ss_merge.specs.Merged.{merged}
+
+-- the merged tree of three trees and the deleted ids of two sides, where these are the duplicate pairs
+abbrev pub merged_of : List (Id × Id) → List Placed → List Placed → List Placed → List Id → List Id → List Placed
+merged_of pairs mirror local remote local_dead remote_dead =
+    merged (sides mirror (renamed (named pairs) local) remote local_dead remote_dead) (by_id (firsts (node_ids (renamed (named pairs) local) ++ node_ids remote)))
+
+-- the rows of the mirror that count: where no row was fetched, none
+abbrev pub counting : List Sheet → List Sheet → List Sheet
+counting mirror [] = []
+counting mirror (row ∷ rows) = mirror
+
+-- A tree is what merging makes of a device's mirror, tree and deleted ids, and of fetched rows with their tombstones. The
+-- mirror and the remote tree are those that are built from rows, with the times of the rows; trees are compared by ids.
+pub record IsJoined (mirror : List Sheet) (local : List Entry) (local_dead : List Id) (rows : List Sheet) (joined : List Entry) : Type 0 where
+  pub before : List Entry
+  pub remote : List Entry
+  pub pairs : List (Id × Id)
+  pub before_is : IsSame (tree before) (built (rows_of (counting mirror rows)))
+  pub remote_is : IsSame (tree remote) (built (rows_of rows))
+  pub are_pairs : ArePairs (sides (tree before) (tree local) (tree remote) local_dead (dead (rows_of rows))) pairs
+  pub joined_is : IsSame (tree joined) (merged_of pairs (tree before) (tree local) (tree remote) local_dead (dead (rows_of rows)))
+  pub valid : IsValidTree (tree joined)

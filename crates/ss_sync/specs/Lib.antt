@@ -1,0 +1,5 @@
+pub mod Rows
+pub mod Fetched
+pub mod Joined
+pub mod Posts
+pub mod Told

@@ -1,0 +1,62 @@
+//! What a merge makes of a device's tree and of fetched rows.
+
+ghost use Rattle.std.specs.Prelude.{◌≡◌, IfOk};
+ghost use Rattle.ss_record.specs.Ids.{Apart};
+ghost use Rattle.ss_tree.specs.Entries.{IsTree};
+ghost use Rattle.ss_build.specs.Rows.{readings, rows_of};
+ghost use Rattle.ss_sync.specs.Rows.{ids_of};
+ghost use Rattle.ss_sync.specs.Joined.{IsJoined, counting};
+
+use ss_build::{Built, build};
+use ss_merge::merge;
+use ss_record::Sheet;
+use ss_text::Ids;
+use ss_tree::{Sides, Tree};
+use std::alloc::{AllocError, Global};
+
+/// A merged tree, and what was built of the rows.
+#[derive(Drop, Debug)]
+pub struct Joined {
+    pub tree: Tree,
+    pub remote: Built,
+}
+
+/// The rows of the mirror that count: where no row was fetched, none.
+fn counting<'a>(mirror: &'a [Sheet], rows: &[Sheet]) -> &'a [Sheet]
+    ensures { result.now ≡ counting mirror.entry.now rows.now }
+{
+    if rows.is_empty() {
+        &mirror[..0]
+    } else {
+        mirror
+    }
+}
+
+/// Merges a device's tree with the tree of fetched rows, both against the tree of the mirror.
+pub fn join(
+    alloc: Global,
+    mirror: &[Sheet],
+    local: &Tree,
+    local_dead: &Ids,
+    rows: &[Sheet],
+) -> Result<Joined, AllocError>
+    requires mirror { Apart (ids_of mirror.now) }
+    requires rows { Apart (ids_of rows.now) }
+    ensures joined { IfOk result (λ j. IsJoined mirror.now local.now local_dead.now rows.now j.tree) }
+    ensures readings { IfOk result (λ j. j.remote.readings.items ≡ readings (rows_of rows.now)) }
+{
+    let remote = build(alloc, rows)?;
+    let before = build(alloc, counting(mirror, rows))?;
+    let sides = Sides {
+        mirror: &before.tree,
+        local,
+        remote: &remote.tree,
+        local_dead,
+        remote_dead: &remote.dead,
+    };
+    let merged = merge(alloc, &sides)?;
+    Ok(Joined {
+        tree: merged.tree,
+        remote,
+    })
+}

@@ -1,0 +1,31 @@
+-- Each item that a sync leaves to know is in the merged tree.
+use Rattle.std.proofs.Common.{◌≡◌, ◌||◌, ℕ, List, [], Bool, true, refl, sym, ap, ◌∙◌, Option, Some, None, option_map, inl}
+use Rattle.ss_record.specs.declared.readings.Reading.{Reading}
+use Rattle.ss_record.specs.declared.readings.Sheet.{Sheet}
+use Rattle.ss_record.specs.Ids.{has, Apart}
+use Rattle.ss_tree.specs.declared.entries.Entry.{Entry}
+use Rattle.ss_tree.specs.Trees.{Placed, IsValidTree, node, node_ids}
+use Rattle.ss_tree.specs.Entries.{tree}
+use Rattle.ss_build.specs.Rows.{readings, rows_of}
+use Rattle.ss_build.specs.Built.{built}
+use Rattle.ss_build.specs.Stand.{HasItsRows, untimed}
+use Rattle.ss_build.proofs.Stand.{node_has, has_node}
+use Rattle.ss_build.proofs.OfSheets.{sheets_built_back}
+use Rattle.ss_bso.specs.declared.parts.Part.{Part}
+use Rattle.ss_plan.specs.Written.{IsWritten}
+use Rattle.ss_client.specs.Leaves.{LeavesKnown}
+
+there : (o p : Option Placed) (n : Placed) → o ≡ Some n → option_map untimed o ≡ option_map untimed p → (m : Placed) × (p ≡ Some m)
+there o None n e s = absurd (none (sym s ∙ ap (option_map untimed) e))
+  where
+    none : None ≡ Some (untimed n) → ⊥
+    none q = cc
+there o (Some m) n e s = (m, refl)
+
+pub leaves_known : (rows : List Sheet) (parts : List Part) (merged : List Entry) (read : List (List ℕ × Reading)) → IsValidTree (tree merged) → read ≡ readings (rows_of rows)
+    → ((sheets after : List Sheet) (stamp : ℕ) → readings (rows_of sheets) ≡ read → IsWritten sheets parts stamp after → HasItsRows (tree merged) (rows_of after)) → LeavesKnown rows parts merged
+leaves_known rows parts merged read valid told stand = λ after stamp w x h.
+    let same = sheets_built_back (tree merged) after valid w.apart (inl (stand rows after stamp (sym told) w)) in
+    let n = has_node (built (rows_of after)) x h in
+    let m = there (node x (built (rows_of after))) (node x (tree merged)) n.0 n.1 (same x) in
+    ap (λ b. b || has x []) (node_has (tree merged) x m.0 m.1)

@@ -1,0 +1,5 @@
+pub mod Leaves
+pub mod Runs
+pub mod Asking
+pub mod Machine
+pub mod Told

@@ -29,7 +29,6 @@ use Rattle.syncstore.specs.declared.answer.Ending.{Ending}
 use Rattle.syncstore.specs.declared.answer.Ending.TheVariants as endings
 use Rattle.syncstore.specs.declared.response.Response.{Response}
 use Rattle.syncstore.specs.declared.response.Response.TheVariants.{Whole, Short}
-use Rattle.syncstore.specs.Words.{status_of}
 use Rattle.syncstore.specs.declared.answer.TheConstants.{MOST}
 
 -- what a message asks of the account that is served, and whether lists are wanted in lines; or what it is told at once
@@ -304,9 +303,3 @@ pub record Progress (uid : ℕ) (at : Option ℕ) (input input' output output' :
   pub going_on : kept.stop ≡ None
   pub read_faults : input'.read_faults ≡ input.read_faults
   pub write_faults : output'.write_faults ≡ output.write_faults
-
--- what a run of the command whose words ask this does: where they ask nothing, status 1, and nothing is read or written
-abbrev pub Runs : Option (ℕ × Option ℕ) → ℕ → Meanings → Meanings → Meanings → Meanings → Option (List ℕ) → Option (List ℕ) → Type 0
-Runs None status input input' output output' coming coming' = (status ≡ 1) × (input' ≡ input) × (output' ≡ output) × (coming' ≡ coming)
-Runs (Some a) status input input' output output' coming coming' =
-    (ending : Ending) × (status ≡ status_of ending) × Answered a.0 a.1 ending input input' output output' coming coming'

@@ -8,7 +8,6 @@ ghost use Rattle.syncstore.specs.Turns.{Answered, IsReading, IsTurn, Stops, aske
 ghost use Rattle.syncstore.specs.Words.{status_of};
 
 use crate::response::Response;
-use crate::words::AnswerCommand;
 use ss_account::Account;
 use ss_bso::Kept;
 use ss_http::{Buffer, Message, MsgFault, read_message};
@@ -16,6 +15,7 @@ use ss_keeper::SureKeeper;
 use ss_outside::{Clock, Sink, Source};
 use ss_query::Request;
 use ss_route::{Local, Routed, not_listed, refused, route};
+use ss_words::AnswerCommand;
 use std::alloc::Global;
 
 /// How many messages one run answers.

@@ -1,5 +1,7 @@
-//! What the program says of itself.
+//! What the program says of itself, and why it refuses words.
 
+use ss_words::{Name, WordsFault, read_command};
+use std::alloc::Global;
 use std::io::{self, Eprint, ErrorKind, Print};
 
 /// The text of `--version`.
@@ -9,27 +11,112 @@ const VERSION: &str = "syncstore 0.1.0\n";
 const USAGE: &str = "\
 syncstore: a Firefox Sync storage server (SyncStorage API 1.5)
 
-usage: syncstore answer UID [--at N]    answers the HTTP/1.1 messages on standard input for the account UID, from an empty
-                                        account on; with --at the clock counts upwards from N hundredths of a second since
-                                        1970, one for each message, otherwise it is the system's
+usage: syncstore answer UID [--at N]      answers recorded messages for one account
+       syncstore COMMAND --help           tells of a command
        syncstore --help | --version
 
-UID is a number from 1 to 4294967295, N one of 1 to 12 digits. docs/WIRE.md tells which messages are answered, and how.
+Not there yet, each ends with status 1: edit, merge, rehearse, sync, serve.
+
+Options may stand anywhere behind the command's name, each at most once, as --x v or --x=v; behind -- all words are
+positionals. Numbers have 1 to 12 digits. With status 1 nothing was read or written.
+";
+
+const ANSWER: &str = "\
+usage: syncstore answer UID [--at N]
+
+Answers the HTTP/1.1 messages on standard input for the account UID, from an empty account on; another account is answered
+401. docs/WIRE.md tells which messages are answered, and how.
+
+  UID       a number from 1 to 4294967295, without a leading zero
+  --at N    the clock counts upwards from N hundredths of a second since 1970, one for each message: 0 to 999999999999;
+            without it the clock is the system's
 
 exit status: 0 the input was read to its end, or to a message that asks to close; 1 faulty words; 2 the input failed; 3 the
 output failed; 4 the input ended inside a message; 5 what came is no message, and was answered so; 6 after 1,000,000 messages;
 8 no memory for the run
+
+example: syncstore answer 7 --at 1000 < docs/samples/put-then-get.http
 ";
 
-/// The text that the words ask for, where they ask for one: `--help` or `--version` alone, or behind the command's name.
+const EDIT: &str = "\
+usage: syncstore edit ACTION .. [--at N]
+
+Reads a device on standard input, changes it, and writes it. Not there yet: it ends with status 1.
+
+  ACTION    new; bookmark PARENT ID TITLE URI; folder PARENT ID TITLE; separator PARENT ID; rename ID TITLE; move ID PARENT;
+            delete ID
+  --at N    the time of the change, in hundredths of a second since 1970: 0 to 999999999999
+
+example: syncstore edit rename abcdefghijkl 'My page' < device > changed
+";
+
+const MERGE: &str = "\
+usage: syncstore merge
+
+Merges the device and the remote rows on standard input, and tells the merged tree. Not there yet: it ends with status 1.
+
+example: syncstore merge < device-and-rows
+";
+
+const REHEARSE: &str = "\
+usage: syncstore rehearse N S
+
+Lets two devices sync by the rules, and tells how it went. Not there yet: it ends with status 1.
+
+  N    how many items: 1 to 15000
+  S    what the random choices begin from: 0 to 999999999999
+
+example: syncstore rehearse 6000 1
+";
+
+const SYNC: &str = "\
+usage: syncstore sync URL FILE [--newer]
+
+Syncs the device in FILE with an account of a server. Not there yet: it ends with status 1.
+
+  URL        http://HOST[:PORT]/1.5/UID, without a query; the port is 80 where none is given
+  FILE       the device's file; where there is none, a new device
+  --newer    fetches only what is newer than the device's last sync
+
+example: syncstore sync http://127.0.0.1:8000/1.5/7 device
+";
+
+const SERVE: &str = "\
+usage: syncstore serve ADDRESS FOLDER UID .. [--workers N] [--connections N] [--terms N]
+
+Serves accounts from SQLite files over HTTP/1.1. Not there yet: it ends with status 1.
+
+  ADDRESS            an IPv4 address, a colon and a port
+  FOLDER             holds UID.db for each account; it is made where it isn't there
+  UID ..             1 to 8 accounts, none twice
+  --workers N        1 to 16, 4 where nothing is said
+  --connections N    of one term: 1 to 1000, 100 where nothing is said
+  --terms N          0, which is the default, means without end
+
+example: syncstore serve 127.0.0.1:8000 data 7 8
+";
+
+/// What is told of a command.
+fn usage_of(name: Name) -> &'static str {
+    match name {
+        Name::Answer => ANSWER,
+        Name::Edit => EDIT,
+        Name::Merge => MERGE,
+        Name::Rehearse => REHEARSE,
+        Name::Sync => SYNC,
+        Name::Serve => SERVE,
+    }
+}
+
+/// The text that the words ask for, where they ask for one: `--help` or `--version` alone, or behind a command's name.
 pub fn asked_for(words: &[String]) -> Option<&'static str> {
-    let word = match words {
-        [word] => word.as_str(),
-        [command, word] if command.as_str() == "answer" => word.as_str(),
+    let (usage, word) = match words {
+        [word] => (USAGE, word.as_str()),
+        [command, word] => (usage_of(Name::read(command.as_str())?), word.as_str()),
         _ => return None,
     };
     match word {
-        "--help" => Some(USAGE),
+        "--help" => Some(usage),
         "--version" => Some(VERSION),
         _ => None,
     }
@@ -50,6 +137,17 @@ pub fn print(rt: &impl Print, text: &str) -> u8 {
         Ok(()) => 0,
         Err(_) => 3,
     }
+}
+
+/// Says on standard error why words ask nothing, and names the word.
+pub fn explain_words(rt: &impl Eprint, alloc: Global, words: &[String]) {
+    let _ = match read_command(alloc, words) {
+        Ok(_) => eprintln!(rt; "syncstore: this command is not there yet"),
+        Err(WordsFault::Refused(refusal)) => {
+            eprintln!(rt; "syncstore: {refusal}; try syncstore --help")
+        }
+        Err(WordsFault::Memory) => eprintln!(rt; "syncstore: no memory was found"),
+    };
 }
 
 /// Says on standard error what a status means.

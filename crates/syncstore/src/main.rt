@@ -9,7 +9,6 @@ mod offline;
 mod response;
 #[cfg(test)]
 mod tests;
-mod words;
 
 use ss_outside::{StdSink, StdSource, SystemClock};
 use std::env;
@@ -41,6 +40,10 @@ fn main(rt: HostRuntime) -> ExitCode {
         &mut output,
         &mut clock,
     );
-    help::explain(&rt, status);
+    if status == 1 {
+        help::explain_words(&rt, rt.alloc(), words.as_slice());
+    } else {
+        help::explain(&rt, status);
+    }
     ExitCode::from(status)
 }

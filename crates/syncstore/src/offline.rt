@@ -1,18 +1,17 @@
 //! The commands that wait for nobody.
 
-ghost use Rattle.std.specs.Prelude.{◌≡◌, map, string_bytes, IfSome};
-ghost use Rattle.syncstore.specs.Turns.{Runs};
-ghost use Rattle.syncstore.specs.Words.{asks};
+ghost use Rattle.std.specs.Prelude.{map, string_bytes};
+ghost use Rattle.syncstore.specs.Offline.{Runs};
 
 use crate::answer::{answer, status_of};
-use crate::words::asked;
 use ss_outside::{Clock, Sink, Source};
+use ss_words::{Command, WordsFault, read_command};
 use std::alloc::Global;
 
-/// Runs the command that the words name, and answers its status: 0 where the input was read to its end, or to a message that
-/// asks to close; 1 where the words are refused; 2 and 3 where the input and the output failed; 4 where the input ended inside a
-/// message; 5 where what came is no message and was answered so; 6 after 1,000,000 messages; 8 where no memory was found for the
-/// run itself. With `--at` the clock that is handed in is not read.
+/// Runs the command that the words ask, and answers its status: 0 where the input was read to its end, or to a message that
+/// asks to close; 1 where the words ask nothing, or a command that isn't there yet; 2 and 3 where the input and the output failed;
+/// 4 where the input ended inside a message; 5 where what came is no message and was answered so; 6 after 1,000,000 messages; 8
+/// where no memory was found for the run itself. With `--at` the clock that is handed in is not read.
 pub fn run_offline<S: Source, T: Sink, C: Clock>(
     alloc: Global,
     words: &[String],
@@ -20,12 +19,16 @@ pub fn run_offline<S: Source, T: Sink, C: Clock>(
     output: &mut T,
     clock: &mut C,
 ) -> u8
-    ensures runs { Runs (asks (map (λ word. string_bytes word) words.now)) result (S.Told.told input.old) (S.Told.told input.new)
-        (T.Told.told output.old) (T.Told.told output.new) (C.coming clock.old) (C.coming clock.new) }
-    ensures unread { IfSome (asks (map (λ word. string_bytes word) words.now)) (λ a. IfSome a.1 (λ _. clock.new ≡ clock.old)) }
+    ensures { Runs (map (λ word. string_bytes word) words.now) result (S.Told.told input.old) (S.Told.told input.new)
+        (T.Told.told output.old) (T.Told.told output.new) (C.coming clock.old) (C.coming clock.new) clock.old clock.new }
 {
-    match asked(words) {
-        None => 1,
-        Some(command) => status_of(answer(alloc, command, input, output, clock)),
-    }
+    let command = match read_command(alloc, words) {
+        Ok(command) => command,
+        Err(WordsFault::Refused(_)) => return 1,
+        Err(WordsFault::Memory) => return 8,
+    };
+    let Command::Answer(command) = command else {
+        return 1;
+    };
+    status_of(answer(alloc, command, input, output, clock))
 }

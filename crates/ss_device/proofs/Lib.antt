@@ -9,3 +9,4 @@ pub mod Going
 pub mod Buried
 pub mod Gone
 pub mod Lined
+pub mod Uphill

@@ -124,7 +124,7 @@ module _ (es : List Entry) (t : IsTree es) (x : List ℕ) (k : ℕ) (at : node_o
 -- ---- below
 
 module _ (es : List Entry) (t : IsTree es) (x : List ℕ) (k : ℕ) (at : node_of x es ≡ Some k) (inner : (k == 0) ≡ false) where
-  step_in : (p : ℕ) (f : Entry) → entry p es ≡ Some f → parent_in (tree es) f.item.id ≡ unwrap_or (option_and_then (idof es) f.parent) places
+  pub step_in : (p : ℕ) (f : Entry) → entry p es ≡ Some f → parent_in (tree es) f.item.id ≡ unwrap_or (option_and_then (idof es) f.parent) places
   unfolding parent_in
   step_in p f q = ap (λ o. unwrap_or (option_and_then (λ (n : Placed). n.parent) o) places) (at_entry es t p f q) ∙ ap (λ (n : Placed). unwrap_or n.parent places) (placed_is es t p f q)
 

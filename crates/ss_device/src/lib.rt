@@ -9,6 +9,7 @@ mod device;
 mod edits;
 mod faults;
 mod grafts;
+mod laws;
 mod lines;
 mod removal;
 #[cfg(test)]
@@ -19,4 +20,5 @@ mod writing;
 
 pub use device::Device;
 pub use faults::EditFault;
+pub use laws::within_is_exact;
 pub use writing::write_device;

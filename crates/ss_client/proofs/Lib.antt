@@ -1,2 +1,6 @@
 pub mod Leaving
 pub mod Posting
+pub mod Sending
+pub mod Sound
+pub mod Told
+pub mod Asked

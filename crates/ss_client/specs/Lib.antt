@@ -3,3 +3,4 @@ pub mod Runs
 pub mod Asking
 pub mod Machine
 pub mod Told
+pub mod Sound

@@ -6,6 +6,7 @@
 
 mod asking;
 mod fetching;
+mod laws;
 mod machine;
 mod runs;
 mod steps;
@@ -15,6 +16,7 @@ mod synced;
 mod tests;
 mod uploading;
 
+pub use laws::requests_can_be_sent;
 pub use machine::{Do, Machine};
 pub use runs::{Listing, Paging, Run, Stage, Times, Upload};
 pub use summaries::{Fetch, Summary, SyncFault};

@@ -6,9 +6,9 @@ use Rattle.ss_record.proofs.IdLists.{bytes_eq-same, same_id}
 use Rattle.ss_tree.specs.declared.entries.Entry.{Entry}
 use Rattle.ss_tree.specs.Trees.{Placed, node_ids, parent_in, steps}
 use Rattle.ss_tree.specs.Entries.{above, ancestor, entry, is_below, node_of, top_entry, tree, up, IsBelow, IsTree}
-use Rattle.ss_tree.proofs.Changes.{live_steps, up_of}
+use Rattle.ss_tree.proofs.Changes.{live_steps}
 use Rattle.ss_tree.proofs.Edits.{same_number}
-use Rattle.ss_tree.proofs.Ways.{below_is, stays, up_some}
+use Rattle.ss_tree.proofs.Ways.{below_is, stays}
 use Rattle.ss_device.specs.Edits.{is_met, is_within}
 use Rattle.ss_device.proofs.ByIds.{live_some, name_at, idof, same_node}
 use Rattle.ss_device.proofs.Changes.{above_there}

@@ -1,5 +1,7 @@
 -- What a step of a machine and its last call say.
-use Rattle.std.specs.Prelude.{◌≡◌, ◌⊎◌, List, []}
+use Rattle.std.specs.Prelude.{◌≡◌, ◌⊎◌, List, [], ⊤}
+use Rattle.ss_query.specs.Fit.{IsFitRequest}
+use Rattle.ss_route.specs.Sending.{IsSent}
 use Rattle.ss_query.specs.declared.requests.Request.{Request}
 use Rattle.ss_device.specs.Device.{DeviceView}
 use Rattle.ss_client.specs.declared.machine.Do.{Do}
@@ -23,3 +25,13 @@ abbrev pub Says : DeviceView → (Next → Type 0) → Do → Type 0
 Says d P (answer.Send machine request) = (machine.device ≡ d) × P (Send machine.run machine.stage) × (request ≡ ask machine)
 Says d P (answer.Done device summary) = P (Done device summary)
 Says d P (answer.Stop device fault) = (device ≡ d) × ((fault ≡ Memory) ⊎ P (Stop fault))
+
+-- a request that a client writes, and that a server takes
+abbrev pub CanSend : Request → Type 0
+CanSend request = IsSent request × IsFitRequest request
+
+-- this holds of the request, where one follows
+abbrev pub OnSend : Do → (Request → Type 0) → Type 0
+OnSend (answer.Send machine request) P = P request
+OnSend (answer.Done device summary) P = ⊤
+OnSend (answer.Stop device fault) P = ⊤

@@ -5,7 +5,7 @@ ghost use Rattle.ss_hearing.specs.Hearing.{answer_of};
 ghost use Rattle.ss_client.specs.Runs.{first_run, is_newer};
 ghost use Rattle.ss_client.specs.Asking.{ask, awaits};
 ghost use Rattle.ss_client.specs.Machine.{Follows, limits_at, page_at, ids_at, held_at, written_at};
-ghost use Rattle.ss_client.specs.Told.{told, Says};
+ghost use Rattle.ss_client.specs.Told.{told, Says, CanSend, OnSend};
 ghost use Rattle.ss_client.specs.declared.runs.Stage.TheVariants.{Asks};
 
 use crate::asking::asked;
@@ -33,10 +33,13 @@ pub struct Machine {
 
 impl Model for Machine {
     ghost use Rattle.ss_client.specs.Runs.{MachineView};
+    ghost use Rattle.ss_client.specs.Sound.{IsSound};
 
     ghost Value = { MachineView };
 
     ghost view = { λ m. record { device = m.device; run = m.run; stage = m.stage } };
+
+    ghost invariant = { λ m. IsSound m.run m.stage };
 }
 
 /// What comes next: a request, the end with the device after the sync, or a stop with the device as it was started.
@@ -165,6 +168,7 @@ impl Machine {
     pub fn start(alloc: Global, device: Device, fetch: Fetch) -> (Machine, Request)
         ensures machine { result.0 ≡ record { device = device; run = first_run (is_newer device fetch); stage = Asks } }
         ensures request { result.1 ≡ ask result.0 }
+        ensures sent { CanSend result.1 }
     {
         let newer = fetch == Fetch::Newer && device.stamp().get() != 0;
         let run = Run {
@@ -195,9 +199,10 @@ impl Machine {
     }
 
     /// What the machine does with the response to its request: exactly what the definition has it do with the answer that
-    /// the response is. A stop for want of memory may always come.
+    /// the response is. A request that is sent can be written. A stop for want of memory may always come.
     pub fn next(self, alloc: Global, heard: &Heard) -> Do
-        ensures { Says self.device (Follows self.device self.run self.stage (answer_of (awaits self.stage) heard.now)) result }
+        ensures says { Says self.device (Follows self.device self.run self.stage (answer_of (awaits self.stage) heard.now)) result }
+        ensures sent { OnSend result CanSend }
     {
         let Machine { device, run, stage } = self;
         let (run, stage) = match follow(alloc, &device, run, stage, heard) {

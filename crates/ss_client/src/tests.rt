@@ -37,34 +37,30 @@ fn heard(alloc: Global, reply: &Reply) -> Result<Heard, AllocError> {
     })
 }
 
-/// How a run of a new device ends against these replies.
-fn ending(alloc: Global, fetch: Fetch, replies: &[Reply]) -> Result<String, AllocError> {
-    let (mut machine, _) = Machine::start(alloc, Device::new(alloc)?, fetch);
-    for reply in replies {
-        match machine.next(alloc, &heard(alloc, reply)?) {
-            Do::Send(next, _) => machine = next,
-            Do::Done(_, done) => {
-                return format!(in alloc;
-                    "{} items, {} posts, {} fetches, at {}",
-                    done.items,
-                    done.posts,
-                    done.fetches,
-                    done.stamp.get()
-                );
-            }
-            Do::Stop(_, fault) => return stop(alloc, &fault),
-        }
-    }
-    String::from_str(alloc, "under way")
+/// What comes of a step: the run goes on, or how it ends.
+#[derive(Drop)]
+enum Came {
+    On(Machine),
+    End(String),
 }
 
-fn stop(alloc: Global, fault: &SyncFault) -> Result<String, AllocError> {
+fn outcome(alloc: Global, next: Do) -> Result<Came, AllocError> {
+    match next {
+        Do::Send(machine, _request) => Ok(Came::On(machine)),
+        Do::Done(_device, done) => Ok(Came::End(format!(in alloc;
+            "{} items, {} posts, {} fetches, at {}",
+            done.items,
+            done.posts,
+            done.fetches,
+            done.stamp.get()
+        )?)),
+        Do::Stop(_device, fault) => Ok(Came::End(stop(alloc, fault)?)),
+    }
+}
+
+fn stop(alloc: Global, fault: SyncFault) -> Result<String, AllocError> {
     match fault {
-        SyncFault::Refused { status, id: None } => format!(in alloc; "refused {status}"),
-        SyncFault::Refused {
-            status,
-            id: Some(id),
-        } => format!(in alloc; "refused {status} {}", id.as_str()),
+        SyncFault::Refused { status, .. } => format!(in alloc; "refused {status}"),
         SyncFault::Changing { first, fourth, .. } => {
             format!(in alloc; "changing {} {}", first.get(), fourth.get())
         }
@@ -72,6 +68,20 @@ fn stop(alloc: Global, fault: &SyncFault) -> Result<String, AllocError> {
         SyncFault::Plan(_) => String::from_str(alloc, "plan"),
         SyncFault::Memory => String::from_str(alloc, "memory"),
     }
+}
+
+/// How a run of a new device ends against these replies.
+fn ending(alloc: Global, fetch: Fetch, replies: &[Reply]) -> Result<String, AllocError> {
+    let (first, _request) = Machine::start(alloc, Device::new(alloc)?, fetch);
+    let mut machine = first;
+    for reply in replies {
+        let reply = heard(alloc, reply)?;
+        match outcome(alloc, machine.next(alloc, &reply))? {
+            Came::On(next) => machine = next,
+            Came::End(text) => return Ok(text),
+        }
+    }
+    String::from_str(alloc, "under way")
 }
 
 #[test]

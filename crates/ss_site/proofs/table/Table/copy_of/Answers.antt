@@ -1,0 +1,14 @@
+use Rattle.std.proofs.Common.{sym, ◌∙◌}
+use Rattle.ss_site.proofs.Tables.{found_told, same_told, no_place, with_ok}
+use Rattle.ss_site.proofs.table.Table.copy_of.Goals as goal
+
+pub returns-in-Some : goal.returns-in-Some
+returns-in-Some c =
+    let found = found_told c.args.folder.now c.args.uid c.args.self.now c.self.inside.entries.items c.in-Some.at c.index_mut.result.now (sym c.self.view_is) c.in-Some.ensures c.index_mut.ensures.value in
+    record {
+      copied = with_ok c.copy.result _ _ (λ kept is. is ∙ found) c.copy.ensures.copied;
+      same = same_told c.args.folder.now c.args.uid c.args.self.now c.self.inside.entries.items c.in-Some.at c.index_mut.result.now c.copy.new.self (sym c.self.view_is) c.in-Some.ensures c.index_mut.ensures.value c.copy.ensures.same;
+    }
+
+pub returns-in-Ok-clause-copied : goal.returns-in-Ok-clause-copied
+returns-in-Ok-clause-copied c = c.fresh.ensures ∙ no_place c.args.folder.now c.args.uid c.args.self.now c.in-None.ensures

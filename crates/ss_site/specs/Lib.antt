@@ -1,0 +1,5 @@
+pub mod Sites
+pub mod Counted
+pub mod Real
+pub mod Tables
+pub mod Memories

@@ -1,0 +1,19 @@
+-- What a site in memory counts and tells.
+use Rattle.std.specs.Prelude.{List, Option, Some, None, map, if◌then◌else◌}
+use Rattle.ss_site.specs.declared.memory_site.KeptTerm.{KeptTerm}
+use Rattle.ss_site.specs.declared.memory_site.MemSite.{MemSite}
+use Rattle.ss_site.specs.Sites.{Counts, Term, Entries}
+use Rattle.ss_site.specs.Tables.{entries_of}
+
+module _ {T : Type 0} where
+  abbrev pub term_of : KeptTerm T → Term T
+  term_of t = record { reports = t.reports.items; journals = t.journals.items }
+
+  abbrev pub site_counts : MemSite T → Counts
+  site_counts s = record { faults = s.faults; links = s.links; ends = s.ends }
+
+  abbrev pub site_terms : MemSite T → Option (List (Term T))
+  site_terms s = Some (map term_of s.terms.items)
+
+  abbrev pub site_kept : MemSite T → Option Entries
+  site_kept s = if s.is_told then Some (entries_of s.table) else None

@@ -1,0 +1,72 @@
+-- Sites: what they count and tell.
+use Rattle.std.specs.Prelude.{◌≡◌, ◌≢◌, ◌⊎◌, ℕ, List, [], ◌∷◌, ◌++◌, map, Option, Some, None, Result, Ok, Err}
+use Rattle.std.specs.Borrow.{Bor}
+use Rattle.ss_outside.specs.Causes.{Rose}
+use Rattle.ss_bso.specs.declared.changes.Kept.{Kept}
+use Rattle.ss_laws.specs.Journal.{Journal}
+use Rattle.ss_links.specs.Counts.{RoseBy}
+use Rattle.ss_links.specs.Ports.{Accepts}
+use Rattle.ss_site.specs.declared.site.SiteFault.{SiteFault}
+use Rattle.ss_site.specs.declared.site.SiteFault.TheVariants.{Fault, Memory}
+
+-- what a site counts: its calls that failed, and the keepers and ports that came back after a fault; the links of the ports that
+-- were shut; and those of these ports that had ended
+pub record Counts : Type 0 where
+  pub faults : ℕ
+  pub links : ℕ
+  pub ends : ℕ
+
+-- a term as a site is told it: the reports of its links, and each account's journal
+pub record Term (R : Type 0) : Type 0 where
+  pub reports : List R
+  pub journals : List (ℕ × Journal)
+
+-- what is kept under each folder and uid; a fresh one where nothing is
+abbrev pub Entries : Type 0
+Entries = List ℕ → ℕ → Kept
+
+-- the count of faults rises in a call that answers a fault, and in no other; the other counts stay
+abbrev pub HasCause : {T : Type 0} → Result T SiteFault → Counts → Counts → Type 0
+HasCause (Ok value) old new = new ≡ old
+HasCause (Err Fault) old new = Rose old.faults new.faults × (new.links ≡ old.links) × (new.ends ≡ old.ends)
+HasCause (Err Memory) old new = new ≡ old
+
+-- a keeper that was given tells what the entry is, where the entries are told
+abbrev pub IsEntry : List ℕ → ℕ → Option Kept → Option Entries → Type 0
+IsEntry folder uid told None = Unit {0}
+IsEntry folder uid told (Some entries) = told ≡ Some (entries folder uid)
+
+-- what this folder and uid have is the entry, and each other entry is as before
+pub record IsWith (folder : List ℕ) (uid : ℕ) (kept : Kept) (old new : Entries) : Type 0 where
+  pub here : new folder uid ≡ kept
+  pub others : (f : List ℕ) (u : ℕ) → ((f ≢ folder) ⊎ (u ≢ uid)) → new f u ≡ old f u
+
+-- where the entries are told after a keeper came back, it told one, which is the entry now
+abbrev pub HasRetired : List ℕ → ℕ → Option Kept → Option Entries → Option Entries → Type 0
+HasRetired folder uid told old new = (after : Entries) → new ≡ Some after → (before : Entries) × (kept : Kept) × (old ≡ Some before) × (told ≡ Some kept) × IsWith folder uid kept before after
+
+-- a count rose where a number isn't 0, and stayed where it is
+pub record RoseUnless (n before now : ℕ) : Type 0 where
+  pub some : n ≢ 0 → Rose before now
+  pub none : n ≡ 0 → now ≡ before
+
+-- the counts after a keeper came back that had failed so often
+pub record CountsKeeper (n : ℕ) (old new : Counts) : Type 0 where
+  pub faults : RoseUnless n old.faults new.faults
+  pub links : new.links ≡ old.links
+  pub ends : new.ends ≡ old.ends
+
+-- the counts after a port was shut
+pub record CountsPort (port : Accepts) (old new : Counts) : Type 0 where
+  pub faults : RoseUnless port.faults old.faults new.faults
+  pub links : RoseBy port.links old.links new.links
+  pub ends : RoseUnless port.ends old.ends new.ends
+
+-- a term stands at the end, where terms are told
+abbrev pub HasAdded : {R : Type 0} → Term R → Option (List (Term R)) → Option (List (Term R)) → Type 0
+HasAdded term None new = new ≡ None
+HasAdded term (Some terms) new = new ≡ Some (terms ++ term ∷ [])
+
+-- the reports and these journals are told as one term, at the end
+abbrev pub AddsTerm : {R : Type 0} → List R → List (ℕ × Bor Journal) → Option (List (Term R)) → Option (List (Term R)) → Type 0
+AddsTerm reports journals old new = HasAdded (record { reports = reports; journals = map (λ journal. (journal.0, journal.1.now)) journals }) old new

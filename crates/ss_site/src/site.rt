@@ -1,0 +1,87 @@
+//! Sites.
+
+ghost use Rattle.std.specs.Prelude.{◌≡◌, ℕ, Option, List, IfOk, OnOk, OnErr};
+ghost use Rattle.ss_links.specs.Ports.{idle_port};
+ghost use Rattle.ss_site.specs.Sites.{Counts, Term, Entries, HasCause, IsEntry, HasRetired, CountsKeeper, CountsPort, AddsTerm};
+
+use ss_keeper::Keeper;
+use ss_laws::Journal;
+use ss_links::Port;
+use ss_outside::Clock;
+use std::alloc::Global;
+
+/// Why a site refused a call.
+#[derive(Clone, Copy, Debug, PartialEq, Eq)]
+pub enum SiteFault {
+    /// The site failed; it counts this.
+    Fault,
+
+    /// Memory ran out.
+    Memory,
+}
+
+/// Where a server's links, keepers and clocks come from and go back to, and where it tells its terms.
+pub trait Site {
+    type Port: Port;
+
+    type Keeper: Keeper + Drop;
+
+    type Clock: Clock;
+
+    /// What is told of a link.
+    type Report;
+
+    /// Its counts.
+    ghost counts: { Self → Counts };
+
+    /// The terms that it was told, where it tells them.
+    ghost terms: { Self → Option (List (Term Self.Report)) };
+
+    /// What is kept under each folder and uid, where that is told.
+    ghost kept: { Self → Option Entries };
+
+    /// A port that listens at an address.
+    fn listen(&mut self, alloc: Global, address: &str) -> Result<Self::Port, SiteFault>
+        ensures idle { IfOk result (λ port. Self.Port.counts port ≡ idle_port) }
+        ensures cause { HasCause result (counts self.old) (counts self.new) }
+        ensures terms { terms self.new ≡ terms self.old }
+        ensures kept { kept self.new ≡ kept self.old };
+
+    /// The keeper of an account, which tells its entry and has not failed.
+    fn keeper(&mut self, alloc: Global, folder: &str, uid: u32) -> Result<Self::Keeper, SiteFault>
+        ensures fresh { IfOk result (λ keeper. Self.Keeper.keep_faults keeper ≡ 0) }
+        ensures entry { IfOk result (λ keeper. IsEntry folder.now uid (Self.Keeper.told keeper) (kept self.old)) }
+        ensures cause { HasCause result (counts self.old) (counts self.new) }
+        ensures terms { terms self.new ≡ terms self.old }
+        ensures kept { kept self.new ≡ kept self.old };
+
+    /// Takes the keeper of an account back: what it tells is the entry from now on. That it had failed is counted.
+    fn retire(&mut self, folder: &str, uid: u32, keeper: Self::Keeper)
+        ensures entry { HasRetired folder.now uid (Self.Keeper.told keeper) (kept self.old) (kept self.new) }
+        ensures counted { CountsKeeper (Self.Keeper.keep_faults keeper) (counts self.old) (counts self.new) }
+        ensures terms { terms self.new ≡ terms self.old };
+
+    /// Takes a port back. That it had failed or ended, and its links, are counted.
+    fn shut(&mut self, port: Self::Port)
+        ensures counted { CountsPort (Self.Port.counts port) (counts self.old) (counts self.new) }
+        ensures terms { terms self.new ≡ terms self.old }
+        ensures kept { kept self.new ≡ kept self.old };
+
+    /// A clock for a worker.
+    fn clock(&mut self) -> Self::Clock
+        ensures counts { counts self.new ≡ counts self.old }
+        ensures terms { terms self.new ≡ terms self.old }
+        ensures kept { kept self.new ≡ kept self.old };
+
+    /// Is told the reports of a term and the journals of its accounts, before these are folded.
+    fn ended(
+        &mut self,
+        alloc: Global,
+        reports: Vec<Self::Report>,
+        journals: &[(u32, &Journal)],
+    ) -> Result<(), SiteFault>
+        ensures added { OnOk result (AddsTerm reports.items journals.now (terms self.old) (terms self.new)) }
+        ensures refused { OnErr result (terms self.new ≡ terms self.old) }
+        ensures cause { HasCause result (counts self.old) (counts self.new) }
+        ensures kept { kept self.new ≡ kept self.old };
+}

@@ -1,5 +1,5 @@
 -- Rows that are gathered by id, and what a part makes of them.
-use Rattle.std.proofs.Common.{◌≡◌, ℕ, ◌+◌, ◌<◌, List, [], ◌∷◌, ◌++◌, length, map, take, filter, fold, get_or, Bool, true, false, cond, ◌||◌, bytes_eq, Option, Some, None, option_map, Bor, Ordering, Less, is_eq, refl, sym, ap, ap₂, ◌∙◌, subst, append_assoc, append-nil}
+use Rattle.std.proofs.Common.{◌≡◌, ℕ, ◌+◌, ◌<◌, List, [], ◌∷◌, ◌++◌, length, map, take, fold, get_or, Bool, true, false, cond, ◌||◌, bytes_eq, Option, Some, None, option_map, Bor, Less, is_eq, refl, sym, ap, ap₂, ◌∙◌, append_assoc, append-nil}
 use Rattle.std.proofs.lemmas.Map.Text.{is_eq-slice_cmp}
 use Rattle.std.proofs.lemmas.List.{take_more}
 use Rattle.std.specs.Cmp.Lexicographic.{texts_ties}
@@ -12,12 +12,11 @@ use Rattle.ss_record.specs.declared.readings.Sheet.{Sheet}
 use Rattle.ss_record.specs.Ids.{Apart, has}
 use Rattle.ss_record.proofs.IdLists.{same_id, bytes_eq-sym, has-nil, has-cons}
 use Rattle.ss_bso.specs.declared.parts.Part.{Part}
-use Rattle.ss_bso.specs.declared.parts.Field.{Field}
 use Rattle.ss_bso.specs.Put.{field_value}
 use Rattle.ss_plan.specs.Written.{sheet, sheet_put, sheet_after}
 use Rattle.ss_plan.proofs.Last.{after-append}
 use Rattle.ss_sync.specs.declared.written.Told.{Told}
-use Rattle.ss_sync.specs.Rows.{ids_of, AreById}
+use Rattle.ss_sync.specs.Rows.{ids_of}
 use Rattle.ss_sync.specs.Told.{row_of, rows_of}
 
 -- one more row is there

@@ -1,5 +1,5 @@
 -- What a merge makes of a device's tree and of fetched rows.
-use Rattle.std.specs.Prelude.{ℕ, List, [], ◌∷◌, ◌++◌}
+use Rattle.std.specs.Prelude.{List, [], ◌∷◌, ◌++◌}
 use Rattle.ss_record.specs.declared.readings.Sheet.{Sheet}
 use Rattle.ss_record.specs.Ids.{by_id, firsts}
 use Rattle.ss_tree.specs.declared.entries.Entry.{Entry}

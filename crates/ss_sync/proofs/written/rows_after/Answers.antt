@@ -1,6 +1,5 @@
 use Rattle.std.proofs.Common.{[], ◌∷◌, sym, ap, ◌∙◌, take_all}
 use Rattle.ss_plan.specs.Written.{sheet, sheet_after}
-use Rattle.ss_record.specs.Ids.{Apart}
 use Rattle.ss_sync.proofs.Putting.{after-none, after_more, apart_sorted}
 use Rattle.ss_sync.proofs.written.rows_after.Goals as goal
 

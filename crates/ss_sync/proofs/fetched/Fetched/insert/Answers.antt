@@ -1,4 +1,4 @@
-use Rattle.std.proofs.Common.{sym, ◌∙◌}
+use Rattle.std.proofs.Common.{sym}
 use Rattle.ss_sync.proofs.Fetching.{fresh_is, inside_more}
 use Rattle.ss_sync.proofs.fetched.Fetched.insert.Goals as goal
 

@@ -1,6 +1,5 @@
-use Rattle.std.proofs.Common.{◌≡◌, true, false, sym, ap, ◌∙◌, append-nil, ◌++◌}
+use Rattle.std.proofs.Common.{◌≡◌, sym, ap, ◌∙◌, append-nil, ◌++◌}
 use Rattle.ss_record.specs.Ids.{has}
-use Rattle.ss_sync.specs.Rows.{ids_of}
 use Rattle.ss_sync.proofs.Fetching.{kept-nil, kept_more, kept_other, copied_fresh, copied_added}
 use Rattle.ss_sync.proofs.fetched.Fetched.keep.Goals as goal
 use Rattle.ss_sync.proofs.fetched.Fetched.keep.Goals.{then-contains+in_ok-copy_of+in_ok-insert, else-contains}

@@ -7,9 +7,7 @@ use Rattle.ss_tree.proofs.Valid.{entry_in, in_entry, node_found, node_at}
 use Rattle.ss_tree.proofs.Kept.{new_tree, new_same}
 use Rattle.ss_tree.specs.Built.{ArePlaced}
 use Rattle.ss_tree.proofs.Settled.{same_kid_ids}
-
-none_some : {X : Type 0} {x : X} → None ≡ Some x → ⊥
-none_some h = cc
+use Rattle.std.proofs.lemmas.Option.{none-some}
 
 module _ (es fs : List Entry) (t : IsTree es) (u : IsTree fs) (look : (k : ℕ) → entry k fs ≡ entry k es) (rows : (k : ℕ) → kids k fs ≡ kids k es) where
   same_placed : (e : Entry) → placed fs e ≡ placed es e
@@ -39,7 +37,7 @@ module _ (es fs : List Entry) (t : IsTree es) (u : IsTree fs) (look : (k : ℕ) 
       go : (o : Option Placed) → node x (tree es) ≡ o → (p : Option Placed) → node x (tree fs) ≡ p → node x (tree fs) ≡ node x (tree es)
       go (Some m) q p r = at x m q ∙ sym q
       go None q None r = r ∙ sym q
-      go None q (Some m) r = absurd (none_some (sym q ∙ (from x m r).1))
+      go None q (Some m) r = absurd (none-some _ (sym q ∙ (from x m r).1))
 
 pub new_is_same : (fs : List Entry) → IsTree fs → ((k : ℕ) → entry k fs ≡ entry k new_entries) → ((k : ℕ) → kids k fs ≡ kids k new_entries) → IsSame (tree fs) empty_tree
 new_is_same fs u look rows x = same_items new_entries fs new_tree u look rows x ∙ ap (node x) new_same

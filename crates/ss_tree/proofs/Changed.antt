@@ -1,19 +1,13 @@
 -- What the calls make of cells.
-use Rattle.std.proofs.Common.{◌≡◌, ◌≢◌, ℕ, ◌+◌, ◌<◌, ◌≤◌, ◌==◌, List, [], ◌∷◌, ◌++◌, length, Bool, true, false, not, cond, ◌||◌, refl, sym, ap, ap₂, subst, ◌∙◌, arith, inl, inr, Option, Some, None, option_map, option_and_then, unwrap_or, is_some, length-append, bytes_eq}
-use Rattle.std.proofs.lemmas.Bool.{false≢true, cases_lt, eq-eqb, and_parts, or_parts}
+use Rattle.std.proofs.Common.{◌≡◌, ◌≢◌, ℕ, ◌+◌, ◌<◌, ◌≤◌, ◌==◌, List, [], ◌∷◌, ◌++◌, length, true, false, cond, refl, sym, ap, subst, ◌∙◌, arith, inl, inr, Option, Some, None, option_map, option_and_then, unwrap_or, is_some, length-append, bytes_eq}
+use Rattle.std.proofs.lemmas.Bool.{false≢true, cases_lt, eq-eqb, or_parts}
 use Rattle.std.proofs.lemmas.Bool.Decides.{eqb_tells}
 use Rattle.std.proofs.lemmas.List.{get_or_append_left, get_or_push, get_or_past}
-use Rattle.ss_record.specs.Ids.{has}
-use Rattle.ss_record.specs.Items.{ItemView}
-use Rattle.ss_record.specs.Kinds.{is_folder}
 use Rattle.ss_list.specs.Chain.{times}
 use Rattle.ss_list.proofs.Times.{times-apart, cut}
 use Rattle.ss_list.proofs.Paths.{Path, path_kept}
 use Rattle.ss_tree.specs.declared.entries.Entry.{Entry}
-use Rattle.ss_tree.specs.declared.faults.TreeFault.TheVariants.{NotFolder, Twice, BadPlace}
-use Rattle.ss_tree.specs.declared.faults.MoveFault.TheVariants.{Root, NotFolder as NoFolder, Under, BadPlace as NoPlace}
-use Rattle.ss_tree.specs.declared.faults.RemoveFault.TheVariants.{Root as Fixed, NotEmpty}
-use Rattle.ss_tree.specs.Entries.{entry, entry_ids, first_of, is_live, stands_under, kids, above, put_before, without_node, under, revised, insert_fault, move_fault, remove_fault, takes_children, is_place, is_node, is_fixed, is_below, is_fit_with, node_of, IsTree, IsKept}
+use Rattle.ss_tree.specs.Entries.{entry, is_live, stands_under, kids, above, put_before, without_node, under, revised, insert_fault, move_fault, remove_fault, takes_children, is_place, is_node, is_fixed, is_fit_with, node_of, IsTree, IsKept}
 use Rattle.ss_tree.proofs.Lists.{put_entry, without_entry, revise_entry}
 use Rattle.ss_tree.proofs.Edits.{entry_put, entry_without, kids_without}
 use Rattle.ss_tree.proofs.Kept.{insert_free, move_free, remove_free, takes_parts, kept_insert, insert_kids, kept_move, move_kids, moved_entry, kept_remove, kept_set, entry_revise, kids_revise}
@@ -29,9 +23,7 @@ use Rattle.std.specs.Option.{IfSome}
 use Rattle.ss_tree.proofs.Settled.{end_nowhere, kid_below, settled, listed_entry, listed_kids}
 use Rattle.ss_tree.proofs.Strung.{Strung, detached, left_in, right_in}
 use Rattle.ss_tree.proofs.Attached.{attached, beside}
-
-none_some : {X : Type 0} {x : X} → None ≡ Some x → ⊥
-none_some h = cc
+use Rattle.std.proofs.lemmas.Option.{none-some}
 
 -- the rows of a tree's nodes share no node
 pub strung_from : (cells : List Cell) (es : List Entry) → IsKept es (length cells) → Lies cells es → Strung cells (λ p. kids p es)
@@ -112,7 +104,7 @@ has_parent es t k live loose none = go (entry k es) refl live none
     go None q l w = false≢true l
     go (Some e) q l w =
         let f = t.folder k e q (λ is. false≢true (sym (or_parts (k == 0) (unwrap_or (option_map (stands_under 0) (entry k es)) false) loose).0 ∙ eq-eqb k 0 is)) in
-        none_some (sym w ∙ f.1)
+        none-some _ (sym w ∙ f.1)
 
 pub live_some : {X : Type 0} (o : Option X) → is_some o ≡ true → (x : X) × (o ≡ Some x)
 live_some None l = absurd (false≢true l)
@@ -169,7 +161,7 @@ module _ (cells : List Cell) (p : ℕ) (b : Option ℕ) (e : Entry) (linked : Is
   seat_inner is = let low = seats.inside in let within = seats.within in omega arith
 
   absent_at : (j : ℕ) → times e.node (kids j (listing cells)) ≡ 0
-  absent_at j = absent e.node (kids j (listing cells)) (λ there. let r = kid_entry j e.node (listing cells) linked.kept.is_tree.nodes there in none_some (sym gone ∙ r.1))
+  absent_at j = absent e.node (kids j (listing cells)) (λ there. let r = kid_entry j e.node (listing cells) linked.kept.is_tree.nodes there in none-some _ (sym gone ∙ r.1))
 
   -- the neighbours of the new node are places
   pub insert_places : IsPlace seated (link_of b) × IsPlace seated (prev_of seated p (link_of b))
@@ -179,6 +171,10 @@ module _ (cells : List Cell) (p : ℕ) (b : Option ℕ) (e : Entry) (linked : Is
       let l = kid_below cells (listing cells) linked.kept linked.lies p x there in omega arith in
       let sides = beside seated_strung p e.node seat_inner absent_at b place_in in
       (row_place seated (λ j. kids j (listing cells)) p (link_of b) low sides.1, row_place seated (λ j. kids j (listing cells)) p (prev_of seated p (link_of b)) low sides.0)
+
+  -- the node before the new one stands in the row, or is its end
+  pub insert_left : 0 < times (prev_of seated p (link_of b)) (END ∷ kids p (listing cells))
+  insert_left = (beside seated_strung p e.node seat_inner absent_at b place_in).0
 
   pub insert_under : p < length seated
   insert_under = let low : p < length cells = linked.kept.below p (insert_parent (listing cells) p b e.item.id free) in let longer = seats.longer in omega arith
@@ -250,6 +246,13 @@ module _ (cells : List Cell) (k p : ℕ) (linked : IsLinked cells) (up : above (
       let low = kid_below cells (listing cells) linked.kept linked.lies p in
       (row_place cells (λ j. kids j (listing cells)) p (prev_of cells p k) low (left_in strung p k halved.0 halved.1 halved.2), row_place cells (λ j. kids j (listing cells)) p (next_of cells p k) low (right_in strung p k halved.0 halved.1 halved.2))
 
+  -- the node before it stands in the row, or is its end
+  pub leave_left : 0 < times (prev_of cells p k) (END ∷ kids p (listing cells))
+  leave_left =
+      let strung = strung_from cells (listing cells) linked.kept linked.lies in
+      let halved = cut k (kids p (listing cells)) parent_there in
+      left_in strung p k halved.0 halved.1 halved.2
+
   module _ (middle : List Cell) (joins : Joins cells middle p (prev_of cells p k) (next_of cells p k)) where
     pub left_strung : Strung middle (λ j. without_node k (kids j (listing cells)))
     left_strung = detached (strung_from cells (listing cells) linked.kept linked.lies) middle p k parent_there joins
@@ -282,6 +285,10 @@ module _ (cells : List Cell) (k p : ℕ) (linked : IsLinked cells) (up : above (
           let l = kid_below cells (listing cells) linked.kept linked.lies q x (omega (arith, times-without x k (kids q (listing cells)))) in omega arith in
           let sides = beside turned_strung q k node_inner (λ j. times-gone k (kids j (listing cells))) b moved_place in
           (row_place turned (λ j. without_node k (kids j (listing cells))) q (link_of b) low sides.1, row_place turned (λ j. without_node k (kids j (listing cells))) q (prev_of turned q (link_of b)) low sides.0)
+
+      -- the node before its new place stands in the row, or is its end
+      pub move_left : 0 < times (prev_of turned q (link_of b)) (END ∷ without_node k (kids q (listing cells)))
+      move_left = (beside turned_strung q k node_inner (λ j. times-gone k (kids j (listing cells))) b moved_place).0
 
       module _ (new : List Cell) (attaches : Attaches turned new q k (link_of b)) where
         moved_strung : Strung new (λ j. cond (j == q) (put_before b k (without_node k (kids j (listing cells)))) (without_node k (kids j (listing cells))))

@@ -7,9 +7,7 @@ use Rattle.ss_tree.specs.declared.entries.Entry.{Entry}
 use Rattle.ss_tree.specs.Trees.{steps, Reaches}
 use Rattle.ss_tree.specs.Entries.{entry, kid_ids, above, up, entry_ids, NodesApart, IsTree, top_entry}
 use Rattle.ss_tree.proofs.Edits.{other_number, number_sym}
-
-none_some : {X : Type 0} {x : X} → None ≡ Some x → ⊥
-none_some f = cc
+use Rattle.std.proofs.lemmas.Option.{none-some}
 
 pub some_same : {X : Type 0} {x y : X} → Some x ≡ Some y → x ≡ y
 some_same f = cc
@@ -144,7 +142,7 @@ module _ (es fs : List Entry) (t : IsTree es) (k : ℕ)
   still j g q = go (k == j) refl
     where
       go : (b : Bool) → (k == j) ≡ b → ((k == j) ≡ false) × (entry j es ≡ Some g)
-      go true c = absurd (none_some (sym (look j ∙ ap (λ b. cond b None (entry j es)) c) ∙ q))
+      go true c = absurd (none-some _ (sym (look j ∙ ap (λ b. cond b None (entry j es)) c) ∙ q))
       go false c = (c, sym (kept j c) ∙ q)
 
   not_leaf : (j : ℕ) → (k == up es j) ≡ false

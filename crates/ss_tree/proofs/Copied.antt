@@ -7,9 +7,7 @@ use Rattle.ss_tree.specs.declared.entries.Entry.{Entry}
 use Rattle.ss_tree.specs.Entries.{entry, is_live, node_of, IsTree}
 use Rattle.ss_tree.proofs.Changes.{some_same}
 use Rattle.ss_tree.proofs.Ids.{node_found, node_there}
-
-none_some : {X : Type 0} {x : X} → None ≡ Some x → ⊥
-none_some h = cc
+use Rattle.std.proofs.lemmas.Option.{none-some}
 
 -- a node below i
 abbrev pub low : ℕ → Option ℕ → Option ℕ
@@ -56,7 +54,7 @@ module _ (es : List Entry) (t : IsTree es) (x : List ℕ) where
     where
       go : (o : Option ℕ) → node_of x es ≡ o → low i o ≡ low (i + 1) o
       go None h = refl
-      go (Some k) h = let f = node_found es t x k h in step_other i k (λ is. none_some (sym none ∙ (ap (λ j. entry j es) (sym is) ∙ f.1)))
+      go (Some k) h = let f = node_found es t x k h in step_other i k (λ is. none-some _ (sym none ∙ (ap (λ j. entry j es) (sym is) ∙ f.1)))
 
   pub low_all : (n : ℕ) → ((k : ℕ) → is_live k es ≡ true → k < n) → low n (node_of x es) ≡ node_of x es
   low_all n below = go (node_of x es) refl

@@ -67,6 +67,7 @@ seats_more cells e new at is = subst (λ l. Seats cells l e) (sym is) (record {
   inside = omega (arith, at, length-append cells (lone e ∷ []));
   longer = omega (arith, length-append cells (lone e ∷ []));
   within = omega (arith, length-append cells (lone e ∷ []));
+  again = λ lt. absurd (omega arith);
   next = longer_next cells e;
   prev = longer_prev cells e;
   seats = λ k. seat_push cells (lone e) k ∙ (ap (λ o. cond (k == length cells) o (seat_at cells k)) (own_seat cells e at) ∙ ap (λ n. cond (k == n) (Some e) (seat_at cells k)) (sym at));

@@ -8,9 +8,7 @@ use Rattle.ss_tree.specs.Entries.{entry, entry_ids, node_of, IsTree}
 use Rattle.ss_tree.proofs.Edits.{same_number, entry_has}
 use Rattle.ss_tree.proofs.Changes.{some_same}
 use Rattle.ss_tree.proofs.Valid.{In, entry_in, in_entry, one_entry}
-
-none_some : {X : Type 0} {x : X} → None ≡ Some x → ⊥
-none_some f = cc
+use Rattle.std.proofs.lemmas.Option.{none-some}
 
 pub has_node : (x : List ℕ) (es : List Entry) → has x (entry_ids es) ≡ is_some (node_of x es)
 unfolding node_of entry_ids
@@ -53,7 +51,7 @@ module _ (es fs : List Entry) (t : IsTree es) (u : IsTree fs) (x : List ℕ) whe
     where
       go : (a b : Option ℕ) → node_of x es ≡ a → node_of x fs ≡ b → node_of x fs ≡ node_of x es
       go (Some k) b h w = let e = node_found es t x k h in let f = to k e.0 e.1 e.2 in node_there fs u x k f.0 f.1 f.2 ∙ sym h
-      go None (Some k) h w = let f = node_found fs u x k w in let e = from k f.0 f.1 f.2 in absurd (none_some (sym h ∙ node_there es t x k e.0 e.1 e.2))
+      go None (Some k) h w = let f = node_found fs u x k w in let e = from k f.0 f.1 f.2 in absurd (none-some _ (sym h ∙ node_there es t x k e.0 e.1 e.2))
       go None None h w = w ∙ sym h
 
   -- where one entry has become another with its id, each id has its node
@@ -65,7 +63,7 @@ module _ (es fs : List Entry) (t : IsTree es) (u : IsTree fs) (x : List ℕ) whe
       to j false c e q is = (e, look j ∙ (ap (λ b. cond b (option_map change (entry j es)) (entry j es)) c ∙ q), is)
 
       from : (j : ℕ) (b : Bool) → (j == k) ≡ b → (o : Option Entry) → entry j es ≡ o → (f : Entry) → entry j fs ≡ Some f → f.item.id ≡ x → (e : Entry) × (entry j es ≡ Some e) × (e.item.id ≡ x)
-      from j true c None h f q is = absurd (none_some (ap (option_map change) (sym h) ∙ (sym (look j ∙ ap (λ b. cond b (option_map change (entry j es)) (entry j es)) c) ∙ q)))
+      from j true c None h f q is = absurd (none-some _ (ap (option_map change) (sym h) ∙ (sym (look j ∙ ap (λ b. cond b (option_map change (entry j es)) (entry j es)) c) ∙ q)))
       from j true c (Some e) h f q is =
           let same : change e ≡ f = some_same (ap (option_map change) (sym h) ∙ (sym (look j ∙ ap (λ b. cond b (option_map change (entry j es)) (entry j es)) c) ∙ q)) in
           (e, h, sym (ids e) ∙ (ap (λ i. i.item.id) same ∙ is))
@@ -82,7 +80,7 @@ module _ (es fs : List Entry) (t : IsTree es) (u : IsTree fs) (x : List ℕ) whe
       other j c = look j ∙ ap (λ b. cond b (Some e) (entry j es)) c
 
       to : (j : ℕ) (b : Bool) → (j == n) ≡ b → (d : Entry) → entry j es ≡ Some d → d.item.id ≡ x → (f : Entry) × (entry j fs ≡ Some f) × (f.item.id ≡ x)
-      to j true c d q is = absurd (none_some (sym (ap (λ i. entry i es) (eqb-true j n c) ∙ none) ∙ q))
+      to j true c d q is = absurd (none-some _ (sym (ap (λ i. entry i es) (eqb-true j n c) ∙ none) ∙ q))
       to j false c d q is = (d, other j c ∙ q, is)
 
       from : bytes_eq e.item.id x ≡ false → (j : ℕ) (b : Bool) → (j == n) ≡ b → (f : Entry) → entry j fs ≡ Some f → f.item.id ≡ x → (d : Entry) × (entry j es ≡ Some d) × (d.item.id ≡ x)
@@ -100,7 +98,7 @@ module _ (es fs : List Entry) (t : IsTree es) (u : IsTree fs) (x : List ℕ) whe
   node_less k d at look = go (bytes_eq d.item.id x) refl
     where
       still : (j : ℕ) (b : Bool) → (k == j) ≡ b → (f : Entry) → entry j fs ≡ Some f → ((k == j) ≡ false) × (entry j es ≡ Some f)
-      still j true c f q = absurd (none_some (sym (look j ∙ ap (λ b. cond b None (entry j es)) c) ∙ q))
+      still j true c f q = absurd (none-some _ (sym (look j ∙ ap (λ b. cond b None (entry j es)) c) ∙ q))
       still j false c f q = (c, sym (look j ∙ ap (λ b. cond b None (entry j es)) c) ∙ q)
 
       to : bytes_eq d.item.id x ≡ false → (j : ℕ) (b : Bool) → (k == j) ≡ b → (e : Entry) → entry j es ≡ Some e → e.item.id ≡ x → (f : Entry) × (entry j fs ≡ Some f) × (f.item.id ≡ x)

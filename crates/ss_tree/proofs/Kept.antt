@@ -1,5 +1,5 @@
 -- The calls keep a tree.
-use Rattle.std.proofs.Common.{◌≡◌, ◌≢◌, ℕ, zero, suc, ◌+◌, ◌-◌, ◌<◌, ◌≤◌, ◌==◌, List, [], ◌∷◌, map, Bool, true, false, not, cond, ◌||◌, ◌⊎◌, inl, inr, refl, sym, ap, ap₂, ◌∙◌, subst, arith, Option, Some, None, option_map, unwrap_or, is_some, codes, lit<}
+use Rattle.std.proofs.Common.{◌≡◌, ◌≢◌, ℕ, zero, suc, ◌-◌, ◌<◌, ◌≤◌, ◌==◌, List, [], ◌∷◌, map, Bool, true, false, not, cond, ◌||◌, ◌⊎◌, inl, inr, refl, sym, ap, ap₂, ◌∙◌, subst, arith, Option, Some, None, option_map, unwrap_or, is_some, codes, lit<}
 use Rattle.std.specs.List.{flat_map}
 use Rattle.std.proofs.lemmas.Bool.{false≢true, eqb-true, or_parts, and_parts, not-true}
 use Rattle.ss_record.specs.Ids.{has, Apart, places, roots}
@@ -17,9 +17,7 @@ use Rattle.ss_tree.proofs.Changes.{some_same, onward, up_of, live_steps, changed
 use Rattle.ss_tree.proofs.Ways.{never_met}
 use Rattle.ss_tree.proofs.Edits.{live_entry}
 use Rattle.ss_tree.proofs.Valid.{In, entry_in}
-
-none_some : {X : Type 0} {x : X} → None ≡ Some x → ⊥
-none_some f = cc
+use Rattle.std.proofs.lemmas.Option.{none-some}
 
 -- ---- what no fault means
 
@@ -109,7 +107,7 @@ kept_insert es next m p b e h free none inside longer under_p = record { is_tree
         let top : is_live 0 es ≡ true = ap is_some h.is_tree.top in
         changed_tree es (put_entry b e es) h.is_tree e.node p e t.1.0 look (nodes_put b e es h.is_tree.nodes none) (ids_put b e es h.is_tree.ids f.1)
         (kid_ids_put 0 b e es (ap (λ o. unwrap_or (option_map (λ q. 0 == q) o) false) under_p ∙ (number_sym 0 p ∙ t.0)) ∙ h.is_tree.under_top)
-        (not_top top) under_p t.0 t.1.1 t.1.2 (λ g q. absurd (none_some (sym none ∙ q)))
+        (not_top top) under_p t.0 t.1.1 t.1.2 (λ g q. absurd (none-some _ (sym none ∙ q)))
         (λ i q. no_live (ap (λ x. is_some (entry x es)) (sym q) ∙ live_steps es h.is_tree i p (ap is_some t.1.1)))
       where
         not_top : is_live 0 es ≡ true → (e.node == 0) ≡ false
@@ -200,7 +198,7 @@ kept_move es next k p b d h free q = record { is_tree = kept; below = low }
 -- ---- remove
 
 first_there : (k j : ℕ) (es : List Entry) (g : Entry) → entry j es ≡ Some g → g.parent ≡ Some k → is_some (first_of (kids k es)) ≡ true
-first_there k j [] g q r = absurd (none_some (sym (entry-nil j) ∙ q))
+first_there k j [] g q r = absurd (none-some _ (sym (entry-nil j) ∙ q))
 first_there k j (f ∷ fs) g q r = ap (λ ks. is_some (first_of ks)) (kids-cons k f fs) ∙ go (j == f.node) (stands_under k f) refl (sym (entry-cons j f fs) ∙ q) (λ e. first_there k j fs g e r)
   where
     go : (c u : Bool) → stands_under k f ≡ u → cond c (Some f) (entry j fs) ≡ Some g → (entry j fs ≡ Some g → is_some (first_of (kids k fs)) ≡ true) → is_some (first_of (cond u (f.node ∷ kids k fs) (kids k fs))) ≡ true

@@ -8,9 +8,7 @@ use Rattle.ss_tree.specs.Entries.{entry, stands_under, kids, NodesApart}
 use Rattle.ss_tree.proofs.Edits.{same_number, entry-cons, entry-nil, kids-cons, kids-nil}
 use Rattle.ss_tree.proofs.Changes.{some_same}
 use Rattle.ss_tree.proofs.Valid.{In, in_entry}
-
-none_some : {X : Type 0} {x : X} → None ≡ Some x → ⊥
-none_some f = cc
+use Rattle.std.proofs.lemmas.Option.{none-some}
 
 pub under_is : (j p : ℕ) (e : Entry) → e.parent ≡ Some p → stands_under j e ≡ (j == p)
 under_is j p e q = ap (λ o. unwrap_or (option_map (λ i. j == i) o) false) q
@@ -42,7 +40,7 @@ kid_entry p x es apart there =
 
 -- a node whose parent is p stands under p
 pub entry_kid : (p x : ℕ) (es : List Entry) (e : Entry) → entry x es ≡ Some e → e.parent ≡ Some p → 0 < times x (kids p es)
-entry_kid p x [] e q r = absurd (none_some (sym (entry-nil x) ∙ q))
+entry_kid p x [] e q r = absurd (none-some _ (sym (entry-nil x) ∙ q))
 entry_kid p x (f ∷ fs) e q r = subst (λ ks. 0 < times x ks) (sym (kids-cons p f fs)) (go (x == f.node) refl (sym (entry-cons x f fs) ∙ q) (entry_kid p x fs e))
   where
     later : (b : Bool) → 0 < times x (kids p fs) → 0 < times x (cond b (f.node ∷ kids p fs) (kids p fs))
@@ -64,7 +62,7 @@ kid_once p (f ∷ fs) apart x = subst (λ ks. times x ks ≤ 1) (sym (kids-cons 
     absent : x ≡ f.node → times x (kids p fs) ≡ 0
     absent is =
         elim (cases_lt 0 (times x (kids p fs))) [
-          | inl there ↦ let r = kid_entry p x fs apart.1 there in absurd (none_some (sym (ap (λ k. entry k fs) is ∙ apart.0) ∙ r.1))
+          | inl there ↦ let r = kid_entry p x fs apart.1 there in absurd (none-some _ (sym (ap (λ k. entry k fs) is ∙ apart.0) ∙ r.1))
           | inr none ↦ omega arith
         ]
 

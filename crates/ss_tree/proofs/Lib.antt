@@ -14,6 +14,7 @@ pub mod Strung
 pub mod Attached
 pub mod Seen
 pub mod Changed
+pub mod Hanging
 pub mod Ids
 pub mod Grown
 pub mod Alike

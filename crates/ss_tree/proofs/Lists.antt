@@ -1,5 +1,5 @@
 -- A list of entries with one more, one less, or one revised.
-use Rattle.std.specs.Prelude.{◌==◌, ℕ, suc, List, [], ◌∷◌, ◌++◌, not, map, filter, length, Option, Some, None, if◌then◌else◌}
+use Rattle.std.specs.Prelude.{◌==◌, ℕ, List, [], ◌∷◌, ◌++◌, not, map, filter, Option, Some, None, if◌then◌else◌}
 use Rattle.ss_tree.specs.Entries.{revised}
 use Rattle.ss_tree.specs.declared.entries.Entry.{Entry}
 

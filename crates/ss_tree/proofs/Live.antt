@@ -9,9 +9,7 @@ use Rattle.ss_tree.specs.Entries.{entry, is_live, node_of, stands_under, kids, a
 use Rattle.ss_tree.proofs.Edits.{other_number, kids-cons, kids-nil}
 use Rattle.ss_tree.proofs.Changes.{some_same}
 use Rattle.ss_tree.proofs.Valid.{In, in_entry}
-
-never : {X : Type 0} {x : X} → None ≡ Some x → ⊥
-never f = cc
+use Rattle.std.proofs.lemmas.Option.{none-some}
 
 live_in : (es : List Entry) (e : Entry) → IsTree es → In e es → is_live e.node es ≡ true
 live_in es e t i = ap is_some (in_entry es e t.nodes i)
@@ -22,7 +20,7 @@ if_some (Some k) P h = h k refl
 
 found_by : (x : List ℕ) (fs : List Entry) (k : ℕ) → option_map (λ e. e.node) (find (λ e. bytes_eq x e.item.id) fs) ≡ Some k → (e : Entry) × In e fs × (e.node ≡ k)
 unfolding In
-found_by x [] k q = absurd (never q)
+found_by x [] k q = absurd (none-some _ q)
 found_by x (f ∷ fs) k q = go (bytes_eq x f.item.id) q (found_by x fs k)
   where
     go : (b : Bool) → option_map (λ e. e.node) (cond b (Some f) (find (λ e. bytes_eq x e.item.id) fs)) ≡ Some k → (option_map (λ e. e.node) (find (λ e. bytes_eq x e.item.id) fs) ≡ Some k → (e : Entry) × In e fs × (e.node ≡ k)) → (e : Entry) × ((e ≡ f) ⊎ In e fs) × (e.node ≡ k)
@@ -38,11 +36,11 @@ unfolding above
 live_above es k t = if_some (option_and_then (λ e. e.parent) (entry k es)) (λ p. is_live p es ≡ true) (λ p q. go (entry k es) refl p q)
   where
     at : (g : Entry) → entry k es ≡ Some g → (p : ℕ) → g.parent ≡ Some p → (b : Bool) → (k == 0) ≡ b → is_live p es ≡ true
-    at g h p q true z = absurd (never (ap (λ e. e.parent) (some_same (sym t.top ∙ (ap (λ j. entry j es) (sym (eqb-true k 0 z)) ∙ h))) ∙ q))
+    at g h p q true z = absurd (none-some _ (ap (λ e. e.parent) (some_same (sym t.top ∙ (ap (λ j. entry j es) (sym (eqb-true k 0 z)) ∙ h))) ∙ q))
     at g h p q false z = let f = t.folder k g h (other_number k 0 z) in ap (λ j. is_live j es) (some_same (sym q ∙ f.1)) ∙ ap is_some f.3
 
     go : (o : Option Entry) → entry k es ≡ o → (p : ℕ) → option_and_then (λ e. e.parent) o ≡ Some p → is_live p es ≡ true
-    go None h p q = absurd (never q)
+    go None h p q = absurd (none-some _ q)
     go (Some g) h p q = at g h p q (k == 0) refl
 
 AreLive : List Entry → List ℕ → Type 0

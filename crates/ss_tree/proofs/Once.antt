@@ -12,9 +12,7 @@ use Rattle.ss_tree.proofs.Ways.{first_zero, up_some}
 use Rattle.ss_tree.proofs.Kin.{entry_kid, kid_once}
 use Rattle.ss_tree.proofs.Listed.{absent}
 use Rattle.ss_tree.proofs.Walked.{above_is, strictly}
-
-none_some : {X : Type 0} {x : X} → None ≡ Some x → ⊥
-none_some h = cc
+use Rattle.std.proofs.lemmas.Option.{none-some}
 
 -- the way up, at most n nodes of it
 abbrev pub way : List Entry → ℕ → Option ℕ → List ℕ
@@ -71,7 +69,7 @@ module _ (es : List Entry) (t : IsTree es) where
     where
       go : (o : Option ℕ) → above es k ≡ o → ((p : ℕ) → sum_over (λ c. times c (way es n (Some p))) (kids j es) ≡ times j (way es n (above es p))) → sum_over (λ c. times c (k ∷ way es n (above es k))) (kids j es) ≡ times j (way es (suc n) (above es k))
       go None q ih =
-          let gone : times k (kids j es) ≡ 0 = absent k (kids j es) (λ h. none_some (sym q ∙ above_is es t j k h)) in
+          let gone : times k (kids j es) ≡ 0 = absent k (kids j es) (λ h. none-some _ (sym q ∙ above_is es t j k h)) in
           let rest : sum_over (λ c. times c (way es n (above es k))) (kids j es) ≡ 0 = ap (λ o. sum_over (λ c. times c (way es n o)) (kids j es)) q ∙ (ap (λ ws. sum_over (λ c. times c ws) (kids j es)) (way-none es n) ∙ sum-none (kids j es)) in
           let right : times j (way es (suc n) (above es k)) ≡ 0 = ap (λ o. times j (way es (suc n) o)) q in
           sum-more k (way es n (above es k)) (kids j es) ∙ (omega arith)
@@ -93,7 +91,7 @@ module _ (es : List Entry) (t : IsTree es) where
           one p q is = at_one (entry k es) refl
             where
               at_one : (o : Option Entry) → entry k es ≡ o → times k (kids j es) ≡ 1
-              at_one None r = absurd (none_some (sym (above_none k r) ∙ q))
+              at_one None r = absurd (none-some _ (sym (above_none k r) ∙ q))
               at_one (Some e) r =
                   let there : 0 < times k (kids p es) = entry_kid p k es e r (sym (above_some k e r) ∙ q) in
                   let there_j : 0 < times k (kids j es) = subst (λ i. 0 < times k (kids i es)) (sym is) there in
@@ -144,7 +142,7 @@ module _ (es : List Entry) (t : IsTree es) where
       alone zero q = refl
       alone (suc n) q =
           let rest : way es n (above es k) ≡ [] = ap (way es n) (above_none k q) ∙ way-none es n in
-          let not_top : 0 ≢ k = λ is. none_some (sym (ap (λ i. entry i es) is ∙ q) ∙ t.top) in
+          let not_top : 0 ≢ k = λ is. none-some _ (sym (ap (λ i. entry i es) is ∙ q) ∙ t.top) in
           times-apart 0 k (way es n (above es k)) not_top ∙ ap (times 0) rest
 
       go : (o : Option Entry) → entry k es ≡ o → times 0 (way es (length es) (Some k)) ≡ cond (is_some (entry k es)) 1 0

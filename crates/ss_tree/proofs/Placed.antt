@@ -19,9 +19,7 @@ use Rattle.ss_tree.proofs.Strung.{Strung}
 use Rattle.ss_tree.proofs.Attached.{attached, beside}
 use Rattle.ss_tree.proofs.Changed.{strung_same, row_place}
 use Rattle.ss_tree.proofs.Grown.{Built, strung_lists}
-
-none_some : {X : Type 0} {x : X} → None ≡ Some x → ⊥
-none_some h = cc
+use Rattle.std.proofs.lemmas.Option.{none-some}
 
 -- where an entry is ready, the last node under its parent has a cell
 pub ready_left : (cells middle : List Cell) (e : Entry) (p : ℕ) → IsReady cells e → e.parent ≡ Some p → SameLinks cells middle → IsPlace middle (prev_of middle p END)
@@ -127,7 +125,7 @@ not_before [] e rest a = entry-nil e.node
 not_before (f ∷ fs) e rest a = entry-cons e.node f fs ∙ go (e.node == f.node) refl (not_before fs e rest a.1)
   where
     go : (b : Bool) → (e.node == f.node) ≡ b → entry e.node fs ≡ None → cond b (Some f) (entry e.node fs) ≡ None
-    go true q ih = absurd (none_some (sym (ap (λ k. entry k (fs ++ e ∷ rest)) (eqb-true e.node f.node q) ∙ a.0) ∙ in_entry (fs ++ e ∷ rest) e a.1 (in_middle fs e rest)))
+    go true q ih = absurd (none-some _ (sym (ap (λ k. entry k (fs ++ e ∷ rest)) (eqb-true e.node f.node q) ∙ a.0) ∙ in_entry (fs ++ e ∷ rest) e a.1 (in_middle fs e rest)))
     go false q ih = ih
 
 pub record Step (cells : List Cell) (done : List Entry) (e : Entry) : Type 0 where
@@ -147,7 +145,7 @@ step_entry cells done e rest es built long all t numbered room =
     go : e.node < length cells → entry e.node done ≡ None → entry e.node es ≡ Some e → (o : Option ℕ) → e.parent ≡ o → HasParent cells o
     go inside gone here None q = tt
     go inside gone here (Some p) q =
-        let not_top : e.node ≢ 0 = λ is. none_some (ap (λ d. d.parent) (some_same (sym t.top ∙ (ap (λ k. entry k es) (sym is) ∙ here))) ∙ q) in
+        let not_top : e.node ≢ 0 = λ is. none-some _ (ap (λ d. d.parent) (some_same (sym t.top ∙ (ap (λ k. entry k es) (sym is) ∙ here))) ∙ q) in
         let f = t.folder e.node e here not_top in
         let live : is_live p es ≡ true = ap (λ k. is_live k es) (some_same (sym q ∙ f.1)) ∙ ap is_some f.3 in
         let low : p < length es = numbered p live in

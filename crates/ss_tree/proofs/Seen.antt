@@ -7,15 +7,13 @@ use Rattle.ss_list.proofs.Times.{times-here, at_head, below-head}
 use Rattle.ss_list.proofs.Paths.{Path}
 use Rattle.ss_tree.specs.declared.entries.Entry.{Entry}
 use Rattle.ss_tree.specs.Entries.{entry, is_live, kids, above, first_of, next_after, met, is_below, is_fit_with, ancestor, IsBelow, IsTree}
-use Rattle.ss_tree.proofs.Ways.{below_is}
+use Rattle.ss_tree.proofs.Ways.{below_is, above_met}
 use Rattle.ss_tree.specs.declared.cells.Cell.{Cell}
 use Rattle.ss_tree.specs.declared.cells.TheConstants.{END}
 use Rattle.ss_tree.specs.Cells.{cell_at, next_of, prev_of, seat_at, is_fit_item, listing, IsLinked}
 use Rattle.ss_tree.proofs.Kin.{entry_kid}
 use Rattle.ss_tree.proofs.Settled.{end_nowhere, listed_long}
-
-none_some : {X : Type 0} {x : X} → None ≡ Some x → ⊥
-none_some f = cc
+use Rattle.std.proofs.lemmas.Option.{none-some}
 
 -- what a link leads to
 abbrev pub link_node : ℕ → Option ℕ
@@ -81,7 +79,7 @@ next_is cells linked k p q = go (entry k (listing cells)) refl q
     es = listing cells
 
     go : (o : Option Entry) → entry k (listing cells) ≡ o → option_and_then (λ e. e.parent) o ≡ Some p → link_node (cell_at cells k).next ≡ next_after k (kids p (listing cells))
-    go None h r = absurd (none_some r)
+    go None h r = absurd (none-some _ r)
     go (Some e) h r =
         let there : 0 < times k (kids p (listing cells)) = entry_kid p k (listing cells) e h r in
         let none = end_nowhere cells (listing cells) linked.kept linked.lies p in
@@ -101,18 +99,6 @@ met_more es top (suc n) (suc m) (Some j) le h = go (top == j) h (met_more es top
     go true w ih = refl
     go false w ih = ih w
 
-met_way : (es : List Entry) (top most k : ℕ) → met es top most (above es k) ≡ true → (n : ℕ) × (ancestor es n k ≡ Some top)
-met_way es top zero k h = absurd (false≢true h)
-met_way es top (suc most) k h = go (above es k) refl h (λ j. met_way es top most j)
-  where
-    at : (j : ℕ) → above es k ≡ Some j → (b : Bool) → (top == j) ≡ b → (b || met es top most (above es j)) ≡ true → (met es top most (above es j) ≡ true → (n : ℕ) × (ancestor es n j ≡ Some top)) → (n : ℕ) × (ancestor es n k ≡ Some top)
-    at j q true c w ih = (zero, q ∙ ap Some (sym (eqb-true top j c)))
-    at j q false c w ih = let r = ih w in (suc r.0, ap (option_and_then (ancestor es r.0)) q ∙ r.1)
-
-    go : (o : Option ℕ) → above es k ≡ o → met es top (suc most) o ≡ true → ((j : ℕ) → met es top most (above es j) ≡ true → (n : ℕ) × (ancestor es n j ≡ Some top)) → (n : ℕ) × (ancestor es n k ≡ Some top)
-    go None h2 w ih = absurd (false≢true w)
-    go (Some j) h2 w ih = at j h2 (top == j) refl w (ih j)
-
 -- more steps than there are entries find no more
 pub met_far : (es : List Entry) → IsTree es → (top k n : ℕ) → length es ≤ n → met es top n (above es k) ≡ is_below es top k
 unfolding is_below
@@ -121,7 +107,7 @@ met_far es t top k n le = go (met es top n (above es k)) (met es top (length es)
     go : (a b : Bool) → met es top n (above es k) ≡ a → met es top (length es) (above es k) ≡ b → a ≡ b
     go true true p q = refl
     go false false p q = refl
-    go true false p q = sym ((below_is es t top k).1 (met_way es top n k p)) ∙ q
+    go true false p q = sym ((below_is es t top k).1 (above_met es top n k p)) ∙ q
     go false true p q = sym p ∙ met_more es top (length es) n (above es k) le q
 
 pub long_is : (cells : List Cell) → IsLinked cells → length (listing cells) ≤ length cells

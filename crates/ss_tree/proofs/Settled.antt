@@ -20,9 +20,7 @@ use Rattle.ss_list.proofs.Paths.{Path}
 use Rattle.ss_tree.proofs.Rows.{row_path, length_within}
 use Rattle.ss_tree.proofs.Kin.{kid_entry, entry_kid, kid_once, kid_apart}
 use Rattle.ss_tree.proofs.Listed.{absent, nobody, entry_there, entry_absent, nodes_apart, ids_apart, kids_past, kids_row, row_there, row_found, rows_once}
-
-none_some : {X : Type 0} {x : X} → None ≡ Some x → ⊥
-none_some f = cc
+use Rattle.std.proofs.lemmas.Option.{none-some}
 
 -- ---- trees with the same entries
 
@@ -80,7 +78,7 @@ full_is : (cells : List Cell) (k : ℕ) (e : Entry) → seat_at cells k ≡ Some
 full_is cells k e q = go (cell_at cells k).item q
   where
     go : (o : Option ItemView) → option_map (λ i. record { node = k; parent = (cell_at cells k).parent; item = i; time = (cell_at cells k).time }) o ≡ Some e → record { node = k; parent = (cell_at cells k).parent; item = unwrap_or o (empty_folder places); time = (cell_at cells k).time } ≡ e
-    go None r = absurd (none_some r)
+    go None r = absurd (none-some _ r)
     go (Some i) r = some_same r
 
 module _ (cells : List Cell) (es : List Entry) (kept : IsKept es (length cells)) (lies : Lies cells es) where
@@ -92,7 +90,7 @@ module _ (cells : List Cell) (es : List Entry) (kept : IsKept es (length cells))
 
   -- the top stands under no node
   pub top_nowhere : (p : ℕ) → times 0 (kids p es) ≡ 0
-  top_nowhere p = absent 0 (kids p es) (λ there. let r = kid_entry p 0 es t.nodes there in none_some (ap (λ e. e.parent) (some_same (sym t.top ∙ r.1)) ∙ r.2))
+  top_nowhere p = absent 0 (kids p es) (λ there. let r = kid_entry p 0 es t.nodes there in none-some _ (ap (λ e. e.parent) (some_same (sym t.top ∙ r.1)) ∙ r.2))
 
   -- what stands under a node has a cell
   pub kid_below : (p x : ℕ) → 0 < times x (kids p es) → x < length cells
@@ -108,7 +106,7 @@ module _ (cells : List Cell) (es : List Entry) (kept : IsKept es (length cells))
       let r = kid_entry p x es t.nodes there in
       let not_top : x ≢ 0 = λ is. let gone = top_nowhere p in let here : 0 < times 0 (kids p es) = subst (λ k. 0 < times k (kids p es)) is there in absurd (omega arith) in
       let f = t.folder x r.0 r.1 not_top in
-      none_some (sym none ∙ (ap (λ k. entry k es) (some_same (sym r.2 ∙ f.1)) ∙ f.3)))
+      none-some _ (sym none ∙ (ap (λ k. entry k es) (some_same (sym r.2 ∙ f.1)) ∙ f.3)))
 
   -- the links lead through the nodes under p
   pub row_is : (p : ℕ) → row_of cells p ≡ kids p es
@@ -174,7 +172,7 @@ module _ (cells : List Cell) (es : List Entry) (kept : IsKept es (length cells))
   listed_entry k = go (entry k es) refl
     where
       go : (o : Option Entry) → entry k es ≡ o → entry k (map (full_at cells) (order_of cells)) ≡ entry k es
-      go None q = entry_absent (full_at cells) (λ i. refl) k (order_of cells) (absent k (order_of cells) (λ there. let e = from_order k there in none_some (sym q ∙ e.1))) ∙ sym q
+      go None q = entry_absent (full_at cells) (λ i. refl) k (order_of cells) (absent k (order_of cells) (λ there. let e = from_order k there in none-some _ (sym q ∙ e.1))) ∙ sym q
       go (Some e) q = entry_there (full_at cells) (λ i. refl) k (order_of cells) (in_order k e q) ∙ (ap Some (full k e q) ∙ sym q)
 
   pub listed_kids : (p : ℕ) → kids p (listing cells) ≡ kids p es

@@ -10,6 +10,7 @@ use Rattle.ss_tree.specs.Trees.{Placed, node_ids, node, parent_in, places_node, 
 use Rattle.ss_tree.specs.Entries.{entry, stands_under, kid_ids, up, placed, tree, entry_ids, NodesApart, IsTree, top_entry}
 use Rattle.ss_tree.proofs.Edits.{same_number, other_number, entry-cons, entry-nil, kid_ids-cons}
 use Rattle.ss_tree.proofs.Changes.{some_same, up_of}
+use Rattle.std.proofs.lemmas.Option.{none-some}
 
 -- ---- elements
 
@@ -17,12 +18,9 @@ unfoldable pub In : {X : Type 0} → X → List X → Type 0
 In x [] = ⊥
 In x (y ∷ ys) = (x ≡ y) ⊎ In x ys
 
-never : {X : Type 0} {x : X} → None ≡ Some x → ⊥
-never f = cc
-
 pub entry_in : (k : ℕ) (es : List Entry) (e : Entry) → entry k es ≡ Some e → In e es × (e.node ≡ k)
 unfolding In
-entry_in k [] e q = absurd (never (sym (entry-nil k) ∙ q))
+entry_in k [] e q = absurd (none-some _ (sym (entry-nil k) ∙ q))
 entry_in k (f ∷ fs) e q = go (k == f.node) refl (sym (entry-cons k f fs) ∙ q) (entry_in k fs e)
   where
     go : (b : Bool) → (k == f.node) ≡ b → cond b (Some f) (entry k fs) ≡ Some e → (entry k fs ≡ Some e → In e fs × (e.node ≡ k)) → ((e ≡ f) ⊎ In e fs) × (e.node ≡ k)
@@ -36,7 +34,7 @@ in_entry (f ∷ fs) e a (inl q) = entry-cons e.node f fs ∙ (ap (λ b. cond b (
 in_entry (f ∷ fs) e a (inr i) = entry-cons e.node f fs ∙ go (e.node == f.node) refl (in_entry fs e a.1 i)
   where
     go : (b : Bool) → (e.node == f.node) ≡ b → entry e.node fs ≡ Some e → cond b (Some f) (entry e.node fs) ≡ Some e
-    go true c h = absurd (never (sym (ap (λ j. entry j fs) (eqb-true e.node f.node c) ∙ a.0) ∙ h))
+    go true c h = absurd (none-some _ (sym (ap (λ j. entry j fs) (eqb-true e.node f.node c) ∙ a.0) ∙ h))
     go false c h = h
 
 by_id : List ℕ → List Entry → Option Entry

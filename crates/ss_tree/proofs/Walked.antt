@@ -15,9 +15,7 @@ use Rattle.ss_tree.proofs.Kept.{preorder_more}
 use Rattle.ss_tree.proofs.Ways.{walk, length-walk, member_walk, all_apart, distinct_walk, live_member, length-nodes, up_some}
 use Rattle.ss_tree.specs.Walks.{sibling, after, follower}
 use Rattle.ss_tree.proofs.Kin.{kid_entry, kid_once}
-
-none_some : {X : Type 0} {x : X} → None ≡ Some x → ⊥
-none_some h = cc
+use Rattle.std.proofs.lemmas.Option.{none-some}
 
 -- ---- where the way stands
 
@@ -71,7 +69,7 @@ module _ (es : List Entry) (t : IsTree es) where
   above_is p k there = let r = kid_entry p k es t.nodes there in ap (option_and_then (λ e. e.parent)) r.1 ∙ r.2
 
   not_top : (p k : ℕ) → 0 < times k (kids p es) → k ≢ 0
-  not_top p k there is = let r = kid_entry p k es t.nodes there in none_some (ap (λ e. e.parent) (some_same (sym t.top ∙ (ap (λ i. entry i es) (sym is) ∙ r.1))) ∙ r.2)
+  not_top p k there is = let r = kid_entry p k es t.nodes there in none-some _ (ap (λ e. e.parent) (some_same (sym t.top ∙ (ap (λ i. entry i es) (sym is) ∙ r.1))) ∙ r.2)
 
   deep : (d k : ℕ) (rest : List ℕ) → Rest es d k rest → (steps (up es) d k ≡ 0) × ((i : ℕ) → i < d → steps (up es) i k ≢ 0)
   unfolding steps

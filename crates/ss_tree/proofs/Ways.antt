@@ -10,9 +10,7 @@ use Rattle.ss_tree.specs.Trees.{steps}
 use Rattle.ss_tree.specs.Entries.{entry, above, ancestor, up, met, is_below, IsBelow, IsTree}
 use Rattle.ss_tree.proofs.Edits.{same_number, other_number, entry-nil, entry-cons}
 use Rattle.ss_tree.proofs.Changes.{up_top, live_steps}
-
-none_some : {X : Type 0} {x : X} → None ≡ Some x → ⊥
-none_some f = cc
+use Rattle.std.proofs.lemmas.Option.{none-some}
 
 pub walk : (ℕ → ℕ) → ℕ → ℕ → List ℕ
 walk step zero x = []
@@ -162,8 +160,8 @@ met_step es top n j other = ap (λ b. b || met es top n (above es j)) other
 -- ---- how far up doesn't matter
 
 nowhere : (es : List Entry) (top n k : ℕ) → above es k ≡ None → ancestor es n k ≡ Some top → ⊥
-nowhere es top zero k h q = none_some (sym h ∙ q)
-nowhere es top (suc n) k h q = none_some (sym (ap (option_and_then (ancestor es n)) h) ∙ q)
+nowhere es top zero k h q = none-some _ (sym h ∙ q)
+nowhere es top (suc n) k h q = none-some _ (sym (ap (option_and_then (ancestor es n)) h) ∙ q)
 
 met_above : (es : List Entry) (top most n k : ℕ) → n < most → ancestor es n k ≡ Some top → met es top most (above es k) ≡ true
 met_above es top zero n k l q = absurd (omega arith)
@@ -178,7 +176,7 @@ met_above es top (suc most) (suc n) k l q = go (above es k) refl (λ j. met_abov
     go None h ih = absurd (nowhere es top (suc n) k h q)
     go (Some j) h ih = either (top == j) (met es top most (above es j)) (ih j (sym (ap (option_and_then (ancestor es n)) h) ∙ q))
 
-above_met : (es : List Entry) (top most k : ℕ) → met es top most (above es k) ≡ true → (n : ℕ) × (ancestor es n k ≡ Some top)
+pub above_met : (es : List Entry) (top most k : ℕ) → met es top most (above es k) ≡ true → (n : ℕ) × (ancestor es n k ≡ Some top)
 above_met es top zero k h = absurd (false≢true h)
 above_met es top (suc most) k h = go (above es k) refl h (λ j. above_met es top most j)
   where

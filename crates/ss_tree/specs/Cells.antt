@@ -1,5 +1,5 @@
 -- How a tree lies in a list of cells.
-use Rattle.std.specs.Prelude.{◌≡◌, ◌≢◌, ◌==◌, ◌<◌, ◌≤◌, ◌+◌, ℕ, zero, suc, List, [], ◌∷◌, length, Option, Some, None, Bool, false, option_map, unwrap_or, map, slice_index_or, if◌then◌else◌}
+use Rattle.std.specs.Prelude.{◌≡◌, ◌≢◌, ◌==◌, ◌<◌, ◌≤◌, ◌+◌, ℕ, zero, suc, List, [], ◌∷◌, length, Option, Some, None, Bool, false, option_map, unwrap_or, is_some, map, nat_lt, slice_index_or, if◌then◌else◌}
 use Rattle.std.specs.List.{flat_map}
 use Rattle.ss_tree.specs.declared.cells.Cell.{Cell}
 use Rattle.ss_tree.specs.declared.cells.TheConstants.{END}
@@ -7,7 +7,8 @@ use Rattle.ss_record.specs.Ids.{places}
 use Rattle.ss_record.specs.Items.{ItemView, empty_folder, is_fit}
 use Rattle.ss_tree.specs.declared.entries.Entry.{Entry}
 use Rattle.ss_tree.specs.Entries.{entry, kids, IsKept}
-use Rattle.ss_list.specs.Links.{Becomes}
+use Rattle.ss_list.specs.Chain.{times}
+use Rattle.ss_list.specs.Links.{Becomes, Runs}
 use Rattle.ss_list.proofs.Paths.{Path}
 
 -- a cell of no node
@@ -94,6 +95,7 @@ pub record Seats (old new : List Cell) (e : Entry) : Type 0 where
   pub inside : e.node < length new
   pub longer : length old ≤ length new
   pub within : length new ≤ length old + 1
+  pub again : e.node < length old → length new ≡ length old
   pub next : (p k : ℕ) → next_of new p k ≡ next_of old p k
   pub prev : (p k : ℕ) → prev_of new p k ≡ prev_of old p k
   pub seats : (k : ℕ) → seat_at new k ≡ (if k == e.node then Some e else seat_at old k)
@@ -138,3 +140,15 @@ pub record Lies (cells : List Cell) (es : List Entry) : Type 0 where
 pub record IsLinked (cells : List Cell) : Type 0 where
   pub kept : IsKept (listing cells) (length cells)
   pub lies : Lies cells (listing cells)
+
+-- ---- the places that were left
+
+-- how many blank cells have this place
+abbrev pub blank_at : List Cell → ℕ → ℕ
+blank_at cells k = if nat_lt k (length cells) then (if is_some (seat_at cells k) then 0 else 1) else 0
+
+-- from the place that was left last, links lead through the blank cells, each once and no other, to the end
+pub record Hangs (cells : List Cell) (vacant : ℕ) : Type 0 where
+  pub left : List ℕ
+  pub runs : Runs (λ k. (cell_at cells k).next) vacant left END
+  pub each : (k : ℕ) → times k left ≡ blank_at cells k

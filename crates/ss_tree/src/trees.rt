@@ -41,13 +41,13 @@ impl Model for Tree {
     ghost use Rattle.std.specs.HashMap.{get};
     ghost use Rattle.ss_tree.specs.Entries.{node_of};
     ghost use Rattle.ss_tree.specs.declared.entries.Entry.{Entry as Seat};
-    ghost use Rattle.ss_tree.specs.Cells.{IsLinked, listing};
+    ghost use Rattle.ss_tree.specs.Cells.{Hangs, IsLinked, listing};
 
     ghost Value = { List Seat };
 
     ghost view = { λ t. listing t.cells.items };
 
-    ghost invariant = { λ t. IsLinked t.cells.items × ((x : List ℕ) → get bytes_eq t.index x ≡ node_of x (listing t.cells.items)) };
+    ghost invariant = { λ t. IsLinked t.cells.items × ((x : List ℕ) → get bytes_eq t.index x ≡ node_of x (listing t.cells.items)) × Hangs t.cells.items t.vacant };
 }
 
 /// The entry of an empty folder in a new tree.
@@ -413,10 +413,11 @@ impl Tree {
         let Some(above) = self.parent(node) else {
             unreachable!();
         };
+        let place = node.number();
         let cells = self.cells.as_mut_slice();
-        detach(cells, above.number(), node.number());
-        let item = vacate(cells, node.number(), self.vacant);
-        self.vacant = node.number();
+        detach(cells, above.number(), place);
+        let item = vacate(cells, place, self.vacant);
+        self.vacant = place;
         leave(&mut self.index, item.id());
         Ok(item)
     }

@@ -3,6 +3,7 @@ use Rattle.ss_tree.specs.Entries.{node_of}
 use Rattle.ss_tree.specs.Cells.{listing}
 use Rattle.ss_tree.proofs.Ids.{node_alike}
 use Rattle.ss_tree.proofs.Changed.{Holds, holds_linked, holds_entry, holds_kids}
+use Rattle.ss_tree.proofs.Hanging.{hangs_full}
 use Rattle.ss_tree.proofs.Grown.{Built, Next, built_nil, built_more, built_holds, next_entry, added_long, all_done, ids_more, node_none}
 use Rattle.ss_tree.proofs.trees.Tree.from_placed.Goals as goal
 
@@ -61,7 +62,7 @@ invariant_of-result c =
     let room = c.requires.room in
     let holds : Holds cells es = built_holds cells es (subst (Built cells) is v.built) c.requires.tree (omega arith) in
     let linked = holds_linked holds in
-    (linked, λ x. v.ids x ∙ (ap (node_of x) is ∙ sym (node_alike es (listing cells) c.requires.tree linked.kept.is_tree x (holds_entry holds))))
+    (linked, λ x. v.ids x ∙ (ap (node_of x) is ∙ sym (node_alike es (listing cells) c.requires.tree linked.kept.is_tree x (holds_entry holds))), hangs_full cells es holds long)
 
 pub returns-clause-entries : goal.returns-clause-entries
 returns-clause-entries c =

@@ -5,6 +5,7 @@ use Rattle.ss_tree.specs.Entries.{above, entry, move_fault, under}
 use Rattle.ss_tree.specs.declared.cells.Cell.{Cell}
 use Rattle.ss_tree.specs.Cells.{next_of, prev_of, link_of, seat_at, listing, Joins, Attaches, SameLinks, IsLinked}
 use Rattle.ss_tree.proofs.Changed.{holds_linked, move_parent, move_loose, has_parent, live_some, leave_places, moved, moved_entries, moved_kids, moved_ids, move_places}
+use Rattle.ss_tree.proofs.Hanging.{moved_hangs}
 use Rattle.ss_tree.proofs.trees.Tree.move_to.Goals as goal
 
 pub unreachable-requires : goal.unreachable-requires
@@ -115,7 +116,7 @@ invariant_of-self c =
     let new : List Cell = c.attach.new.cells in
     let attaches : Attaches turned new q k (link_of b) = rw (c.number-4.ensures, c.number-5.ensures, c.link_of.ensures) at c.attach.ensures in
     let whole = whole_slice c.self.inside.cells.len cells new (omega arith) (attaches.before_right.long ∙ (attaches.after_left.long ∙ (same.long ∙ joins.long))) in
-    rw whole (holds_linked (moved cells k p linked up middle joins q b turned live.0 live.1 free same seats new attaches), λ x. c.self.invariant.1 x ∙ sym (moved_ids cells k p linked up middle joins q b turned live.0 live.1 free same seats new attaches x))
+    rw whole (holds_linked (moved cells k p linked up middle joins q b turned live.0 live.1 free same seats new attaches), λ x. c.self.invariant.1 x ∙ sym (moved_ids cells k p linked up middle joins q b turned live.0 live.1 free same seats new attaches x), moved_hangs cells k p linked up middle joins c.self.inside.vacant c.self.invariant.2 q b turned live.0 live.1 free same seats new attaches)
 
 pub returns-clause-entries : goal.returns-clause-entries
 returns-clause-entries c =

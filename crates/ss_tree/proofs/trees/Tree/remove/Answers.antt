@@ -5,6 +5,7 @@ use Rattle.ss_tree.specs.Entries.{above, entry, remove_fault}
 use Rattle.ss_tree.specs.declared.cells.Cell.{Cell}
 use Rattle.ss_tree.specs.Cells.{cell_at, next_of, prev_of, seat_at, listing, Joins, Frees, IsLinked}
 use Rattle.ss_tree.proofs.Changed.{holds_linked, remove_loose, has_parent, leave_places, removed, removed_entries, removed_kids, removed_ids}
+use Rattle.ss_tree.proofs.Hanging.{removed_hangs}
 use Rattle.ss_tree.proofs.trees.Tree.remove.Goals as goal
 
 pub unreachable-requires : goal.unreachable-requires
@@ -23,7 +24,7 @@ detach-requires-clause-left c =
     let free : remove_fault (listing cells) k ≡ None = rw c.self.view_is (sym c.remove_fault.ensures ∙ c.in_default.is) in
     let p = c.in-Some-parent.above in
     let up : above (listing cells) k ≡ Some p = rw c.self.view_is (sym c.parent.ensures.node ∙ c.in-Some-parent.is) in
-    rw (c.as_mut_slice-cells.ensures.value, c.number.ensures, c.number-2.ensures) (leave_places cells k p linked up).0
+    rw (c.as_mut_slice-cells.ensures.value, c.number.ensures, c.number-place.ensures) (leave_places cells k p linked up).0
 
 pub detach-requires-clause-right : goal.detach-requires-clause-right
 detach-requires-clause-right c =
@@ -33,7 +34,7 @@ detach-requires-clause-right c =
     let free : remove_fault (listing cells) k ≡ None = rw c.self.view_is (sym c.remove_fault.ensures ∙ c.in_default.is) in
     let p = c.in-Some-parent.above in
     let up : above (listing cells) k ≡ Some p = rw c.self.view_is (sym c.parent.ensures.node ∙ c.in-Some-parent.is) in
-    rw (c.as_mut_slice-cells.ensures.value, c.number.ensures, c.number-2.ensures) (leave_places cells k p linked up).1
+    rw (c.as_mut_slice-cells.ensures.value, c.number.ensures, c.number-place.ensures) (leave_places cells k p linked up).1
 
 pub invariant_of-self : goal.invariant_of-self
 invariant_of-self c =
@@ -44,19 +45,20 @@ invariant_of-self c =
     let p = c.in-Some-parent.above in
     let up : above (listing cells) k ≡ Some p = rw c.self.view_is (sym c.parent.ensures.node ∙ c.in-Some-parent.is) in
     let middle : List Cell = c.detach.new.cells in
-    let joins : Joins cells middle p (prev_of cells p k) (next_of cells p k) = rw (c.as_mut_slice-cells.ensures.value, c.number.ensures, c.number-2.ensures) at c.detach.ensures in
+    let joins : Joins cells middle p (prev_of cells p k) (next_of cells p k) = rw (c.as_mut_slice-cells.ensures.value, c.number.ensures, c.number-place.ensures) at c.detach.ensures in
     let new : List Cell = c.vacate-item.new.cells in
     let vacant = c.self.inside.vacant in
-    let same : Frees middle new k vacant = rw c.number-3.ensures at c.vacate-item.ensures.links in
-    let seats : (j : ℕ) → seat_at new j ≡ cond (k == j) None (seat_at middle j) = rw c.number-3.ensures at c.vacate-item.ensures.seats in
+    let same : Frees middle new k vacant = rw c.number-place.ensures at c.vacate-item.ensures.links in
+    let seats : (j : ℕ) → seat_at new j ≡ cond (k == j) None (seat_at middle j) = rw c.number-place.ensures at c.vacate-item.ensures.seats in
     let whole = whole_slice c.self.inside.cells.len cells new (omega arith) (same.long ∙ joins.long) in
-    let item : (cell_at middle k).item ≡ Some c.vacate-item.result = rw c.number-3.ensures at c.vacate-item.ensures.item in
+    let item : (cell_at middle k).item ≡ Some c.vacate-item.result = rw c.number-place.ensures at c.vacate-item.ensures.item in
     let d : Entry = record { node = k; parent = (cell_at middle k).parent; item = c.vacate-item.result; time = (cell_at middle k).time } in
     let at : entry k (listing cells) ≡ Some d = linked.lies.seats k ∙ (sym (joins.seats k) ∙ ap (option_map (λ i. record { node = k; parent = (cell_at middle k).parent; item = i; time = (cell_at middle k).time })) item) in
     rw whole (
       holds_linked (removed cells k p linked up middle joins new vacant free same seats),
       λ x.
           c.leave.ensures x ∙ (ap₂ (λ y o. cond (bytes_eq y x) None o) c.id.ensures.id (c.self.invariant.1 x) ∙ sym (removed_ids cells k p linked up middle joins new vacant free same seats d at x)),
+      rw c.number-place.ensures (removed_hangs cells k p linked up middle joins vacant c.self.invariant.2 new same seats),
     )
 
 pub returns-clause-entries : goal.returns-clause-entries
@@ -68,11 +70,11 @@ returns-clause-entries c =
     let p = c.in-Some-parent.above in
     let up : above (listing cells) k ≡ Some p = rw c.self.view_is (sym c.parent.ensures.node ∙ c.in-Some-parent.is) in
     let middle : List Cell = c.detach.new.cells in
-    let joins : Joins cells middle p (prev_of cells p k) (next_of cells p k) = rw (c.as_mut_slice-cells.ensures.value, c.number.ensures, c.number-2.ensures) at c.detach.ensures in
+    let joins : Joins cells middle p (prev_of cells p k) (next_of cells p k) = rw (c.as_mut_slice-cells.ensures.value, c.number.ensures, c.number-place.ensures) at c.detach.ensures in
     let new : List Cell = c.vacate-item.new.cells in
     let vacant = c.self.inside.vacant in
-    let same : Frees middle new k vacant = rw c.number-3.ensures at c.vacate-item.ensures.links in
-    let seats : (j : ℕ) → seat_at new j ≡ cond (k == j) None (seat_at middle j) = rw c.number-3.ensures at c.vacate-item.ensures.seats in
+    let same : Frees middle new k vacant = rw c.number-place.ensures at c.vacate-item.ensures.links in
+    let seats : (j : ℕ) → seat_at new j ≡ cond (k == j) None (seat_at middle j) = rw c.number-place.ensures at c.vacate-item.ensures.seats in
     let whole = whole_slice c.self.inside.cells.len cells new (omega arith) (same.long ∙ joins.long) in
     rw (whole, ← c.self.view_is) (removed_entries cells k p linked up middle joins new vacant free same seats)
 
@@ -85,10 +87,10 @@ returns-clause-kids c =
     let p = c.in-Some-parent.above in
     let up : above (listing cells) k ≡ Some p = rw c.self.view_is (sym c.parent.ensures.node ∙ c.in-Some-parent.is) in
     let middle : List Cell = c.detach.new.cells in
-    let joins : Joins cells middle p (prev_of cells p k) (next_of cells p k) = rw (c.as_mut_slice-cells.ensures.value, c.number.ensures, c.number-2.ensures) at c.detach.ensures in
+    let joins : Joins cells middle p (prev_of cells p k) (next_of cells p k) = rw (c.as_mut_slice-cells.ensures.value, c.number.ensures, c.number-place.ensures) at c.detach.ensures in
     let new : List Cell = c.vacate-item.new.cells in
     let vacant = c.self.inside.vacant in
-    let same : Frees middle new k vacant = rw c.number-3.ensures at c.vacate-item.ensures.links in
-    let seats : (j : ℕ) → seat_at new j ≡ cond (k == j) None (seat_at middle j) = rw c.number-3.ensures at c.vacate-item.ensures.seats in
+    let same : Frees middle new k vacant = rw c.number-place.ensures at c.vacate-item.ensures.links in
+    let seats : (j : ℕ) → seat_at new j ≡ cond (k == j) None (seat_at middle j) = rw c.number-place.ensures at c.vacate-item.ensures.seats in
     let whole = whole_slice c.self.inside.cells.len cells new (omega arith) (same.long ∙ joins.long) in
     rw (whole, ← c.self.view_is) (removed_kids cells k p linked up middle joins new vacant free same seats)

@@ -6,6 +6,7 @@ use Rattle.ss_tree.specs.declared.cells.Cell.{Cell}
 use Rattle.ss_tree.specs.Cells.{seat_at, listing, SameLinks, IsLinked}
 use Rattle.ss_tree.proofs.Seen.{fit_item}
 use Rattle.ss_tree.proofs.Changed.{holds_linked, revised_holds, revised_entries, revised_kids, revised_ids}
+use Rattle.ss_tree.proofs.Hanging.{revised_hangs}
 use Rattle.ss_tree.proofs.trees.Tree.set_item.Goals as goal
 
 pub revise-requires-clause-node : goal.revise-requires-clause-node
@@ -34,7 +35,7 @@ invariant_of-self c =
     let same : SameLinks cells new = rw c.as_mut_slice.ensures.value at c.revise.ensures.links in
     let seats : (j : ℕ) → seat_at new j ≡ cond (j == k) (option_map (revised c.args.content c.args.time) (seat_at cells j)) (seat_at cells j) = rw (c.as_mut_slice.ensures.value, c.number.ensures) at c.revise.ensures.seats in
     let whole = whole_slice c.self.inside.cells.len cells new (omega arith) same.long in
-    rw whole (holds_linked (revised_holds cells k c.args.content c.args.time new linked c.requires.inside fit same seats), λ x. c.self.invariant.1 x ∙ sym (revised_ids cells k c.args.content c.args.time new linked c.requires.inside fit same seats x))
+    rw whole (holds_linked (revised_holds cells k c.args.content c.args.time new linked c.requires.inside fit same seats), λ x. c.self.invariant.1 x ∙ sym (revised_ids cells k c.args.content c.args.time new linked c.requires.inside fit same seats x), revised_hangs cells k c.args.content c.args.time new linked same seats c.self.inside.vacant c.self.invariant.2)
 
 pub returns-clause-entries : goal.returns-clause-entries
 returns-clause-entries c =

@@ -225,7 +225,7 @@ test_from_fit i ne (inr h) =
     let a = item_parts i.id r.0 i (Some []) (cond (is_folder i.kind) [] []) m.1 in
     read_is_content (record_of i [] []) r.0 i r.1 m.0 a.0 a.1
 
-folder_kind : (k : Kind) → is_folder k ≡ true → k ≡ Folder
+pub folder_kind : (k : Kind) → is_folder k ≡ true → k ≡ Folder
 folder_kind Bookmark e = absurd (false≢true e)
 folder_kind Query e = absurd (false≢true e)
 folder_kind Folder e = refl

@@ -54,6 +54,18 @@ pub struct Sheet {
     pub payload: Word,
 }
 
+impl Sheet {
+    pub fn copy(&self, alloc: Global) -> Result<Sheet, AllocError>
+        ensures { IfOk result (λ copied. copied ≡ self.now) }
+    {
+        Ok(Sheet {
+            id: self.id.copy(alloc)?,
+            modified: self.modified,
+            payload: self.payload.copy(alloc)?,
+        })
+    }
+}
+
 /// What a row says of its id.
 #[derive(Drop, Debug)]
 pub enum Reading {

@@ -13,11 +13,7 @@ use Rattle.ss_record.proofs.IdLists.{has-head, has-tail, Apart-head, Apart-tail}
 use Rattle.ss_build.proofs.Items.{AreClaims, places_no_root}
 use Rattle.ss_build.proofs.Valid.{proposed_none, length-ids}
 use Rattle.ss_build.proofs.Bounded.{comes_back_is}
-
-has_at : (xs : List (List ℕ)) (i : ℕ) (d : List ℕ) → i < length xs → has (get_or xs i d) xs ≡ true
-has_at [] i d lt = absurd (omega arith)
-has_at (x ∷ xs) zero d lt = has-head x xs
-has_at (x ∷ xs) (suc i) d lt = has-tail (get_or xs i d) x xs (has_at xs i d (omega arith))
+use Rattle.ss_build.proofs.Seats.{has_at}
 
 same_place : (xs : List (List ℕ)) (i j : ℕ) (d : List ℕ) → Apart xs → i < length xs → j < length xs → get_or xs i d ≡ get_or xs j d → i ≡ j
 same_place [] i j d a l m e = absurd (omega arith)
@@ -26,7 +22,7 @@ same_place (x ∷ xs) zero (suc j) d a l m e = absurd (false≢true (sym (Apart-
 same_place (x ∷ xs) (suc i) zero d a l m e = absurd (false≢true (sym (Apart-head x xs a) ∙ (ap (λ w. has w xs) (sym e) ∙ has_at xs i d (omega arith))))
 same_place (x ∷ xs) (suc i) (suc j) d a l m e = ap suc (same_place xs i j d (Apart-tail x xs a) (omega arith) (omega arith) e)
 
-equal_bools : (a b : Bool) → (a ≡ true → b ≡ true) → (b ≡ true → a ≡ true) → a ≡ b
+pub equal_bools : (a b : Bool) → (a ≡ true → b ≡ true) → (b ≡ true → a ≡ true) → a ≡ b
 equal_bools true b f g = sym (f refl)
 equal_bools false true f g = g refl
 equal_bools false false f g = refl

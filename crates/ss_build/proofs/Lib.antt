@@ -2,7 +2,6 @@ pub mod Walks
 pub mod Items
 pub mod Keyed
 pub mod Valid
-pub mod Read
 pub mod OfRows
 pub mod Best
 pub mod Stand

@@ -13,7 +13,7 @@ use Rattle.ss_tree.specs.Trees.{IsValidTree}
 use Rattle.ss_record.proofs.IdLists.{same_id, has-nil, has-cons, has-head, has-tail, has-filter, has-append, Apart-nil, Apart-cons, Apart-head, Apart-tail, Apart-filter, Apart-append}
 use Rattle.ss_build.proofs.Items.{In, AreClaims, places_no_root, Apart-roots}
 use Rattle.ss_build.proofs.Valid.{tree_of_valid}
-use Rattle.ss_build.proofs.Read.{IsRead}
+use Rattle.ss_record.proofs.OfId.{IsRead}
 
 -- rows with distinct ids, each as its payload reads
 pub record AreRows (rows : List Row) : Type 0 where

@@ -7,7 +7,7 @@ use Rattle.ss_build.specs.Built.{built}
 use Rattle.ss_build.specs.Rows.{row_of, rows_of}
 use Rattle.ss_build.specs.Stand.{IsSameUntimed, StandFor}
 use Rattle.ss_build.proofs.Items.{In}
-use Rattle.ss_build.proofs.Read.{IsRead, reading_is_read}
+use Rattle.ss_record.proofs.OfId.{IsRead, reading_is_read}
 use Rattle.ss_build.proofs.OfRows.{AreRows, built_valid}
 use Rattle.ss_build.proofs.Stand.{stand_built}
 

@@ -1,6 +1,6 @@
 -- What a stable sort leaves is the sorted list.
 use Rattle.std.proofs.Common.{◌≡◌, ℕ, suc, ◌<◌, ◌≤◌, List, [], ◌∷◌, length, filter, get_or, Bool, true, false, not, ◌&&◌, cond, refl, sym, ap, ap₂, ◌∙◌, subst, arith}
-use Rattle.std.proofs.lemmas.Bool.{true≢false, and_parts}
+use Rattle.std.proofs.lemmas.Bool.{true≢false, and_parts, not-true}
 use Rattle.std.proofs.lemmas.List.Sorted.{sorted_far, ranks_by}
 use Rattle.std.specs.Cmp.{IsStrictWeakOrder}
 use Rattle.std.specs.Cmp.Lexicographic.{slice_cmp, nat_list_cmp_total}
@@ -30,10 +30,6 @@ first_passes p Q (y ∷ ys) x rest e all = one_passes (p y) Q y x (filter p ys) 
 rest_same : {X : Type 0} (b : Bool) (x : X) (xs ys : List X) → cond b (x ∷ xs) xs ≡ cond b (x ∷ ys) ys → xs ≡ ys
 rest_same true x xs ys e = cc
 rest_same false x xs ys e = e
-
-not_true : (b : Bool) → not b ≡ true → b ≡ false
-not_true true e = cc
-not_true false e = refl
 
 module _ {X : Type 0} (lt : X → X → Bool) (order : IsStrictWeakOrder lt) where
   never_itself : (x : X) → lt x x ≡ false
@@ -101,7 +97,7 @@ module _ {X : Type 0} (lt : X → X → Bool) (order : IsStrictWeakOrder lt) whe
   -- of two that tie with w neither comes before the other
   both_tied : (w x y : X) → ties lt w x ≡ true → ties lt w y ≡ true → lt y x ≡ false
   both_tied w x y t u =
-      order.chain y w x (not_true (lt y w) (and_parts (not (lt w y)) (not (lt y w)) u).1) (not_true (lt w x) (and_parts (not (lt w x)) (not (lt x w)) t).0)
+      order.chain y w x (not-true (lt y w) (and_parts (not (lt w y)) (not (lt y w)) u).1) (not-true (lt w x) (and_parts (not (lt w x)) (not (lt x w)) t).0)
 
   passed : (a b : Bool) (x y : X) (l f : List X) → (a ≡ true → b ≡ true → ⊥) → l ≡ cond a (x ∷ f) f → cond b (y ∷ l) l ≡ cond a (x ∷ cond b (y ∷ f) f) (cond b (y ∷ f) f)
   passed true true x y l f never e = absurd (never refl refl)

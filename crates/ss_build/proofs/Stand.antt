@@ -18,7 +18,7 @@ use Rattle.ss_record.proofs.IdLists.{same_id, bytes_eq-same, bytes_eq-apart, has
 use Rattle.ss_build.proofs.Items.{In, claim_in, claim_found, claim_has, claim_none, AreClaims, places_no_root}
 use Rattle.ss_build.proofs.Keyed.{key_found, found_key, key_at, has_key, no_key}
 use Rattle.ss_build.proofs.Valid.{proposed_root, proposed_claim, proposed_none, node_tree, node_claim, node_places}
-use Rattle.ss_build.proofs.Read.{IsRead}
+use Rattle.ss_record.proofs.OfId.{IsRead}
 use Rattle.ss_build.proofs.OfRows.{AreRows, of_row, read_from, has_ids, has-with_roots, claims_are}
 
 -- ---- lists that a filter and `firsts` leave as they are
@@ -88,14 +88,6 @@ parent_in_no t x q = ap (λ o. unwrap_or (option_and_then (λ m. m.parent) o) pl
 
 -- ---- what agrees
 
-pub kind_of-name : (k : Kind) → kind_of (kind_name k) ≡ Some k
-unfolding kind_of
-kind_of-name Bookmark = refl
-kind_of-name Query = refl
-kind_of-name Folder = refl
-kind_of-name Livemark = refl
-kind_of-name Separator = refl
-
 same_kind_is : (a b : Kind) → same_kind a b ≡ true → a ≡ b
 same_kind_is Bookmark Bookmark e = refl
 same_kind_is Query Query e = refl
@@ -104,7 +96,7 @@ same_kind_is Livemark Livemark e = refl
 same_kind_is Separator Separator e = refl
 same_kind_is _ _ e = absurd (false≢true e)
 
-same_list_is : (xs ys : List (List ℕ)) → same_list xs ys ≡ true → xs ≡ ys
+pub same_list_is : (xs ys : List (List ℕ)) → same_list xs ys ≡ true → xs ≡ ys
 unfolding same_list
 same_list_is xs ys e = (slice_eq-Decides bytes_eq-Decides xs ys (same_list xs ys) refl).0 e
 

@@ -10,38 +10,31 @@ use Rattle.ss_build.specs.declared.claims.Claim.{Claim}
 use Rattle.ss_build.specs.Built.{built_parent, empty_root, ids, is_child}
 use Rattle.ss_build.specs.Places.{AreItems, IsTaken, at, front, is_next, listed, lists_as_told, names, parents_of, place}
 use Rattle.ss_build.proofs.Items.{In_has}
-use Rattle.ss_build.proofs.Valid.{length-ids, parent_root}
+use Rattle.ss_build.proofs.Valid.{length-ids, parent_root, is_child_parts}
 use Rattle.ss_build.proofs.Seats.{place_lt, place_at, place_none, at_place, has_at, has_from_place, id_at, at_in, ids_take}
 use Rattle.ss_build.proofs.Chosen.{le-false}
 use Rattle.ss_build.proofs.Uppers.{claims_from}
+use Rattle.std.proofs.Math.Bool.{or-true, or-false}
 
 -- ---- one more place
 
 pub names_push : (xs : List (List ℕ)) (order : List ℕ) (i : ℕ) → names xs (order ++ i ∷ []) ≡ names xs order ++ get_or xs i places ∷ []
 names_push xs order i = map_push (λ i. get_or xs i places) order i
 
-or-right-false : (b : Bool) → (b || false) ≡ b
-or-right-false true = refl
-or-right-false false = refl
-
-or-right-true : (b : Bool) → (b || true) ≡ true
-or-right-true true = refl
-or-right-true false = refl
-
 has-push : (z x : List ℕ) (F : List (List ℕ)) → has z (F ++ x ∷ []) ≡ (has z F || bytes_eq z x)
-has-push z x F = has-append z F (x ∷ []) ∙ ap (λ b. has z F || b) (has-cons z x [] ∙ (ap (λ b. bytes_eq z x || b) (has-nil z) ∙ or-right-false (bytes_eq z x)))
+has-push z x F = has-append z F (x ∷ []) ∙ ap (λ b. has z F || b) (has-cons z x [] ∙ (ap (λ b. bytes_eq z x || b) (has-nil z) ∙ or-false (bytes_eq z x)))
 
 mark_others : (F : List (List ℕ)) (x : List ℕ) (xs : List (List ℕ)) → has x xs ≡ false → map (λ z. has z F) xs ≡ map (λ z. has z (F ++ x ∷ [])) xs
 mark_others F x [] h = refl
 mark_others F x (y ∷ ys) h =
     let p = or_parts (bytes_eq x y) (has x ys) (sym (has-cons x y ys) ∙ h) in
-    ap₂ (λ b bs. b ∷ bs) (sym (has-push y x F ∙ (ap (λ b. has y F || b) (bytes_eq-sym y x ∙ p.0) ∙ or-right-false (has y F)))) (mark_others F x ys p.1)
+    ap₂ (λ b bs. b ∷ bs) (sym (has-push y x F ∙ (ap (λ b. has y F || b) (bytes_eq-sym y x ∙ p.0) ∙ or-false (has y F)))) (mark_others F x ys p.1)
 
 mark_set : (F : List (List ℕ)) (xs : List (List ℕ)) (i : ℕ) (d : List ℕ) → Apart xs → i < length xs → set (map (λ z. has z F) xs) i true ≡ map (λ z. has z (F ++ get_or xs i d ∷ [])) xs
 mark_set F [] i d a l = absurd (omega arith)
-mark_set F (x ∷ xs) zero d a l = ap₂ (λ b bs. b ∷ bs) (sym (has-push x x F ∙ (ap (λ b. has x F || b) (bytes_eq-refl x) ∙ or-right-true (has x F)))) (mark_others F x xs (Apart-head x xs a))
+mark_set F (x ∷ xs) zero d a l = ap₂ (λ b bs. b ∷ bs) (sym (has-push x x F ∙ (ap (λ b. has x F || b) (bytes_eq-refl x) ∙ or-true (has x F)))) (mark_others F x xs (Apart-head x xs a))
 mark_set F (x ∷ xs) (suc i) d a l =
-    ap₂ (λ b bs. b ∷ bs) (sym (has-push x (get_or xs i d) F ∙ (ap (λ b. has x F || b) (bytes_eq-apart x (get_or xs i d) ne) ∙ or-right-false (has x F)))) (mark_set F xs i d (Apart-tail x xs a) (omega arith))
+    ap₂ (λ b bs. b ∷ bs) (sym (has-push x (get_or xs i d) F ∙ (ap (λ b. has x F || b) (bytes_eq-apart x (get_or xs i d) ne) ∙ or-false (has x F)))) (mark_set F xs i d (Apart-tail x xs a) (omega arith))
   where
     ne : x ≢ get_or xs i d
     ne q = false≢true (sym (Apart-head x xs a) ∙ (ap (λ w. has w xs) q ∙ has_at xs i d (omega arith)))
@@ -230,10 +223,6 @@ flat_map-append : {X Y : Type 0} (f : X → List Y) (xs ys : List X) → flat_ma
 flat_map-append f [] ys = refl
 flat_map-append f (x ∷ xs) ys = ap (λ w. f x ++ w) (flat_map-append f xs ys) ∙ sym (append_assoc (f x) (flat_map f xs) (flat_map f ys))
 
-child_parts : (es : List Claim) (f x : List ℕ) → is_child es f x ≡ true → (has x (ids es) ≡ true) × (built_parent es x ≡ f)
-unfolding is_child
-child_parts es f x h = let p = and_parts (has x (ids es)) (bytes_eq (built_parent es x) f) h in (p.0, same_id (built_parent es x) f p.1)
-
 listed_is : (es : List Claim) (f : Claim) → firsts (filter (is_child es f.item.id) f.children) ≡ listed es f
 unfolding listed
 listed_is es f = refl
@@ -251,7 +240,7 @@ listed_under es (g ∷ gs) x h = go (has x (listed es g)) refl (sym (has-append 
     go : (b : Bool) → has x (listed es g) ≡ b → (b || has x (flat_map (listed es) gs)) ≡ true → (has x (flat_map (listed es) gs) ≡ true → (has x (ids es) ≡ true) × (has (built_parent es x) (ids gs) ≡ true))
         → (has x (ids es) ≡ true) × (has (built_parent es x) (g.item.id ∷ ids gs) ≡ true)
     go true q e ih =
-        let c = child_parts es g.item.id x (and_parts (has x g.children) (is_child es g.item.id x) (sym (has-listed es g x) ∙ q)).1 in
+        let c = is_child_parts es g.item.id x (and_parts (has x g.children) (is_child es g.item.id x) (sym (has-listed es g x) ∙ q)).1 in
         (c.0, ap (λ w. has w (g.item.id ∷ ids gs)) c.1 ∙ has-head g.item.id (ids gs))
     go false q e ih = let r = ih e in (r.0, has-tail (built_parent es x) g.item.id (ids gs) r.1)
 
@@ -270,7 +259,7 @@ not_yet es j x a l h =
     has-append x roots (flat_map (listed es) (take j es)) ∙ ap₂ (λ b c. b || c) (false_from_ne_true (has x roots) no_root) (false_from_ne_true (has x (flat_map (listed es) (take j es))) no_earlier)
   where
     parts : (has x (ids es) ≡ true) × (built_parent es x ≡ (at es j).item.id)
-    parts = child_parts es (at es j).item.id x h
+    parts = is_child_parts es (at es j).item.id x h
 
     no_root : has x roots ≡ true → ⊥
     no_root r = false≢true (sym a.no_places ∙ (ap (λ w. has w (ids es)) (sym (parent_root es x (claims_from es a) r) ∙ parts.1) ∙ In_has es (at es j) (at_in es j l)))

@@ -15,6 +15,7 @@ use Rattle.ss_build.proofs.Bounded.{any_found}
 use Rattle.ss_build.proofs.Seats.{place_lt, at_place, id_at, at_in}
 use Rattle.ss_build.proofs.Taking.{has-listed, none_taken, place_eq}
 use Rattle.ss_build.proofs.Ordered.{front_has, has-rest, children_parts}
+use Rattle.ss_build.proofs.Stand.{same_list_is}
 
 -- ---- what is left
 
@@ -113,10 +114,6 @@ listed_whole es f e =
     let a : length (firsts (filter (is_child es f.item.id) f.children)) ≤ length (filter (is_child es f.item.id) f.children) = le-firsts (filter (is_child es f.item.id) f.children) in
     let b : length (filter (is_child es f.item.id) f.children) ≤ length f.children = le-filter (is_child es f.item.id) f.children in
     firsts_whole (filter (is_child es f.item.id) f.children) (omega arith) ∙ filter_whole (is_child es f.item.id) f.children (omega arith)
-
-same_list_is : (xs ys : List (List ℕ)) → same_list xs ys ≡ true → xs ≡ ys
-unfolding same_list
-same_list_is xs ys e = (slice_eq-Decides bytes_eq-Decides xs ys (same_list xs ys) refl).0 e
 
 is_same_list : (xs ys : List (List ℕ)) → xs ≡ ys → same_list xs ys ≡ true
 unfolding same_list

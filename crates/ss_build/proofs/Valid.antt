@@ -238,7 +238,7 @@ Apart-children es f a =
     no true false = refl
     no false c = refl
 
-is_child_parts : (es : List Claim) (f x : List ℕ) → is_child es f x ≡ true → (has x (ids es) ≡ true) × (built_parent es x ≡ f)
+pub is_child_parts : (es : List Claim) (f x : List ℕ) → is_child es f x ≡ true → (has x (ids es) ≡ true) × (built_parent es x ≡ f)
 unfolding is_child
 is_child_parts es f x h = let p = and_parts (has x (ids es)) (bytes_eq (built_parent es x) f) h in (p.0, same_id (built_parent es x) f p.1)
 

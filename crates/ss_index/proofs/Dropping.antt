@@ -22,6 +22,7 @@ use Rattle.ss_index.specs.Sweep.{Outlives}
 use Rattle.ss_bso.proofs.Lists.{Each, Each-filter, Each-imp, length-filter_le}
 use Rattle.ss_bso.proofs.Texts.{same_text, bytes_eq-same, bytes_eq-flip}
 use Rattle.ss_index.proofs.Shelves.{filter-none, filter-every, of_collection, of_another, others_named, names_beside, named-edited, counted, len-adds, bytes-adds, none_named}
+use Rattle.ss_index.proofs.Picks.{bytes_eq-sym}
 
 pub without_in : (name : List ℕ) (held now : Held) → now.rows ≡ [] → (drawers : List (List ℕ × Held)) → Named drawers → NamesApart (keys_of drawers) → lookup (bytes_eq name) drawers ≡ Some held
     → rows_in (set_value (bytes_eq name) drawers now) ≡ rows_without (rows_in drawers) name
@@ -103,13 +104,6 @@ filter-filter {X} p q (x ∷ xs) =
       | true ↦ filter-filter p q xs
       | false ↦ ap (λ l. cond (not (q x)) (x ∷ l) l) (filter-filter p q xs)
     ]
-
-bytes_eq-sym : (x y : List ℕ) → bytes_eq x y ≡ bytes_eq y x
-bytes_eq-sym x y =
-    elim (bytes_eq x y) as (λ v. bytes_eq x y ≡ v → v ≡ bytes_eq y x) [
-      | true ↦ (λ e. sym (bytes_eq-same y x (sym (same_text x y e))))
-      | false ↦ (λ e. sym (bytes_eq-flip x y e))
-    ] refl
 
 filter-pointwise : {X : Type 0} (p q : X → Bool) (xs : List X) → ((x : X) → p x ≡ q x) → filter p xs ≡ filter q xs
 filter-pointwise p q [] h = refl

@@ -16,23 +16,20 @@ use Rattle.ss_bso.proofs.Texts.{same_text, bytes_eq-same, bytes_eq-flip, both}
 use Rattle.ss_bso.proofs.Lists.{Each-any}
 use Rattle.ss_bso.proofs.Reordering.{reordered-refl, reordered-append_right, reordered-filter}
 use Rattle.ss_index.proofs.Shelves.{filter-every, filter-same}
+use Rattle.std.proofs.Math.Bool.{or-false}
 
-bytes_eq-sym : (x y : List ℕ) → bytes_eq x y ≡ bytes_eq y x
+pub bytes_eq-sym : (x y : List ℕ) → bytes_eq x y ≡ bytes_eq y x
 bytes_eq-sym x y =
     elim (bytes_eq x y) as (λ v. bytes_eq x y ≡ v → v ≡ bytes_eq y x) [
       | true ↦ (λ e. sym (bytes_eq-same y x (sym (same_text x y e))))
       | false ↦ (λ e. sym (bytes_eq-flip x y e))
     ] refl
 
-or_false : (b : Bool) → (b || false) ≡ b
-or_false true = refl
-or_false false = refl
-
 to_end : {X : Type 0} (x : X) (us : List X) → Reordered (x ∷ us) (us ++ x ∷ [])
 to_end x [] = reordered-refl (x ∷ [])
 to_end x (u ∷ us) = chain (swapped x u us) (head u (to_end x us))
 
-Each-find_none : {X : Type 0} (p : X → Bool) (xs : List X) → find p xs ≡ None → Each (λ (x : X). p x ≡ false) xs
+pub Each-find_none : {X : Type 0} (p : X → Bool) (xs : List X) → find p xs ≡ None → Each (λ (x : X). p x ≡ false) xs
 Each-find_none p [] e = tt
 Each-find_none {X} p (x ∷ xs) e =
     elim (p x) as (λ v. p x ≡ v → cond v (Some x) (find p xs) ≡ None → (p x ≡ false) × Each (λ (y : X). p y ≡ false) xs) [
@@ -53,7 +50,7 @@ module _ (p : Row → Bool) (id : List ℕ) (row : Row) (new : (one : Row) → h
             let none : p one ≡ false = new one t in
             let others : more ≡ kept = filter-same (λ r. p r || has_id id r) p rows
             (Each-imp (OtherId one) (λ (r : Row). (p r || has_id id r) ≡ p r)
-            (λ r f. ap (λ v. p r || v) (ap (λ name. bytes_eq r.id name) (sym (same_text one.id id t)) ∙ f) ∙ or_false (p r)) rows a.0) in
+            (λ r f. ap (λ v. p r || v) (ap (λ name. bytes_eq r.id name) (sym (same_text one.id id t)) ∙ f) ∙ or-false (p r)) rows a.0) in
             subst (λ b. Reordered (cond (b || true) (one ∷ more) more) (cond b (one ∷ kept) kept ++ row ∷ [])) (sym none)
             (subst (λ l. Reordered (one ∷ l) (kept ++ row ∷ [])) (sym others)
             (subst (λ r. Reordered (one ∷ kept) (kept ++ r ∷ [])) same (to_end one kept))))
@@ -86,7 +83,7 @@ module _ (query : Query) (rows : List Row) (distinct : Pairs OtherId rows) (ids 
       (Each-imp (λ (row : Row). Unit {0}) (λ (row : Row). (is_among (take i ids) row.id || has_id id row) ≡ is_among (take i ids) row.id)
       (λ row u. elim (has_id id row) as (λ v. has_id id row ≡ v → (is_among (take i ids) row.id || v) ≡ is_among (take i ids) row.id) [
         | true ↦ (λ t. ap (λ b. b || true) (h row t) ∙ sym (h row t))
-        | false ↦ (λ t. or_false (is_among (take i ids) row.id))
+        | false ↦ (λ t. or-false (is_among (take i ids) row.id))
       ] refl) rows (Each-any rows))
 
   -- one id more
@@ -106,7 +103,7 @@ module _ (query : Query) (rows : List Row) (distinct : Pairs OtherId rows) (ids 
           subst (λ l. Reordered (filter (is_asked query) (filter (λ row. is_among (take i ids) row.id || has_id id row) rows)) l) (sym (append-nil old))
           (subst (λ l. Reordered (filter (is_asked query) l) old) (sym (filter-same (λ row. is_among (take i ids) row.id || has_id id row) (λ row. is_among (take i ids) row.id) rows
           (Each-imp (λ (row : Row). has_id id row ≡ false) (λ (row : Row). (is_among (take i ids) row.id || has_id id row) ≡ is_among (take i ids) row.id)
-          (λ row t. ap (λ v. is_among (take i ids) row.id || v) t ∙ or_false (is_among (take i ids) row.id)) rows (Each-find_none (has_id id) rows f)))) r)
+          (λ row t. ap (λ v. is_among (take i ids) row.id || v) t ∙ or-false (is_among (take i ids) row.id)) rows (Each-find_none (has_id id) rows f)))) r)
       by false (Some row) b f =
           let step = added (λ one. is_among (take i ids) one.id) id row (λ one t. ap (λ name. is_among (take i ids) name) (same_text one.id id t) ∙ b) rows distinct f in
           chain (subst (λ l. Reordered (filter (is_asked query) (filter (λ one. is_among (take i ids) one.id || has_id id one) rows)) l)

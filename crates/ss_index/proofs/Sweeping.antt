@@ -15,15 +15,8 @@ use Rattle.ss_index.specs.Sweep.{Outlives, Swept}
 use Rattle.ss_bso.proofs.Lists.{Each, Each-append, Each-imp, Pairs}
 use Rattle.ss_bso.proofs.Texts.{bytes_eq-same, bytes_eq-flip}
 use Rattle.ss_index.proofs.Drawers.{find_some, live_at, live_id}
-use Rattle.ss_index.proofs.Shelves.{filter-every}
-
-keys-append : (xs ys : List (ℕ × Row)) → keys_of (xs ++ ys) ≡ keys_of xs ++ keys_of ys
-keys-append [] ys = refl
-keys-append (x ∷ xs) ys = ap (λ rest. x.0 ∷ rest) (keys-append xs ys)
-
-values-append : (xs ys : List (ℕ × Row)) → values_of (xs ++ ys) ≡ values_of xs ++ values_of ys
-values-append [] ys = refl
-values-append (x ∷ xs) ys = ap (λ rest. x.1 ∷ rest) (values-append xs ys)
+use Rattle.ss_index.proofs.Shelves.{filter-every, weaker_ends}
+use Rattle.ss_index.proofs.Walks.{keys-append, values-append}
 
 some_row : (x y : Row) → Some x ≡ Some y → x ≡ y
 some_row x y e = cc
@@ -122,9 +115,6 @@ stands_at nodes here s = by s.after s.at_is s.split
 next_first : (nodes before : List (ℕ × Row)) (here : ℕ) (row : Row) (rest : List (ℕ × Row)) (next : Option ℕ) → nodes ≡ before ++ (here, row) ∷ rest → IsAfter (keys_of nodes) here next → next ≡ first_of (keys_of rest)
 next_first nodes before here row rest next split after = after (keys_of before) (keys_of rest) (ap (λ l. keys_of l) split ∙ keys-append before ((here, row) ∷ rest))
 
-pub weaker : (ends fewer : ℕ) (row : Row) → fewer ≤ ends → Outlives ends row → Outlives fewer row
-weaker ends fewer row le h moment lt = h moment (omega arith)
-
 pub sweep_on : {moment : ℕ} {all : List Row} (nodes : List (ℕ × Row)) {passed least : ℕ} (here : ℕ) (next : Option ℕ) (s : Swept moment all nodes (Some here) passed least) (st : Stands nodes s.before here s.after) → is_alive moment st.row ≡ true
     → IsAfter (keys_of nodes) here next → (fewer : ℕ) → fewer ≤ least → Outlives fewer st.row → Swept moment all nodes next (passed + 1) fewer
 sweep_on {moment} nodes {least = least} here next s st alive after fewer le out = record {
@@ -134,7 +124,7 @@ sweep_on {moment} nodes {least = least} here next s st alive after fewer le out 
   at_is = next_first nodes s.before here st.row st.rest next st.split after;
   alive = Each-append (λ (node : ℕ × Row). is_alive moment node.1 ≡ true) s.before ((here, st.row) ∷ []) s.alive (alive, tt);
   outlive = Each-append (λ (node : ℕ × Row). Outlives fewer node.1) s.before ((here, st.row) ∷ [])
-      (Each-imp (λ (node : ℕ × Row). Outlives least node.1) (λ (node : ℕ × Row). Outlives fewer node.1) (λ node h. weaker least fewer node.1 le h) s.before s.outlive) (out, tt);
+      (Each-imp (λ (node : ℕ × Row). Outlives least node.1) (λ (node : ℕ × Row). Outlives fewer node.1) (λ node h. weaker_ends least fewer node.1 le h) s.before s.outlive) (out, tt);
   same = s.same;
   count = omega (arith, s.count, ap (λ l. length l) st.is);
 }

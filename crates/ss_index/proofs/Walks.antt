@@ -22,7 +22,7 @@ pub keys-append : (xs ys : List (ℕ × Row)) → keys_of (xs ++ ys) ≡ keys_of
 keys-append [] ys = refl
 keys-append (x ∷ xs) ys = ap (λ rest. x.0 ∷ rest) (keys-append xs ys)
 
-values-append : (xs ys : List (ℕ × Row)) → values_of (xs ++ ys) ≡ values_of xs ++ values_of ys
+pub values-append : (xs ys : List (ℕ × Row)) → values_of (xs ++ ys) ≡ values_of xs ++ values_of ys
 values-append [] ys = refl
 values-append (x ∷ xs) ys = ap (λ rest. x.1 ∷ rest) (values-append xs ys)
 

@@ -286,6 +286,52 @@ fn expect<L: Ledger>(
     Ok(())
 }
 
+/// How many rows of a list a collection has, and their payload bytes.
+fn size_of(rows: &[Row], name: &Name) -> (u64, u64) {
+    let (mut count, mut bytes) = (0u64, 0u64);
+    for row in rows {
+        if row.collection == *name {
+            count = count.saturating_add(1);
+            bytes = bytes.saturating_add(row.payload.as_str().len() as u64);
+        }
+    }
+    (count, bytes)
+}
+
+/// The rows and bytes of each collection that has a row, upwards by name, and the bytes of all, by the plain list.
+fn sizes_of(alloc: Global, rows: &[Row]) -> Result<(String, u64), Fail> {
+    let mut line = String::new(alloc);
+    let mut total = 0u64;
+    for number in 0..2u32 {
+        let name = collection(alloc, number)?;
+        let (count, bytes) = size_of(rows, &name);
+        if count > 0 {
+            let word = format!(in alloc; "{}={count},{bytes} ", name.as_str())?;
+            line.push_str(word.as_str())?;
+        }
+        total = total.saturating_add(bytes);
+    }
+    Ok((line, total))
+}
+
+/// The same by `counts`, `usage` and `total`.
+fn sizes_told(alloc: Global, shelf: &Shelf) -> Result<(String, u64), Fail> {
+    let (counts, usage) = (shelf.counts(alloc)?, shelf.usage(alloc)?);
+    let (counts, usage) = (counts.as_slice(), usage.as_slice());
+    if counts.len() != usage.len() {
+        return Err("other collections".into());
+    }
+    let mut line = String::new(alloc);
+    for (count, bytes) in counts.iter().zip(usage) {
+        if count.0 != bytes.0 {
+            return Err("another name".into());
+        }
+        let word = format!(in alloc; "{}={},{} ", count.0.as_str(), count.1, bytes.1)?;
+        line.push_str(word.as_str())?;
+    }
+    Ok((line, shelf.total()))
+}
+
 /// One random change of a shelf and of the plain list.
 fn turn(
     alloc: Global,
@@ -318,6 +364,10 @@ fn random_run<L: Ledger>(rt: &impl Abort, alloc: Global, blank: Blank) -> Result
             let base = time.saturating_sub(100);
             expect(rt, alloc, &shelf, rows.as_slice(), 0, base, &mut steps)?;
             expect(rt, alloc, &shelf, rows.as_slice(), 1, base, &mut steps)?;
+            assert_eq!(rt;
+                sizes_told(alloc, &shelf)?,
+                sizes_of(alloc, rows.as_slice())?
+            );
         }
     }
     Ok(())

@@ -3,7 +3,8 @@ use Rattle.indexmap.specs.IndexMap.{get}
 use Rattle.ss_bso.specs.Account.{is_alive}
 use Rattle.ss_index.specs.Sweep.{Outlives}
 use Rattle.ss_index.proofs.Drawers.{taken_kept, taken_size}
-use Rattle.ss_index.proofs.Sweeping.{stands_at, middle_place, middle_value, middle_without, sweep_on, sweep_out, sweep_all, outlive_all, weaker, length-values, is_some_from, row_is}
+use Rattle.ss_index.proofs.Sweeping.{stands_at, middle_place, middle_value, middle_without, sweep_on, sweep_out, sweep_all, outlive_all, length-values, is_some_from, row_is}
+use Rattle.ss_index.proofs.Shelves.{weaker_ends}
 use Rattle.ss_index.proofs.drawer.Drawer.sweep_counting.Goals as goal
 
 pub next-at-requires : goal.next-at-requires
@@ -30,7 +31,7 @@ loop-preserved-then-is_alive g c =
     record {
       kept = inv.kept;
       swept = sweep_on c.loop.self-inside.rows.nodes c.in-Some.here c.next-at.result swept st (ap (λ row. is_alive c.args.moment row) (sym same) ∙ sym c.is_alive.ensures ∙ c.if-is_alive.true) c.next-at.ensures.neighbour
-          c.min-least.result (omega (arith, c.min-least.ensures)) (weaker c.end_of.result c.min-least.result st.row (omega (arith, c.min-least.ensures)) (subst (λ row. Outlives c.end_of.result row) same c.end_of.ensures));
+          c.min-least.result (omega (arith, c.min-least.ensures)) (weaker_ends c.end_of.result c.min-least.result st.row (omega (arith, c.min-least.ensures)) (subst (λ row. Outlives c.end_of.result row) same c.end_of.ensures));
       free = inv.free;
       room = inv.room;
     }

@@ -1,5 +1,6 @@
 pub mod Batching
 pub mod Begun
+pub mod Crossing
 pub mod Ending
 pub mod Keeping
 pub mod Opened

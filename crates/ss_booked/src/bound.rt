@@ -157,9 +157,10 @@ impl<K: Keeper> Bound<K> {
         ensures rose { RoseBy (keeper_marks self.new.journal.entries) (K.keep_faults self.new.before) (K.keep_faults self.new.account.keeper) }
     {
         let opening = self.account.plain(self.alloc)?;
+        let before = Snapshot::of(self.account.keeper());
         self.journal.restart(opening);
         self.bytes = 0;
-        self.before = Snapshot::of(self.account.keeper());
+        self.before = before;
         Ok(())
     }
 

@@ -1,6 +1,7 @@
-//! Calls by two passes at a desk of an account with its journal.
+//! Calls by two passes at a desk of an account with its journal, one of them in a thread.
 
 ghost use Rattle.std.specs.Prelude.{◌≡◌, ◌≤◌, [], IfOk};
+ghost use Rattle.std.specs.Thread.{IsSync};
 ghost use Rattle.ss_desk.specs.Views.{CoversAll, CoversNoLess, numbers};
 ghost use Rattle.ss_desk.specs.Desks.{view, IsPassOf};
 ghost use Rattle.ss_query.specs.Fit.{IsFitRequest};
@@ -16,6 +17,7 @@ use ss_text::{Id, Name, Stamp, Word};
 use std::alloc::{AllocError, Global};
 use std::sync::Wait;
 use std::test::Fail;
+use std::thread::{Threads, join};
 
 /// What a call is told: its ticket, with the time of the write in hundredths of a second, or that the journal is full.
 type Told = Result<(u64, Option<Stamp>), Full>;
@@ -77,26 +79,47 @@ fn call<R: Wait, K: Keeper + Drop>(
     (pass, told)
 }
 
-/// Calls by two passes, each with half of the pass's numbers.
-fn call_both<R: Wait, K: Keeper + Drop>(
+/// Calls by two passes side by side, each with half of the pass's numbers.
+fn call_both<R: Threads + Wait + Sync>(
     rt: &R,
-    desk: &Desk<Booked<K>>,
-    mut pass: Pass<Booked<K>>,
+    desk: &Desk<Booked<SureKeeper>>,
+    mut pass: Pass<Booked<SureKeeper>>,
     ask: Asked,
     other_ask: Asked,
-) -> (Pass<Booked<K>>, Told, Told)
+) -> (Pass<Booked<SureKeeper>>, Told, Told)
     requires pass { IsPassOf desk.now pass }
     requires many { 2 ≤ numbers (view pass) }
     requires fits { IsFitRequest ask.request }
     requires other_fits { IsFitRequest other_ask.request }
+    requires shared { IsSync R.row }
     ensures pass { IsPassOf desk.now result.0 }
     ensures covers { CoversNoLess (view pass) (view result.0) }
 {
     let other = pass.split(desk);
-    let (other, other_told) = call(rt, desk, other, other_ask);
-    let (mut pass, told) = call(rt, desk, pass, ask);
+    let ((mut pass, told), (other, other_told)) = join(
+        rt,
+        || -> (Pass<Booked<SureKeeper>>, Told)
+            requires { IsPassOf desk.now pass × IsFitRequest ask.request }
+            ensures pass { IsPassOf desk.entry.now result.0 }
+            ensures covers { CoversNoLess (view pass) (view result.0) }
+        { call(rt, desk, pass, ask) },
+        || -> (Pass<Booked<SureKeeper>>, Told)
+            requires { IsPassOf desk.now other × IsFitRequest other_ask.request }
+            ensures pass { IsPassOf desk.entry.now result.0 }
+            ensures covers { CoversNoLess (view other) (view result.0) }
+        { call(rt, desk, other, other_ask) },
+    );
     desk.back(&mut pass, other);
     (pass, told, other_told)
+}
+
+/// What two calls are told, by their tickets.
+fn by_ticket(one: Told, other: Told) -> (Told, Told) {
+    let is_later = match (&one, &other) {
+        (Ok(one), Ok(other)) => other.0 < one.0,
+        _ => false,
+    };
+    if is_later { (other, one) } else { (one, other) }
 }
 
 /// The status of a call that is made after the journal was begun again.
@@ -124,14 +147,14 @@ fn told(ticket: u64, time: u64) -> Told {
 }
 
 #[test]
-fn calls_by_two_passes_are_entered(rt: HostRuntime) -> Result<(), Fail> {
+fn calls_by_two_passes_in_two_threads_are_entered(rt: HostRuntime) -> Result<(), Fail> {
     let alloc = rt.alloc();
     let (a, b) = (put(alloc, "a")?, put(alloc, "b")?);
     let (c, d) = (put(alloc, "c")?, put(alloc, "d")?);
     let last = put(alloc, "e")?;
     let (desk, pass) = desk(alloc, booked(alloc, SureKeeper::new(Kept::fresh(alloc)))?)?;
-    let (pass, second, first) = call_both(&rt, &desk, pass, b, a);
-    assert_eq!(rt; (first, second), (told(0, 1000), told(1, 1001)));
+    let (pass, one, other) = call_both(&rt, &desk, pass, a, b);
+    assert_eq!(rt; by_ticket(one, other), (told(0, 1000), told(1, 1001)));
     let (pass, third) = call(&rt, &desk, pass, c);
     assert_eq!(rt; third, told(2, 1002));
     let (pass, past) = call(&rt, &desk, pass, d);

@@ -11,7 +11,7 @@ use Rattle.ss_booked.proofs.bound.Bound.fold.Goals as goal
 pub invariant_of-self : goal.invariant_of-self
 invariant_of-self g c =
     sound-begun (g.K.Keeper.told c.self.inside.account.keeper) c.self.inside.account.plain c.in_ok-opening.opening c.restart.new.self c.self.inside.journal.most _ _
-    c.restart.ensures.begun (ap g.K.Keeper.keep_faults (c.of.ensures ∙ c.keeper.ensures)) c.in_ok-opening.ensures.plain c.plain.ensures.valid c.plain.ensures.kept c.plain.ensures.again
+    c.restart.ensures.begun (ap g.K.Keeper.keep_faults (c.of-before.ensures ∙ c.keeper.ensures)) c.in_ok-opening.ensures.plain c.plain.ensures.valid c.plain.ensures.kept c.plain.ensures.again
 
 pub returns-clause-follows : goal.returns-clause-follows
 returns-clause-follows g c =

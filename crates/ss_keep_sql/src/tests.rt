@@ -398,6 +398,39 @@ fn a_file_that_is_closed_and_opened_gives_what_was_committed(rt: HostRuntime) ->
     Ok(())
 }
 
+/// Makes a file of version 1.
+fn make_old(rt: &HostRuntime, path: &str) -> Result<(), Fail> {
+    let mut connection = Connection::open(rt, path)?;
+    connection.execute_batch(VERSION_1)?;
+    connection.close()?;
+    Ok(())
+}
+
+/// The version that a file tells, and how many of the two tables of batches it has.
+fn version_of(rt: &HostRuntime, path: &str) -> Result<(i64, i64), Fail> {
+    let mut connection = Connection::open(rt, path)?;
+    let version: i64 = connection
+        .query_row("SELECT version FROM about", &[])?
+        .get(0)?;
+    let tables: i64 = connection
+        .query_row(
+            "SELECT count(*) FROM sqlite_schema WHERE name IN ('batches', 'parts')",
+            &[],
+        )?
+        .get(0)?;
+    connection.close()?;
+    Ok((version, tables))
+}
+
+#[test]
+fn a_file_of_version_1_is_of_version_2_once_it_was_opened(rt: HostRuntime) -> Result<(), Fail> {
+    make_old(&rt, "old.db")?;
+    assert_eq!(rt; version_of(&rt, "old.db")?, (1, 0));
+    assert_eq!(rt; opened(&rt, "old.db")?, Ok(expected(rt.alloc(), &[OLD])?));
+    assert_eq!(rt; version_of(&rt, "old.db")?, (2, 2));
+    Ok(())
+}
+
 type Stopping = Fuse<Memory>;
 
 /// How many of the commits were answered Ok on files that fail after so many calls, and the files.

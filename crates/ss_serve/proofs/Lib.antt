@@ -1,0 +1,9 @@
+pub mod Working
+pub mod Shares
+pub mod Crews
+pub mod Gatherings
+pub mod Closings
+pub mod Tying
+pub mod Fillings
+pub mod Naming
+pub mod Crossing

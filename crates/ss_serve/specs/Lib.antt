@@ -1,0 +1,6 @@
+pub mod Workers
+pub mod Reports
+pub mod Terms
+pub mod Crew
+pub mod Gathering
+pub mod Fullness

@@ -1,0 +1,34 @@
+-- What is reported of links.
+use Rattle.std.specs.Prelude.{◌≡◌, ℕ, Bool, List, [], ◌∷◌, ◌++◌, Option, IsTrue}
+use Rattle.ss_desk.specs.Journal.{entries_of}
+use Rattle.ss_outside.specs.Told.{Meanings}
+use Rattle.ss_links.specs.Links.{IsUnused}
+use Rattle.ss_connection.specs.Known.{Known}
+use Rattle.ss_connection.specs.Calls.{calls_to}
+use Rattle.ss_connection.specs.Ends.{Served}
+use Rattle.ss_serve.specs.declared.report.LinkReport.{LinkReport}
+
+module _ {L : Type 0} where
+  -- the tickets of the calls to this account, report by report
+  abbrev pub all_calls_to : ℕ → List (LinkReport L) → List ℕ
+  all_calls_to uid [] = []
+  all_calls_to uid (r ∷ reports) = calls_to uid r.turns.items ++ all_calls_to uid reports
+
+  -- the reports of this worker, in their order
+  abbrev pub reports_by : ℕ → List (LinkReport L) → List (LinkReport L)
+  reports_by worker reports = entries_of (λ r. r.worker) worker reports
+
+  module _ (tells : L → Meanings) (closed : L → Bool) (uids : List ℕ) where
+    -- A link that the port gave, of which nothing had been taken and to which nothing had been written: its turns and its end
+    -- were those of a connection, over what is known of the accounts, and it was closed
+    pub record IsReport (known : ℕ → Known) (coming coming' : Option (List ℕ)) (r : LinkReport L) : Type 0 where
+      pub given : Meanings
+      pub unused : IsUnused given
+      pub served : Served uids known r.end given (tells r.link) coming coming' r.turns.items
+      pub is_closed : IsTrue (closed r.link)
+
+    -- such reports, one after the other, with the readings of one clock
+    abbrev pub AreReports : (ℕ → Known) → List (LinkReport L) → Option (List ℕ) → Option (List ℕ) → Type 0
+    AreReports known [] coming coming' = coming' ≡ coming
+    AreReports known (r ∷ reports) coming coming' =
+        (between : Option (List ℕ)) × IsReport known coming between r × AreReports known reports between coming'

@@ -1,5 +1,6 @@
 -- What is kept in memory under folders and uids.
-use Rattle.std.specs.Prelude.{◌≡◌, ◌<◌, ℕ, Bool, true, false, length, get_or, Option, Some, None, ◌&&◌, ◌==◌, List, [], ◌∷◌, bytes_eq, if◌then◌else◌}
+use Rattle.std.specs.Prelude.{◌≡◌, ◌<◌, ℕ, Bool, true, false, length, get_or, Option, Some, None, ◌&&◌, ◌==◌, List, [], ◌∷◌, bytes_eq, if◌then◌else◌, String, string_bytes}
+use Rattle.std.specs.Global.{Global}
 use Rattle.ss_bso.specs.declared.changes.Kept.{Kept}
 use Rattle.ss_bso.specs.Changes.{fresh_kept}
 use Rattle.ss_site.specs.Sites.{Entries}
@@ -9,6 +10,10 @@ pub record Held : Type 0 where
   pub folder : List ℕ
   pub uid : ℕ
   pub kept : Kept
+
+-- the entry that is given as a folder's name, a uid and what is kept
+abbrev pub held_of : String Global × ℕ × Kept → Held
+held_of given = record { folder = string_bytes given.0; uid = given.1; kept = given.2 }
 
 -- the entry is that of this folder and uid
 abbrev pub is_at : List ℕ → ℕ → Held → Bool

@@ -9,6 +9,8 @@ mod memory_site;
 mod real_site;
 mod site;
 mod table;
+#[cfg(test)]
+mod tests;
 mod trouble;
 
 pub use counted_keeper::CountedKeeper;

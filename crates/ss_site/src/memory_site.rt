@@ -3,6 +3,7 @@
 ghost use Rattle.std.specs.Prelude.{◌≡◌, ◌⊎◌, ℕ, [], Some, None, IfOk, IfErr, OnOk, OnErr, map};
 ghost use Rattle.ss_site.specs.Sites.{Counts, Term, HasCause, IsEntry, HasRetired, CountsKeeper, CountsPort, AddsTerm};
 ghost use Rattle.ss_site.specs.Memories.{site_counts, site_terms, site_kept};
+ghost use Rattle.ss_site.specs.Tables.{entries_of, held_of};
 
 use crate::counted_keeper::CountedKeeper;
 use crate::counted_port::CountedPort;
@@ -39,8 +40,9 @@ pub struct MemSite<T> {
 }
 
 impl<T> MemSite<T> {
-    /// A site that gives these ports and clocks that count from `first`, and keeps these entries. The calls of `listen`, `keeper`
-    /// and `ended` with the numbers `failing` fail, counted together from 1.
+    /// A site that gives these ports and clocks that count from `first`, and keeps these entries: of several under one folder and
+    /// uid the first counts, and where there is none a fresh one is kept. The calls of `listen`, `keeper` and `ended` with the
+    /// numbers `failing` fail, counted together from 1.
     pub fn new(
         alloc: Global,
         mut ports: Vec<MemPort>,
@@ -50,6 +52,7 @@ impl<T> MemSite<T> {
     ) -> Result<MemSite<T>, AllocError>
         ensures counts { IfOk result (λ site. site_counts site ≡ record { faults = 0; links = 0; ends = 0 }) }
         ensures terms { IfOk result (λ site. site_terms site ≡ Some []) }
+        ensures kept { IfOk result (λ site. site_kept site ≡ Some (entries_of (map held_of kept.items))) }
     {
         let mut table = Table::new(alloc);
         for (folder, uid, kept) in kept {

@@ -1,3 +1,4 @@
+pub mod Hosts
 pub mod Choices
 pub mod Steps
 pub mod Heard

@@ -11,7 +11,7 @@ use Rattle.ss_words.specs.declared.names.OptionName.TheVariants.{At, Newer, Work
 use Rattle.ss_words.specs.Names.{name_of}
 use Rattle.ss_words.specs.Lines.{Line, IsLine}
 use Rattle.ss_words.specs.Values.{given, number_in, number_given, accounts_of, are_accounts}
-use Rattle.ss_words.specs.Urls.{server_of}
+use Rattle.ss_words.specs.Urls.{server_of, HasHost}
 use Rattle.ss_words.specs.Actions.{action_in}
 
 -- the greatest number of 12 digits
@@ -82,13 +82,13 @@ abbrev pub HasAddress : Command → Type 0
 HasAddress (asked.Serve command) = (address : SocketAddrV4) × IsSocketV4Text command.address address
 HasAddress _ = ⊤
 
--- the ranges of the numbers of a command, and its accounts
+-- the ranges of the numbers of a command, its accounts, and the host of its server
 abbrev pub HasRange : Command → Type 0
 HasRange (asked.Answer command) = IfSome command.at (λ at. at ≤ most)
 HasRange (asked.Edit command) = IfSome command.at (λ at. at ≤ most)
 HasRange asked.Merge = ⊤
 HasRange (asked.Rehearse command) = (1 ≤ command.items) × (command.items ≤ 15000) × (command.seed ≤ most)
-HasRange (asked.Sync command) = ⊤
+HasRange (asked.Sync command) = HasHost command.server
 HasRange (asked.Serve command) =
     (1 ≤ command.workers) × (command.workers ≤ 16) × (1 ≤ command.connections) × (command.connections ≤ 1000) × (command.terms ≤ most) × (are_accounts command.uids ≡ true)
 

@@ -3,7 +3,7 @@
 ghost use Rattle.std.specs.Prelude.{◌≡◌, option_map, Some, None, IfOk, IfErr, IfSome};
 ghost use Rattle.url.specs.Parts.{Parts};
 ghost use Rattle.ss_words.specs.Refused.{IsRefused};
-ghost use Rattle.ss_words.specs.Urls.{behind_version, without_slash, uid_in_path, server_in, server_of};
+ghost use Rattle.ss_words.specs.Urls.{behind_version, without_slash, uid_in_path, server_in, server_of, HasHost};
 ghost use Rattle.ss_route.specs.Targets.{uid_of};
 
 use crate::refusals::{Cause, WordsFault};
@@ -54,7 +54,8 @@ fn uid_in_path(path: &str) -> Option<u32>
 
 /// The server of a URL that was read.
 fn server_in(alloc: Global, url: &Url) -> Result<Option<Server>, AllocError>
-    ensures { IfOk result (λ server. server ≡ server_in url.now) }
+    ensures server { IfOk result (λ server. server ≡ server_in url.now) }
+    ensures host { IfOk result (λ server. IfSome server HasHost) }
 {
     let Some(host) = url.host_str() else {
         return Ok(None);
@@ -76,6 +77,7 @@ fn server_in(alloc: Global, url: &Url) -> Result<Option<Server>, AllocError>
 #[tactic(auto, unfolding(crate::specs::Urls::server_of))]
 pub(crate) fn read_server<'a>(alloc: Global, word: &'a str) -> Result<Server, WordsFault<'a>>
     ensures ok { IfOk result (λ server. server_of word.now ≡ Some server) }
+    ensures host { IfOk result HasHost }
     ensures refused { IfErr result (λ fault. IsRefused fault → server_of word.now ≡ None) }
 {
     match Url::parse(alloc, word) {

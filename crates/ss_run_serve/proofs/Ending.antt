@@ -1,0 +1,191 @@
+-- What one term of a server comes to, from what the term says.
+use Rattle.std.specs.Prelude.{◌≡◌, ◌≢◌, ◌⊎◌, ◌<◌, ◌≤◌, ℕ, zero, suc, Bool, List, [], ◌∷◌, length, map, get_or, Option, Some, None, All, Any, Contains, refl}
+use Rattle.std.specs.List.Sorted.{IsPermutation}
+use Rattle.std.proofs.Common.{sym, ap, subst, ◌∙◌, inl, inr, arith}
+use Rattle.std.proofs.lemmas.List.{length-map}
+use Rattle.std.proofs.lemmas.List.Elements.{All-contains}
+use Rattle.std.proofs.lemmas.List.Sorted.{IsPermutation-map, IsPermutation-refl, Contains-permutation}
+use mathlib.Core.Option.{some}
+use lib.ListN.{get_elem?}
+use Rattle.ss_desk.proofs.Lists.{at_get}
+use Rattle.ss_keeper.specs.declared.keeper.Keeper.{Ghosts}
+use Rattle.ss_outside.specs.Told.{Meanings}
+use Rattle.ss_outside.specs.Causes.{Rose}
+use Rattle.ss_links.specs.Counts.{RoseBy}
+use Rattle.ss_links.specs.Ports.{Accepts}
+use Rattle.ss_bso.specs.declared.changes.Kept.{Kept}
+use Rattle.ss_laws.specs.declared.journal.Entry.{Entry}
+use Rattle.ss_laws.specs.Journal.{Journal}
+use Rattle.ss_town.specs.declared.opening.TownFault.{TownFault}
+use Rattle.ss_town.specs.declared.opening.TownFault.TheVariants.{Empty, TooMany, Twice, Zero, Memory}
+use Rattle.ss_town.specs.Opening.{AreBare, BackAfter, ComeBack}
+use Rattle.ss_booked.specs.declared.booked.Booked.{Booked}
+use Rattle.ss_booked.specs.declared.booked.Terms.{Terms}
+use Rattle.ss_booked.specs.Booked.{account_of, journal_of, terms_of}
+use Rattle.ss_site.specs.Sites.{Counts, Term, HasAdded}
+use Rattle.ss_serve.specs.declared.report.LinkReport.{LinkReport}
+use Rattle.ss_serve.specs.declared.report.TermStop.{TermStop}
+use Rattle.ss_serve.specs.declared.report.TermStop.TheVariants as ended
+use Rattle.ss_serve.specs.Terms.{HasEnded, IsRefused, IsTerm, TermSays}
+use Rattle.ss_run_serve.specs.declared.stop.Stop.{Stop}
+use Rattle.ss_run_serve.specs.declared.stop.Stop.TheVariants as stops
+use Rattle.ss_run_serve.specs.Hosted.{Hosted, IsBegun, hosted, hosted_at, journal_in}
+use Rattle.ss_run_serve.specs.Retiring.{uids_in}
+use Rattle.ss_run_serve.specs.Once.{Follows, GoesOn, HasFailed, IsDone, IsLast, IsLost, IsOnce, IsUntold}
+use Rattle.ss_run_serve.proofs.Handed.{all_at, at_seen, contains_at, seen, seen_at, term_seen}
+use Rattle.ss_run_serve.proofs.Progress.{IsFaulty, any_of, failed_of, map_there, same_uids, term_faulty, term_uids}
+use Rattle.ss_run_serve.proofs.Rising.{rose_some}
+
+-- why no further term follows, or that one does
+last_is : (stop : TermStop) (connections : ℕ) (old new : Accepts) (next : Option Stop) → ((fault : TownFault) → stop ≡ ended.Town fault → ⊥) → HasEnded stop connections old new → Follows stop new next
+    → IsLast connections old new next
+last_is ended.Port connections old new next town why follows = subst (λ (n : Option Stop). IsLast connections old new n) (sym follows) (rose_some old.faults new.faults why)
+last_is ended.PortEnded connections old new next town why follows = subst (λ (n : Option Stop). IsLast connections old new n) (sym follows) (rose_some old.ends new.ends why)
+last_is ended.Memory connections old new next town why follows = subst (λ (n : Option Stop). IsLast connections old new n) (sym follows) tt
+last_is (ended.Town fault) connections old new next town why follows = absurd (town fault refl)
+last_is ended.Connections connections old new next town why (inl on) = subst (λ (n : Option Stop). IsLast connections old new n) (sym on.0) (why, on.1)
+last_is ended.Connections connections old new next town why (inr over) = subst (λ (n : Option Stop). IsLast connections old new n) (sym over.0) over.1
+last_is (ended.Full uid) connections old new next town (inl rose) (inl on) = absurd (rose_some old.ends new.ends rose on.1)
+last_is (ended.Full uid) connections old new next town (inr given) (inl on) = subst (λ (n : Option Stop). IsLast connections old new n) (sym on.0) (given, on.1)
+last_is (ended.Full uid) connections old new next town why (inr over) = subst (λ (n : Option Stop). IsLast connections old new n) (sym over.0) over.1
+
+-- of accounts that begin, one whose keeper had failed has failed
+begun_faulty : (given : List (ℕ × Hosted)) → All (λ (a : ℕ × Hosted). IsBegun a.1) given → Any HasFailed given → Any IsFaulty given
+begun_faulty given begun any =
+    let there : Contains given any.1 = (any.0, any.2, any.3) in
+    any_of IsFaulty given any.1 there (now any.1.1 (All-contains (λ (a : ℕ × Hosted). IsBegun a.1) given any.1 begun there) any.4)
+  where
+    now : (h : Hosted) → IsBegun h → (h.fixed.faults ≢ 0) ⊎ (h.faults ≢ 0) → h.faults ≢ 0
+    now h begun (inl before) = λ none. before (begun.counted ∙ none)
+    now h begun (inr faults) = faults
+
+module _ {K : Type 0} {G : Ghosts K} (told : K → Option Kept) (faults : K → ℕ) where
+  abbrev fixed : Booked K G → Terms
+  fixed b = terms_of faults b
+
+  abbrev entries_in : Booked K G → List Entry
+  entries_in b = (journal_of b).entries
+
+  abbrev failures : Booked K G → ℕ
+  failures b = faults (account_of b).keeper
+
+  abbrev hosted_all : List (ℕ × Booked K G) → List (ℕ × Hosted)
+  hosted_all accounts = map (hosted_at told faults) accounts
+
+  -- accounts whose journals have no entries
+  pub are_bare : (accounts : List (ℕ × Booked K G)) → All (λ (a : ℕ × Hosted). IsBegun a.1) (hosted_all accounts) → AreBare (λ (b : Booked K G). (journal_of b).entries) accounts
+  are_bare accounts begun = λ i uid b at. (all_at (λ (a : ℕ × Hosted). IsBegun a.1) (hosted_all accounts) i (uid, hosted told faults b) begun (at_seen (hosted told faults) accounts i uid b at)).entries
+
+  module _ {L : Type 0} (tells : L → Meanings) (closed : L → Bool) where
+    abbrev Term_of : List (ℕ × Booked K G) → List (ℕ × Booked K G) → List (LinkReport L) → List (Option (List ℕ)) → List (Option (List ℕ)) → Type 0
+    Term_of given handed reports coming coming' = IsTerm fixed entries_in failures tells closed given handed reports coming coming'
+
+    -- a term that isn't refused
+    term_of : (given handed : List (ℕ × Booked K G)) (reports : List (LinkReport L)) (coming coming' : List (Option (List ℕ))) (stop : TermStop) → ((fault : TownFault) → stop ≡ ended.Town fault → ⊥)
+        → TermSays fixed entries_in failures tells closed given handed reports coming coming' stop → Term_of given handed reports coming coming'
+    term_of given handed reports coming coming' ended.Connections town says = says
+    term_of given handed reports coming coming' ended.PortEnded town says = says
+    term_of given handed reports coming coming' ended.Port town says = says
+    term_of given handed reports coming coming' (ended.Full uid) town says = says
+    term_of given handed reports coming coming' ended.Memory town says = says
+    term_of given handed reports coming coming' (ended.Town fault) town says = absurd (town fault refl)
+
+    seen_term : (given handed : List (ℕ × Booked K G)) (reports : List (LinkReport L)) (coming coming' : List (Option (List ℕ))) → Term_of given handed reports coming coming'
+        → IsTerm (λ (h : Hosted). h.fixed) (λ (h : Hosted). h.entries) (λ (h : Hosted). h.faults) tells closed (hosted_all given) (hosted_all handed) reports coming coming'
+    seen_term given handed reports coming coming' term = term_seen (hosted told faults) (λ (h : Hosted). h.fixed) (λ (h : Hosted). h.entries) (λ (h : Hosted). h.faults) tells closed given handed reports coming coming' term
+
+    -- the site was told of a term
+    pub once_done : (given handed : List (ℕ × Booked K G)) (reports : List (LinkReport L)) (coming coming' : List (Option (List ℕ))) (stop : TermStop) (terms terms' : Option (List (Term (LinkReport L))))
+        (old new : Counts) (connections : ℕ) (port port' : Accepts) (next : Option Stop) → ((fault : TownFault) → stop ≡ ended.Town fault → ⊥)
+        → TermSays fixed entries_in failures tells closed given handed reports coming coming' stop
+        → HasAdded (record { reports = reports; journals = map {B = ℕ × Journal} (λ (a : ℕ × Booked K G). (a.0, journal_of a.1)) handed }) terms terms'
+        → new ≡ old → RoseBy (length reports) port.links port'.links → length reports ≤ connections → HasEnded stop connections port port' → Follows stop port' next
+        → IsOnce tells closed (hosted_all given) (hosted_all handed) coming coming' terms terms' old new connections port port' next
+    once_done given handed reports coming coming' stop terms terms' old new connections port port' next town says added counts links few why follows = inr (record {
+      term = record { reports = reports; journals = map {B = ℕ × Journal} (λ (a : ℕ × Booked K G). (a.0, journal_of a.1)) handed };
+      told = added;
+      journals = journals handed;
+      served = seen_term given handed reports coming coming' (term_of given handed reports coming coming' stop town says);
+      links = links;
+      few = few;
+      counts = counts;
+      why = last_is stop connections port port' next town why follows;
+    })
+      where
+        journals : (accounts : List (ℕ × Booked K G)) → map {B = ℕ × Journal} (λ (a : ℕ × Booked K G). (a.0, journal_of a.1)) accounts ≡ map {B = ℕ × Journal} (λ (a : ℕ × Hosted). (a.0, journal_in a.1)) (hosted_all accounts)
+        journals [] = refl
+        journals (a ∷ accounts) = ap (λ (js : List (ℕ × Journal)). (a.0, journal_of a.1) ∷ js) (journals accounts)
+
+    -- the site wasn't told
+    pub once_untold : (given handed : List (ℕ × Booked K G)) (reports : List (LinkReport L)) (coming coming' : List (Option (List ℕ))) (stop : TermStop) (terms terms' : Option (List (Term (LinkReport L))))
+        (old new : Counts) (connections : ℕ) (port port' : Accepts) (last : Stop) → ((fault : TownFault) → stop ≡ ended.Town fault → ⊥) → All (λ (a : ℕ × Hosted). IsBegun a.1) (hosted_all given)
+        → TermSays fixed entries_in failures tells closed given handed reports coming coming' stop → terms' ≡ terms → IsUntold old new last
+        → IsOnce tells closed (hosted_all given) (hosted_all handed) coming coming' terms terms' old new connections port port' (Some last)
+    once_untold given handed reports coming coming' stop terms terms' old new connections port port' last town begun says same why =
+        let term = seen_term given handed reports coming coming' (term_of given handed reports coming coming' stop town says) in
+        inl (record {
+          stop = last;
+          is = refl;
+          why = why;
+          untold = same;
+          uids = term_uids tells closed (hosted_all given) (hosted_all handed) reports coming coming' term;
+          failed = λ any. failed_of tells closed (hosted_all handed) (term_faulty tells closed (hosted_all given) (hosted_all handed) reports coming coming' begun term (begun_faulty (hosted_all given) begun any));
+        })
+
+    -- the accounts come back as what no call changes
+    come_back : (given handed : List (ℕ × Booked K G)) → All (λ (a : ℕ × Hosted). IsBegun a.1) (hosted_all given) → ComeBack fixed entries_in given handed
+        → IsPermutation (uids_in (hosted_all given)) (uids_in (hosted_all handed)) × (Any HasFailed (hosted_all given) → Any HasFailed (hosted_all handed))
+    come_back given handed begun back = (moved, failed)
+      where
+        each : (i uid : ℕ) (h : Hosted) → get_elem? (hosted_all back.order) i ≡ some (uid, h) → (h' : Hosted) × (get_elem? (hosted_all handed) i ≡ some (uid, h')) × (h'.fixed ≡ h.fixed)
+        each i uid h at =
+            let b = seen_at (hosted told faults) back.order i uid h at in
+            let r = back.returned.each i uid b.0 b.1 in
+            (hosted told faults r.0, at_seen (hosted told faults) handed i uid r.0 r.1, r.2 ∙ ap (λ (x : Hosted). x.fixed) b.2)
+
+        order_moved : IsPermutation (hosted_all given) (hosted_all back.order)
+        order_moved = IsPermutation-map (hosted_at told faults) given back.order back.moved
+
+        long : length (hosted_all handed) ≡ length (hosted_all back.order)
+        long = length-map handed (hosted_at told faults) ∙ back.returned.count ∙ sym (length-map back.order (hosted_at told faults))
+
+        moved : IsPermutation (uids_in (hosted_all given)) (uids_in (hosted_all handed))
+        moved = subst (λ (us : List ℕ). IsPermutation (uids_in (hosted_all given)) us) (sym (same_uids {R = λ (h h' : Hosted). h'.fixed ≡ h.fixed} (hosted_all back.order) (hosted_all handed) long each))
+            (IsPermutation-map (λ (a : ℕ × Hosted). a.0) (hosted_all given) (hosted_all back.order) order_moved)
+
+        failed : Any HasFailed (hosted_all given) → Any HasFailed (hosted_all handed)
+        failed any =
+            let faulty = begun_faulty (hosted_all given) begun any in
+            let there : Contains (hosted_all given) faulty.1 = (faulty.0, faulty.2, faulty.3) in
+            let counted = (All-contains (λ (a : ℕ × Hosted). IsBegun a.1) (hosted_all given) faulty.1 begun there).counted in
+            let place = Contains-permutation (hosted_all given) (hosted_all back.order) faulty.1 order_moved there in
+            let at : get_elem? (hosted_all back.order) place.0 ≡ some faulty.1 = at_get (hosted_all back.order) place.0 faulty.1 place.1 ∙ ap some place.2 in
+            let other = each place.0 faulty.1.0 faulty.1.1 at in
+            any_of HasFailed (hosted_all handed) (faulty.1.0, other.0) (contains_at (hosted_all handed) place.0 (faulty.1.0, other.0) other.1)
+            (inl (λ none. faulty.4 (sym counted ∙ sym (ap (λ (t : Terms). t.faults) other.2) ∙ none)))
+
+    as_given : (given handed : List (ℕ × Booked K G)) → handed ≡ given
+        → IsPermutation (uids_in (hosted_all given)) (uids_in (hosted_all handed)) × (Any HasFailed (hosted_all given) → Any HasFailed (hosted_all handed))
+    as_given given handed same = (
+      subst (λ (accounts : List (ℕ × Booked K G)). IsPermutation (uids_in (hosted_all given)) (uids_in (hosted_all accounts))) (sym same) (IsPermutation-refl (uids_in (hosted_all given))),
+      λ any. subst (λ (accounts : List (ℕ × Booked K G)). Any HasFailed (hosted_all accounts)) (sym same) any,
+    )
+
+    back_after : (given handed : List (ℕ × Booked K G)) (fault : TownFault) → All (λ (a : ℕ × Hosted). IsBegun a.1) (hosted_all given) → BackAfter fixed entries_in given handed fault
+        → IsPermutation (uids_in (hosted_all given)) (uids_in (hosted_all handed)) × (Any HasFailed (hosted_all given) → Any HasFailed (hosted_all handed))
+    back_after given handed Memory begun back = come_back given handed begun back
+    back_after given handed Empty begun same = as_given given handed same
+    back_after given handed (TooMany n) begun same = as_given given handed same
+    back_after given handed (Twice uid) begun same = as_given given handed same
+    back_after given handed Zero begun same = as_given given handed same
+
+    -- no term took place
+    pub once_refused : (given handed : List (ℕ × Booked K G)) (reports : List (LinkReport L)) (coming coming' : List (Option (List ℕ))) (stop : TermStop) (fault : TownFault)
+        (terms : Option (List (Term (LinkReport L)))) (old : Counts) (connections : ℕ) (port port' : Accepts) → stop ≡ ended.Town fault → All (λ (a : ℕ × Hosted). IsBegun a.1) (hosted_all given)
+        → TermSays fixed entries_in failures tells closed given handed reports coming coming' stop
+        → IsOnce tells closed (hosted_all given) (hosted_all handed) coming coming' terms terms old old connections port port' (Some stops.Memory)
+    once_refused given handed reports coming coming' stop fault terms old connections port port' town begun says =
+        let refused : IsRefused fixed entries_in fault given handed reports coming coming' =
+        (let P : TermStop → Type 0 = λ (s : TermStop). TermSays fixed entries_in failures tells closed given handed reports coming coming' s in subst P town says) in
+        let back = back_after given handed fault begun refused.back in
+        inl (record { stop = stops.Memory; is = refl; why = refl; untold = refl; uids = back.0; failed = back.1 })

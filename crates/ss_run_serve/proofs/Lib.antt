@@ -1,0 +1,9 @@
+pub mod Rising
+pub mod Retired
+pub mod Opened
+pub mod Handed
+pub mod Anew
+pub mod Progress
+pub mod Shutting
+pub mod Whole
+pub mod Ending

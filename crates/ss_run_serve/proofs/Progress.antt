@@ -1,0 +1,376 @@
+-- The terms of a server so far, and one term more.
+use Rattle.std.specs.Prelude.{◌≡◌, ◌≢◌, ◌⊎◌, ◌<◌, ◌≤◌, ◌+◌, ◌*◌, ◌-◌, ◌^◌, ℕ, zero, suc, Bool, List, [], ◌∷◌, ◌++◌, length, map, sum_by, Option, Some, None, All, Any, Contains, refl}
+use Rattle.std.specs.Option.{option_map}
+use Rattle.std.specs.List.{AllZip}
+use Rattle.std.specs.List.Sorted.{IsPermutation}
+use Rattle.std.proofs.Common.{sym, ap, subst, ◌∙◌, inl, inr, arith, append_assoc, append-nil}
+use Rattle.std.proofs.lemmas.List.{length-append, length-map}
+use Rattle.std.proofs.lemmas.List.Elements.{All-append, All-contains, All-cons, All-head, All-nil, All-push, All-tail, Contains-get_or, Contains-push, Contains-push_cases}
+use Rattle.std.proofs.lemmas.List.Sorted.{IsPermutation-map, IsPermutation-refl, IsPermutation-trans, Contains-permutation}
+use Rattle.std.proofs.lemmas.List.Sums.{sum_by-append}
+use mathlib.Core.Option.{some}
+use lib.ListN.{get_elem?}
+use Rattle.ss_outside.specs.Told.{Meanings}
+use Rattle.ss_outside.specs.Causes.{Rose}
+use Rattle.ss_links.specs.Counts.{RoseBy}
+use Rattle.ss_links.specs.Ports.{Accepts, idle_port}
+use Rattle.ss_desk.proofs.Lists.{at_get}
+use Rattle.ss_bso.specs.Validity.{SameAccount}
+use Rattle.ss_booked.specs.Sound.{keeper_marks}
+use Rattle.ss_laws.specs.Journal.{Journal}
+use Rattle.ss_site.specs.Sites.{Counts, Term, HasAdded}
+use Rattle.ss_serve.specs.declared.report.LinkReport.{LinkReport}
+use Rattle.ss_serve.specs.Terms.{IsTerm}
+use Rattle.ss_run_serve.specs.declared.stop.Stop.{Stop}
+use Rattle.ss_run_serve.specs.declared.stop.Stop.TheVariants as stops
+use Rattle.ss_run_serve.specs.Hosted.{Hosted, IsBegun, Stands, journal_in, left_by}
+use Rattle.ss_run_serve.specs.Opening.{CountsFaults}
+use Rattle.ss_run_serve.specs.Retiring.{uids_in}
+use Rattle.ss_run_serve.specs.Terms.{BeginsAnew, links_of, AreTerms, AreTold, IsTermOf, KeeperFailed}
+use Rattle.ss_run_serve.specs.Once.{HasFailed, IsDone, IsLast, IsLost, IsOnce, IsUntold}
+use Rattle.ss_run_serve.specs.Course.{AllTold, Course, SameKeeper, Stops}
+use Rattle.ss_run_serve.proofs.Handed.{contains_at}
+use Rattle.ss_run_serve.proofs.Rising.{rose_then, rose_once}
+use Rattle.ss_run_serve.proofs.Anew.{begin_themselves}
+
+-- the keeper of an account has failed
+abbrev pub IsFaulty : ℕ × Hosted → Type 0
+IsFaulty account = account.1.faults ≢ 0
+
+pub any_of : {X : Type 0} (P : X → Type 0) (xs : List X) (x : X) → Contains xs x → P x → Any P xs
+any_of P xs x there is = (there.0, x, there.1, there.2, is)
+
+-- an element that stands at a place of one list, where the other has one beside it
+zip_there : {X Y : Type 0} (R : X → Y → Type 0) (xs : List X) (ys : List Y) (x : X) → AllZip R xs ys → Contains xs x → (y : Y) × Contains ys y × R x y
+zip_there R [] ys x zip there = absurd (omega (arith, there.1))
+zip_there R (a ∷ xs) [] x zip there = absurd zip
+zip_there R (a ∷ xs) (b ∷ ys) x zip (zero, lt, is) = (b, (0, omega arith, refl), subst (λ (v : _). R v b) is zip.0)
+zip_there R (a ∷ xs) (b ∷ ys) x zip (suc k, lt, is) =
+    let t = zip_there R xs ys x zip.1 (k, omega (arith, lt), is) in
+    (t.0, (suc t.1.0, omega (arith, t.1.1), t.1.2), t.2)
+
+anew_uids : (left anew : List (ℕ × Hosted)) → AllZip BeginsAnew left anew → uids_in anew ≡ uids_in left
+anew_uids [] [] zip = refl
+anew_uids [] (b ∷ anew) zip = absurd zip
+anew_uids (a ∷ left) [] zip = absurd zip
+anew_uids (a ∷ left) (b ∷ anew) zip = ap (λ (u : ℕ). u ∷ uids_in anew) zip.0.uid ∙ ap (λ (us : List ℕ). a.0 ∷ us) (anew_uids left anew zip.1)
+
+pub keeper_uids : (before after : List (ℕ × Hosted)) → AllZip SameKeeper before after → uids_in after ≡ uids_in before
+keeper_uids [] [] zip = refl
+keeper_uids [] (b ∷ after) zip = absurd zip
+keeper_uids (a ∷ before) [] zip = absurd zip
+keeper_uids (a ∷ before) (b ∷ after) zip = ap (λ (u : ℕ). u ∷ uids_in after) zip.0.uid ∙ ap (λ (us : List ℕ). a.0 ∷ us) (keeper_uids before after zip.1)
+
+pub all_begun : (left anew : List (ℕ × Hosted)) → AllZip BeginsAnew left anew → All (λ (a : ℕ × Hosted). IsBegun a.1) anew
+all_begun [] [] zip = All-nil (λ (a : ℕ × Hosted). IsBegun a.1)
+all_begun [] (b ∷ anew) zip = absurd zip
+all_begun (a ∷ left) [] zip = absurd zip
+all_begun (a ∷ left) (b ∷ anew) zip = All-cons (λ (a : ℕ × Hosted). IsBegun a.1) b anew zip.0.begun (all_begun left anew zip.1)
+
+pub map_there : {X Y : Type 0} (f : X → Y) (xs : List X) (y : Y) → Contains (map f xs) y → (x : X) × Contains xs x × (f x ≡ y)
+map_there f [] y there = absurd (omega (arith, there.1))
+map_there f (x ∷ xs) y (zero, lt, is) = (x, (0, omega arith, refl), is)
+map_there f (x ∷ xs) y (suc k, lt, is) =
+    let t = map_there f xs y (k, omega (arith, lt), is) in
+    (t.0, (suc t.1.0, omega (arith, t.1.1), t.1.2), t.2)
+
+-- accounts with the same uid at each place
+pub same_uids : {R : Hosted → Hosted → Type 0} (order handed : List (ℕ × Hosted)) → length handed ≡ length order
+    → ((i uid : ℕ) (b : Hosted) → get_elem? order i ≡ some (uid, b) → (b' : Hosted) × (get_elem? handed i ≡ some (uid, b')) × R b b') → uids_in handed ≡ uids_in order
+same_uids [] [] long back = refl
+same_uids [] (y ∷ handed) long back = absurd (omega (arith, long))
+same_uids (x ∷ order) [] long back = absurd (omega (arith, long))
+same_uids {R} (x ∷ order) (y ∷ handed) long back =
+    let first = back 0 x.0 x.1 refl in
+    let same : y ≡ (x.0, first.0) = cc in
+    ap (λ (a : ℕ × Hosted). a.0 ∷ uids_in handed) same ∙ ap (λ (us : List ℕ). x.0 ∷ us) (same_uids {R = R} order handed (omega (arith, long)) (λ i uid b at. back (suc i) uid b at))
+
+anew_faulty : (handed given : List (ℕ × Hosted)) → AllZip BeginsAnew handed given → Any IsFaulty handed → Any IsFaulty given
+anew_faulty handed given anew any =
+    let there = zip_there BeginsAnew handed given any.1 anew (any.0, any.2, any.3) in
+    any_of IsFaulty given there.0 there.1 (λ none. any.4 (sym there.2.faults ∙ none))
+
+keeper_faulty : (before after : List (ℕ × Hosted)) → AllZip SameKeeper before after → Any IsFaulty before → Any IsFaulty after
+keeper_faulty before after same any =
+    let there = zip_there SameKeeper before after any.1 same (any.0, any.2, any.3) in
+    any_of IsFaulty after there.0 there.1 (λ none. any.4 (sym there.2.faults ∙ none))
+
+module _ {L : Type 0} (tells : L → Meanings) (closed : L → Bool) where
+  abbrev Term_of : List (ℕ × Hosted) → List (ℕ × Hosted) → List (LinkReport L) → List (Option (List ℕ)) → List (Option (List ℕ)) → Type 0
+  Term_of given handed reports coming coming' = IsTerm (λ account. account.fixed) (λ account. account.entries) (λ account. account.faults) tells closed given handed reports coming coming'
+
+  pub term_uids : (given handed : List (ℕ × Hosted)) (reports : List (LinkReport L)) (coming coming' : List (Option (List ℕ))) → Term_of given handed reports coming coming' → IsPermutation (uids_in given) (uids_in handed)
+  term_uids given handed reports coming coming' term =
+      subst (λ (us : List ℕ). IsPermutation (uids_in given) us) (sym (same_uids {R = λ (b b' : Hosted). b'.fixed ≡ b.fixed} term.order handed term.count term.back))
+      (IsPermutation-map (λ (a : ℕ × Hosted). a.0) given term.order term.moved)
+
+  -- the keeper of an account that had failed when the account was given has failed when it is handed back
+  pub term_faulty : (given handed : List (ℕ × Hosted)) (reports : List (LinkReport L)) (coming coming' : List (Option (List ℕ))) → All (λ (a : ℕ × Hosted). IsBegun a.1) given → Term_of given handed reports coming coming'
+      → Any IsFaulty given → Any IsFaulty handed
+  term_faulty given handed reports coming coming' begun term any =
+      let there : Contains given any.1 = (any.0, any.2, any.3) in
+      let moved = Contains-permutation given term.order any.1 term.moved there in
+      let at : get_elem? term.order moved.0 ≡ some any.1 = at_get term.order moved.0 any.1 moved.1 ∙ ap some moved.2 in
+      let back = term.back moved.0 any.1.0 any.1.1 at in
+      let counted = (All-contains (λ (a : ℕ × Hosted). IsBegun a.1) given any.1 begun there).counted in
+      let kept = term.served.kept moved.0 any.1.0 back.0 back.1 in
+      let fixed : back.0.fixed.faults ≡ any.1.1.fixed.faults = ap (λ (t : _). t.faults) back.2 in
+      let before : any.1.1.faults ≢ 0 = any.4 in
+      any_of IsFaulty handed (any.1.0, back.0) (contains_at handed moved.0 (any.1.0, back.0) back.1) (λ none. before (omega (arith, none, kept.later, fixed, counted)))
+
+  -- a journal that says that the keeper failed
+  term_marked : (given handed : List (ℕ × Hosted)) (reports : List (LinkReport L)) (coming coming' : List (Option (List ℕ))) → Term_of given handed reports coming coming'
+      → Any (λ (journal : ℕ × Journal). keeper_marks journal.1.entries ≢ 0) (map (λ (a : ℕ × Hosted). (a.0, journal_in a.1)) handed) → Any IsFaulty handed
+  term_marked given handed reports coming coming' term any =
+      let f : ℕ × Hosted → ℕ × Journal = λ (a : ℕ × Hosted). (a.0, journal_in a.1) in
+      let there = map_there f handed any.1 (any.0, any.2, any.3) in
+      let at : get_elem? handed there.1.0 ≡ some there.0 = at_get handed there.1.0 there.0 there.1.1 ∙ ap some there.1.2 in
+      let kept = term.served.kept there.1.0 there.0.0 there.0.1 at in
+      let marks : keeper_marks there.0.1.entries ≢ 0 = subst (λ (j : ℕ × Journal). keeper_marks j.1.entries ≢ 0) (sym there.2) any.4 in
+      any_of IsFaulty handed there.0 there.1 (λ none. marks (omega (arith, none, kept.risen)))
+
+  -- the terms so far
+  pub record Stage (opened : List (ℕ × Hosted)) (coming : List (Option (List ℕ))) (told told' : Option (List (Term (LinkReport L)))) (port : Accepts) (terms : List (Term (LinkReport L)))
+      (handed : List (ℕ × Hosted)) (coming' : List (Option (List ℕ))) : Type 0 where
+    pub are_told : AreTold terms told told'
+    pub are : AreTerms tells closed opened coming terms handed coming'
+    pub failed : KeeperFailed terms → Any IsFaulty handed
+    pub uids : IsPermutation (uids_in opened) (uids_in handed)
+    pub links : RoseBy (links_of terms) 0 port.links
+    pub few : links_of terms ≤ 1000 * length terms
+
+  told_more : (terms : List (Term (LinkReport L))) (term : Term (LinkReport L)) (old mid new : Option (List (Term (LinkReport L)))) → AreTold terms old mid → HasAdded term mid new → AreTold (terms ++ term ∷ []) old new
+  told_more terms term None mid new are added = subst (λ (m : Option (List (Term (LinkReport L)))). HasAdded term m new) are added
+  told_more terms term (Some before) mid new are added =
+      let last : new ≡ Some ((before ++ terms) ++ term ∷ []) = subst (λ (m : Option (List (Term (LinkReport L)))). HasAdded term m new) are added in
+      last ∙ ap (λ (ts : List (Term (LinkReport L))). Some ts) (append_assoc before terms (term ∷ []))
+
+  are_more : (left : List (ℕ × Hosted)) (coming : List (Option (List ℕ))) (terms : List (Term (LinkReport L))) (term : Term (LinkReport L)) (handed handed' : List (ℕ × Hosted)) (coming' coming'' : List (Option (List ℕ)))
+      → AreTerms tells closed left coming terms handed coming' → IsTermOf tells closed handed coming' term handed' coming'' → AreTerms tells closed left coming (terms ++ term ∷ []) handed' coming''
+  are_more left coming [] term handed handed' coming' coming'' are of =
+      (handed', coming'', subst (λ (c : List (Option (List ℕ))). IsTermOf tells closed left c term handed' coming'') are.1 (subst (λ (h : List (ℕ × Hosted)). IsTermOf tells closed h coming' term handed' coming'') are.0 of), (refl, refl))
+  are_more left coming (first ∷ terms) term handed handed' coming' coming'' are of = (are.0, are.1, are.2, are_more are.0 are.1 terms term handed handed' coming' coming'' are.3 of)
+
+  links_more : (terms : List (Term (LinkReport L))) (term : Term (LinkReport L)) → links_of (terms ++ term ∷ []) ≡ links_of terms + length term.reports
+  links_more terms term = omega (arith, sum_by-append (λ (t : Term (LinkReport L)). length t.reports) terms (term ∷ []))
+
+  one_more : (terms : List (Term (LinkReport L))) (term : Term (LinkReport L)) → terms ++ term ∷ [] ≢ []
+  one_more terms term = λ none. absurd (omega (arith, length-append terms (term ∷ []), ap length none))
+
+  -- one term more
+  stage_more : (opened : List (ℕ × Hosted)) (coming : List (Option (List ℕ))) (told told' told'' : Option (List (Term (LinkReport L)))) (port port' : Accepts) (old new : Counts) (terms : List (Term (LinkReport L)))
+      (handed given handed' : List (ℕ × Hosted)) (coming' coming'' : List (Option (List ℕ))) (connections : ℕ) (last : Option Stop)
+      → connections ≤ 1000 → Stage opened coming told told' port terms handed coming' → AllZip BeginsAnew handed given
+      → (done : IsDone tells closed given handed' coming' coming'' told' told'' old new connections port port' last)
+      → Stage opened coming told told'' port' (terms ++ done.term ∷ []) handed' coming''
+  stage_more opened coming told told' told'' port port' old new terms handed given handed' coming' coming'' connections last small stage anew done = record {
+    are_told = told_more terms done.term told told' told'' stage.are_told done.told;
+    are = are_more opened coming terms done.term handed handed' coming' coming'' stage.are (record { given = given; anew = anew; journals = done.journals; served = done.served });
+    failed = λ any. elim (Contains-push_cases terms done.term any.1 (any.0, any.2, any.3)) [
+      | inl there ↦ term_faulty given handed' done.term.reports coming' coming'' (all_begun handed given anew) done.served (anew_faulty handed given anew (stage.failed (there.0, any.1, there.1, there.2, any.4)))
+      | inr same ↦ term_marked given handed' done.term.reports coming' coming'' done.served
+          (subst (λ (js : List (ℕ × Journal)). Any (λ (j : ℕ × Journal). keeper_marks j.1.entries ≢ 0) js) done.journals
+          (subst (λ (t : Term (LinkReport L)). Any (λ (j : ℕ × Journal). keeper_marks j.1.entries ≢ 0) t.journals) (sym same) any.4))
+    ];
+    uids = IsPermutation-trans (uids_in opened) (uids_in given) (uids_in handed') (subst (λ (us : List ℕ). IsPermutation (uids_in opened) us) (sym (anew_uids handed given anew)) stage.uids)
+        (term_uids given handed' done.term.reports coming' coming'' done.served);
+    links = subst (λ (n : ℕ). RoseBy n 0 port'.links) (sym (links_more terms done.term)) (rose_then (links_of terms) (length done.term.reports) 0 port.links port'.links stage.links done.links);
+    few = omega (arith, stage.few, done.few, small, links_more terms done.term, length-append terms (done.term ∷ []));
+  }
+
+  -- how many terms are left: none are counted where they have no end
+  pub record Remaining (asked left count : ℕ) : Type 0 where
+    pub endless : asked ≡ 0 → left ≡ 0
+    pub some : asked ≢ 0 → (left + count ≡ asked) × (0 < left)
+
+  -- the terms of a server so far, before the next one begins
+  pub record Progress (opened : List (ℕ × Hosted)) (coming : List (Option (List ℕ))) (connections asked : ℕ) (told told' : Option (List (Term (LinkReport L)))) (old new : Counts) (port : Accepts) (left : ℕ)
+      (accounts : List (ℕ × Hosted)) (coming' : List (Option (List ℕ))) : Type 0 where
+    pub terms : List (Term (LinkReport L))
+    pub handed : List (ℕ × Hosted)
+    pub stage : Stage opened coming told told' port terms handed coming'
+    pub anew : AllZip BeginsAnew handed accounts
+    pub each : asked ≢ 0 → All (λ (term : Term (LinkReport L)). length term.reports ≡ connections) terms
+    pub remaining : Remaining asked left (length terms)
+    pub counts : new ≡ old
+
+  pub told_none : (told : Option (List (Term (LinkReport L)))) → AreTold [] told told
+  told_none None = refl
+  told_none (Some terms) = ap (λ (ts : List (Term (LinkReport L))). Some ts) (sym (append-nil terms))
+
+  pub progress_first : (opened : List (ℕ × Hosted)) (coming : List (Option (List ℕ))) (connections asked : ℕ) (told : Option (List (Term (LinkReport L)))) (old : Counts) (port : Accepts)
+      → All (λ (a : ℕ × Hosted). IsBegun a.1) opened → port ≡ idle_port → Progress opened coming connections asked told told old old port asked opened coming
+  progress_first opened coming connections asked told old port begun idle = record {
+    terms = [];
+    handed = opened;
+    stage = record {
+      are_told = told_none told;
+      are = (refl, refl);
+      failed = λ any. absurd (omega (arith, any.2));
+      uids = IsPermutation-refl (uids_in opened);
+      links = subst (λ (p : Accepts). RoseBy 0 0 p.links) (sym idle) (record { later = omega arith; risen = omega arith; most = omega arith });
+      few = omega arith;
+    };
+    anew = begin_themselves opened begun;
+    each = λ asks. All-nil (λ (term : Term (LinkReport L)). length term.reports ≡ connections);
+    remaining = record { endless = λ none. none; some = λ asks. (omega arith, omega (arith, asks)) };
+    counts = refl;
+  }
+
+  pub failed_of : (accounts : List (ℕ × Hosted)) → Any IsFaulty accounts → Any HasFailed accounts
+  failed_of accounts any = (any.0, any.1, any.2, any.3, inr any.4)
+
+  no_faults : (old : Counts) → CountsFaults old old
+  no_faults old = record { faults = omega arith; links = refl; ends = refl }
+
+  module _ (opened : List (ℕ × Hosted)) (coming : List (Option (List ℕ))) (connections asked : ℕ) (told told' told'' : Option (List (Term (LinkReport L)))) (old mid new : Counts) (port port' : Accepts) (left : ℕ)
+      (given handed : List (ℕ × Hosted)) (coming' coming'' : List (Option (List ℕ))) where
+    -- a term took place, after which no further one begins
+    pub progress_done : (stop : Stop) → connections ≤ 1000 → Progress opened coming connections asked told told' old mid port left given coming'
+        → IsDone tells closed given handed coming' coming'' told' told'' mid new connections port port' (Some stop)
+        → Course tells closed opened coming connections asked told told'' old new port' handed stop
+    progress_done stop small progress done =
+        let stage = stage_more opened coming told told' told'' port port' mid new progress.terms progress.handed given handed coming' coming'' connections (Some stop) small progress.stage progress.anew done in
+        record {
+          terms = progress.terms ++ done.term ∷ [];
+          are_told = stage.are_told;
+          handed = handed;
+          coming' = coming'';
+          are = stage.are;
+          failed = λ any. failed_of handed (stage.failed any);
+          uids = stage.uids;
+          counts = subst (λ (c : Counts). CountsFaults old c) (sym (done.counts ∙ progress.counts)) (no_faults old);
+          stops = stopped (progress.terms ++ done.term ∷ []) stop done.why (record { some = one_more progress.terms done.term; links = stage.links; last = refl });
+        }
+      where
+        stopped : (terms : List (Term (LinkReport L))) (stop : Stop) → IsLast connections port port' (Some stop) → AllTold terms handed handed port' → Stops connections asked terms handed handed port' old new stop
+        stopped terms stops.PortEnded why all = (why, all)
+        stopped terms stops.Port why all = (why, all)
+        stopped terms stops.Memory why all = tt
+        stopped terms stops.Terms why all = absurd why
+        stopped terms stops.Site why all = absurd why
+        stopped terms (stops.Keeper uid) why all = absurd why
+        stopped terms (stops.Account uid fault) why all = absurd why
+
+    -- no term took place, or the site wasn't told
+    pub progress_lost : (stop : Stop) → Progress opened coming connections asked told told' old mid port left given coming' → IsLost given handed told' told'' mid new (Some stop)
+        → Course tells closed opened coming connections asked told told'' old new port' handed stop
+    progress_lost stop progress lost =
+        let same : lost.stop ≡ stop = cc in
+        let why : IsUntold mid new stop = subst (λ (s : Stop). IsUntold mid new s) same lost.why in
+        let why' : IsUntold old new stop = subst (λ (c : Counts). IsUntold c new stop) progress.counts why in
+        record {
+          terms = progress.terms;
+          are_told = subst (λ (t : Option (List (Term (LinkReport L)))). AreTold progress.terms told t) (sym lost.untold) progress.stage.are_told;
+          handed = progress.handed;
+          coming' = coming';
+          are = progress.stage.are;
+          failed = λ any. lost.failed (failed_of given (anew_faulty progress.handed given progress.anew (progress.stage.failed any)));
+          uids = IsPermutation-trans (uids_in opened) (uids_in given) (uids_in handed) (subst (λ (us : List ℕ). IsPermutation (uids_in opened) us) (sym (anew_uids progress.handed given progress.anew)) progress.stage.uids) lost.uids;
+          counts = untold_counts stop why';
+          stops = stopped progress.terms progress.handed handed stop why';
+        }
+      where
+        untold_counts : (stop : Stop) → IsUntold old new stop → CountsFaults old new
+        untold_counts stops.Site why = record { faults = why.0.later; links = why.1; ends = why.2 }
+        untold_counts stops.Memory why = subst (λ (c : Counts). CountsFaults old c) (sym why) (no_faults old)
+        untold_counts stops.PortEnded why = absurd why
+        untold_counts stops.Terms why = absurd why
+        untold_counts stops.Port why = absurd why
+        untold_counts (stops.Keeper uid) why = absurd why
+        untold_counts (stops.Account uid fault) why = absurd why
+
+        stopped : (terms : List (Term (LinkReport L))) (before after : List (ℕ × Hosted)) (stop : Stop) → IsUntold old new stop → Stops connections asked terms before after port' old new stop
+        stopped terms before after stops.Site why = why.0
+        stopped terms before after stops.Memory why = tt
+        stopped terms before after stops.PortEnded why = absurd why
+        stopped terms before after stops.Terms why = absurd why
+        stopped terms before after stops.Port why = absurd why
+        stopped terms before after (stops.Keeper uid) why = absurd why
+        stopped terms before after (stops.Account uid fault) why = absurd why
+
+    -- each term so far had all its connections
+    each_more : connections ≤ 1000 → asked ≤ 999999999999 → (progress : Progress opened coming connections asked told told' old mid port left given coming')
+        → (done : IsDone tells closed given handed coming' coming'' told' told'' mid new connections port port' None) → asked ≢ 0
+        → All (λ (term : Term (LinkReport L)). length term.reports ≡ connections) (progress.terms ++ done.term ∷ [])
+    each_more small most progress done asks =
+        let counted = progress.remaining.some asks in
+        let bound : links_of progress.terms + connections < 2 ^ 64 - 1 = omega (arith, progress.stage.few, counted.0, counted.1, small, most) in
+        All-push (λ (term : Term (LinkReport L)). length term.reports ≡ connections) progress.terms done.term (progress.each asks)
+        (rose_once connections (length done.term.reports) port.links port'.links (links_of progress.terms) progress.stage.links done.why.0 done.links done.few bound)
+
+    -- the last term that was asked took place
+    pub progress_terms : connections ≤ 1000 → asked ≤ 999999999999 → left ≡ 1 → Progress opened coming connections asked told told' old mid port left given coming'
+        → IsDone tells closed given handed coming' coming'' told' told'' mid new connections port port' None
+        → Course tells closed opened coming connections asked told told'' old new port' handed stops.Terms
+    progress_terms small most last progress done =
+        let stage = stage_more opened coming told told' told'' port port' mid new progress.terms progress.handed given handed coming' coming'' connections None small progress.stage progress.anew done in
+        let asks : asked ≢ 0 = λ none. absurd (omega (arith, progress.remaining.endless none, last)) in
+        let long : length (progress.terms ++ done.term ∷ []) ≡ asked = omega (arith, length-append progress.terms (done.term ∷ []), (progress.remaining.some asks).0, last) in
+        record {
+          terms = progress.terms ++ done.term ∷ [];
+          are_told = stage.are_told;
+          handed = handed;
+          coming' = coming'';
+          are = stage.are;
+          failed = λ any. failed_of handed (stage.failed any);
+          uids = stage.uids;
+          counts = subst (λ (c : Counts). CountsFaults old c) (sym (done.counts ∙ progress.counts)) (no_faults old);
+          stops = (asks, long, each_more small most progress done asks, record { some = one_more progress.terms done.term; links = stage.links; last = refl });
+        }
+
+    -- a term took place, and the accounts couldn't all begin anew
+    pub progress_short : (accounts : List (ℕ × Hosted)) → connections ≤ 1000 → Progress opened coming connections asked told told' old mid port left given coming'
+        → IsDone tells closed given handed coming' coming'' told' told'' mid new connections port port' None → AllZip SameKeeper handed accounts
+        → Course tells closed opened coming connections asked told told'' old new port' accounts stops.Memory
+    progress_short accounts small progress done keepers =
+        let stage = stage_more opened coming told told' told'' port port' mid new progress.terms progress.handed given handed coming' coming'' connections None small progress.stage progress.anew done in
+        record {
+          terms = progress.terms ++ done.term ∷ [];
+          are_told = stage.are_told;
+          handed = handed;
+          coming' = coming'';
+          are = stage.are;
+          failed = λ any. failed_of accounts (keeper_faulty handed accounts keepers (stage.failed any));
+          uids = subst (λ (us : List ℕ). IsPermutation (uids_in opened) us) (sym (keeper_uids handed accounts keepers)) stage.uids;
+          counts = subst (λ (c : Counts). CountsFaults old c) (sym (done.counts ∙ progress.counts)) (no_faults old);
+          stops = tt;
+        }
+
+    -- a term took place, and the accounts begin anew
+    pub progress_on : (accounts : List (ℕ × Hosted)) → connections ≤ 1000 → asked ≤ 999999999999 → left ≢ 1 → Progress opened coming connections asked told told' old mid port left given coming'
+        → IsDone tells closed given handed coming' coming'' told' told'' mid new connections port port' None → AllZip BeginsAnew handed accounts
+        → Progress opened coming connections asked told told'' old new port' (left - 1) accounts coming''
+    progress_on accounts small most more progress done anew = record {
+      terms = progress.terms ++ done.term ∷ [];
+      handed = handed;
+      stage = stage_more opened coming told told' told'' port port' mid new progress.terms progress.handed given handed coming' coming'' connections None small progress.stage progress.anew done;
+      anew = anew;
+      each = each_more small most progress done;
+      remaining = record {
+        endless = λ none. omega (arith, progress.remaining.endless none);
+        some = λ asks. (let counted = progress.remaining.some asks in
+            (omega (arith, counted.0, counted.1, more, length-append progress.terms (done.term ∷ [])), omega (arith, counted.1, more)));
+      };
+      counts = done.counts ∙ progress.counts;
+    }
+
+    -- a term after which no further one begins
+    pub progress_stop : (stop : Stop) (last : Option Stop) → connections ≤ 1000 → Progress opened coming connections asked told told' old mid port left given coming'
+        → IsOnce tells closed given handed coming' coming'' told' told'' mid new connections port port' last → last ≡ Some stop
+        → Course tells closed opened coming connections asked told told'' old new port' handed stop
+    progress_stop stop last small progress once is =
+        let now : IsOnce tells closed given handed coming' coming'' told' told'' mid new connections port port' (Some stop) =
+        subst (λ (l : Option Stop). IsOnce tells closed given handed coming' coming'' told' told'' mid new connections port port' l) is once in
+        elim now [ inl lost ↦ progress_lost stop progress lost | inr done ↦ progress_done stop small progress done ]
+
+    -- a term after which a further one may begin
+    pub once_on : (last : Option Stop) → IsOnce tells closed given handed coming' coming'' told' told'' mid new connections port port' last → last ≡ None
+        → IsDone tells closed given handed coming' coming'' told' told'' mid new connections port port' None
+    once_on last once is =
+        let now : IsOnce tells closed given handed coming' coming'' told' told'' mid new connections port port' None =
+        subst (λ (l : Option Stop). IsOnce tells closed given handed coming' coming'' told' told'' mid new connections port port' l) is once in
+        elim now [ inl lost ↦ impossible lost.stop lost.is | inr done ↦ done ]
+      where
+        impossible : (stop : Stop) → None ≡ Some stop → IsDone tells closed given handed coming' coming'' told' told'' mid new connections port port' None
+        impossible stop is = absurd cc

@@ -1,0 +1,132 @@
+-- What came of accounts that were open, once the port was shut.
+use Rattle.std.specs.Prelude.{◌≡◌, ◌≢◌, ◌⊎◌, ◌≤◌, ℕ, zero, suc, Bool, List, [], length, Option, All, Any, refl}
+use Rattle.std.specs.Option.{option_map}
+use Rattle.std.specs.List.Sorted.{IsPermutation}
+use Rattle.std.proofs.Common.{sym, ap, subst, ◌∙◌, inl, inr, arith}
+use Rattle.std.proofs.lemmas.List.Sorted.{IsPermutation-refl}
+use Rattle.ss_outside.specs.Told.{Meanings}
+use Rattle.ss_outside.specs.Causes.{Rose}
+use Rattle.ss_links.specs.Counts.{RoseBy}
+use Rattle.ss_links.specs.Ports.{Accepts}
+use Rattle.ss_site.specs.Sites.{Counts, CountsPort, RoseUnless, Term}
+use Rattle.ss_serve.specs.declared.report.LinkReport.{LinkReport}
+use Rattle.ss_run_serve.specs.declared.stop.Stop.{Stop}
+use Rattle.ss_run_serve.specs.declared.stop.Stop.TheVariants as stops
+use Rattle.ss_run_serve.specs.Hosted.{Hosted}
+use Rattle.ss_run_serve.specs.Retiring.{uids_in}
+use Rattle.ss_run_serve.specs.Terms.{links_of, AreTold, KeeperFailed}
+use Rattle.ss_run_serve.specs.Once.{IsUntold}
+use Rattle.ss_run_serve.specs.Course.{AllTold, CameTo, Course, IsReported, ServedUntil, Stops, TellsAll}
+use Rattle.ss_run_serve.proofs.Progress.{told_none}
+use Rattle.ss_run_serve.proofs.Rising.{rose_by_count, rose_on, rose_after}
+
+port_faults : (n before now : ℕ) → RoseUnless n before now → before ≤ now
+port_faults zero before now rose = omega (arith, rose.none refl)
+port_faults (suc n) before now rose = (rose.some (omega arith)).later
+
+module _ {L : Type 0} (tells : L → Meanings) (closed : L → Bool) where
+  -- accounts that were served until the port was shut
+  pub came_to : (opened : List (ℕ × Hosted)) (coming : List (Option (List ℕ))) (workers connections asked : ℕ) (told told' : Option (List (Term (LinkReport L)))) (old mid new : Counts) (port : Accepts)
+      (accounts : List (ℕ × Hosted)) (stop : Stop) → length coming ≡ workers → Course tells closed opened coming connections asked told told' old mid port accounts stop → CountsPort port mid new
+      → CameTo tells closed opened workers connections asked told told' old new accounts stop
+  came_to opened coming workers connections asked told told' old mid new port accounts stop long course shut = record {
+    terms = course.terms;
+    are_told = course.are_told;
+    handed = course.handed;
+    served = inr (coming, course.coming', long, course.are);
+    failed = course.failed;
+    uids = course.uids;
+    faults = omega (arith, course.counts.faults, later);
+    until = stopped course.terms course.handed stop course.stops;
+    whole = whole course.terms course.handed stop course.stops;
+  }
+    where
+      later : mid.faults ≤ new.faults
+      later = port_faults port.faults mid.faults new.faults shut.faults
+
+      ends : port.ends ≢ 0 → Rose old.ends new.ends
+      ends some = subst (λ (n : ℕ). Rose n new.ends) course.counts.ends (shut.ends.some some)
+
+      stopped : (terms : List (Term (LinkReport L))) (handed : List (ℕ × Hosted)) (stop : Stop) → Stops connections asked terms handed accounts port old mid stop → ServedUntil connections asked terms old new stop
+      stopped terms handed stops.PortEnded why = ends why.0
+      stopped terms handed stops.Terms why = record { stated = why.0; count = why.1; each = why.2 }
+      stopped terms handed stops.Port why = rose_after old.faults mid.faults new.faults course.counts.faults (shut.faults.some why.0)
+      stopped terms handed stops.Site why = rose_on old.faults mid.faults new.faults why later
+      stopped terms handed stops.Memory why = tt
+      stopped terms handed (stops.Keeper uid) why = absurd why
+      stopped terms handed (stops.Account uid fault) why = absurd why
+
+      links : (terms : List (Term (LinkReport L))) (handed : List (ℕ × Hosted)) → AllTold terms handed accounts port → IsReported terms handed accounts old new
+      links terms handed all = record {
+        some = all.some;
+        links = subst (λ (n : ℕ). RoseBy (links_of terms) n new.links) course.counts.links (rose_by_count (links_of terms) port.links mid.links new.links all.links shut.links);
+        last = all.last;
+      }
+
+      whole : (terms : List (Term (LinkReport L))) (handed : List (ℕ × Hosted)) (stop : Stop) → Stops connections asked terms handed accounts port old mid stop → TellsAll stop → IsReported terms handed accounts old new
+      whole terms handed stops.PortEnded why tells_all = links terms handed why.1
+      whole terms handed stops.Terms why tells_all = links terms handed why.3
+      whole terms handed stops.Port why tells_all = links terms handed why.1
+      whole terms handed stops.Site why tells_all = absurd tells_all
+      whole terms handed stops.Memory why tells_all = absurd tells_all
+      whole terms handed (stops.Keeper uid) why tells_all = absurd tells_all
+      whole terms handed (stops.Account uid fault) why tells_all = absurd tells_all
+
+  -- accounts that weren't served, since there were no clocks or no port
+  pub came_to_none : (opened : List (ℕ × Hosted)) (workers connections asked : ℕ) (told : Option (List (Term (LinkReport L)))) (old new : Counts) (stop : Stop) → IsUntold old new stop
+      → CameTo tells closed opened workers connections asked told told old new opened stop
+  came_to_none opened workers connections asked told old new stop why = record {
+    terms = [];
+    are_told = told_none tells closed told;
+    handed = opened;
+    served = inl refl;
+    failed = λ any. absurd (omega (arith, any.2));
+    uids = IsPermutation-refl (uids_in opened);
+    faults = later stop why;
+    until = stopped stop why;
+    whole = whole stop why;
+  }
+    where
+      later : (stop : Stop) → IsUntold old new stop → old.faults ≤ new.faults
+      later stops.Site why = why.0.later
+      later stops.Memory why = omega (arith, ap (λ (c : Counts). c.faults) why)
+      later stops.PortEnded why = absurd why
+      later stops.Terms why = absurd why
+      later stops.Port why = absurd why
+      later (stops.Keeper uid) why = absurd why
+      later (stops.Account uid fault) why = absurd why
+
+      stopped : (stop : Stop) → IsUntold old new stop → ServedUntil {L = L} connections asked [] old new stop
+      stopped stops.Site why = why.0
+      stopped stops.Memory why = tt
+      stopped stops.PortEnded why = absurd why
+      stopped stops.Terms why = absurd why
+      stopped stops.Port why = absurd why
+      stopped (stops.Keeper uid) why = absurd why
+      stopped (stops.Account uid fault) why = absurd why
+
+      whole : (stop : Stop) → IsUntold old new stop → TellsAll stop → IsReported {L = L} [] opened opened old new
+      whole stops.Site why tells_all = absurd tells_all
+      whole stops.Memory why tells_all = absurd tells_all
+      whole stops.PortEnded why tells_all = absurd why
+      whole stops.Terms why tells_all = absurd why
+      whole stops.Port why tells_all = absurd why
+      whole (stops.Keeper uid) why tells_all = absurd why
+      whole (stops.Account uid fault) why tells_all = absurd why
+
+  -- the same after calls that told the site no term
+  pub came_to_unserved : (opened : List (ℕ × Hosted)) (workers connections asked : ℕ) (told told' : Option (List (Term (LinkReport L)))) (old mid new : Counts) (stop : Stop) → told' ≡ told → mid ≡ old → IsUntold mid new stop
+      → CameTo tells closed opened workers connections asked told told' old new opened stop
+  came_to_unserved opened workers connections asked told told' old mid new stop same first why =
+      subst (λ (t : Option (List (Term (LinkReport L)))). CameTo tells closed opened workers connections asked told t old new opened stop) (sym same)
+      (came_to_none opened workers connections asked told old new stop (subst (λ (c : Counts). IsUntold c new stop) first why))
+
+  pub came_to_shut : (opened : List (ℕ × Hosted)) (coming : List (Option (List ℕ))) (workers connections asked : ℕ) (told first last told' : Option (List (Term (LinkReport L)))) (old begun mid new : Counts) (port : Accepts)
+      (accounts : List (ℕ × Hosted)) (stop : Stop) → first ≡ told → told' ≡ last → begun ≡ old → length coming ≡ workers → Course tells closed opened coming connections asked first last begun mid port accounts stop
+      → CountsPort port mid new → CameTo tells closed opened workers connections asked told told' old new accounts stop
+  came_to_shut opened coming workers connections asked told first last told' old begun mid new port accounts stop same same' counts long course shut =
+      let now : Course tells closed opened coming connections asked told told' old mid port accounts stop =
+      subst (λ (c : Counts). Course tells closed opened coming connections asked told told' c mid port accounts stop) counts
+      (subst (λ (t : Option (List (Term (LinkReport L)))). Course tells closed opened coming connections asked t told' begun mid port accounts stop) same
+      (subst (λ (t : Option (List (Term (LinkReport L)))). Course tells closed opened coming connections asked first t begun mid port accounts stop) (sym same') course)) in
+      came_to opened coming workers connections asked told told' old mid new port accounts stop long now shut

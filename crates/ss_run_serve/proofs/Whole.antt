@@ -1,0 +1,172 @@
+-- What a server did, once all that it got was given back.
+use Rattle.std.specs.Prelude.{◌≡◌, ◌≢◌, ◌⊎◌, ◌≤◌, ℕ, Bool, List, [], ◌∷◌, length, map, Option, Some, All, Any, Contains, IfSome, refl}
+use Rattle.std.specs.List.Sorted.{IsPermutation}
+use Rattle.std.proofs.Common.{sym, ap, subst, ◌∙◌, inl, inr, arith}
+use Rattle.std.proofs.lemmas.List.Elements.{All-contains, All-cons, All-head, All-nil, All-tail}
+use Rattle.std.proofs.lemmas.List.Sorted.{Contains-permutation, IsPermutation-sym}
+use Rattle.ss_outside.specs.Told.{Meanings}
+use Rattle.ss_outside.specs.Causes.{Rose}
+use Rattle.ss_links.specs.Counts.{RoseBy}
+use Rattle.ss_bso.specs.declared.changes.Kept.{Kept}
+use Rattle.ss_account.specs.Keeping.{IsKept, IsKeptBy}
+use Rattle.ss_account.specs.Opening.{IsFaultOf}
+use Rattle.ss_site.specs.Sites.{Counts, Entries, Term}
+use Rattle.ss_words.specs.declared.commands.ServeCommand.{ServeCommand}
+use Rattle.ss_serve.specs.declared.report.LinkReport.{LinkReport}
+use Rattle.ss_run_serve.specs.declared.stop.Stop.{Stop}
+use Rattle.ss_run_serve.specs.declared.stop.Stop.TheVariants as stops
+use Rattle.ss_run_serve.specs.Hosted.{Hosted, IsBegun, Stands, left_by}
+use Rattle.ss_run_serve.specs.Opening.{AreAsBefore, CountsFaults, IsOpened, IsUnopened, RefusesOne}
+use Rattle.ss_run_serve.specs.Retiring.{uids_in, ComeBack, CountsKeepers, HaveRetired}
+use Rattle.ss_run_serve.specs.Terms.{links_of, AreTerms, AreTold, KeeperFailed}
+use Rattle.ss_run_serve.specs.Once.{HasFailed}
+use Rattle.ss_run_serve.specs.Course.{CameTo, IsReported, ServedUntil, TellsAll}
+use Rattle.ss_run_serve.specs.Serving.{AreServedBy, AreKept, HasStopped, IsComplete, IsServed, NoneServed, OthersStay, Sited}
+use Rattle.ss_run_serve.proofs.Anew.{kept_same}
+use Rattle.ss_run_serve.proofs.Progress.{any_of, told_none}
+use Rattle.ss_run_serve.proofs.Rising.{rose_on, rose_after}
+
+-- an account whose keeper had failed before its journal began, or has failed now, has one that has failed
+failed_now : (h : Hosted) → Stands h → (h.fixed.faults ≢ 0) ⊎ (h.faults ≢ 0) → h.faults ≢ 0
+failed_now h stands (inl before) = λ none. before (omega (arith, stands.rose.later, none))
+failed_now h stands (inr now) = now
+
+-- what the keeper of an account told is the account that its journal leaves
+kept_there : (h : Hosted) (kept : Kept) → Stands h → h.told ≡ Some kept → IsKept kept (left_by h)
+kept_there h kept stands told =
+    let is : IsKept kept h.plain = (let P : Option Kept → Type 0 = λ (t : Option Kept). IsKeptBy t h.plain in subst P told stands.kept) in
+    kept_same kept (left_by h) h.plain stands.leaves is
+
+pub opened_begun : (folder : List ℕ) (kept : Option Entries) (opened : List (ℕ × Hosted)) → All (IsOpened folder kept) opened → All (λ (a : ℕ × Hosted). IsBegun a.1) opened
+opened_begun folder kept [] all = All-nil (λ (a : ℕ × Hosted). IsBegun a.1)
+opened_begun folder kept (a ∷ opened) all =
+    All-cons (λ (a : ℕ × Hosted). IsBegun a.1) a opened (All-head (IsOpened folder kept) a opened all).begun (opened_begun folder kept opened (All-tail (IsOpened folder kept) a opened all))
+
+pub opened_uids : {B : Type 0} (view : B → Hosted) (uids : List ℕ) (xs : List (ℕ × B)) → map (λ (a : ℕ × B). a.0) xs ≡ uids → uids_in (map (λ (a : ℕ × B). (a.0, view a.1)) xs) ≡ uids
+opened_uids {B} view uids xs is = same xs ∙ is
+  where
+    same : (xs : List (ℕ × B)) → uids_in (map (λ (a : ℕ × B). (a.0, view a.1)) xs) ≡ map (λ (a : ℕ × B). a.0) xs
+    same [] = refl
+    same (x ∷ xs) = ap (λ (us : List ℕ). x.0 ∷ us) (same xs)
+
+pub refused_same : (kept : Option Entries) (old new : Counts) (folder folder' uids uids' : List ℕ) (stop : Stop) → folder ≡ folder' → uids ≡ uids' → RefusesOne folder kept old new uids stop → RefusesOne folder' kept old new uids' stop
+refused_same kept old new folder folder' uids uids' stop one two refused =
+    subst (λ (us : List ℕ). RefusesOne folder' kept old new us stop) two (subst (λ (f : List ℕ). RefusesOne f kept old new uids stop) one refused)
+
+module _ {L : Type 0} (tells : L → Meanings) (closed : L → Bool) where
+  -- an account wasn't opened
+  pub refused_all : (command : ServeCommand) (stop : Stop) (old new : Sited (LinkReport L)) → RefusesOne command.folder old.kept old.counts new.counts command.uids stop → AreAsBefore old.kept new.kept
+      → CountsFaults old.counts new.counts → new.terms ≡ old.terms → IsServed tells closed command stop old new
+  refused_all command stop old new refused before counted same = record {
+    terms = [];
+    told = subst (λ (t : Option (List (Term (LinkReport L)))). AreTold [] old.terms t) (sym same) (told_none tells closed old.terms);
+    handed = [];
+    served = inl refl;
+    faults = λ any. absurd (omega (arith, any.2));
+    others = λ after is. (let b = before after is in (b.0, b.1, λ f uid apart. b.2 f uid));
+    stopped = stopped refused;
+    complete = complete refused;
+  }
+    where
+      none : NoneServed [] old new
+      none = record { none = refl; links = counted.links; kept = before }
+
+      why : (s : Stop) (uid : ℕ) → Contains command.uids uid → IsUnopened command.folder old.kept old.counts new.counts uid s → HasStopped command [] old new s
+      why stops.Site uid there is = is
+      why (stops.Keeper u) uid there is = (subst (λ (v : ℕ). Contains command.uids v) (sym is.0) there, is.1, none)
+      why (stops.Account u fault) uid there is = (subst (λ (v : ℕ). Contains command.uids v) (sym is.0) there, is.1, (λ entries kept. subst (λ (v : ℕ). IsFaultOf (entries command.folder v) fault) (sym is.0) (is.2 entries kept)), none)
+      why stops.Memory uid there is = tt
+      why stops.PortEnded uid there is = absurd is
+      why stops.Terms uid there is = absurd is
+      why stops.Port uid there is = absurd is
+
+      stopped : (stop ≡ stops.Memory) ⊎ Any (λ (uid : ℕ). IsUnopened command.folder old.kept old.counts new.counts uid stop) command.uids → HasStopped command [] old new stop
+      stopped (inl memory) = subst (λ (s : Stop). HasStopped command [] old new s) (sym memory) tt
+      stopped (inr any) = why stop any.1 (any.0, any.2, any.3) any.4
+
+      partial : (s : Stop) (uid : ℕ) → IsUnopened command.folder old.kept old.counts new.counts uid s → TellsAll s → IsComplete command [] [] old new
+      partial stops.Site uid is all = absurd all
+      partial (stops.Keeper u) uid is all = absurd all
+      partial (stops.Account u fault) uid is all = absurd all
+      partial stops.Memory uid is all = absurd all
+      partial stops.PortEnded uid is all = absurd is
+      partial stops.Terms uid is all = absurd is
+      partial stops.Port uid is all = absurd is
+
+      complete : (stop ≡ stops.Memory) ⊎ Any (λ (uid : ℕ). IsUnopened command.folder old.kept old.counts new.counts uid stop) command.uids → TellsAll stop → IsComplete command [] [] old new
+      complete (inl memory) all = absurd (subst TellsAll memory all)
+      complete (inr any) all = partial stop any.1 any.4 all
+
+  -- accounts were opened, served, and given back
+  pub served_all : (command : ServeCommand) (stop : Stop) (old mid new : Sited (LinkReport L)) (opened accounts : List (ℕ × Hosted)) → uids_in opened ≡ command.uids → All (IsOpened command.folder old.kept) opened
+      → CameTo tells closed opened command.workers command.connections command.terms old.terms mid.terms old.counts mid.counts accounts stop → mid.kept ≡ old.kept → new.terms ≡ mid.terms
+      → HaveRetired command.folder accounts mid.kept new.kept → CountsKeepers accounts mid.counts new.counts → All (λ (a : ℕ × Hosted). Stands a.1) accounts → IsServed tells closed command stop old new
+  served_all command stop old mid new opened accounts uids from came unchanged same retired counted stand = record {
+    terms = came.terms;
+    told = subst (λ (t : Option (List (Term (LinkReport L)))). AreTold came.terms old.terms t) (sym same) came.are_told;
+    handed = came.handed;
+    served = served came.served;
+    faults = λ failed. rose_after old.counts.faults mid.counts.faults new.counts.faults came.faults (counted.some (faulty (came.failed failed)));
+    others = λ after is.
+        (let r = retired after is in
+        (r.0, sym unchanged ∙ r.1, λ f uid apart. r.2.others f uid (unlisted uid f apart)));
+    stopped = stopped stop came.until;
+    complete = λ all. whole all (came.whole all);
+  }
+    where
+      moved : IsPermutation command.uids (uids_in accounts)
+      moved = subst (λ (us : List ℕ). IsPermutation us (uids_in accounts)) uids came.uids
+
+      served : ((came.terms ≡ []) ⊎ ((coming : List (Option (List ℕ))) × (coming' : List (Option (List ℕ))) × (length coming ≡ command.workers) × AreTerms tells closed opened coming came.terms came.handed coming'))
+          → (came.terms ≡ []) ⊎ AreServedBy tells closed command old.kept came.terms came.handed
+      served (inl none) = inl none
+      served (inr by) = inr (record { opened = opened; uids = uids; from = from; coming = by.0; workers = by.2; coming' = by.1; are = by.3 })
+
+      faulty : Any HasFailed accounts → Any (λ (a : ℕ × Hosted). a.1.faults ≢ 0) accounts
+      faulty any =
+          let there : Contains accounts any.1 = (any.0, any.2, any.3) in
+          any_of (λ (a : ℕ × Hosted). a.1.faults ≢ 0) accounts any.1 there (failed_now any.1.1 (All-contains (λ (a : ℕ × Hosted). Stands a.1) accounts any.1 stand there) any.4)
+
+      unlisted : (uid : ℕ) (f : List ℕ) → ((f ≢ command.folder) ⊎ ¬ Contains command.uids uid) → (f ≢ command.folder) ⊎ ¬ Contains (uids_in accounts) uid
+      unlisted uid f (inl apart) = inl apart
+      unlisted uid f (inr not) = inr (λ there. not (Contains-permutation (uids_in accounts) command.uids uid (IsPermutation-sym command.uids (uids_in accounts) moved) there))
+
+      rose : Rose old.counts.faults mid.counts.faults → Rose old.counts.faults new.counts.faults
+      rose first = rose_on old.counts.faults mid.counts.faults new.counts.faults first counted.later
+
+      stopped : (s : Stop) → ServedUntil command.connections command.terms came.terms old.counts mid.counts s → HasStopped command came.terms old new s
+      stopped stops.PortEnded why = subst (λ (n : ℕ). Rose old.counts.ends n) (sym counted.ends) why
+      stopped stops.Terms why = why
+      stopped stops.Port why = rose why
+      stopped stops.Site why = rose why
+      stopped stops.Memory why = tt
+      stopped (stops.Keeper uid) why = absurd why
+      stopped (stops.Account uid fault) why = absurd why
+
+      kept_of : (before entries : Entries) → ComeBack command.folder accounts before entries → (uid : ℕ) → Contains (uids_in accounts) uid
+          → Any (λ (a : ℕ × Hosted). (a.0 ≡ uid) × IsKept (entries command.folder uid) (left_by a.1)) accounts
+      kept_of before entries back uid listed =
+          let any = back.listed uid listed in
+          let there : Contains accounts any.1 = (any.0, any.2, any.3) in
+          any_of (λ (a : ℕ × Hosted). (a.0 ≡ uid) × IsKept (entries command.folder uid) (left_by a.1)) accounts any.1 there
+          (any.4.0, kept_there any.1.1 (entries command.folder uid) (All-contains (λ (a : ℕ × Hosted). Stands a.1) accounts any.1 stand there) any.4.1)
+
+      whole : TellsAll stop → IsReported came.terms came.handed accounts old.counts mid.counts → IsComplete command came.terms came.handed old new
+      whole all reported = record {
+        some = reported.some;
+        links = subst (λ (n : ℕ). RoseBy (links_of came.terms) old.counts.links n) (sym counted.links) reported.links;
+        uids = subst (λ (accs : List (ℕ × Hosted)). IsPermutation command.uids (uids_in accs)) reported.last moved;
+        kept = subst (λ (accs : List (ℕ × Hosted)). AreKept command.folder command.uids accs new.kept) reported.last
+            (λ entries is uid listed. kept_of (retired entries is).0 entries (retired entries is).2 uid (Contains-permutation command.uids (uids_in accounts) uid moved listed));
+      }
+
+  -- the same by what the site told once the accounts were opened
+  pub served_open : (command : ServeCommand) (stop : Stop) (old first mid new : Sited (LinkReport L)) (opened accounts : List (ℕ × Hosted)) → uids_in opened ≡ command.uids → All (IsOpened command.folder old.kept) opened
+      → first.counts ≡ old.counts → first.kept ≡ old.kept → first.terms ≡ old.terms
+      → CameTo tells closed opened command.workers command.connections command.terms first.terms mid.terms first.counts mid.counts accounts stop → mid.kept ≡ first.kept → new.terms ≡ mid.terms
+      → HaveRetired command.folder accounts mid.kept new.kept → CountsKeepers accounts mid.counts new.counts → All (λ (a : ℕ × Hosted). Stands a.1) accounts → IsServed tells closed command stop old new
+  served_open command stop old first mid new opened accounts uids from counts kept terms came unchanged same retired counted stand =
+      served_all command stop old mid new opened accounts uids from
+      (subst (λ (t : Option (List (Term (LinkReport L)))). CameTo tells closed opened command.workers command.connections command.terms t mid.terms old.counts mid.counts accounts stop) terms
+      (subst (λ (n : Counts). CameTo tells closed opened command.workers command.connections command.terms first.terms mid.terms n mid.counts accounts stop) counts came))
+      (unchanged ∙ kept) same retired counted stand

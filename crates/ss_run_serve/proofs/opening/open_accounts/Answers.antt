@@ -1,0 +1,74 @@
+use Rattle.std.specs.Prelude.{◌≡◌, ◌<◌, ℕ, List, [], ◌∷◌, ◌++◌, length, map, take, All, Option, get_or}
+use Rattle.std.proofs.Common.{sym, ap, subst, ◌∙◌, arith}
+use Rattle.std.proofs.lemmas.List.{map-append, take_more}
+use Rattle.std.proofs.lemmas.List.Elements.{All-push, All-weaker, Contains-get_or}
+use Rattle.ss_booked.specs.declared.booked.Booked.{Booked}
+use Rattle.ss_site.specs.Sites.{Counts, Entries, IsEntry}
+use Rattle.ss_run_serve.specs.Hosted.{Hosted, hosted_at}
+use Rattle.ss_run_serve.specs.Opening.{AreAsBefore, CountsFaults, IsOpened, IsUnopened}
+use Rattle.ss_run_serve.proofs.Opened.{take_whole}
+use Rattle.ss_run_serve.proofs.Retired.{all_as_before, as_before_then, counts_then, counts_unchanged, entry_as_before, refused_then}
+use Rattle.ss_run_serve.proofs.opening.open_accounts.Goals as goal
+
+pub returns-in-Err-clause-refused : goal.returns-in-Err-clause-refused
+returns-in-Err-clause-refused g c =
+    let uid : ℕ = get_or c.args.uids.now c.loop-uid.uid-index 0 in
+    let inside : c.loop-uid.uid-index < length c.args.uids.now = omega arith in
+    let why = subst (λ (k : Option Entries). IsUnopened c.args.folder.now k (g.X.Site.counts c.args.site.now) (g.X.Site.counts c.open_account.new.site) uid c.in-Err.stop) c.loop-uid.invariant.kept
+    (subst (λ (n : Counts). IsUnopened c.args.folder.now (g.X.Site.kept c.loop-uid.site) n (g.X.Site.counts c.open_account.new.site) uid c.in-Err.stop) c.loop-uid.invariant.counts c.in-Err.ensures.refused) in
+    refused_then c.args.folder.now (g.X.Site.kept c.args.site.now) (g.X.Site.counts c.args.site.now) (g.X.Site.counts c.open_account.new.site) (g.X.Site.counts c.retire_all.new.site) (map (hosted_at g.X.Keeper.Keeper.told g.X.Keeper.Keeper.keep_faults) c.loop-uid.accounts.items) c.args.uids.now uid c.in-Err.stop
+    why c.retire_all.ensures.counted (Contains-get_or c.args.uids.now c.loop-uid.uid-index 0 inside)
+
+pub returns-in-Err-clause-as_before : goal.returns-in-Err-clause-as_before
+returns-in-Err-clause-as_before g c =
+    let accounts : List (ℕ × Hosted) = map (hosted_at g.X.Keeper.Keeper.told g.X.Keeper.Keeper.keep_faults) c.loop-uid.accounts.items in
+    let before : AreAsBefore (g.X.Site.kept c.args.site.now) (g.X.Site.kept c.open_account.new.site) =
+    subst (λ (k : Option Entries). AreAsBefore k (g.X.Site.kept c.open_account.new.site)) c.loop-uid.invariant.kept c.in-Err.ensures.as_before in
+    let entries : All (λ (a : ℕ × Hosted). IsEntry c.args.folder.now a.0 a.1.told (g.X.Site.kept c.open_account.new.site)) accounts =
+    All-weaker (IsOpened c.args.folder.now (g.X.Site.kept c.args.site.now)) (λ (a : ℕ × Hosted). IsEntry c.args.folder.now a.0 a.1.told (g.X.Site.kept c.open_account.new.site))
+    (λ a opened. entry_as_before c.args.folder.now a.0 a.1.told (g.X.Site.kept c.args.site.now) (g.X.Site.kept c.open_account.new.site) before opened.entry) accounts c.loop-uid.invariant.opened in
+    as_before_then (g.X.Site.kept c.args.site.now) (g.X.Site.kept c.open_account.new.site) (g.X.Site.kept c.retire_all.new.site) before
+    (all_as_before c.args.folder.now accounts (g.X.Site.kept c.open_account.new.site) (g.X.Site.kept c.retire_all.new.site) entries c.retire_all.ensures.entries)
+
+pub returns-in-Err-clause-counted : goal.returns-in-Err-clause-counted
+returns-in-Err-clause-counted g c =
+    counts_then (g.X.Site.counts c.args.site.now) (g.X.Site.counts c.open_account.new.site) (g.X.Site.counts c.retire_all.new.site) (map (hosted_at g.X.Keeper.Keeper.told g.X.Keeper.Keeper.keep_faults) c.loop-uid.accounts.items)
+    (subst (λ (n : Counts). CountsFaults n (g.X.Site.counts c.open_account.new.site)) c.loop-uid.invariant.counts c.open_account.ensures.counted) c.retire_all.ensures.counted
+
+pub returns-in-Err-clause-terms : goal.returns-in-Err-clause-terms
+returns-in-Err-clause-terms g c = c.retire_all.ensures.terms ∙ c.open_account.ensures.terms ∙ c.loop-uid.invariant.terms
+
+pub loop-uid-preserved : goal.loop-uid-preserved
+loop-uid-preserved g c =
+    let uid : ℕ = get_or c.args.uids.now c.loop-uid.uid-index 0 in
+    let inside : c.loop-uid.uid-index < length c.args.uids.now = omega arith in
+    let one : List (ℕ × Booked g.row.X-Keeper.Denot g.X.Keeper.Keeper) = (uid, c.in-Ok-open_account.booked) ∷ [] in
+    let invariant = c.loop-uid.invariant in
+    record {
+      uids = ap (λ (accounts : List (ℕ × Booked g.row.X-Keeper.Denot g.X.Keeper.Keeper)). map (λ (a : ℕ × Booked g.row.X-Keeper.Denot g.X.Keeper.Keeper). a.0) accounts) c.push_reserved.ensures.items ∙ map-append (λ (a : ℕ × Booked g.row.X-Keeper.Denot g.X.Keeper.Keeper). a.0) c.loop-uid.accounts.items one
+          ∙ ap (λ (us : List ℕ). us ++ uid ∷ []) invariant.uids ∙ sym (take_more c.args.uids.now c.loop-uid.uid-index 0 inside);
+      opened = subst (λ (accounts : List (ℕ × Hosted)). All (IsOpened c.args.folder.now (g.X.Site.kept c.args.site.now)) accounts)
+          (sym (ap (λ (accounts : List (ℕ × Booked g.row.X-Keeper.Denot g.X.Keeper.Keeper)). map (hosted_at g.X.Keeper.Keeper.told g.X.Keeper.Keeper.keep_faults) accounts) c.push_reserved.ensures.items ∙ map-append (hosted_at g.X.Keeper.Keeper.told g.X.Keeper.Keeper.keep_faults) c.loop-uid.accounts.items one))
+          (All-push (IsOpened c.args.folder.now (g.X.Site.kept c.args.site.now)) (map (hosted_at g.X.Keeper.Keeper.told g.X.Keeper.Keeper.keep_faults) c.loop-uid.accounts.items) (hosted_at g.X.Keeper.Keeper.told g.X.Keeper.Keeper.keep_faults (uid, c.in-Ok-open_account.booked)) invariant.opened
+          (subst (λ (k : Option Entries). IsOpened c.args.folder.now k (hosted_at g.X.Keeper.Keeper.told g.X.Keeper.Keeper.keep_faults (uid, c.in-Ok-open_account.booked))) invariant.kept c.in-Ok-open_account.ensures.opened));
+      room = omega (arith, invariant.room, c.push_reserved.ensures.capacity);
+      long = omega (arith, invariant.long, c.push_reserved.ensures.len);
+      counts = c.in-Ok-open_account.ensures.unchanged.0 ∙ invariant.counts;
+      terms = c.open_account.ensures.terms ∙ invariant.terms;
+      kept = c.in-Ok-open_account.ensures.unchanged.1 ∙ invariant.kept;
+    }
+
+pub returns-clause-uids : goal.returns-clause-uids
+returns-clause-uids g c = c.loop-uid.invariant.uids ∙ take_whole c.args.uids.now c.loop-uid.uid-index (omega arith)
+
+pub returns-clause-opened : goal.returns-clause-opened
+returns-clause-opened g c = c.loop-uid.invariant.opened
+
+pub returns-clause-unchanged : goal.returns-clause-unchanged
+returns-clause-unchanged g c = (c.loop-uid.invariant.counts, c.loop-uid.invariant.kept)
+
+pub returns-clause-counted : goal.returns-clause-counted
+returns-clause-counted g c = counts_unchanged (g.X.Site.counts c.args.site.now) (g.X.Site.counts c.loop-uid.site) c.loop-uid.invariant.counts
+
+pub returns-clause-terms : goal.returns-clause-terms
+returns-clause-terms g c = c.loop-uid.invariant.terms

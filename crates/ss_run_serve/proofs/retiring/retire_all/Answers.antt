@@ -1,0 +1,56 @@
+use Rattle.std.specs.Prelude.{◌≡◌, ℕ, List, [], ◌∷◌, ◌++◌, map, All, refl}
+use Rattle.std.proofs.Common.{sym, subst, ◌∙◌}
+use Rattle.std.proofs.lemmas.List.{map-append}
+use Rattle.std.proofs.lemmas.List.Elements.{All-nil, All-push}
+use Rattle.std.proofs.lemmas.Iterator.Adapters.{YieldsList-from_vec}
+use Rattle.std.proofs.lemmas.Iterator.Consumers.{YieldsList-end}
+use Rattle.ss_booked.specs.declared.booked.Booked.{Booked}
+use Rattle.ss_run_serve.specs.Hosted.{Hosted, Stands, hosted_at}
+use Rattle.ss_run_serve.specs.Retiring.{CountsKeepers, HaveRetired}
+use Rattle.ss_run_serve.proofs.Opened.{map_same}
+use Rattle.ss_run_serve.proofs.Retired.{counts_more, have_retired_more, none_counted, none_retired}
+use Rattle.ss_run_serve.proofs.retiring.retire_all.Goals as goal
+
+pub loop-uid-init : goal.loop-uid-init
+loop-uid-init g c = record {
+  entries = none_retired c.args.folder.now (g.X.Site.kept c.args.site.now);
+  counted = none_counted (g.X.Site.counts c.args.site.now);
+  stand = All-nil (λ (account : ℕ × Hosted). Stands account.1);
+  terms = refl;
+}
+
+pub loop-uid-preserved : goal.loop-uid-preserved
+loop-uid-preserved g c =
+    let f : ℕ × Booked g.row.X-Keeper.Denot g.X.Keeper.Keeper → ℕ × Hosted = hosted_at g.X.Keeper.Keeper.told g.X.Keeper.Keeper.keep_faults in
+    let done : List (ℕ × Hosted) = map f c.loop-uid.yielded in
+    let account : ℕ × Hosted = f (c.in-Some.uid, c.in-Some.booked) in
+    let e : map f (c.loop-uid.yielded ++ (c.in-Some.uid, c.in-Some.booked) ∷ []) ≡ done ++ account ∷ [] = map-append f c.loop-uid.yielded ((c.in-Some.uid, c.in-Some.booked) ∷ []) in
+    record {
+      entries = subst (λ (accounts : List (ℕ × Hosted)). HaveRetired c.args.folder.now accounts (g.X.Site.kept c.args.site.now) (g.X.Site.kept c.retire.new.site)) (sym e)
+          (have_retired_more c.args.folder.now done account (g.X.Site.kept c.args.site.now) (g.X.Site.kept c.loop-uid.site) (g.X.Site.kept c.retire.new.site) c.loop-uid.invariant.entries c.retire.ensures.entry);
+      counted = subst (λ (accounts : List (ℕ × Hosted)). CountsKeepers accounts (g.X.Site.counts c.args.site.now) (g.X.Site.counts c.retire.new.site)) (sym e)
+          (counts_more done account (g.X.Site.counts c.args.site.now) (g.X.Site.counts c.loop-uid.site) (g.X.Site.counts c.retire.new.site) c.loop-uid.invariant.counted c.retire.ensures.counted);
+      stand = subst (λ (accounts : List (ℕ × Hosted)). All (λ (a : ℕ × Hosted). Stands a.1) accounts) (sym e) (All-push (λ (a : ℕ × Hosted). Stands a.1) done account c.loop-uid.invariant.stand c.retire.ensures.stands);
+      terms = c.retire.ensures.terms ∙ c.loop-uid.invariant.terms;
+    }
+
+pub returns-clause-entries : goal.returns-clause-entries
+returns-clause-entries g c =
+    let gives = c.into_iter-uid-iterator.ensures.into_iter_gives in
+    let all = YieldsList-end (YieldsList-from_vec c.args.accounts.items gives.0 (gives.1 ∙ c.args.accounts.ok.0)) c.loop-uid.yielded c.loop-uid.uid-iterator c.loop-uid.yielded_by c.next.result c.next.new.self c.in-None.is c.next.ensures.steps in
+    let whole : c.loop-uid.yielded ≡ c.args.accounts.items = sym (map_same c.loop-uid.yielded) ∙ all.0 in
+    subst (λ (xs : List (ℕ × Booked g.row.X-Keeper.Denot g.X.Keeper.Keeper)). HaveRetired c.args.folder.now (map (hosted_at g.X.Keeper.Keeper.told g.X.Keeper.Keeper.keep_faults) xs) (g.X.Site.kept c.args.site.now) (g.X.Site.kept c.loop-uid.site)) whole c.loop-uid.invariant.entries
+
+pub returns-clause-counted : goal.returns-clause-counted
+returns-clause-counted g c =
+    let gives = c.into_iter-uid-iterator.ensures.into_iter_gives in
+    let all = YieldsList-end (YieldsList-from_vec c.args.accounts.items gives.0 (gives.1 ∙ c.args.accounts.ok.0)) c.loop-uid.yielded c.loop-uid.uid-iterator c.loop-uid.yielded_by c.next.result c.next.new.self c.in-None.is c.next.ensures.steps in
+    let whole : c.loop-uid.yielded ≡ c.args.accounts.items = sym (map_same c.loop-uid.yielded) ∙ all.0 in
+    subst (λ (xs : List (ℕ × Booked g.row.X-Keeper.Denot g.X.Keeper.Keeper)). CountsKeepers (map (hosted_at g.X.Keeper.Keeper.told g.X.Keeper.Keeper.keep_faults) xs) (g.X.Site.counts c.args.site.now) (g.X.Site.counts c.loop-uid.site)) whole c.loop-uid.invariant.counted
+
+pub returns-clause-stand : goal.returns-clause-stand
+returns-clause-stand g c =
+    let gives = c.into_iter-uid-iterator.ensures.into_iter_gives in
+    let all = YieldsList-end (YieldsList-from_vec c.args.accounts.items gives.0 (gives.1 ∙ c.args.accounts.ok.0)) c.loop-uid.yielded c.loop-uid.uid-iterator c.loop-uid.yielded_by c.next.result c.next.new.self c.in-None.is c.next.ensures.steps in
+    let whole : c.loop-uid.yielded ≡ c.args.accounts.items = sym (map_same c.loop-uid.yielded) ∙ all.0 in
+    subst (λ (xs : List (ℕ × Booked g.row.X-Keeper.Denot g.X.Keeper.Keeper)). All (λ (a : ℕ × Hosted). Stands a.1) (map (hosted_at g.X.Keeper.Keeper.told g.X.Keeper.Keeper.keep_faults) xs)) whole c.loop-uid.invariant.stand

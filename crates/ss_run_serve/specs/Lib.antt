@@ -1,0 +1,9 @@
+pub mod Statuses
+pub mod Watched
+pub mod Hosted
+pub mod Opening
+pub mod Retiring
+pub mod Terms
+pub mod Once
+pub mod Course
+pub mod Serving

@@ -1,0 +1,76 @@
+-- What one term of a server does.
+use Rattle.std.specs.Prelude.{◌≡◌, ◌≢◌, ◌≤◌, ◌⊎◌, ℕ, Bool, List, length, map, Option, Some, None, Any, ⊤}
+use Rattle.std.specs.List.Sorted.{IsPermutation}
+use Rattle.ss_outside.specs.Told.{Meanings}
+use Rattle.ss_outside.specs.Causes.{Rose}
+use Rattle.ss_links.specs.Counts.{RoseBy}
+use Rattle.ss_links.specs.Ports.{Accepts}
+use Rattle.ss_site.specs.Sites.{Counts, Term, HasAdded}
+use Rattle.ss_serve.specs.declared.report.LinkReport.{LinkReport}
+use Rattle.ss_serve.specs.declared.report.TermStop.{TermStop}
+use Rattle.ss_serve.specs.declared.report.TermStop.TheVariants as ended
+use Rattle.ss_serve.specs.Terms.{IsTerm}
+use Rattle.ss_run_serve.specs.declared.stop.Stop.{Stop}
+use Rattle.ss_run_serve.specs.declared.stop.Stop.TheVariants as stops
+use Rattle.ss_run_serve.specs.Hosted.{Hosted, journal_in}
+use Rattle.ss_run_serve.specs.Retiring.{uids_in}
+
+-- a site that isn't told a term failed and counts that, or no memory was found
+abbrev pub IsUntold : Counts → Counts → Stop → Type 0
+IsUntold old new stops.Site = Rose old.faults new.faults × (new.links ≡ old.links) × (new.ends ≡ old.ends)
+IsUntold old new stops.Memory = new ≡ old
+IsUntold old new _ = ⊥
+
+-- the keeper of an account had failed before its journal began, or has failed now
+abbrev pub HasFailed : ℕ × Hosted → Type 0
+HasFailed account = (account.1.fixed.faults ≢ 0) ⊎ (account.1.faults ≢ 0)
+
+-- a further term follows where the port has not ended
+abbrev pub GoesOn : Accepts → Option Stop → Type 0
+GoesOn port next = ((next ≡ None) × (port.ends ≡ 0)) ⊎ ((next ≡ Some stops.PortEnded) × (port.ends ≢ 0))
+
+-- what follows on how a term ended: where the port gave all its links and has not ended, a further term
+abbrev pub Follows : TermStop → Accepts → Option Stop → Type 0
+Follows ended.Port port next = next ≡ Some stops.Port
+Follows ended.PortEnded port next = next ≡ Some stops.PortEnded
+Follows ended.Memory port next = next ≡ Some stops.Memory
+Follows (ended.Town fault) port next = next ≡ Some stops.Memory
+Follows ended.Connections port next = GoesOn port next
+Follows (ended.Full uid) port next = GoesOn port next
+
+-- Why no term follows, by the port's counts: where one follows, the port gave all the links of a term and has not ended
+abbrev pub IsLast : ℕ → Accepts → Accepts → Option Stop → Type 0
+IsLast connections old new None = RoseBy connections old.links new.links × (new.ends ≡ 0)
+IsLast connections old new (Some stops.PortEnded) = new.ends ≢ 0
+IsLast connections old new (Some stops.Port) = new.faults ≢ 0
+IsLast connections old new (Some stops.Memory) = ⊤
+IsLast connections old new (Some _) = ⊥
+
+module _ {L : Type 0} where
+  -- no term took place, or the site wasn't told: the accounts come back, and the server stops
+  pub record IsLost (given handed : List (ℕ × Hosted)) (terms terms' : Option (List (Term (LinkReport L)))) (old new : Counts) (last : Option Stop) : Type 0 where
+    pub stop : Stop
+    pub is : last ≡ Some stop
+    pub why : IsUntold old new stop
+    pub untold : terms' ≡ terms
+    pub uids : IsPermutation (uids_in given) (uids_in handed)
+    pub failed : Any HasFailed given → Any HasFailed handed
+
+  module _ (tells : L → Meanings) (closed : L → Bool) where
+    -- a term took place, and the site was told
+    pub record IsDone (given handed : List (ℕ × Hosted)) (coming coming' : List (Option (List ℕ))) (terms terms' : Option (List (Term (LinkReport L)))) (old new : Counts)
+        (connections : ℕ) (port port' : Accepts) (last : Option Stop) : Type 0 where
+      pub term : Term (LinkReport L)
+      pub told : HasAdded term terms terms'
+      pub journals : term.journals ≡ map (λ account. (account.0, journal_in account.1)) handed
+      pub served : IsTerm (λ account. account.fixed) (λ account. account.entries) (λ account. account.faults) tells closed given handed term.reports coming coming'
+      pub links : RoseBy (length term.reports) port.links port'.links
+      pub few : length term.reports ≤ connections
+      pub counts : new ≡ old
+      pub why : IsLast connections port port' last
+
+    -- one of the two
+    abbrev pub IsOnce : List (ℕ × Hosted) → List (ℕ × Hosted) → List (Option (List ℕ)) → List (Option (List ℕ)) → Option (List (Term (LinkReport L))) → Option (List (Term (LinkReport L))) → Counts → Counts
+        → ℕ → Accepts → Accepts → Option Stop → Type 0
+    IsOnce given handed coming coming' terms terms' old new connections port port' last =
+        IsLost given handed terms terms' old new last ⊎ IsDone given handed coming coming' terms terms' old new connections port port' last

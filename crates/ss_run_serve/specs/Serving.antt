@@ -1,0 +1,96 @@
+-- What a server does.
+use Rattle.std.specs.Prelude.{◌≡◌, ◌≢◌, ◌<◌, ◌⊎◌, ℕ, Bool, List, [], length, map, Option, Some, All, Any, Contains, ⊤}
+use Rattle.std.specs.List.Sorted.{IsPermutation}
+use Rattle.ss_outside.specs.Told.{Meanings}
+use Rattle.ss_outside.specs.Causes.{Rose}
+use Rattle.ss_links.specs.Counts.{RoseBy}
+use Rattle.ss_account.specs.Keeping.{IsKept}
+use Rattle.ss_account.specs.Opening.{IsFaultOf}
+use Rattle.ss_site.specs.Sites.{Counts, Entries, Term}
+use Rattle.ss_words.specs.declared.commands.ServeCommand.{ServeCommand}
+use Rattle.ss_words.specs.declared.commands.Command.{Command}
+use Rattle.ss_words.specs.declared.commands.Command.TheVariants.{Serve}
+use Rattle.ss_words.specs.Commands.{Asks}
+use Rattle.ss_serve.specs.declared.report.LinkReport.{LinkReport}
+use Rattle.ss_run_serve.specs.declared.stop.Stop.{Stop}
+use Rattle.ss_run_serve.specs.declared.stop.Stop.TheVariants as stops
+use Rattle.ss_run_serve.specs.Statuses.{status_of}
+use Rattle.ss_run_serve.specs.Hosted.{Hosted, left_by}
+use Rattle.ss_run_serve.specs.Opening.{AreAsBefore, IsBad, IsOpened, IsUnopened}
+use Rattle.ss_run_serve.specs.Retiring.{uids_in}
+use Rattle.ss_run_serve.specs.Terms.{links_of, AreTerms, AreTold, KeeperFailed}
+use Rattle.ss_run_serve.specs.Course.{IsServedOut, TellsAll}
+
+-- what a site counts, the terms that it tells, and the entries that it tells
+pub record Sited (R : Type 0) : Type 0 where
+  pub counts : Counts
+  pub terms : Option (List (Term R))
+  pub kept : Option Entries
+
+-- of the entries that are told, all but those of these uids in this folder are as they were
+abbrev pub OthersStay : List ℕ → List ℕ → Option Entries → Option Entries → Type 0
+OthersStay folder uids old new =
+    (after : Entries) → new ≡ Some after → (before : Entries) × (old ≡ Some before) × ((f : List ℕ) (uid : ℕ) → ((f ≢ folder) ⊎ ¬ Contains uids uid) → after f uid ≡ before f uid)
+
+-- where the entries are told, what is kept under each of these uids is the account that the journal of its account leaves
+abbrev pub AreKept : List ℕ → List ℕ → List (ℕ × Hosted) → Option Entries → Type 0
+AreKept folder uids accounts kept =
+    (entries : Entries) → kept ≡ Some entries → (uid : ℕ) → Contains uids uid → Any (λ account. (account.0 ≡ uid) × IsKept (entries folder uid) (left_by account.1)) accounts
+
+module _ {L : Type 0} where
+  -- no account was served: there are no terms and no links, and what is kept is as it was
+  pub record NoneServed (terms : List (Term (LinkReport L))) (old new : Sited (LinkReport L)) : Type 0 where
+    pub none : terms ≡ []
+    pub links : new.counts.links ≡ old.counts.links
+    pub kept : AreAsBefore old.kept new.kept
+
+  -- there was a term, there are as many reports as the port gave links, and what is kept is what the last term left of the listed
+  -- accounts
+  pub record IsComplete (command : ServeCommand) (terms : List (Term (LinkReport L))) (handed : List (ℕ × Hosted)) (old new : Sited (LinkReport L)) : Type 0 where
+    pub some : terms ≢ []
+    pub links : RoseBy (links_of terms) old.counts.links new.counts.links
+    pub uids : IsPermutation command.uids (uids_in handed)
+    pub kept : AreKept command.folder command.uids handed new.kept
+
+  -- Why a server stopped. Want of memory has no cause here
+  abbrev pub HasStopped : ServeCommand → List (Term (LinkReport L)) → Sited (LinkReport L) → Sited (LinkReport L) → Stop → Type 0
+  HasStopped command terms old new stops.PortEnded = Rose old.counts.ends new.counts.ends
+  HasStopped command terms old new stops.Terms = IsServedOut command.connections command.terms terms
+  HasStopped command terms old new stops.Port = Rose old.counts.faults new.counts.faults
+  HasStopped command terms old new stops.Site = Rose old.counts.faults new.counts.faults
+  HasStopped command terms old new (stops.Keeper uid) = Contains command.uids uid × Rose old.counts.faults new.counts.faults × NoneServed terms old new
+  HasStopped command terms old new (stops.Account uid fault) =
+      Contains command.uids uid × IsBad fault × ((entries : Entries) → old.kept ≡ Some entries → IsFaultOf (entries command.folder uid) fault) × NoneServed terms old new
+  HasStopped command terms old new stops.Memory = ⊤
+
+  module _ (tells : L → Meanings) (closed : L → Bool) where
+    -- the listed accounts were opened from their entries, with one clock for each worker, and then served by these terms
+    pub record AreServedBy (command : ServeCommand) (kept : Option Entries) (terms : List (Term (LinkReport L))) (handed : List (ℕ × Hosted)) : Type 0 where
+      pub opened : List (ℕ × Hosted)
+      pub uids : uids_in opened ≡ command.uids
+      pub from : All (IsOpened command.folder kept) opened
+      pub coming : List (Option (List ℕ))
+      pub workers : length coming ≡ command.workers
+      pub coming' : List (Option (List ℕ))
+      pub are : AreTerms tells closed opened coming terms handed coming'
+
+    -- What a server did that stopped so, by what its site tells before and after
+    pub record IsServed (command : ServeCommand) (stop : Stop) (old new : Sited (LinkReport L)) : Type 0 where
+      -- the terms that the site was told, and the accounts that the last of them handed back
+      pub terms : List (Term (LinkReport L))
+      pub told : AreTold terms old.terms new.terms
+      pub handed : List (ℕ × Hosted)
+      pub served : (terms ≡ []) ⊎ AreServedBy command old.kept terms handed
+      -- where a journal says that a keeper failed, the site has counted a fault
+      pub faults : KeeperFailed terms → Rose old.counts.faults new.counts.faults
+      pub others : OthersStay command.folder command.uids old.kept new.kept
+      -- why it stopped; and where that isn't a fault of the site, a bad entry or want of memory, all of it was told and is kept
+      pub stopped : HasStopped command terms old new stop
+      pub complete : TellsAll stop → IsComplete command terms handed old new
+
+    -- The words ask for a server, and it was one; or they ask none, and nothing was done. The same with 8, where no memory was found
+    -- to read them
+    pub data Runs (words : List (List ℕ)) (status : ℕ) (old new : Sited (LinkReport L)) : Type 0 where
+      serves : (command : ServeCommand) (stop : Stop) → Asks words (Serve command) → status ≡ status_of stop → IsServed command stop old new → Runs words status old new
+      asks_nothing : ((command : ServeCommand) → Asks words (Serve command) → ⊥) → status ≡ 1 → new ≡ old → Runs words status old new
+      out_of_memory : status ≡ 8 → new ≡ old → Runs words status old new

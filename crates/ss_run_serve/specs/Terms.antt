@@ -1,0 +1,47 @@
+-- The terms of a server, one after the other.
+use Rattle.std.specs.Prelude.{◌≡◌, ◌≢◌, ℕ, ◌+◌, Bool, List, [], ◌∷◌, ◌++◌, length, map, sum_by, Option, All, Any}
+use Rattle.std.specs.Option.{option_map}
+use Rattle.std.specs.List.{AllZip}
+use Rattle.ss_outside.specs.Told.{Meanings}
+use Rattle.ss_bso.specs.Validity.{SameAccount}
+use Rattle.ss_booked.specs.Sound.{keeper_marks}
+use Rattle.ss_site.specs.Sites.{Term}
+use Rattle.ss_serve.specs.declared.report.LinkReport.{LinkReport}
+use Rattle.ss_serve.specs.Terms.{IsTerm}
+use Rattle.ss_run_serve.specs.Hosted.{Hosted, IsBegun, journal_in, left_by}
+
+-- the account with this uid begins anew from where it was left: it opens with the account that its journal leaves, whatever the
+-- order of its rows, collections and batches, with the room that its journal had, over a keeper that has not failed meanwhile
+pub record BeginsAnew (left anew : ℕ × Hosted) : Type 0 where
+  pub uid : anew.0 ≡ left.0
+  pub opening : SameAccount (left_by left.1) anew.1.fixed.opening
+  pub begun : IsBegun anew.1
+  pub most : anew.1.fixed.most ≡ left.1.fixed.most
+  pub faults : anew.1.faults ≡ left.1.faults
+
+module _ {L : Type 0} where
+  -- as many links as terms have reports
+  abbrev pub links_of : List (Term (LinkReport L)) → ℕ
+  links_of terms = sum_by (λ term. length term.reports) terms
+
+  -- a journal of some term says that a keeper failed
+  abbrev pub KeeperFailed : List (Term (LinkReport L)) → Type 0
+  KeeperFailed terms = Any (λ term. Any (λ journal. keeper_marks journal.1.entries ≢ 0) term.journals) terms
+
+  -- these terms are told behind those that were told before
+  abbrev pub AreTold : List (Term (LinkReport L)) → Option (List (Term (LinkReport L))) → Option (List (Term (LinkReport L))) → Type 0
+  AreTold terms old new = new ≡ option_map (λ before. before ++ terms) old
+
+  module _ (tells : L → Meanings) (closed : L → Bool) where
+    -- A term of accounts that begin anew: what it hands back, of which the site is told the reports and the journals
+    pub record IsTermOf (left : List (ℕ × Hosted)) (coming : List (Option (List ℕ))) (term : Term (LinkReport L)) (handed : List (ℕ × Hosted)) (coming' : List (Option (List ℕ))) : Type 0 where
+      pub given : List (ℕ × Hosted)
+      pub anew : AllZip BeginsAnew left given
+      pub journals : term.journals ≡ map (λ account. (account.0, journal_in account.1)) handed
+      pub served : IsTerm (λ account. account.fixed) (λ account. account.entries) (λ account. account.faults) tells closed given handed term.reports coming coming'
+
+    -- such terms, each from the accounts and the clocks that the one before handed back
+    abbrev pub AreTerms : List (ℕ × Hosted) → List (Option (List ℕ)) → List (Term (LinkReport L)) → List (ℕ × Hosted) → List (Option (List ℕ)) → Type 0
+    AreTerms left coming [] handed coming' = (handed ≡ left) × (coming' ≡ coming)
+    AreTerms left coming (term ∷ terms) handed coming' =
+        (between : List (ℕ × Hosted)) × (coming_between : List (Option (List ℕ))) × IsTermOf left coming term between coming_between × AreTerms between coming_between terms handed coming'

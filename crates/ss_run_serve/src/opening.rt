@@ -1,0 +1,141 @@
+//! The accounts of a server: how they are opened from its site.
+
+ghost use Rattle.std.specs.Prelude.{◌≡◌, ◌≤◌, ℕ, [], map, length, vec_len, vec_capacity, All, Contains, Some, IfOk, IfErr, IfSome, OnOk, OnErr};
+ghost use Rattle.ss_outside.specs.Causes.{Rose};
+ghost use Rattle.ss_bso.specs.Changes.{opened};
+ghost use Rattle.ss_bso.specs.Validity.{SameAccount};
+ghost use Rattle.ss_booked.specs.Booked.{account_of, journal_of};
+ghost use Rattle.ss_booked.specs.Sizes.{most_entries};
+ghost use Rattle.ss_site.specs.Sites.{Counts, Entries, IsEntry};
+ghost use Rattle.ss_run_serve.specs.Hosted.{hosted, hosted_at, IsBegun};
+ghost use Rattle.ss_run_serve.specs.Opening.{IsOpened, IsUnopened, RefusesOne, CountsFaults, AreAsBefore, stop_at};
+
+use crate::retiring::retire_all;
+use crate::stop::Stop;
+use ss_account::{Account, OpenFault};
+use ss_booked::{Booked, MOST_ENTRIES};
+use ss_site::{Site, SiteFault};
+use std::alloc::Global;
+
+/// Why a server stops that found this fault in an account.
+fn stop_at(uid: u32, fault: OpenFault) -> Stop
+    ensures { result ≡ stop_at uid fault }
+{
+    match fault {
+        OpenFault::Keeper => Stop::Keeper { uid },
+        OpenFault::Memory => Stop::Memory,
+        _ => Stop::Account { uid, fault },
+    }
+}
+
+/// Opens the account that a keeper holds. Where it can't be opened the keeper is retired.
+fn open_kept<X: Site>(
+    alloc: Global,
+    site: &mut X,
+    folder: &str,
+    uid: u32,
+    keeper: X::Keeper,
+) -> Result<Account<X::Keeper>, Stop>
+    requires entry { IsEntry folder.now uid (X.Keeper.told keeper) (X.kept site.old) }
+    requires fresh { X.Keeper.keep_faults keeper ≡ 0 }
+    ensures opened { IfOk result (λ account. (entries : Entries) → X.kept site.old ≡ Some entries → SameAccount (opened (entries folder.now uid)) account.plain) }
+    ensures entry { IfOk result (λ account. IsEntry folder.now uid (X.Keeper.told account.keeper) (X.kept site.old)) }
+    ensures fresh { IfOk result (λ account. X.Keeper.keep_faults account.keeper ≡ 0) }
+    ensures unchanged { OnOk result ((X.counts site.new ≡ X.counts site.old) × (X.kept site.new ≡ X.kept site.old)) }
+    ensures refused { IfErr result (IsUnopened folder.now (X.kept site.old) (X.counts site.old) (X.counts site.new) uid) }
+    ensures as_before { OnErr result (AreAsBefore (X.kept site.old) (X.kept site.new)) }
+    ensures counted { CountsFaults (X.counts site.old) (X.counts site.new) }
+    ensures terms { X.terms site.new ≡ X.terms site.old }
+{
+    match Account::open(alloc, keeper) {
+        Ok(account) => Ok(account),
+        Err((keeper, fault)) => {
+            site.retire(folder, uid, keeper);
+            Err(stop_at(uid, fault))
+        }
+    }
+}
+
+/// Begins the journal of an account. Where memory is wanting its keeper is retired.
+fn begin<X: Site>(
+    alloc: Global,
+    site: &mut X,
+    folder: &str,
+    uid: u32,
+    account: Account<X::Keeper>,
+) -> Result<Booked<X::Keeper>, Stop>
+    requires entry { IsEntry folder.now uid (X.Keeper.told account.keeper) (X.kept site.old) }
+    requires fresh { X.Keeper.keep_faults account.keeper ≡ 0 }
+    ensures account { IfOk result (λ b. account_of b ≡ account) }
+    ensures opening { IfOk result (λ b. SameAccount account.plain (journal_of b).opening) }
+    ensures begun { IfOk result (λ b. IsBegun (hosted X.Keeper.told X.Keeper.keep_faults b)) }
+    ensures most { IfOk result (λ b. (journal_of b).most ≡ most_entries) }
+    ensures unchanged { OnOk result ((X.counts site.new ≡ X.counts site.old) × (X.kept site.new ≡ X.kept site.old)) }
+    ensures refused { IfErr result (λ stop. stop ≡ Stop.Memory) }
+    ensures as_before { OnErr result (AreAsBefore (X.kept site.old) (X.kept site.new)) }
+    ensures counted { CountsFaults (X.counts site.old) (X.counts site.new) }
+    ensures terms { X.terms site.new ≡ X.terms site.old }
+{
+    match Booked::open(alloc, account, MOST_ENTRIES) {
+        Ok(booked) => Ok(booked),
+        Err((account, _)) => {
+            site.retire(folder, uid, account.into_keeper());
+            Err(Stop::Memory)
+        }
+    }
+}
+
+/// Opens an account of a site: its keeper, the account that it holds, and a journal. Where that fails its keeper is retired.
+fn open_account<X: Site>(
+    alloc: Global,
+    site: &mut X,
+    folder: &str,
+    uid: u32,
+) -> Result<Booked<X::Keeper>, Stop>
+    ensures opened { IfOk result (λ b. IsOpened folder.now (X.kept site.old) (uid, hosted X.Keeper.told X.Keeper.keep_faults b)) }
+    ensures unchanged { OnOk result ((X.counts site.new ≡ X.counts site.old) × (X.kept site.new ≡ X.kept site.old)) }
+    ensures refused { IfErr result (IsUnopened folder.now (X.kept site.old) (X.counts site.old) (X.counts site.new) uid) }
+    ensures as_before { OnErr result (AreAsBefore (X.kept site.old) (X.kept site.new)) }
+    ensures counted { CountsFaults (X.counts site.old) (X.counts site.new) }
+    ensures terms { X.terms site.new ≡ X.terms site.old }
+{
+    let keeper = match site.keeper(alloc, folder, uid) {
+        Ok(keeper) => keeper,
+        Err(SiteFault::Fault) => return Err(Stop::Site),
+        Err(SiteFault::Memory) => return Err(Stop::Memory),
+    };
+    match open_kept(alloc, site, folder, uid, keeper) {
+        Ok(account) => begin(alloc, site, folder, uid, account),
+        Err(stop) => Err(stop),
+    }
+}
+
+/// Opens these accounts of a site, in order. Where one can't be opened the keepers of all are retired.
+pub(crate) fn open_accounts<X: Site>(
+    alloc: Global,
+    site: &mut X,
+    folder: &str,
+    uids: &[u32],
+) -> Result<Vec<(u32, Booked<X::Keeper>)>, Stop>
+    ensures uids { IfOk result (λ accounts. map (λ account. account.0) accounts.items ≡ uids.now) }
+    ensures opened { IfOk result (λ accounts. All (IsOpened folder.now (X.kept site.old)) (map (hosted_at X.Keeper.told X.Keeper.keep_faults) accounts.items)) }
+    ensures unchanged { OnOk result ((X.counts site.new ≡ X.counts site.old) × (X.kept site.new ≡ X.kept site.old)) }
+    ensures refused { IfErr result (λ stop. RefusesOne folder.now (X.kept site.old) (X.counts site.old) (X.counts site.new) uids.now stop) }
+    ensures as_before { OnErr result (AreAsBefore (X.kept site.old) (X.kept site.new)) }
+    ensures counted { CountsFaults (X.counts site.old) (X.counts site.new) }
+    ensures terms { X.terms site.new ≡ X.terms site.old }
+{
+    let Ok(mut accounts) = Vec::with_capacity(alloc, uids.len()) else {
+        return Err(Stop::Memory);
+    };
+    for uid in uids {
+        match open_account(alloc, site, folder, *uid) {
+            Ok(booked) => accounts.push_reserved((*uid, booked)),
+            Err(stop) => {
+                retire_all(site, folder, accounts);
+                return Err(stop);
+            }
+        }
+    }
+    Ok(accounts)
+}

@@ -1,0 +1,51 @@
+//! The command `serve`.
+
+ghost use Rattle.std.specs.Prelude.{map, string_bytes};
+ghost use Rattle.ss_run_serve.specs.Serving.{Runs};
+
+use crate::lines;
+use crate::serving::serve;
+use ss_links::{Gate, Port};
+use ss_outside::Sink;
+use ss_serve::LinkReport;
+use ss_site::Site;
+use ss_words::{Command, WordsFault, read_command};
+use std::alloc::Global;
+use std::sync::Wait;
+use std::thread::Threads;
+
+/// Serves the accounts that the words ask for, from what a site keeps, and answers the status: 0 where the port ended or as many terms
+/// were served as was asked; 1 where the words ask for no server; 2 where a call of the site failed, or a keeper while its account was
+/// opened; 3 where the port failed; 4 where what is kept of an account is bad; 8 where no memory was found outside a reply. Every
+/// keeper that the site gave is given back to it, and the port is shut. What `err` is told is for people, and nothing is said of it.
+pub fn run_serve<X, G, T, R>(
+    rt: &R,
+    alloc: Global,
+    words: &[String],
+    site: &mut X,
+    gate: &G,
+    err: &mut T,
+) -> u8
+where
+    X: Site<Report = LinkReport<<<X as Site>::Port as Port>::Link>>,
+    X::Keeper: Send,
+    X::Clock: Drop + Send,
+    <<X as Site>::Port as Port>::Link: Drop + Send,
+    G: Gate + Sync,
+    T: Sink,
+    R: Threads + Wait + Sync,
+    ensures { Runs X.Port.Link.Told.told X.Port.Link.closed (map (λ word. string_bytes word) words.now) result
+        (record { counts = X.counts site.old; terms = X.terms site.old; kept = X.kept site.old }) (record { counts = X.counts site.new; terms = X.terms site.new; kept = X.kept site.new }) }
+{
+    let command = match read_command(alloc, words) {
+        Ok(command) => command,
+        Err(WordsFault::Refused(_)) => return 1,
+        Err(WordsFault::Memory) => return 8,
+    };
+    let Command::Serve(command) = command else {
+        return 1;
+    };
+    let stop = serve(rt, alloc, site, gate, err, &command);
+    lines::tell_stop(alloc, err, stop);
+    stop.status()
+}

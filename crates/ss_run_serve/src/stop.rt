@@ -1,0 +1,65 @@
+//! Why a server stopped, and the status that says so.
+
+ghost use Rattle.std.specs.Prelude.{◌≡◌};
+
+use ss_account::OpenFault;
+use std::fmt::{self, Display, Formatter, Write};
+
+/// Why a server stopped.
+#[derive(Clone, Copy, Debug, PartialEq, Eq)]
+pub enum Stop {
+    /// The port ended.
+    PortEnded,
+
+    /// As many terms were served as was asked.
+    Terms,
+
+    /// A call of the site failed.
+    Site,
+
+    /// The keeper of this account failed while the account was opened.
+    Keeper { uid: u32 },
+
+    /// The port failed.
+    Port,
+
+    /// What is kept of this account can't be opened.
+    Account { uid: u32, fault: OpenFault },
+
+    /// No memory was found, outside a reply.
+    Memory,
+}
+
+impl Stop {
+    ghost use Rattle.ss_run_serve.specs.Statuses.{status_of};
+
+    /// The program's status.
+    pub fn status(self) -> u8
+        ensures { result ≡ status_of self }
+    {
+        match self {
+            Stop::PortEnded | Stop::Terms => 0,
+            Stop::Site | Stop::Keeper { .. } => 2,
+            Stop::Port => 3,
+            Stop::Account { .. } => 4,
+            Stop::Memory => 8,
+        }
+    }
+}
+
+impl Display for Stop {
+    fn fmt<W: Write>(&self, f: &mut Formatter<W>) -> fmt::Result {
+        match self {
+            Stop::PortEnded => f.write_str("the port ended"),
+            Stop::Terms => f.write_str("all terms were served"),
+            Stop::Site => f.write_str("the folder or the address failed"),
+            Stop::Keeper { uid } => write!(
+                f,
+                "what account {uid} is kept in failed while it was opened"
+            ),
+            Stop::Port => f.write_str("the port failed"),
+            Stop::Account { uid, fault } => write!(f, "account {uid} can't be opened: {fault}"),
+            Stop::Memory => f.write_str("no memory was found"),
+        }
+    }
+}

@@ -60,6 +60,26 @@ impl Device {
         }
     }
 
+    /// The device as its file tells it: its tree; what was deleted since the last sync; and the rows and the time of that.
+    pub fn restored(
+        tree: Tree,
+        dead: BTreeMap<Id, Stamp>,
+        mirror: Vec<Sheet>,
+        stamp: Stamp,
+    ) -> Device
+        requires deaths { AreById (dead_ids dead.entries) }
+        requires by_id { AreById (row_ids mirror.items) }
+        requires known { IsKnown mirror.items tree dead.entries }
+        ensures { result ≡ record { tree = tree; dead = dead.entries; mirror = mirror.items; stamp = stamp } }
+    {
+        Device {
+            tree,
+            dead,
+            mirror,
+            stamp,
+        }
+    }
+
     pub fn tree(&self) -> &Tree
         ensures tree { result.now ≡ self.now.tree }
         ensures device { IsDevice self.now }

@@ -30,7 +30,7 @@ pub(crate) fn content_of(alloc: Global, tree: &Tree, id: &Id) -> Result<Word, Al
 }
 
 /// Gives an item another content, with which it is fit, and another time.
-pub(crate) fn revise(tree: &mut Tree, id: &Id, content: Word, time: Stamp)
+pub fn revise(tree: &mut Tree, id: &Id, content: Word, time: Stamp)
     requires there { is_some (node id.now (tree_of tree.old)) ≡ true }
     requires inner { bytes_eq id.now places ≡ false }
     requires fit { (n : Placed) → node id.now (tree_of tree.old) ≡ Some n → is_fit (record { id = n.id; kind = n.kind; content = content }) ≡ true }
@@ -91,7 +91,7 @@ fn not_inserted(fault: TreeFault) -> EditFault
 }
 
 /// Puts an item last under a folder.
-pub(crate) fn insert(
+pub fn insert(
     alloc: Global,
     tree: &mut Tree,
     parent: &Id,

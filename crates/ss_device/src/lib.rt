@@ -20,5 +20,7 @@ mod writing;
 
 pub use device::Device;
 pub use faults::EditFault;
+pub use grafts::{insert, revise};
 pub use laws::within_is_exact;
+pub use lines::{push_dead, push_item, push_row, push_synced};
 pub use writing::write_device;

@@ -10,7 +10,7 @@ use std::alloc::AllocError;
 
 /// Appends the line of the last sync's time.
 #[tactic(auto, unfolding(crate::specs::Writing::stamp_line))]
-pub(crate) fn push_synced(out: &mut Vec<u8>, stamp: Stamp) -> Result<(), AllocError>
+pub fn push_synced(out: &mut Vec<u8>, stamp: Stamp) -> Result<(), AllocError>
     ensures { OnOk result (out.new.items ≡ out.old.items ++ stamp_line stamp) }
 {
     out.extend_from_slice(b"[\"stamp\",\"")?;
@@ -21,7 +21,7 @@ pub(crate) fn push_synced(out: &mut Vec<u8>, stamp: Stamp) -> Result<(), AllocEr
 
 /// Appends the line of a row of the mirror.
 #[tactic(auto, unfolding(crate::specs::Writing::row_line))]
-pub(crate) fn push_row(out: &mut Vec<u8>, row: &Sheet) -> Result<(), AllocError>
+pub fn push_row(out: &mut Vec<u8>, row: &Sheet) -> Result<(), AllocError>
     ensures { OnOk result (out.new.items ≡ out.old.items ++ row_line row.now) }
 {
     out.extend_from_slice(b"[\"row\",\"")?;
@@ -36,21 +36,21 @@ pub(crate) fn push_row(out: &mut Vec<u8>, row: &Sheet) -> Result<(), AllocError>
 
 /// Appends the line of an item, which has this record.
 #[tactic(auto, unfolding(crate::specs::Writing::item_line))]
-pub(crate) fn push_item(out: &mut Vec<u8>, time: Stamp, record: &Word) -> Result<(), AllocError>
-    ensures { OnOk result (out.new.items ≡ out.old.items ++ item_line time record.now) }
+pub fn push_item(out: &mut Vec<u8>, time: Stamp, record_text: &Word) -> Result<(), AllocError>
+    ensures { OnOk result (out.new.items ≡ out.old.items ++ item_line time record_text.now) }
 {
     let mut buffer = Buffer::new();
     out.extend_from_slice(b"[\"item\",")?;
     out.extend_from_slice(buffer.format(time.get()).as_bytes())?;
     out.extend_from_slice(b",")?;
-    out.extend_from_slice(record.as_str().as_bytes())?;
+    out.extend_from_slice(record_text.as_str().as_bytes())?;
     out.extend_from_slice(b"]\n")?;
     Ok(())
 }
 
 /// Appends the line of a deleted id.
 #[tactic(auto, unfolding(crate::specs::Writing::dead_line))]
-pub(crate) fn push_dead(out: &mut Vec<u8>, id: &Id, time: Stamp) -> Result<(), AllocError>
+pub fn push_dead(out: &mut Vec<u8>, id: &Id, time: Stamp) -> Result<(), AllocError>
     ensures { OnOk result (out.new.items ≡ out.old.items ++ dead_line (id.now, time)) }
 {
     let mut buffer = Buffer::new();

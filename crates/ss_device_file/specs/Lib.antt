@@ -1,0 +1,9 @@
+pub mod Lines
+pub mod Places
+pub mod Files
+pub mod Cuts
+pub mod Values
+pub mod Records
+pub mod Walking
+pub mod Growing
+pub mod Joining

@@ -13,7 +13,7 @@ use Rattle.ss_build.proofs.Stand.{node_has, has_node}
 use Rattle.ss_build.proofs.OfSheets.{sheets_built_back}
 use Rattle.ss_bso.specs.declared.parts.Part.{Part}
 use Rattle.ss_plan.specs.Written.{IsWritten}
-use Rattle.ss_client.specs.Leaves.{LeavesKnown}
+use Rattle.ss_client.specs.Leaves.{LeavesKnown, LeavesStanding}
 
 there : (o p : Option Placed) (n : Placed) → o ≡ Some n → option_map untimed o ≡ option_map untimed p → (m : Placed) × (p ≡ Some m)
 there o None n e s = absurd (none (sym s ∙ ap (option_map untimed) e))
@@ -22,10 +22,14 @@ there o None n e s = absurd (none (sym s ∙ ap (option_map untimed) e))
     none q = cc
 there o (Some m) n e s = (m, refl)
 
-pub leaves_known : (rows : List Sheet) (parts : List Part) (merged : List Entry) (read : List (List ℕ × Reading)) → IsValidTree (tree merged) → read ≡ readings (rows_of rows)
-    → ((sheets after : List Sheet) (stamp : ℕ) → readings (rows_of sheets) ≡ read → IsWritten sheets parts stamp after → HasItsRows (tree merged) (rows_of after)) → LeavesKnown rows parts merged
-leaves_known rows parts merged read valid told stand = λ after stamp w x h.
-    let same = sheets_built_back (tree merged) after valid w.apart (inl (stand rows after stamp (sym told) w)) in
+-- where the rows stand for the merged tree, each of their items is in it
+pub standing_known : (rows : List Sheet) (parts : List Part) (merged : List Entry) → IsValidTree (tree merged) → LeavesStanding rows parts merged → LeavesKnown rows parts merged
+standing_known rows parts merged valid stand = λ after stamp w x h.
+    let same = sheets_built_back (tree merged) after valid w.apart (inl (stand after stamp w)) in
     let n = has_node (built (rows_of after)) x h in
     let m = there (node x (built (rows_of after))) (node x (tree merged)) n.0 n.1 (same x) in
     ap (λ b. b || has x []) (node_has (tree merged) x m.0 m.1)
+
+pub leaves_known : (rows : List Sheet) (parts : List Part) (merged : List Entry) (read : List (List ℕ × Reading)) → IsValidTree (tree merged) → read ≡ readings (rows_of rows)
+    → ((sheets after : List Sheet) (stamp : ℕ) → readings (rows_of sheets) ≡ read → IsWritten sheets parts stamp after → HasItsRows (tree merged) (rows_of after)) → LeavesKnown rows parts merged
+leaves_known rows parts merged read valid told stand = standing_known rows parts merged valid (λ after stamp w. stand rows after stamp (sym told) w)

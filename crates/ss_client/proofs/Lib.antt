@@ -3,4 +3,5 @@ pub mod Posting
 pub mod Sending
 pub mod Sound
 pub mod Told
+pub mod Nearing
 pub mod Asked

@@ -43,10 +43,12 @@ limits_ours d limits e =
     let records : b.0 ≡ limits.max_post_records = cc h.2 in
     let bytes : c.0 ≡ limits.max_post_bytes = cc h.2 in
     let payload : h.0 ≡ limits.max_record_payload_bytes = cc h.2 in
+    let total : f.0 ≡ limits.max_total_records = cc h.2 in
     record {
       records = subst (λ n. n ≤ MOST_POST_RECORDS) records (limit_ours _ MOST_POST_RECORDS d b.0 b.1);
       bytes = subst (λ n. n ≤ MOST_POST_BYTES) bytes (limit_ours _ MOST_POST_BYTES d c.0 c.1);
       payload = subst (λ n. n ≤ MOST_PAYLOAD) payload (limit_ours _ MOST_PAYLOAD d h.0 h.1);
+      total = subst (λ n. n ≤ MOST_BATCH_RECORDS) total (limit_ours _ MOST_BATCH_RECORDS d f.0 f.1);
     }
 
 -- ---- answers

@@ -1,7 +1,10 @@
--- The items that a sync leaves to know.
+-- What a sync leaves: the rows, and the items that the device knows.
 use Rattle.std.specs.Prelude.{ℕ, ◌+◌, ◌≤◌, List, [], length, Option}
 use Rattle.ss_record.specs.declared.readings.Sheet.{Sheet}
 use Rattle.ss_tree.specs.declared.entries.Entry.{Entry}
+use Rattle.ss_tree.specs.Entries.{tree}
+use Rattle.ss_build.specs.Rows.{rows_of}
+use Rattle.ss_build.specs.Stand.{HasItsRows}
 use Rattle.ss_bso.specs.declared.parts.Part.{Part}
 use Rattle.ss_plan.specs.Written.{IsWritten}
 use Rattle.ss_device.specs.Device.{IsKnown}
@@ -10,6 +13,10 @@ use Rattle.ss_sync.specs.Rows.{AreById}
 -- each item of the tree that is built from the rows after these parts is in the merged tree
 abbrev pub LeavesKnown : List Sheet → List Part → List Entry → Type 0
 LeavesKnown rows parts merged = (after : List Sheet) (stamp : ℕ) → IsWritten rows parts stamp after → IsKnown after merged []
+
+-- the rows after these parts stand for the merged tree
+abbrev pub LeavesStanding : List Sheet → List Part → List Entry → Type 0
+LeavesStanding rows parts merged = (after : List Sheet) (stamp : ℕ) → IsWritten rows parts stamp after → HasItsRows (tree merged) (rows_of after)
 
 -- what a device has after a sync
 pub record SyncedView : Type 0 where

@@ -24,7 +24,7 @@ use Rattle.ss_client.specs.declared.summaries.SyncFault.TheVariants as fault
 use Rattle.ss_client.specs.declared.runs.Run.{Run}
 use Rattle.ss_client.specs.declared.runs.Stage.{Stage}
 use Rattle.ss_client.specs.declared.runs.Stage.TheVariants.{Asks, Opens, Pages, Lists, Uploads}
-use Rattle.ss_client.specs.Leaves.{UploadView}
+use Rattle.ss_client.specs.Leaves.{UploadView, LeavesStanding}
 use Rattle.ss_client.specs.Runs.{sent_of, post_of, rest_of}
 
 -- what comes next: a request, the end with the device after the sync, or a stop
@@ -94,11 +94,12 @@ Begins run time rows merged (p ∷ ps) next = (n : ℕ) × IsNext run.limits (p 
 abbrev pub Plans : Run → ℕ → List Sheet → List Entry → List Part → Next → Type 0
 Plans run time rows merged parts next = MatchOption (refusal run.limits parts) (Begins run time rows merged parts next) (λ f. next ≡ Stop (fault.Plan f))
 
--- all rows are there: they are merged, and the plan takes them to the merged tree
+-- all rows are there: they are merged, and the plan takes them to rows that stand for the merged tree
 pub record Finishes (d : DeviceView) (run : Run) (time : ℕ) (rows : List Sheet) (next : Next) : Type 0 where
   pub merged : List Entry
   pub joined : IsJoined d.mirror d.tree (dead_ids d.dead) rows merged
   pub planned : Plans run time rows merged (plan merged (readings (rows_of rows))) next
+  pub standing : refusal run.limits (plan merged (readings (rows_of rows))) ≡ None → LeavesStanding rows (plan merged (readings (rows_of rows))) merged
 
 -- the POST is in the batch, whose number is that of its begin: the next one takes what it can
 abbrev pub Holds : Run → UploadView → ℕ → List Part → Next → Type 0

@@ -1,6 +1,6 @@
 -- Requests that can be sent.
 use Rattle.std.specs.Prelude.{◌≡◌, ℕ, ◌≤◌, length, All, ⊤}
-use Rattle.ss_bso.specs.declared.limits.TheConstants.{MOST_PAYLOAD, MOST_POST_RECORDS, MOST_POST_BYTES}
+use Rattle.ss_bso.specs.declared.limits.TheConstants.{MOST_PAYLOAD, MOST_POST_RECORDS, MOST_POST_BYTES, MOST_BATCH_RECORDS}
 use Rattle.ss_bso.specs.declared.parts.Part.{Part}
 use Rattle.ss_bso.specs.Limits.{part_bytes}
 use Rattle.ss_plan.specs.declared.limits.Limits.{Limits}
@@ -15,11 +15,12 @@ use Rattle.ss_client.specs.Leaves.{UploadView}
 use Rattle.ss_client.specs.Runs.{post_of}
 use Rattle.ss_client.specs.Machine.{Next, Send, Done, Stop}
 
--- limits of a POST that are no greater than ours
+-- limits of a POST, and of the records of a batch, that are no greater than ours
 pub record AreOurs (limits : Limits) : Type 0 where
   pub records : limits.max_post_records ≤ MOST_POST_RECORDS
   pub bytes : limits.max_post_bytes ≤ MOST_POST_BYTES
   pub payload : limits.max_record_payload_bytes ≤ MOST_PAYLOAD
+  pub total : limits.max_total_records ≤ MOST_BATCH_RECORDS
 
 -- the limits that an answer tells, if it tells any, are no greater than ours
 abbrev pub TellsOurs : Answer → Type 0

@@ -1,5 +1,5 @@
 -- What a step of a machine and its last call say.
-use Rattle.std.specs.Prelude.{◌≡◌, ◌⊎◌, List, [], ⊤}
+use Rattle.std.specs.Prelude.{◌≡◌, ◌⊎◌, ◌<◌, List, [], ⊤}
 use Rattle.ss_query.specs.Fit.{IsFitRequest}
 use Rattle.ss_route.specs.Sending.{IsSent}
 use Rattle.ss_query.specs.declared.requests.Request.{Request}
@@ -12,6 +12,7 @@ use Rattle.ss_client.specs.declared.summaries.SyncFault.TheVariants.{Memory}
 use Rattle.ss_client.specs.Runs.{MachineView}
 use Rattle.ss_client.specs.Asking.{ask}
 use Rattle.ss_client.specs.Machine.{Next, Send, Done, Stop}
+use Rattle.ss_client.specs.Bounds.{to_follow}
 
 -- what a step says
 abbrev pub told : Step → Next
@@ -35,3 +36,9 @@ abbrev pub OnSend : Do → (Request → Type 0) → Type 0
 OnSend (answer.Send machine request) P = P request
 OnSend (answer.Done device summary) P = ⊤
 OnSend (answer.Stop device fault) P = ⊤
+
+-- where a request follows, fewer may follow it than before
+abbrev pub Nears : MachineView → Do → Type 0
+Nears m (answer.Send machine request) = to_follow machine.run machine.stage < to_follow m.run m.stage
+Nears m (answer.Done device summary) = ⊤
+Nears m (answer.Stop device fault) = ⊤

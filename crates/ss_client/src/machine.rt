@@ -5,7 +5,8 @@ ghost use Rattle.ss_hearing.specs.Hearing.{answer_of};
 ghost use Rattle.ss_client.specs.Runs.{first_run, is_newer};
 ghost use Rattle.ss_client.specs.Asking.{ask, awaits};
 ghost use Rattle.ss_client.specs.Machine.{Follows, limits_at, page_at, ids_at, held_at, written_at};
-ghost use Rattle.ss_client.specs.Told.{told, Says, CanSend, OnSend};
+ghost use Rattle.ss_client.specs.Sound.{TellsOurs};
+ghost use Rattle.ss_client.specs.Told.{told, Says, CanSend, OnSend, Nears};
 ghost use Rattle.ss_client.specs.declared.runs.Stage.TheVariants.{Asks};
 
 use crate::asking::asked;
@@ -15,7 +16,7 @@ use crate::steps::Step;
 use crate::summaries::{Fetch, Summary, SyncFault};
 use crate::uploading::{hold, write};
 use ss_device::Device;
-use ss_hearing::{Answer, Sheets, hear};
+use ss_hearing::{Answer, Awaited, Sheets, hear};
 use ss_http::Heard;
 use ss_plan::Limits;
 use ss_query::{Info, Request};
@@ -34,12 +35,13 @@ pub struct Machine {
 impl Model for Machine {
     ghost use Rattle.ss_client.specs.Runs.{MachineView};
     ghost use Rattle.ss_client.specs.Sound.{IsSound};
+    ghost use Rattle.ss_client.specs.Bounds.{IsWithin};
 
     ghost Value = { MachineView };
 
     ghost view = { λ m. record { device = m.device; run = m.run; stage = m.stage } };
 
-    ghost invariant = { λ m. IsSound m.run m.stage };
+    ghost invariant = { λ m. IsSound m.run m.stage × IsWithin m.run m.stage };
 }
 
 /// What comes next: a request, the end with the device after the sync, or a stop with the device as it was started.
@@ -149,20 +151,6 @@ fn step(
     }
 }
 
-/// What a run does after a response.
-fn follow(
-    alloc: Global,
-    device: &Device,
-    run: Run,
-    stage: Stage,
-    heard: &Heard,
-) -> Result<Step, AllocError>
-    ensures { IfOk result (λ step. Follows device.now run stage (answer_of (awaits stage) heard.now) (told step)) }
-{
-    let answer = hear(alloc, stage.awaits(), heard)?;
-    step(alloc, device, run, stage, answer)
-}
-
 impl Machine {
     /// Begins a sync of a device; the machine comes with its first request. It takes no memory.
     pub fn start(alloc: Global, device: Device, fetch: Fetch) -> (Machine, Request)
@@ -198,14 +186,16 @@ impl Machine {
         (machine, request)
     }
 
-    /// What the machine does with the response to its request: exactly what the definition has it do with the answer that
-    /// the response is. A request that is sent can be written. A stop for want of memory may always come.
-    pub fn next(self, alloc: Global, heard: &Heard) -> Do
-        ensures says { Says self.device (Follows self.device self.run self.stage (answer_of (awaits self.stage) heard.now)) result }
+    /// What the machine does with an answer to its request: exactly what the definition has it do. A request that is sent
+    /// can be written, and fewer may follow it than before, so a run ends. A stop for want of memory may always come.
+    pub fn hear(self, alloc: Global, answer: Answer) -> Do
+        requires { TellsOurs answer }
+        ensures says { Says self.device (Follows self.device self.run self.stage answer) result }
         ensures sent { OnSend result CanSend }
+        ensures nearer { Nears self result }
     {
         let Machine { device, run, stage } = self;
-        let (run, stage) = match follow(alloc, &device, run, stage, heard) {
+        let (run, stage) = match step(alloc, &device, run, stage, answer) {
             Ok(Step::Send(run, stage)) => (run, stage),
             Ok(Step::Done(synced, summary)) => {
                 return Do::Done(synced.into_device(alloc), summary);
@@ -217,6 +207,43 @@ impl Machine {
             Ok(request) => Do::Send(Machine { device, run, stage }, request),
             Err(AllocError) => Do::Stop(device, SyncFault::Memory),
         }
+    }
+
+    /// What the machine does with the response to its request: exactly what the definition has it do with the answer that
+    /// the response is. A request that is sent can be written, and fewer may follow it than before, so a run ends. A stop for want of
+    /// memory may always come.
+    pub fn next(self, alloc: Global, heard: &Heard) -> Do
+        ensures says { Says self.device (Follows self.device self.run self.stage (answer_of (awaits self.stage) heard.now)) result }
+        ensures sent { OnSend result CanSend }
+        ensures nearer { Nears self result }
+    {
+        match hear(alloc, self.stage.awaits(), heard) {
+            Ok(answer) => self.hear(alloc, answer),
+            Err(AllocError) => Do::Stop(self.device, SyncFault::Memory),
+        }
+    }
+
+    /// What the machine asks; it can be written, and a server takes it.
+    pub fn request(&self, alloc: Global) -> Result<Request, AllocError>
+        ensures asked { IfOk result (λ request. request ≡ ask self.now) }
+        ensures sent { IfOk result CanSend }
+    {
+        asked(alloc, &self.device, &self.run, &self.stage)
+    }
+
+    /// The kind of reply that the machine awaits.
+    pub fn awaits(&self) -> Awaited
+        ensures { result ≡ awaits self.now.stage }
+    {
+        self.stage.awaits()
+    }
+
+    /// The number of the request under way, from 1. This request can be written.
+    pub fn number(&self) -> u64
+        ensures number { result ≡ self.now.run.number }
+        ensures sent { CanSend (ask self.now) }
+    {
+        self.run.number
     }
 
     /// The device as it was started. It takes no memory.

@@ -5,7 +5,7 @@ use Rattle.ss_client.proofs.Asked.{asked_sent}
 use Rattle.ss_client.proofs.laws.requests_can_be_sent.Goals as goal
 
 pub returns-clause-first : goal.returns-clause-first
-returns-clause-first c = λ newer. (record { records = omega arith; bytes = omega arith; payload = omega arith }, tt)
+returns-clause-first c = λ newer. (record { records = omega arith; bytes = omega arith; payload = omega arith; total = omega arith }, tt)
 
 pub returns-clause-heard : goal.returns-clause-heard
 returns-clause-heard c = tells_ours

@@ -25,5 +25,5 @@ returns-in-Ok c =
     IfOk-weaker c.begin.result _ (λ step. Finishes c.args.device.now c.args.run c.args.time c.args.rows (told step))
     (λ step b. finishes c.args.device.now c.args.run c.args.time c.args.rows c.as_slice.result.now c.new.result c.mirror.result.now c.tree.result.now c.in_ok-dead.dead c.in_ok-joined.joined.tree c.in_ok-joined.joined.remote.readings.items
     c.new-in-Ok.result c.in-Ok.parts.items (told step) c.as_slice.ensures.rows (c.new.ensures ∙ c.into_vec.ensures) c.mirror.ensures.rows c.tree.ensures.tree c.in_ok-dead.ensures c.in_ok-joined.ensures.joined c.in_ok-joined.ensures.readings
-    c.new-in-Ok.ensures c.in-Ok.ensures.parts c.in-Ok.ensures.refused b)
+    c.new-in-Ok.ensures c.in-Ok.ensures.parts c.in-Ok.ensures.refused c.in-Ok.ensures.stand b)
     c.begin.ensures

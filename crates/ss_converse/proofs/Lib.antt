@@ -1,0 +1,4 @@
+pub mod Moving
+pub mod Coursing
+pub mod OneRequest
+pub mod Talking

@@ -1,0 +1,5 @@
+pub mod Moves
+pub mod Course
+pub mod Answers
+pub mod Talks
+pub mod Turns

@@ -1,0 +1,234 @@
+-- How a sync ends.
+use Rattle.std.proofs.Common.{◌≡◌, ◌≢◌, ◌⊎◌, ℕ, List, ◌++◌, Option, Some, None, Result, Ok, Err, refl, sym, ap, ◌∙◌, subst, inl, inr, arith}
+use Rattle.ss_outside.specs.Told.{Meanings, HasWritten}
+use Rattle.ss_outside.specs.Causes.{Rose}
+use Rattle.ss_links.specs.Dials.{Hung}
+use Rattle.ss_links.specs.Stores.{Files, HasSaved}
+use Rattle.ss_plan.specs.declared.limits.PlanFault.{PlanFault}
+use Rattle.ss_device.specs.Device.{DeviceView}
+use Rattle.ss_device.specs.Writing.{device_text}
+use Rattle.ss_client.specs.declared.summaries.Summary.{Summary}
+use Rattle.ss_client.specs.declared.summaries.SyncFault.{SyncFault}
+use Rattle.ss_client.specs.declared.summaries.SyncFault.TheVariants as fault
+use Rattle.ss_client.specs.declared.summaries.Fetch.{Fetch}
+use Rattle.ss_client.specs.declared.runs.Stage.TheVariants.{Asks}
+use Rattle.ss_client.specs.Runs.{MachineView, first_run, is_newer}
+use Rattle.ss_converse.specs.Course.{Account}
+use Rattle.ss_words.specs.declared.commands.SyncCommand.{SyncCommand}
+use Rattle.ss_run_sync.specs.declared.linking.Came.{Came}
+use Rattle.ss_run_sync.specs.declared.linking.Came.TheVariants as came
+use Rattle.ss_run_sync.specs.declared.reports.Trouble.{Trouble}
+use Rattle.ss_run_sync.specs.declared.reports.Trouble.TheVariants as trouble
+use Rattle.ss_run_sync.specs.declared.reports.Report.{Report}
+use Rattle.ss_run_sync.specs.declared.reports.Report.TheVariants.{Line, Short}
+use Rattle.ss_run_sync.specs.Endings.{Ending, Synced, Stopped, Failed, status_of, status_of_stop, status_of_size, too_large, line_of, status_told, line_told, Tells, Reports, Prints}
+use Rattle.ss_run_sync.specs.Naming.{host_named}
+use Rattle.ss_run_sync.specs.Links.{IsRun}
+use Rattle.ss_run_sync.specs.Syncs.{Outside, Starts, Loads, Saves, IsKept, Closes, Syncs, Went, undialled, dialled, account_of, machine_of, fetch_of}
+use Rattle.ss_run_sync.specs.Runs.{Runs, Causes, syncs, asks_nothing, out_of_memory}
+
+-- what is told of an ending is printed
+pub prints_told : (ending : Ending) (report : Report) (status : ℕ) (a b : Meanings) → Tells ending report → Prints (status_told report) (line_told report) status a b → Prints (status_of ending) (line_of ending) status a b
+prints_told ending (Line code line) status a b t p = subst (λ l. Prints (status_of ending) l status a b) t.1 (subst (λ n. Prints n line.items status a b) t.0 p)
+prints_told ending (Short what) status a b t p = subst (λ e. Prints (status_of e) (line_of e) status a b) (sym t) p
+
+-- before anything is dialled
+pub went_undialled : (command : SyncCommand) (what : Trouble) (old new : Outside) → Loads command.file (Err what) old.held new.held old.store_faults new.store_faults → new.hung ≡ old.hung
+    → new.dial_faults ≡ old.dial_faults → Went command (Short what) old new
+went_undialled command what old new l h f = record { ending = Failed what; tells = refl; syncs = undialled what refl l h f }
+
+-- ---- over links
+
+-- a sync that loaded a device, whose run came to this, and that has this end to come
+pub record Ran (command : SyncCommand) (what : Came) (old new : Outside) : Type 0 where
+  pub device : DeviceView
+  pub starts : Starts old.held command.file device
+  pub run : IsRun (account_of command) (machine_of command device) what old.dial_faults new.dial_faults old.hung new.hung
+
+-- the device that was loaded from the file of this name, and the run of the machine that was started for it, under this host
+pub ran_of : (command : SyncCommand) (file host : List ℕ) (d : DeviceView) (m : MachineView) (fetch : Fetch) (what : Came) (old new : Outside) → file ≡ command.file → host ≡ host_named command.server
+    → m ≡ record { device = d; run = first_run (is_newer d fetch); stage = Asks } → fetch ≡ fetch_of command → Starts old.held file d
+    → IsRun (record { uid = command.server.uid; host = host }) m what old.dial_faults new.dial_faults old.hung new.hung → Ran command what old new
+ran_of command file host d m fetch what old new e h is f s r = record {
+  device = d;
+  starts = subst (λ x. Starts old.held x d) e s;
+  run = subst (λ x. IsRun (record { uid = command.server.uid; host = x }) (machine_of command d) what old.dial_faults new.dial_faults old.hung new.hung) h
+      (subst (λ (x : Fetch). IsRun (record { uid = command.server.uid; host = host }) (record { device = d; run = first_run (is_newer d x); stage = Asks }) what old.dial_faults new.dial_faults old.hung new.hung) f
+      (subst (λ (x : MachineView). IsRun (record { uid = command.server.uid; host = host }) x what old.dial_faults new.dial_faults old.hung new.hung) is r));
+}
+
+went : (command : SyncCommand) (what : Came) (ending : Ending) (report : Report) (old new : Outside) → Ran command what old new → Tells ending report → Closes command.file what ending old new → Went command report old new
+went command what ending report old new r t c = record { ending = ending; tells = t; syncs = dialled r.device what r.starts r.run c }
+
+pub went_done : (command : SyncCommand) (d : DeviceView) (summary : Summary) (report : Report) (old new : Outside) (held : Option Files) (faults : ℕ) → Ran command (came.Done d summary) old new
+    → held ≡ old.held → faults ≡ old.store_faults → Saves command.file d summary report held new.held faults new.store_faults → Went command report old new
+went_done command d summary (Line status line) old new held faults r h f s =
+    went command (came.Done d summary) (Synced summary) (Line status line) old new r (s.0, s.1) (refl, subst (λ x. HasSaved command.file (device_text d) x new.held) h s.2, s.3 ∙ f)
+went_done command d summary (Short trouble.Store) old new held faults r h f s =
+    went command (came.Done d summary) (Failed trouble.Store) (Short trouble.Store) old new r refl (s.0 ∙ h, subst (λ x. Rose x new.store_faults) f s.1)
+went_done command d summary (Short trouble.Memory) old new held faults r h f s =
+    went command (came.Done d summary) (Failed trouble.Memory) (Short trouble.Memory) old new r refl (s.0 ∙ h, s.1 ∙ f)
+went_done command d summary (Short trouble.Wire) old new held faults r h f s = absurd s
+went_done command d summary (Short trouble.Device) old new held faults r h f s = absurd s
+
+pub went_stopped : (command : SyncCommand) (f : SyncFault) (report : Report) (old new : Outside) → Ran command (came.Stop f) old new → IsKept old new → Reports f report → Went command report old new
+went_stopped command f (Line status line) old new r k s = went command (came.Stop f) (Stopped f) (Line status line) old new r (s.0, s.1) (refl, k)
+went_stopped command f (Short what) old new r k s = went command (came.Stop f) (Failed trouble.Memory) (Short what) old new r (ap Failed (sym s)) k
+
+pub went_wire : (command : SyncCommand) (old new : Outside) → Ran command came.Wire old new → IsKept old new → Went command (Short trouble.Wire) old new
+went_wire command old new r k = went command came.Wire (Failed trouble.Wire) (Short trouble.Wire) old new r refl k
+
+pub went_memory : (command : SyncCommand) (old new : Outside) → Ran command came.Memory old new → IsKept old new → Went command (Short trouble.Memory) old new
+went_memory command old new r k = went command came.Memory (Failed trouble.Memory) (Short trouble.Memory) old new r refl k
+
+-- ---- files that are kept, and counts that rose
+
+-- unless a sync is done the files are as before
+closes_kept : (file : List ℕ) (what : Came) (ending : Ending) (old new : Outside) → Closes file what ending old new → status_of ending ≢ 0 → new.held ≡ old.held
+closes_kept file (came.Done d s) (Synced x) old new c n = absurd (n refl)
+closes_kept file (came.Done d s) (Stopped f) old new c n = absurd c
+closes_kept file (came.Done d s) (Failed trouble.Wire) old new c n = absurd c
+closes_kept file (came.Done d s) (Failed trouble.Device) old new c n = absurd c
+closes_kept file (came.Done d s) (Failed trouble.Store) old new c n = c.0
+closes_kept file (came.Done d s) (Failed trouble.Memory) old new c n = c.0
+closes_kept file (came.Stop f) (Synced x) old new c n = absurd c
+closes_kept file (came.Stop f) (Stopped g) old new c n = c.1.0
+closes_kept file (came.Stop f) (Failed trouble.Wire) old new c n = absurd c
+closes_kept file (came.Stop f) (Failed trouble.Device) old new c n = absurd c
+closes_kept file (came.Stop f) (Failed trouble.Store) old new c n = absurd c
+closes_kept file (came.Stop f) (Failed trouble.Memory) old new c n = c.0
+closes_kept file came.Wire (Synced x) old new c n = absurd c
+closes_kept file came.Wire (Stopped g) old new c n = absurd c
+closes_kept file came.Wire (Failed trouble.Wire) old new c n = c.0
+closes_kept file came.Wire (Failed trouble.Device) old new c n = absurd c
+closes_kept file came.Wire (Failed trouble.Store) old new c n = absurd c
+closes_kept file came.Wire (Failed trouble.Memory) old new c n = absurd c
+closes_kept file came.Memory (Synced x) old new c n = absurd c
+closes_kept file came.Memory (Stopped g) old new c n = absurd c
+closes_kept file came.Memory (Failed trouble.Wire) old new c n = absurd c
+closes_kept file came.Memory (Failed trouble.Device) old new c n = absurd c
+closes_kept file came.Memory (Failed trouble.Store) old new c n = absurd c
+closes_kept file came.Memory (Failed trouble.Memory) old new c n = c.0
+
+loads_kept : (name : List ℕ) (what : Trouble) (held held' : Option Files) (f g : ℕ) → Loads name (Err what) held held' f g → held' ≡ held
+loads_kept name trouble.Wire held held' f g l = absurd l
+loads_kept name trouble.Device held held' f g l = l.1
+loads_kept name trouble.Store held held' f g l = l.0
+loads_kept name trouble.Memory held held' f g l = l.0
+
+syncs_kept : (command : SyncCommand) (ending : Ending) (old new : Outside) → Syncs command ending old new → status_of ending ≢ 0 → new.held ≡ old.held
+syncs_kept command ending old new (undialled what e l h f) n = loads_kept command.file what old.held new.held old.store_faults new.store_faults l
+syncs_kept command ending old new (dialled d what s r c) n = closes_kept command.file what ending old new c n
+
+pub kept_of : (words : List (List ℕ)) (status : ℕ) (old new : Outside) (a b : Meanings) → Runs words status old new a b → status ≢ 0 → status ≢ 10 → new.held ≡ old.held
+kept_of words status old new a b (syncs command ending asks s (inl p)) n m = syncs_kept command ending old new s (λ z. n (p.0 ∙ z))
+kept_of words status old new a b (syncs command ending asks s (inr p)) n m = absurd (m p.0)
+kept_of words status old new a b (asks_nothing asks e s w) n m = ap (λ (o : Outside). o.held) s
+kept_of words status old new a b (out_of_memory s p) n m = ap (λ (o : Outside). o.held) s
+
+-- a run that stopped has neither of the statuses 2 and 7
+record HasOther (n : ℕ) : Type 0 where
+  two : n ≢ 2
+  seven : n ≢ 7
+
+size_other : (o : Option ℕ) → HasOther (status_of_size o)
+size_other (Some n) = record { two = λ e. absurd (omega arith); seven = λ e. absurd (omega arith) }
+size_other None = record { two = λ e. absurd (omega arith); seven = λ e. absurd (omega arith) }
+
+stop_other : (f : SyncFault) → HasOther (status_of_stop f)
+stop_other (fault.Refused status id) = record { two = λ e. absurd (omega arith); seven = λ e. absurd (omega arith) }
+stop_other (fault.Changing a b c d) = record { two = λ e. absurd (omega arith); seven = λ e. absurd (omega arith) }
+stop_other (fault.Plan f) = size_other (too_large f)
+stop_other (fault.BadReply n) = record { two = λ e. absurd (omega arith); seven = λ e. absurd (omega arith) }
+stop_other fault.Memory = record { two = λ e. absurd (omega arith); seven = λ e. absurd (omega arith) }
+
+is_wire : (ending : Ending) → status_of ending ≡ 2 → ending ≡ Failed trouble.Wire
+is_wire (Synced s) e = absurd (omega arith)
+is_wire (Stopped f) e = absurd ((stop_other f).two e)
+is_wire (Failed trouble.Wire) e = refl
+is_wire (Failed trouble.Device) e = absurd (omega arith)
+is_wire (Failed trouble.Store) e = absurd (omega arith)
+is_wire (Failed trouble.Memory) e = absurd (omega arith)
+
+is_store : (ending : Ending) → status_of ending ≡ 7 → ending ≡ Failed trouble.Store
+is_store (Synced s) e = absurd (omega arith)
+is_store (Stopped f) e = absurd ((stop_other f).seven e)
+is_store (Failed trouble.Wire) e = absurd (omega arith)
+is_store (Failed trouble.Device) e = absurd (omega arith)
+is_store (Failed trouble.Store) e = refl
+is_store (Failed trouble.Memory) e = absurd (omega arith)
+
+same_trouble : (what that : Trouble) → Failed what ≡ Failed that → what ≡ that
+same_trouble what that e = cc
+
+closes_wire : (file : List ℕ) (account : Account) (m : MachineView) (what : Came) (old new : Outside) → IsRun account m what old.dial_faults new.dial_faults old.hung new.hung → Closes file what (Failed trouble.Wire) old new
+    → Rose old.dial_faults new.dial_faults
+closes_wire file account m (came.Done d s) old new r c = absurd c
+closes_wire file account m (came.Stop f) old new r c = absurd c
+closes_wire file account m came.Wire old new r c = r.comes.1
+closes_wire file account m came.Memory old new r c = absurd c
+
+closes_store : (file : List ℕ) (what : Came) (old new : Outside) → Closes file what (Failed trouble.Store) old new → Rose old.store_faults new.store_faults
+closes_store file (came.Done d s) old new c = c.1
+closes_store file (came.Stop f) old new c = absurd c
+closes_store file came.Wire old new c = absurd c
+closes_store file came.Memory old new c = absurd c
+
+-- a sync that ended so
+ended_wire : (command : SyncCommand) (ending : Ending) (old new : Outside) → Syncs command ending old new → ending ≡ Failed trouble.Wire → Rose old.dial_faults new.dial_faults
+ended_wire command ending old new (undialled what e l h f) is =
+    absurd (subst (λ t. Loads command.file (Err t) old.held new.held old.store_faults new.store_faults) (same_trouble what trouble.Wire (sym e ∙ is)) l)
+ended_wire command ending old new (dialled d what s r c) is =
+    closes_wire command.file (account_of command) (machine_of command d) what old new r (subst (λ x. Closes command.file what x old new) is c)
+
+ended_store : (command : SyncCommand) (ending : Ending) (old new : Outside) → Syncs command ending old new → ending ≡ Failed trouble.Store → Rose old.store_faults new.store_faults
+ended_store command ending old new (undialled what e l h f) is =
+    (subst (λ t. Loads command.file (Err t) old.held new.held old.store_faults new.store_faults) (same_trouble what trouble.Store (sym e ∙ is)) l).1
+ended_store command ending old new (dialled d what s r c) is = closes_store command.file what old new (subst (λ x. Closes command.file what x old new) is c)
+
+-- none of these statuses is 10
+below_ten : (ending : Ending) → status_of ending ≡ 10 → ⊥
+below_ten (Synced s) e = omega arith
+below_ten (Stopped f) e = stop_below f e
+  where
+    size : (o : Option ℕ) → status_of_size o ≡ 10 → ⊥
+    size (Some n) q = omega arith
+    size None q = omega arith
+
+    stop_below : (g : SyncFault) → status_of_stop g ≡ 10 → ⊥
+    stop_below (fault.Refused status id) q = omega arith
+    stop_below (fault.Changing a b c d) q = omega arith
+    stop_below (fault.Plan p) q = size (too_large p) q
+    stop_below (fault.BadReply n) q = omega arith
+    stop_below fault.Memory q = omega arith
+below_ten (Failed trouble.Wire) e = omega arith
+below_ten (Failed trouble.Device) e = omega arith
+below_ten (Failed trouble.Store) e = omega arith
+below_ten (Failed trouble.Memory) e = omega arith
+
+pub causes_of : (words : List (List ℕ)) (status : ℕ) (old new : Outside) (a b : Meanings) → Runs words status old new a b → Causes status old new a b
+causes_of words status old new a b (syncs command ending asks s (inl p)) = record {
+  wire = λ e. ended_wire command ending old new s (is_wire ending (sym p.0 ∙ e));
+  store = λ e. ended_store command ending old new s (is_store ending (sym p.0 ∙ e));
+  printing = λ e. absurd (below_ten ending (sym p.0 ∙ e));
+}
+causes_of words status old new a b (syncs command ending asks s (inr p)) = record {
+  wire = λ e. absurd (let q : 10 ≡ 2 = sym p.0 ∙ e in omega arith);
+  store = λ e. absurd (let q : 10 ≡ 7 = sym p.0 ∙ e in omega arith);
+  printing = λ e. p.1;
+}
+causes_of words status old new a b (asks_nothing asks is s w) = record {
+  wire = λ e. absurd (let q : 1 ≡ 2 = sym is ∙ e in omega arith);
+  store = λ e. absurd (let q : 1 ≡ 7 = sym is ∙ e in omega arith);
+  printing = λ e. absurd (let q : 1 ≡ 10 = sym is ∙ e in omega arith);
+}
+causes_of words status old new a b (out_of_memory s (inl p)) = record {
+  wire = λ e. absurd (let q : 8 ≡ 2 = sym p.0 ∙ e in omega arith);
+  store = λ e. absurd (let q : 8 ≡ 7 = sym p.0 ∙ e in omega arith);
+  printing = λ e. absurd (let q : 8 ≡ 10 = sym p.0 ∙ e in omega arith);
+}
+causes_of words status old new a b (out_of_memory s (inr p)) = record {
+  wire = λ e. absurd (let q : 10 ≡ 2 = sym p.0 ∙ e in omega arith);
+  store = λ e. absurd (let q : 10 ≡ 7 = sym p.0 ∙ e in omega arith);
+  printing = λ e. p.1;
+}

@@ -1,0 +1,4 @@
+pub mod HostName
+pub mod Hanging
+pub mod LinkByLink
+pub mod Ending

@@ -1,0 +1,186 @@
+-- A run over links, one after the other.
+use Rattle.std.proofs.Common.{◌≡◌, ◌⊎◌, ℕ, List, [], ◌∷◌, ◌++◌, Option, Some, None, Result, Err, refl, sym, ap, ◌∙◌, subst, append_assoc, inl, inr, arith}
+use Rattle.std.specs.List.{All, flat_map}
+use Rattle.std.proofs.lemmas.List.{append-nil}
+use Rattle.std.proofs.lemmas.Grind.{flat_map-append}
+use Rattle.std.proofs.lemmas.List.Elements.{All-append, All-cons}
+use Rattle.ss_outside.specs.Told.{Meanings}
+use Rattle.ss_outside.specs.Causes.{Rose}
+use Rattle.ss_links.specs.Links.{IsUnused}
+use Rattle.ss_links.specs.Dials.{Hung, HasCause, HasHung, HangUpCounts}
+use Rattle.ss_links.specs.declared.dial.DialFault.{DialFault}
+use Rattle.ss_links.specs.declared.dial.DialFault.TheVariants.{Fault, Memory}
+use Rattle.ss_device.specs.Device.{DeviceView}
+use Rattle.ss_client.specs.declared.summaries.SyncFault.{SyncFault}
+use Rattle.ss_client.specs.Runs.{MachineView}
+use Rattle.ss_client.specs.Machine.{Next, Send, Done, Stop}
+use Rattle.ss_converse.specs.declared.talk.Talk.{Talk}
+use Rattle.ss_converse.specs.declared.talk.Talk.TheVariants as talks
+use Rattle.ss_converse.specs.Moves.{Moves, IsUnfaulted, IsFront, Fails}
+use Rattle.ss_converse.specs.Course.{Account, Exchange, request_next, IsCourse}
+use Rattle.ss_converse.specs.Talks.{Talked, EndsIn, IsWhole, IsBadReply, Talks}
+use Rattle.ss_converse.proofs.Coursing.{course_then}
+use Rattle.ss_run_sync.specs.declared.linking.Came.{Came}
+use Rattle.ss_run_sync.specs.declared.linking.Came.TheVariants as came
+use Rattle.ss_run_sync.specs.Links.{Used, hung_of, Hangs, exchanges_of, IsLeft, listed, IsAsking, IsEnded, IsUnheard, Comes, IsRun, leg_of, came_of, Goes, IsLeg}
+use Rattle.ss_run_sync.proofs.Hanging.{hangs_none, hangs_then, hangs_one, hung_failed, hung_fine}
+
+-- ---- fronts of a request
+
+front_of : (text got sent : List ℕ) (a b : Meanings) → Fails text got sent a b → IsFront sent text
+front_of text got sent a b (inl f) = f.3
+front_of text got sent a b (inr f) = ([], sym f.2 ∙ sym (append-nil sent))
+
+front_none : (text part : List ℕ) → part ≡ [] → IsFront part text
+front_none text part e = (text, ap (λ p. p ++ text) (sym e))
+
+front_whole : (text part : List ℕ) → part ≡ text → IsFront part text
+front_whole text part e = ([], sym e ∙ sym (append-nil part))
+
+-- ---- one link
+
+one_course : (d : DeviceView) (now : Next) (used : Used) (next : Next) → IsCourse d now used.talked.exchanges next → IsCourse d now (exchanges_of (used ∷ [])) next
+one_course d now used next c = subst (λ xs. IsCourse d now xs next) (sym (append-nil used.talked.exchanges)) c
+
+none_left : All IsLeft []
+none_left = λ k d h. absurd (omega arith)
+
+pub leg_is : (account : Account) (m : MachineView) (talk : Talk) (link link' : Meanings) (f g : ℕ) (a b : Option (List Hung)) → IsUnused link → Talks account m talk link link' → HasHung link' a b → HangUpCounts link' f g
+    → IsLeg account m (leg_of talk) f g a b
+leg_is account m (talks.Done device summary) link link' f g a b u t h c =
+    let used : Used = record { talked = t.talked; tells = link' } in
+    record {
+      before = [];
+      last = Some used;
+      next = t.next;
+      course = one_course m.device (Send m.run m.stage) used t.next t.course;
+      left = none_left;
+      hangs = hangs_one account m.device t.talked link link' a b u t.moves h;
+      comes = (t.cause.0, record { used = used; is_last = refl; ends = t.cause.1; whole = t.cause.2 }, hung_fine link link' f g u t.cause.3 c);
+    }
+leg_is account m (talks.Stop device fault) link link' f g a b u t h c =
+    let used : Used = record { talked = t.talked; tells = link' } in
+    record {
+      before = [];
+      last = Some used;
+      next = t.next;
+      course = one_course m.device (Send m.run m.stage) used t.next t.course;
+      left = none_left;
+      hangs = hangs_one account m.device t.talked link link' a b u t.moves h;
+      comes = (by used refl t.cause.1, hung_fine link link' f g u t.cause.2 c);
+    }
+  where
+    by : (used : Used) → used ≡ record { talked = t.talked; tells = link' } → ((t.next ≡ Stop fault) × EndsIn t.talked.exchanges × IsWhole t.talked) ⊎ IsBadReply account m.device t.talked t.next fault link'
+        → ((t.next ≡ Stop fault) × IsEnded (Some (record { talked = t.talked; tells = link' }))) ⊎ IsUnheard account m.device (Some (record { talked = t.talked; tells = link' })) t.next fault
+    by used e (inl s) = inl (s.0, record { used = record { talked = t.talked; tells = link' }; is_last = refl; ends = s.1; whole = s.2 })
+    by used e (inr s) = inr (record { used = record { talked = t.talked; tells = link' }; is_last = refl; bad = s })
+leg_is account m (talks.Anew machine request) link link' f g a b u t h c =
+    let used : Used = record { talked = t.talked; tells = link' } in (
+      record {
+        before = used ∷ [];
+        device = t.cause.0;
+        course = subst (λ n. IsCourse m.device (Send m.run m.stage) (exchanges_of (used ∷ [])) n) t.cause.1 (one_course m.device (Send m.run m.stage) used t.next t.course);
+        left = All-cons IsLeft used [] (record { last = t.cause.3; whole = t.cause.4 }) none_left;
+        hangs = hangs_one account m.device t.talked link link' a b u t.moves h;
+        faultless = hung_fine link link' f g u t.cause.5 c;
+      },
+      t.cause.2,
+    )
+leg_is account m (talks.Wire device) link link' f g a b u t h c =
+    let used : Used = record { talked = t.talked; tells = link' } in
+    let k = t.cause.1 in
+    record {
+      before = [];
+      last = Some used;
+      next = t.next;
+      course = one_course m.device (Send m.run m.stage) used t.next t.course;
+      left = none_left;
+      hangs = hangs_one account m.device t.talked link link' a b u t.moves h;
+      comes = (
+        record { run = k.run; stage = k.stage; asks = k.asks; written = (k.goes_on, front_of (request_next account m.device t.next) t.talked.more t.talked.part link link' k.fails) },
+        hung_failed (request_next account m.device t.next) t.talked.more t.talked.part link link' f g u k.fails c,
+      );
+    }
+leg_is account m (talks.Memory device) link link' f g a b u t h c =
+    let used : Used = record { talked = t.talked; tells = link' } in
+    let k = t.cause.1 in
+    record {
+      before = [];
+      last = Some used;
+      next = t.next;
+      course = one_course m.device (Send m.run m.stage) used t.next t.course;
+      left = none_left;
+      hangs = hangs_one account m.device t.talked link link' a b u t.moves h;
+      comes = (record { run = k.run; stage = k.stage; asks = k.asks; written = (k.goes_on, by k.sent) }, hung_fine link link' f g u t.cause.2 c);
+    }
+  where
+    by : IsWhole t.talked ⊎ (t.talked.part ≡ request_next account m.device t.next) → IsFront t.talked.part (request_next account m.device t.next)
+    by (inl w) = front_none (request_next account m.device t.next) t.talked.part w.part
+    by (inr e) = front_whole (request_next account m.device t.next) t.talked.part e
+
+-- no link was made: why, and the dial's count
+unlinked : (L : Type 0) (account : Account) (m : MachineView) (fault : DialFault) (f g : ℕ) (a b : Option (List Hung)) → b ≡ a → HasCause {L = L} (Err fault) f g → Comes account m.device None (Send m.run m.stage) f g (came_of fault)
+unlinked L account m Fault f g a b e r = (record { run = m.run; stage = m.stage; asks = refl; written = tt }, r)
+unlinked L account m Memory f g a b e r = (record { run = m.run; stage = m.stage; asks = refl; written = tt }, r)
+
+pub undialled_is : (L : Type 0) (account : Account) (m : MachineView) (fault : DialFault) (f g : ℕ) (a b : Option (List Hung)) → b ≡ a → HasCause {L = L} (Err fault) f g → IsRun account m (came_of fault) f g a b
+undialled_is L account m fault f g a b e r = record {
+  before = [];
+  last = None;
+  next = Send m.run m.stage;
+  course = refl;
+  left = none_left;
+  hangs = hangs_none account m.device a b e;
+  comes = unlinked L account m fault f g a b e r;
+}
+
+-- ---- links behind others
+
+pub no_links : (account : Account) (m : MachineView) (f : ℕ) (a : Option (List Hung)) → Goes account m m f f a a
+no_links account m f a = record {
+  before = [];
+  device = refl;
+  course = refl;
+  left = none_left;
+  hangs = hangs_none account m.device a a refl;
+  faultless = refl;
+}
+
+-- a machine of this device at the same place
+abbrev of_device : DeviceView → MachineView → MachineView
+of_device d m = record { device = d; run = m.run; stage = m.stage }
+
+exchanges_then : (ks ls : List Used) → exchanges_of (ks ++ ls) ≡ exchanges_of ks ++ exchanges_of ls
+exchanges_then ks ls = flat_map-append (λ used. used.talked.exchanges) ks ls
+
+courses_then : (d : DeviceView) (x : Next) (ks : List Used) (y : Next) (ls : List Used) (z : Next) → IsCourse d x (exchanges_of ks) y → IsCourse d y (exchanges_of ls) z → IsCourse d x (exchanges_of (ks ++ ls)) z
+courses_then d x ks y ls z f g = subst (λ xs. IsCourse d x xs z) (sym (exchanges_then ks ls)) (course_then d x (exchanges_of ks) y (exchanges_of ls) z f g)
+
+pub goes_then : (account : Account) (m n o : MachineView) (f g h : ℕ) (a b c : Option (List Hung)) → Goes account m n f g a b → Goes account n o g h b c → Goes account m o f h a c
+goes_then account m n o f g h a b c k t = go (subst (λ d. Goes account (of_device d n) o g h b c) k.device t)
+  where
+    go : Goes account (of_device m.device n) o g h b c → Goes account m o f h a c
+    go s = record {
+      before = k.before ++ s.before;
+      device = s.device;
+      course = courses_then m.device (Send m.run m.stage) k.before (Send n.run n.stage) s.before (Send o.run o.stage) k.course s.course;
+      left = All-append IsLeft k.before s.before k.left s.left;
+      hangs = hangs_then account m.device k.before s.before a b c k.hangs s.hangs;
+      faultless = s.faultless ∙ k.faultless;
+    }
+
+pub run_then : (account : Account) (m n : MachineView) (what : Came) (f g h : ℕ) (a b c : Option (List Hung)) → Goes account m n f g a b → IsRun account n what g h b c → IsRun account m what f h a c
+run_then account m n what f g h a b c k t = go (subst (λ d. IsRun account (of_device d n) what g h b c) k.device t)
+  where
+    go : IsRun account (of_device m.device n) what g h b c → IsRun account m what f h a c
+    go s = record {
+      before = k.before ++ s.before;
+      last = s.last;
+      next = s.next;
+      course = subst (λ ls. IsCourse m.device (Send m.run m.stage) (exchanges_of ls) s.next) (sym (append_assoc k.before s.before (listed s.last)))
+          (courses_then m.device (Send m.run m.stage) k.before (Send n.run n.stage) (s.before ++ listed s.last) s.next k.course s.course);
+      left = All-append IsLeft k.before s.before k.left s.left;
+      hangs = subst (λ ls. Hangs account m.device ls a c) (sym (append_assoc k.before s.before (listed s.last)))
+          (hangs_then account m.device k.before (s.before ++ listed s.last) a b c k.hangs s.hangs);
+      comes = subst (λ x. Comes account m.device s.last s.next x h what) k.faultless s.comes;
+    }

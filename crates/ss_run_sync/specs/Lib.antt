@@ -1,0 +1,5 @@
+pub mod Naming
+pub mod Endings
+pub mod Links
+pub mod Syncs
+pub mod Runs

@@ -1,0 +1,125 @@
+-- The links of a sync, one after the other, and what its run comes to.
+use Rattle.std.specs.Prelude.{◌≡◌, ◌⊎◌, ℕ, List, [], ◌∷◌, ◌++◌, map, All, Option, Some, None, unwrap_or, IfSome, ⊤}
+use Rattle.std.specs.List.{flat_map}
+use Rattle.ss_outside.specs.Told.{Meanings}
+use Rattle.ss_outside.specs.Causes.{Rose}
+use Rattle.ss_links.specs.Dials.{Hung}
+use Rattle.ss_links.specs.declared.dial.DialFault.{DialFault}
+use Rattle.ss_links.specs.declared.dial.DialFault.TheVariants.{Fault, Memory}
+use Rattle.ss_query.specs.declared.requests.Request.{Request}
+use Rattle.ss_device.specs.Device.{DeviceView}
+use Rattle.ss_client.specs.declared.summaries.SyncFault.{SyncFault}
+use Rattle.ss_client.specs.declared.runs.Run.{Run}
+use Rattle.ss_client.specs.declared.runs.Stage.{Stage}
+use Rattle.ss_client.specs.Runs.{MachineView}
+use Rattle.ss_client.specs.Asking.{ask}
+use Rattle.ss_client.specs.Machine.{Next, Send, Done, Stop}
+use Rattle.ss_converse.specs.declared.talk.Talk.{Talk}
+use Rattle.ss_converse.specs.declared.talk.Talk.TheVariants as talks
+use Rattle.ss_converse.specs.Moves.{IsFront}
+use Rattle.ss_converse.specs.Course.{Account, Exchange, request_next, IsCourse}
+use Rattle.ss_converse.specs.Talks.{Talked, taken_of, written_of, GoesOn, EndsIn, IsWhole, IsLast, IsBadReply, IsCloser}
+use Rattle.ss_run_sync.specs.declared.linking.Came.{Came}
+use Rattle.ss_run_sync.specs.declared.linking.Came.TheVariants as came
+use Rattle.ss_run_sync.specs.declared.linking.Leg.{Leg}
+use Rattle.ss_run_sync.specs.declared.linking.Leg.TheVariants.{On, End}
+
+-- a link that was used: what went over it, and what it told when it was hung up
+pub record Used : Type 0 where
+  pub talked : Talked
+  pub tells : Meanings
+
+-- what is told of it once it was hung up: the bytes that were taken from it, that were left, and that were written to it
+abbrev pub hung_of : Account → DeviceView → Used → Hung
+hung_of account d used = record { taken = taken_of used.talked; left = unwrap_or used.tells.left []; written = written_of account d used.talked }
+
+-- where it is told which links were hung up, these were, behind those before
+abbrev pub Hangs : Account → DeviceView → List Used → Option (List Hung) → Option (List Hung) → Type 0
+Hangs account d links hung hung' = (y : List Hung) → hung' ≡ Some y → (x : List Hung) × (hung ≡ Some x) × (y ≡ x ++ map (hung_of account d) links)
+
+-- the exchanges over links, in order
+abbrev pub exchanges_of : List Used → List Exchange
+exchanges_of links = flat_map (λ used. used.talked.exchanges) links
+
+-- a link that was left for the next one: all that went over it are exchanges, and its last response said that it is the last; none
+-- before it did
+pub record IsLeft (used : Used) : Type 0 where
+  pub last : IsLast used.talked.exchanges
+  pub whole : IsWhole used.talked
+
+-- the link, if there was one, is in a list of them
+abbrev pub listed : Option Used → List Used
+listed None = []
+listed (Some used) = used ∷ []
+
+-- the run asked for more; over the last link, if there was one, no response said that it is the last, and a front of the next request
+-- was written behind the exchanges
+pub record IsAsking (account : Account) (d : DeviceView) (last : Option Used) (next : Next) : Type 0 where
+  pub run : Run
+  pub stage : Stage
+  pub asks : next ≡ Send run stage
+  pub written : IfSome last (λ used. GoesOn used.talked.exchanges × IsFront used.talked.part (request_next account d next))
+
+-- the run ended with the last response over a link, and nothing else went over it
+pub record IsEnded (last : Option Used) : Type 0 where
+  pub used : Used
+  pub is_last : last ≡ Some used
+  pub ends : EndsIn used.talked.exchanges
+  pub whole : IsWhole used.talked
+
+-- the run asked for more over a link, whose response can't be read: it stops with the number of that request
+pub record IsUnheard (account : Account) (d : DeviceView) (last : Option Used) (next : Next) (f : SyncFault) : Type 0 where
+  pub used : Used
+  pub is_last : last ≡ Some used
+  pub bad : IsBadReply account d used.talked next f used.tells
+
+-- What a run came to, over its last link, what it does next, and the dial's count of faults
+abbrev pub Comes : Account → DeviceView → Option Used → Next → ℕ → ℕ → Came → Type 0
+Comes account d last next faults faults' (came.Done device summary) = (next ≡ Done device summary) × IsEnded last × (faults' ≡ faults)
+Comes account d last next faults faults' (came.Stop f) = (((next ≡ Stop f) × IsEnded last) ⊎ IsUnheard account d last next f) × (faults' ≡ faults)
+Comes account d last next faults faults' came.Wire = IsAsking account d last next × Rose faults faults'
+Comes account d last next faults faults' came.Memory = IsAsking account d last next × (faults' ≡ faults)
+
+-- A run over links, from the request whose reply its machine awaits: the links that were left for the next one, the one on which it
+-- ended, if it ended on one, and what it came to. All exchanges together are one course of the machine
+pub record IsRun (account : Account) (m : MachineView) (what : Came) (faults faults' : ℕ) (hung hung' : Option (List Hung)) : Type 0 where
+  pub before : List Used
+  pub last : Option Used
+  pub next : Next
+  pub course : IsCourse m.device (Send m.run m.stage) (exchanges_of (before ++ listed last)) next
+  pub left : All IsLeft before
+  pub hangs : Hangs account m.device (before ++ listed last) hung hung'
+  pub comes : Comes account m.device last next faults faults' what
+
+-- ---- one link
+
+abbrev pub leg_of : Talk → Leg
+leg_of (talks.Done device summary) = End (came.Done device summary)
+leg_of (talks.Stop device f) = End (came.Stop f)
+leg_of (talks.Anew machine request) = On machine request
+leg_of (talks.Wire device) = End came.Wire
+leg_of (talks.Memory device) = End came.Memory
+
+-- what a run comes to for which no link was made
+abbrev pub came_of : DialFault → Came
+came_of Fault = came.Wire
+came_of Memory = came.Memory
+
+-- a run came from one machine to another over links that were left for the next one
+pub record Goes (account : Account) (m machine : MachineView) (faults faults' : ℕ) (hung hung' : Option (List Hung)) : Type 0 where
+  pub before : List Used
+  pub device : machine.device ≡ m.device
+  pub course : IsCourse m.device (Send m.run m.stage) (exchanges_of before) (Send machine.run machine.stage)
+  pub left : All IsLeft before
+  pub hangs : Hangs account m.device before hung hung'
+  pub faultless : faults' ≡ faults
+
+-- what comes of one link
+abbrev pub IsLeg : Account → MachineView → Leg → ℕ → ℕ → Option (List Hung) → Option (List Hung) → Type 0
+IsLeg account m (On machine request) faults faults' hung hung' = Goes account m machine faults faults' hung hung' × (request ≡ ask machine)
+IsLeg account m (End what) faults faults' hung hung' = IsRun account m what faults faults' hung hung'
+
+-- where the run goes on over another link, it is nearer to its end
+abbrev pub IsNearer : MachineView → Leg → Type 0
+IsNearer m (On machine request) = IsCloser machine m
+IsNearer m (End what) = ⊤

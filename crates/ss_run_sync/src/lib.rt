@@ -1,0 +1,16 @@
+//! A device's sync with an account of a server: the command `sync`.
+//! It reads the device's file, sends the machine's requests over as many links as it takes, saves the device and says in one
+//! line how it went; it stands on ss_converse, ss_device_file and ss_words. Its contract: what was dialled, written, read and
+//! saved, the line that was printed, and the cause of the status.
+#![tactic(auto)]
+
+mod files;
+mod lines;
+mod linking;
+mod naming;
+mod reports;
+mod running;
+
+pub use linking::Came;
+pub use reports::Trouble;
+pub use running::run_sync;

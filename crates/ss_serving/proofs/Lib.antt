@@ -1,0 +1,12 @@
+pub mod Lists
+pub mod Order
+pub mod Seen
+pub mod Pages
+pub mod Batches
+pub mod Putting
+pub mod Good
+pub mod Ticking
+pub mod Posting
+pub mod Others
+pub mod Same
+pub mod Keeping

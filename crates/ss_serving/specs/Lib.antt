@@ -1,0 +1,5 @@
+pub mod Bookmarks
+pub mod Asking
+pub mod Serving
+pub mod Good
+pub mod Steps

@@ -1,0 +1,43 @@
+-- How far a machine is from its end.
+use Rattle.std.specs.Prelude.{◌≡◌, ◌⊎◌, ℕ, ◌-◌, ◌<◌, length, Bool, if◌then◌else◌, Option, Some, None, ⊤}
+use Rattle.ss_hearing.specs.declared.answer.Answer.{Answer}
+use Rattle.ss_hearing.specs.declared.answer.Answer.TheVariants.{Changed, Refused}
+use Rattle.ss_client.specs.declared.runs.Stage.{Stage}
+use Rattle.ss_client.specs.declared.runs.Stage.TheVariants.{Asks, Opens, Pages, Lists, Uploads}
+use Rattle.ss_client.specs.Runs.{rest_of}
+use Rattle.ss_client.specs.Machine.{Next, Send, Done, Stop}
+
+-- a reply of the awaited status
+abbrev pub IsAwaited : Answer → Type 0
+IsAwaited (Changed time) = ⊥
+IsAwaited (Refused status) = ⊥
+IsAwaited answer = ⊤
+
+-- the part of a run, counted down, and how much is left of it: the limits; a newer fetch; the ids; a whole fetch; a first POST;
+-- further ones
+pub record Rank : Type 0 where
+  pub part : ℕ
+  pub left : ℕ
+
+abbrev pub fetch_part : Bool → ℕ
+fetch_part newer = if newer then 5 else 3
+
+abbrev pub post_part : Option ℕ → ℕ
+post_part None = 2
+post_part (Some batch) = 1
+
+abbrev pub rank : Bool → Stage → Rank
+rank newer Asks = record { part = 6; left = 0 }
+rank newer Opens = record { part = fetch_part newer; left = 2000 }
+rank newer (Pages p) = record { part = fetch_part newer; left = 1000 - p.pages }
+rank newer (Lists l) = record { part = 4; left = 0 }
+rank newer (Uploads u) = record { part = post_part u.batch; left = length (rest_of u) }
+
+abbrev pub IsLower : Rank → Rank → Type 0
+IsLower x y = (x.part < y.part) ⊎ ((x.part ≡ y.part) × (x.left < y.left))
+
+-- the run has ended, or is nearer to its end
+abbrev pub Nears : Rank → Next → Type 0
+Nears y (Send run stage) = IsLower (rank run.newer stage) y
+Nears y (Done device summary) = ⊤
+Nears y (Stop fault) = ⊤

@@ -1,0 +1,5 @@
+pub mod Seats
+pub mod Worlds
+pub mod Happening
+pub mod Promises
+pub mod Ending

@@ -1,6 +1,6 @@
 //! What the program says of itself, and why it refuses words.
 
-use ss_words::{Name, WordsFault, read_command};
+use ss_words::{Command, Name, SyncCommand, WordsFault, read_command};
 use std::alloc::Global;
 use std::io::{self, Eprint, ErrorKind, Print};
 
@@ -11,11 +11,12 @@ const VERSION: &str = "syncstore 0.1.0\n";
 const USAGE: &str = "\
 syncstore: a Firefox Sync storage server (SyncStorage API 1.5)
 
-usage: syncstore answer UID [--at N]      answers recorded messages for one account
-       syncstore COMMAND --help           tells of a command
+usage: syncstore answer UID [--at N]             answers recorded messages for one account
+       syncstore sync URL FILE [--newer]         syncs the device in a file with a server
+       syncstore COMMAND --help                  tells of a command
        syncstore --help | --version
 
-Not there yet, each ends with status 1: edit, merge, rehearse, sync, serve.
+Not there yet, each ends with status 1: edit, merge, rehearse, serve.
 
 Options may stand anywhere behind the command's name, each at most once, as --x v or --x=v; behind -- all words are
 positionals. Numbers have 1 to 12 digits. With status 1 nothing was read or written.
@@ -72,11 +73,16 @@ example: syncstore rehearse 6000 1
 const SYNC: &str = "\
 usage: syncstore sync URL FILE [--newer]
 
-Syncs the device in FILE with an account of a server. Not there yet: it ends with status 1.
+Syncs the device in FILE with an account of a server: fetches, merges, uploads what changed as one batch, and saves the device. It
+prints one line.
 
   URL        http://HOST[:PORT]/1.5/UID, without a query; the port is 80 where none is given
   FILE       the device's file; where there is none, a new device
   --newer    fetches only what is newer than the device's last sync
+
+exit status: 0 synced and saved; 1 faulty words; 2 a dial or a link failed; 3 the server refused a request or a record; 4 the
+collection changed four times; 5 too much for the server's limits; 6 FILE is no device's file; 7 FILE could not be read or written;
+8 no memory; 9 a reply that can't be read; 10 the line could not be printed. Unless it is 0 or 10 FILE is as before.
 
 example: syncstore sync http://127.0.0.1:8000/1.5/7 device
 ";
@@ -148,6 +154,39 @@ pub fn explain_words(rt: &impl Eprint, alloc: Global, words: &[String]) {
         }
         Err(WordsFault::Memory) => eprintln!(rt; "syncstore: no memory was found"),
     };
+}
+
+/// Whether the first word names the command `sync`.
+pub fn names_sync(words: &[String]) -> bool {
+    match words.first() {
+        Some(word) => Name::read(word.as_str()) == Some(Name::Sync),
+        None => false,
+    }
+}
+
+/// Says on standard error which server or file a status of `sync` speaks of.
+fn explain_command(rt: &impl Eprint, command: &SyncCommand, status: u8) {
+    let (host, port) = (command.server.host.as_str(), command.server.port);
+    let file = command.file.as_str();
+    let _ = match status {
+        2 => eprintln!(rt; "syncstore: the link to {host}:{port} failed"),
+        3 | 4 | 5 | 9 => eprintln!(rt;
+            "syncstore: the sync with {host}:{port} stopped; {file} is as before"
+        ),
+        6 => eprintln!(rt; "syncstore: {file} is no device's file"),
+        7 => eprintln!(rt; "syncstore: {file} could not be read or written"),
+        10 => eprintln!(rt; "syncstore: writing the output failed"),
+        _ => eprintln!(rt; "syncstore: no memory was found"),
+    };
+}
+
+/// Says on standard error what a status of `sync` means, and of which server or file it speaks.
+pub fn explain_sync(rt: &impl Eprint, alloc: Global, words: &[String], status: u8) {
+    match read_command(alloc, words) {
+        Ok(Command::Sync(command)) if status != 0 => explain_command(rt, &command, status),
+        Ok(_) => {}
+        Err(_) => explain_words(rt, alloc, words),
+    }
 }
 
 /// Says on standard error what a status means.

@@ -10,9 +10,21 @@ mod response;
 #[cfg(test)]
 mod tests;
 
+use ss_links::{FileStore, TcpDial};
 use ss_outside::{StdSink, StdSource, SystemClock};
+use ss_run_sync::run_sync;
 use std::env;
 use std::process::ExitCode;
+
+/// Runs the command `sync` over the network and the files of the system, and answers its status.
+fn sync(rt: &HostRuntime, words: &[String]) -> u8 {
+    let mut dial = TcpDial::new(rt);
+    let mut store = FileStore::new(rt);
+    let mut output = StdSink::new(rt.stdout());
+    let status = run_sync(rt.alloc(), words, &mut dial, &mut store, &mut output);
+    help::explain_sync(rt, rt.alloc(), words, status);
+    status
+}
 
 fn main(rt: HostRuntime) -> ExitCode {
     let arguments = match env::args(&rt) {
@@ -29,6 +41,9 @@ fn main(rt: HostRuntime) -> ExitCode {
     };
     if let Some(text) = help::asked_for(words.as_slice()) {
         return ExitCode::from(help::print(&rt, text));
+    }
+    if help::names_sync(words.as_slice()) {
+        return ExitCode::from(sync(&rt, words.as_slice()));
     }
     let mut input = StdSource::new(rt.stdin());
     let mut output = StdSink::new(rt.stdout());

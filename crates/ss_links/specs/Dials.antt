@@ -1,5 +1,5 @@
 -- Dials, and those in memory.
-use Rattle.std.specs.Prelude.{◌≡◌, ◌≢◌, ◌⊎◌, ℕ, ◌+◌, nat_lt, ◌&&◌, List, [], ◌∷◌, ◌++◌, length, Bool, true, false, Option, Some, None, is_some, Result, Ok, Err, if◌then◌else◌}
+use Rattle.std.specs.Prelude.{◌≡◌, ◌≢◌, ◌⊎◌, ℕ, nat_lt, ◌&&◌, List, [], ◌∷◌, ◌++◌, length, Bool, true, false, Option, Some, None, is_some, Result, Ok, Err, if◌then◌else◌}
 use Rattle.std.specs.Option.{unwrap_or}
 use Rattle.ss_outside.specs.Told.{Meanings}
 use Rattle.ss_outside.specs.Causes.{Rose}
@@ -14,6 +14,21 @@ pub record Hung : Type 0 where
   pub taken : List ℕ
   pub left : List ℕ
   pub written : List ℕ
+
+-- a host, and a port of it, for which a dial is asked
+pub record Address : Type 0 where
+  pub host : List ℕ
+  pub port : ℕ
+
+-- where it is told afterwards what was asked for, this stands at the end, behind what was told before
+abbrev pub IsBehind : Address → Option (List Address) → Option (List Address) → Type 0
+IsBehind address old new = (y : List Address) → new ≡ Some y → (x : List Address) × (old ≡ Some x) × (y ≡ x ++ address ∷ [])
+
+-- a dial enters what it was asked for; without memory it enters nothing
+abbrev pub HasAsked : {L : Type 0} → Address → Result L DialFault → Option (List Address) → Option (List Address) → Type 0
+HasAsked address (Err Memory) old new = new ≡ old
+HasAsked address (Err Fault) old new = IsBehind address old new
+HasAsked address (Ok link) old new = IsBehind address old new
 
 -- the count rises in a call that answers a fault, and in no other
 abbrev pub HasCause : {L : Type 0} → Result L DialFault → ℕ → ℕ → Type 0
@@ -36,10 +51,11 @@ pub record HangUpCounts (link : Meanings) (before now : ℕ) : Type 0 where
   pub failed : ((link.read_faults ≢ 0) ⊎ (link.write_faults ≢ 0)) → Rose before now
   pub fine : link.read_faults ≡ 0 → link.write_faults ≡ 0 → now ≡ before
 
--- a dial in memory: the links that it has yet to give, what the links told that were hung up, where that is told, for how
--- many of these it has room, which of its calls fail, and its count of faults
+-- a dial in memory: the links that it has yet to give, what it was asked for, what the links told that were hung up, where that
+-- is told, for how many of these it has room, which of its calls fail, and its count of faults
 pub record Dialling : Type 0 where
   pub links : List Link
+  pub asked : List Address
   pub hung : Option (List Hung)
   pub room : ℕ
   pub plan : Option Plan
@@ -51,11 +67,16 @@ dialled_by true links = Err Fault
 dialled_by false [] = Err Fault
 dialled_by false (link ∷ links) = Ok link
 
--- the dial after the next call
-abbrev pub after_dial : Bool → List Link → Dialling → Dialling
-after_dial true links d = record { links = links; hung = d.hung; room = d.room; plan = after_call d.plan; faults = raised d.faults }
-after_dial false [] d = record { links = []; hung = d.hung; room = d.room; plan = after_call d.plan; faults = raised d.faults }
-after_dial false (link ∷ links) d = record { links = links; hung = d.hung; room = d.room; plan = after_call d.plan; faults = d.faults }
+-- the dial after the next call, which asks for this
+abbrev pub after_dial : Address → Bool → List Link → Dialling → Dialling
+after_dial address true links d = record { links = links; asked = d.asked ++ address ∷ []; hung = d.hung; room = d.room; plan = after_call d.plan; faults = raised d.faults }
+after_dial address false [] d = record { links = []; asked = d.asked ++ address ∷ []; hung = d.hung; room = d.room; plan = after_call d.plan; faults = raised d.faults }
+after_dial address false (link ∷ links) d = record { links = links; asked = d.asked ++ address ∷ []; hung = d.hung; room = d.room; plan = after_call d.plan; faults = d.faults }
+
+-- a call of a dial in memory: without memory nothing is done; else what was asked for is entered, and its next link is given
+abbrev pub HasDialled : Address → Result Link DialFault → Dialling → Dialling → Type 0
+HasDialled address result old new =
+    ((result ≡ Err Memory) × (new ≡ old)) ⊎ ((result ≡ dialled_by (is_failing old.plan) old.links) × (new ≡ after_dial address (is_failing old.plan) old.links old))
 
 -- what a link that was hung up told, where it tells all
 abbrev pub hung_of : Link → Hung

@@ -24,7 +24,7 @@ pub use dial::{Dial, DialFault};
 pub use file_store::FileStore;
 pub use gate::{Gate, OpenGate};
 pub use link::Closable;
-pub use memory_dial::{DialUnder, MemDial};
+pub use memory_dial::{Asked, DialUnder, MemDial};
 pub use memory_link::{LinkUnder, MemLink, SureLink};
 pub use memory_port::{MemPort, PortUnder, SurePort};
 pub use memory_store::{MemStore, StoreUnder, SureStore};

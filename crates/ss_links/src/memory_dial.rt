@@ -1,9 +1,10 @@
 //! A dial in memory.
 
-ghost use Rattle.std.specs.Prelude.{◌≡◌, [], All, Some, IfOk, map, option_map, option_copied, vec_len};
-ghost use Rattle.ss_outside.specs.Plans.{fresh_plan, is_failing, raised};
+ghost use Rattle.std.specs.Prelude.{◌≡◌, ◌++◌, [], ◌∷◌, All, Some, IfOk, OnOk, OnErr, map, option_map, option_copied, vec_len};
+ghost use Rattle.ss_outside.specs.Plans.{fresh_plan, raised};
 ghost use Rattle.ss_links.specs.Links.{IsUnused, link_tells};
-ghost use Rattle.ss_links.specs.Dials.{HasCause, HasHung, HangUpCounts, after_dial, dialled_by, hung_of, with_link};
+ghost use Rattle.ss_links.specs.Dials.{HasAsked, HasCause, HasDialled, HasHung, HangUpCounts, hung_of, with_link};
+ghost use Rattle.ss_links.specs.Asked.{address_of};
 
 use crate::dial::{Dial, DialFault};
 use crate::memory_link::LinkUnder;
@@ -11,12 +12,21 @@ use ss_outside::{Faults, Numbered};
 use std::alloc::{AllocError, Global};
 use std::marker::Model;
 
-/// Gives its links in order, whatever host and port are asked for; past the last one a dial fails. It keeps the links that
-/// are hung up, and tells them as long as each of them tells and there is room.
+/// What a dial was asked for.
+#[derive(Drop, Debug)]
+pub struct Asked {
+    pub host: String,
+    pub port: u16,
+}
+
+/// Gives its links in order, whatever host and port are asked for, and tells these; past the last one a dial fails. It keeps the
+/// links that are hung up, and tells them as long as each of them tells and there is room.
 #[derive(Drop, Debug)]
 pub struct DialUnder<F: Faults + Drop> {
+    alloc: Global,
     // From the last one to the next one.
     links: Vec<LinkUnder<F>>,
+    asked: Vec<Asked>,
     hung: Vec<LinkUnder<F>>,
     room: usize,
     is_told: bool,
@@ -28,11 +38,13 @@ impl<F: Faults + Drop> Model for DialUnder<F> {
     ghost use Rattle.std.specs.Prelude.{◌≤◌, All, map, reverse, length, Some, None, if◌then◌else◌, vec_capacity};
     ghost use Rattle.ss_links.specs.Links.{IsUnused, link_tells};
     ghost use Rattle.ss_links.specs.Dials.{Dialling, hung_of};
+    ghost use Rattle.ss_links.specs.Asked.{address_of};
 
     ghost Value = { Dialling };
 
     ghost view = { λ d. record {
       links = reverse d.links.items;
+      asked = map address_of d.asked.items;
       hung = if d.is_told then Some (map hung_of d.hung.items) else None;
       room = d.room;
       plan = F.Faults.plan d.plan;
@@ -54,13 +66,15 @@ impl DialUnder<Numbered> {
         failing: Vec<u64>,
     ) -> Result<MemDial, AllocError>
         requires { All (λ link. IsUnused (link_tells link)) links.items }
-        ensures { IfOk result (λ dial. dial ≡ record { links = links.items; hung = Some []; room = vec_len links; plan = Some (fresh_plan failing.items); faults = 0 }) }
+        ensures { IfOk result (λ dial. dial ≡ record { links = links.items; asked = []; hung = Some []; room = vec_len links; plan = Some (fresh_plan failing.items); faults = 0 }) }
     {
         let room = links.len();
         let hung = Vec::with_capacity(alloc, room)?;
         links.reverse();
         Ok(DialUnder {
+            alloc,
             links,
+            asked: Vec::new(alloc),
             hung,
             room,
             is_told: true,
@@ -80,6 +94,23 @@ impl<F: Faults + Drop> DialUnder<F> {
         } else {
             None
         }
+    }
+
+    /// What it was asked for, in order.
+    pub fn asked(&self) -> &[Asked]
+        ensures { map address_of result.now ≡ self.now.asked }
+    {
+        self.asked.as_slice()
+    }
+
+    // Enters what it is asked for.
+    fn enter(&mut self, host: &str, port: u16) -> Result<(), AllocError>
+        ensures entered { OnOk result (self.new ≡ record self.old { asked = self.old.asked ++ record { host = host.now; port = port } ∷ [] }) }
+        ensures refused { OnErr result (self.new ≡ self.old) }
+    {
+        let host = String::from_str(self.alloc, host)?;
+        self.asked.push(Asked { host, port })?;
+        Ok(())
     }
 
     // Counts a link of which a call had failed.
@@ -122,15 +153,20 @@ impl<F: Faults + Drop> Dial for DialUnder<F> {
 
     ghost dial_faults = { λ dial. dial.faults };
 
+    ghost asked = { λ dial. Some dial.asked };
+
     ghost hung = { λ dial. dial.hung };
 
-    fn dial(&mut self, _host: &str, _port: u16) -> Result<LinkUnder<F>, DialFault>
+    fn dial(&mut self, host: &str, port: u16) -> Result<LinkUnder<F>, DialFault>
         ensures unused { IfOk result (λ link. IsUnused (link_tells link)) }
+        ensures asked { HasAsked (record { host = host.now; port = port }) result (Some self.old.asked) (Some self.new.asked) }
         ensures hung { self.new.hung ≡ self.old.hung }
         ensures cause { HasCause result self.old.faults self.new.faults }
-        ensures answer { result ≡ dialled_by (is_failing self.old.plan) self.old.links }
-        ensures after { self.new ≡ after_dial (is_failing self.old.plan) self.old.links self.old }
+        ensures dialled { HasDialled (record { host = host.now; port = port }) result self.old self.new }
     {
+        let Ok(()) = self.enter(host, port) else {
+            return Err(DialFault::Memory);
+        };
         if self.plan.fails() {
             return Err(self.fail());
         }
@@ -141,10 +177,11 @@ impl<F: Faults + Drop> Dial for DialUnder<F> {
     }
 
     fn hang_up(&mut self, link: LinkUnder<F>)
+        ensures asked { Some self.new.asked ≡ Some self.old.asked }
         ensures hung { HasHung (link_tells link) self.old.hung self.new.hung }
         ensures counted { HangUpCounts (link_tells link) self.old.faults self.new.faults }
         ensures told { self.new.hung ≡ with_link self.old.room self.old.hung link }
-        ensures rest { (self.new.links ≡ self.old.links) × (self.new.room ≡ self.old.room) × (self.new.plan ≡ self.old.plan) }
+        ensures rest { (self.new.links ≡ self.old.links) × (self.new.asked ≡ self.old.asked) × (self.new.room ≡ self.old.room) × (self.new.plan ≡ self.old.plan) }
     {
         self.count_faults(&link);
         self.keep(link);

@@ -57,6 +57,8 @@ impl<'a, R: Net + Clock> Dial for TcpDial<'a, R> {
 
     ghost dial_faults = { λ dial. dial };
 
+    ghost asked = { λ dial. None };
+
     ghost hung = { λ dial. None };
 
     fn dial(&mut self, host: &str, port: u16) -> Result<TcpLink<'a, R>, DialFault> {

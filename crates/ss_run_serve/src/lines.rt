@@ -116,7 +116,16 @@ pub(crate) fn tell_term<L, T: Sink>(
     }
 }
 
-/// Why the server stops.
-pub(crate) fn tell_stop<T: Sink>(alloc: Global, err: &mut T, stop: Stop) {
-    say(err, format!(in alloc; "syncstore: stopped: {stop}\n"));
+fn stopping(alloc: Global, folder: &str, stop: Stop) -> Result<String, AllocError> {
+    match stop {
+        Stop::Keeper { uid } | Stop::Account { uid, .. } => {
+            format!(in alloc; "syncstore: stopped: {stop}; it is kept in {folder}/{uid}.db\n")
+        }
+        _ => format!(in alloc; "syncstore: stopped: {stop}\n"),
+    }
+}
+
+/// Why the server stops, and the file where it is one's fault.
+pub(crate) fn tell_stop<T: Sink>(alloc: Global, err: &mut T, command: &ServeCommand, stop: Stop) {
+    say(err, stopping(alloc, command.folder.as_str(), stop));
 }

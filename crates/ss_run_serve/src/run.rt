@@ -46,6 +46,6 @@ where
         return 1;
     };
     let stop = serve(rt, alloc, site, gate, err, &command);
-    lines::tell_stop(alloc, err, stop);
+    lines::tell_stop(alloc, err, &command, stop);
     stop.status()
 }

@@ -52,10 +52,10 @@ impl Display for Stop {
         match self {
             Stop::PortEnded => f.write_str("the port ended"),
             Stop::Terms => f.write_str("all terms were served"),
-            Stop::Site => f.write_str("the folder or the address failed"),
+            Stop::Site => f.write_str("the folder, a file in it or the address failed"),
             Stop::Keeper { uid } => write!(
                 f,
-                "what account {uid} is kept in failed while it was opened"
+                "the file of account {uid} failed while it was opened"
             ),
             Stop::Port => f.write_str("the port failed"),
             Stop::Account { uid, fault } => write!(f, "account {uid} can't be opened: {fault}"),

@@ -1,5 +1,4 @@
 pub mod Sites
 pub mod Counted
-pub mod Real
 pub mod Tables
 pub mod Memories

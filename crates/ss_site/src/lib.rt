@@ -1,21 +1,17 @@
 //! Sites: where a server's links, keepers and clocks come from and go back to, and what it tells of each of its terms. One in
-//! memory, where all of it is told, and one over TCP and SQLite files, where faults alone are counted.
+//! memory, where all of it is told; and keepers and ports that count, of which any site can be made.
 //! Their contracts: what a call gave or kept where that is told, and that a fault is answered only where a count rose.
 #![tactic(auto)]
 
 mod counted_keeper;
 mod counted_port;
 mod memory_site;
-mod real_site;
 mod site;
 mod table;
 #[cfg(test)]
 mod tests;
-mod trouble;
 
 pub use counted_keeper::CountedKeeper;
 pub use counted_port::CountedPort;
 pub use memory_site::{KeptTerm, MemSite};
-pub use real_site::RealSite;
 pub use site::{Site, SiteFault};
-pub use trouble::Trouble;

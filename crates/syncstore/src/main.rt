@@ -1,64 +1,64 @@
 //! `syncstore`: a storage server with the behaviour of Mozilla's SyncStorage API 1.5.
-//! It answers the messages of an input for one account; the words name the command.
-//! Its contract, on `run_offline`: what was read, what was written, and the cause of the status.
+//! The words name the command: a server of accounts that are kept in files, recorded messages that are answered, a device that syncs.
+//! Its contracts, on the calls that `main` makes: `run_serve`, `run_offline` and `run_sync`.
 #![tactic(auto)]
 
 mod answer;
-mod help;
+mod explain;
 mod offline;
+mod online;
 mod response;
 #[cfg(test)]
 mod tests;
+mod usage;
 
-use ss_links::{FileStore, TcpDial};
 use ss_outside::{StdSink, StdSource, SystemClock};
-use ss_run_sync::run_sync;
+use ss_words::Name;
 use std::env;
 use std::process::ExitCode;
 
-/// Runs the command `sync` over the network and the files of the system, and answers its status.
-fn sync(rt: &HostRuntime, words: &[String]) -> u8 {
-    let mut dial = TcpDial::new(rt);
-    let mut store = FileStore::new(rt);
-    let mut output = StdSink::new(rt.stdout());
-    let status = run_sync(rt.alloc(), words, &mut dial, &mut store, &mut output);
-    help::explain_sync(rt, rt.alloc(), words, status);
+/// Runs a command that waits for nobody over the standard streams and the clock of the system, and answers its status.
+fn run_here(system: &HostRuntime, words: &[String]) -> u8 {
+    let mut input = StdSource::new(system.stdin());
+    let mut output = StdSink::new(system.stdout());
+    let mut clock = SystemClock::new(system);
+    let status = offline::run_offline(system.alloc(), words, &mut input, &mut output, &mut clock);
+    if status == 1 {
+        explain::explain_words(system, system.alloc(), words);
+    } else {
+        explain::explain(system, status);
+    }
     status
+}
+
+/// The command that the first word names.
+fn name_of(words: &[String]) -> Option<Name> {
+    match words.first() {
+        Some(word) => Name::read(word.as_str()),
+        None => None,
+    }
 }
 
 fn main(rt: HostRuntime) -> ExitCode {
     let arguments = match env::args(&rt) {
         Ok(arguments) => arguments,
         Err(error) => {
-            let status = help::status_of_words(&error);
-            help::explain(&rt, status);
+            let status = explain::status_of_words(&error);
+            explain::explain(&rt, status);
             return ExitCode::from(status);
         }
     };
     let Ok(words) = arguments.skip(1).collect::<Vec<String>>(rt.alloc()) else {
-        help::explain(&rt, 8);
+        explain::explain(&rt, 8);
         return ExitCode::from(8);
     };
-    if let Some(text) = help::asked_for(words.as_slice()) {
-        return ExitCode::from(help::print(&rt, text));
+    if let Some(text) = usage::asked_for(words.as_slice()) {
+        return ExitCode::from(usage::print(&rt, text));
     }
-    if help::names_sync(words.as_slice()) {
-        return ExitCode::from(sync(&rt, words.as_slice()));
-    }
-    let mut input = StdSource::new(rt.stdin());
-    let mut output = StdSink::new(rt.stdout());
-    let mut clock = SystemClock::new(&rt);
-    let status = offline::run_offline(
-        rt.alloc(),
-        words.as_slice(),
-        &mut input,
-        &mut output,
-        &mut clock,
-    );
-    if status == 1 {
-        help::explain_words(&rt, rt.alloc(), words.as_slice());
-    } else {
-        help::explain(&rt, status);
-    }
+    let status = match name_of(words.as_slice()) {
+        Some(Name::Serve) => online::serve(&rt, &rt, words.as_slice()),
+        Some(Name::Sync) => online::sync(&rt, words.as_slice()),
+        _ => run_here(&rt, words.as_slice()),
+    };
     ExitCode::from(status)
 }

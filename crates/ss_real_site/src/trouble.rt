@@ -1,5 +1,6 @@
 //! What failed at the site of the system, for people.
 
+use sqlite::{Error, ErrorCode};
 use std::fmt::{self, Display, Formatter, Write};
 use std::io::ErrorKind;
 
@@ -12,8 +13,11 @@ pub enum Trouble {
     /// The folder can't be made.
     Folder(ErrorKind),
 
-    /// The database of an account can't be opened: it is in use by another server, damaged, or can't be written.
-    Database { uid: u32 },
+    /// The database of an account can't be opened.
+    Database { uid: u32, error: Error },
+
+    /// The tables of an account's database can't be read or made.
+    Tables { uid: u32 },
 
     /// The database of an account has tables of a version that isn't known.
     Version { uid: u32, found: i64 },
@@ -23,6 +27,23 @@ pub enum Trouble {
 
     /// The port failed while it listened.
     Port,
+}
+
+// Why an account's database can't be opened.
+fn write_refusal<W: Write>(uid: u32, error: Error, f: &mut Formatter<W>) -> fmt::Result {
+    match error {
+        Error::SqliteFailure(ErrorCode::DatabaseBusy) => {
+            write!(f, "another program has the file {uid}.db open")
+        }
+        Error::SqliteFailure(ErrorCode::CannotOpen) => write!(
+            f,
+            "the file {uid}.db can't be opened or made: look whether the folder may be written"
+        ),
+        Error::SqliteFailure(ErrorCode::NotADatabase | ErrorCode::DatabaseCorrupt) => {
+            write!(f, "the file {uid}.db is damaged, or is no database")
+        }
+        _ => write!(f, "the file {uid}.db can't be read: {error}"),
+    }
 }
 
 impl Display for Trouble {
@@ -39,9 +60,10 @@ impl Display for Trouble {
                 "the folder may not be made or written",
             ),
             Trouble::Folder(_) => f.write_str("the folder can't be made"),
-            Trouble::Database { uid } => write!(
+            Trouble::Database { uid, error } => write_refusal(*uid, *error, f),
+            Trouble::Tables { uid } => write!(
                 f,
-                "the file {uid}.db can't be opened: another server has it, it is damaged, or it can't be written"
+                "the tables in the file {uid}.db can't be read or made"
             ),
             Trouble::Version { uid, found } => {
                 write!(

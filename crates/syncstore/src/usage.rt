@@ -1,8 +1,7 @@
-//! What the program says of itself, and why it refuses words.
+//! What the program says of itself: `--help` and `--version`, for the program and for each command.
 
-use ss_words::{Command, Name, SyncCommand, WordsFault, read_command};
-use std::alloc::Global;
-use std::io::{self, Eprint, ErrorKind, Print};
+use ss_words::Name;
+use std::io::Print;
 
 /// The text of `--version`.
 const VERSION: &str = "syncstore 0.1.0\n";
@@ -11,12 +10,13 @@ const VERSION: &str = "syncstore 0.1.0\n";
 const USAGE: &str = "\
 syncstore: a Firefox Sync storage server (SyncStorage API 1.5)
 
-usage: syncstore answer UID [--at N]             answers recorded messages for one account
+usage: syncstore serve ADDRESS FOLDER UID ..     serves accounts from files over HTTP
+       syncstore answer UID [--at N]             answers recorded messages for one account
        syncstore sync URL FILE [--newer]         syncs the device in a file with a server
        syncstore COMMAND --help                  tells of a command
        syncstore --help | --version
 
-Not there yet, each ends with status 1: edit, merge, rehearse, serve.
+Not there yet, each ends with status 1: edit, merge, rehearse.
 
 Options may stand anywhere behind the command's name, each at most once, as --x v or --x=v; behind -- all words are
 positionals. Numbers have 1 to 12 digits. With status 1 nothing was read or written.
@@ -90,14 +90,19 @@ example: syncstore sync http://127.0.0.1:8000/1.5/7 device
 const SERVE: &str = "\
 usage: syncstore serve ADDRESS FOLDER UID .. [--workers N] [--connections N] [--terms N]
 
-Serves accounts from SQLite files over HTTP/1.1. Not there yet: it ends with status 1.
+Serves accounts from SQLite files over HTTP/1.1, without login and without TLS: docs/SERVING.md tells what to put before it. It runs
+until it is stopped by a signal, at any moment: what was answered is in the files.
 
-  ADDRESS            an IPv4 address, a colon and a port
+  ADDRESS            where it listens, as 127.0.0.1:8000
   FOLDER             holds UID.db for each account; it is made where it isn't there
-  UID ..             1 to 8 accounts, none twice
-  --workers N        1 to 16, 4 where nothing is said
-  --connections N    of one term: 1 to 1000, 100 where nothing is said
-  --terms N          0, which is the default, means without end
+  UID ..             1 to 8 accounts, none twice, each from 1 to 4294967295, without a leading zero; others are answered 401
+  --workers N        how many connections are served at once: 1 to 16, 4 where nothing is said
+  --connections N    of one term: 1 to 1000, 100 where nothing is said. An account takes a limited number of requests in a term, and
+                     answers 503 past it until the term's last connection has ended
+  --terms N          how many terms are served: 0 to 999999999999; 0, which is the default, means without end
+
+exit status: 0 all terms were served; 1 faulty words; 2 the folder, a file or the address failed; 3 the port failed while it listened;
+4 what a file holds is no account; 8 no memory outside a response. Standard error tells when it listens, a line a term, and why it stops.
 
 example: syncstore serve 127.0.0.1:8000 data 7 8
 ";
@@ -128,78 +133,10 @@ pub fn asked_for(words: &[String]) -> Option<&'static str> {
     }
 }
 
-/// The status where the words can't be read: want of memory, or words that are no text.
-pub fn status_of_words(error: &io::Error) -> u8 {
-    if error.kind() == ErrorKind::OutOfMemory {
-        8
-    } else {
-        1
-    }
-}
-
 /// Prints a text to standard output, and answers the status.
 pub fn print(rt: &impl Print, text: &str) -> u8 {
     match print!(rt; "{text}") {
         Ok(()) => 0,
         Err(_) => 3,
     }
-}
-
-/// Says on standard error why words ask nothing, and names the word.
-pub fn explain_words(rt: &impl Eprint, alloc: Global, words: &[String]) {
-    let _ = match read_command(alloc, words) {
-        Ok(_) => eprintln!(rt; "syncstore: this command is not there yet"),
-        Err(WordsFault::Refused(refusal)) => {
-            eprintln!(rt; "syncstore: {refusal}; try syncstore --help")
-        }
-        Err(WordsFault::Memory) => eprintln!(rt; "syncstore: no memory was found"),
-    };
-}
-
-/// Whether the first word names the command `sync`.
-pub fn names_sync(words: &[String]) -> bool {
-    match words.first() {
-        Some(word) => Name::read(word.as_str()) == Some(Name::Sync),
-        None => false,
-    }
-}
-
-/// Says on standard error which server or file a status of `sync` speaks of.
-fn explain_command(rt: &impl Eprint, command: &SyncCommand, status: u8) {
-    let (host, port) = (command.server.host.as_str(), command.server.port);
-    let file = command.file.as_str();
-    let _ = match status {
-        2 => eprintln!(rt; "syncstore: the link to {host}:{port} failed"),
-        3 | 4 | 5 | 9 => eprintln!(rt;
-            "syncstore: the sync with {host}:{port} stopped; {file} is as before"
-        ),
-        6 => eprintln!(rt; "syncstore: {file} is no device's file"),
-        7 => eprintln!(rt; "syncstore: {file} could not be read or written"),
-        10 => eprintln!(rt; "syncstore: writing the output failed"),
-        _ => eprintln!(rt; "syncstore: no memory was found"),
-    };
-}
-
-/// Says on standard error what a status of `sync` means, and of which server or file it speaks.
-pub fn explain_sync(rt: &impl Eprint, alloc: Global, words: &[String], status: u8) {
-    match read_command(alloc, words) {
-        Ok(Command::Sync(command)) if status != 0 => explain_command(rt, &command, status),
-        Ok(_) => {}
-        Err(_) => explain_words(rt, alloc, words),
-    }
-}
-
-/// Says on standard error what a status means.
-pub fn explain(rt: &impl Eprint, status: u8) {
-    let text = match status {
-        0 => return,
-        1 => "faulty words; try syncstore --help",
-        2 => "reading the input failed",
-        3 => "writing the output failed",
-        4 => "the input ended inside a message",
-        5 => "what came is no message",
-        6 => "1,000,000 messages were answered",
-        _ => "no memory was found",
-    };
-    let _ = eprintln!(rt; "syncstore: {text}");
 }

@@ -1,0 +1,11 @@
+-- That the site of the system tells neither terms nor what is kept.
+use Rattle.std.specs.Prelude.{List, Option, None}
+use Rattle.ss_site.specs.Sites.{Term, Entries}
+
+-- no terms of such reports are told
+abbrev pub no_terms : {R : Type 0} → List R → Option (List (Term R))
+no_terms reports = None
+
+-- nothing of what is kept is told
+abbrev pub no_entries : Option Entries
+no_entries = None

@@ -1,0 +1,207 @@
+//! The site of the system.
+
+ghost use Rattle.std.specs.Prelude.{◌≡◌, Err, IfOk, None, OnOk, OnErr};
+ghost use Rattle.ss_site.specs.Counted.{faults_of};
+ghost use Rattle.ss_site.specs.Sites.{HasCause, AddsTerm};
+ghost use Rattle.ss_real_site.specs.Real.{no_entries, no_terms};
+
+use crate::trouble::Trouble;
+use sqlite::{Connection, Error, ErrorCode, File, FileStore};
+use ss_keep_sql::{SqlFault, SqlKeeper};
+use ss_laws::Journal;
+use ss_links::{TcpLink, TcpPort};
+use ss_outside::SystemClock;
+use ss_serve::LinkReport;
+use ss_site::{CountedKeeper, CountedPort, Site, SiteFault};
+use std::alloc::Global;
+use std::fs;
+use std::io::{self, ErrorKind};
+use std::marker::Model;
+use std::net::Net;
+use std::time::Clock;
+
+/// Ports over TCP, a database of SQLite for each account, `<folder>/<uid>.db`, and the clock of the system. The folder is made
+/// where it isn't there. What it is told of a term it drops.
+#[derive(Drop)]
+pub struct RealSite<'a, N: Net + Clock> {
+    // The ports and the clocks of the system.
+    network: &'a N,
+    files: &'a HostRuntime,
+    trouble: Option<Trouble>,
+    faults: u64,
+    links: u64,
+    ends: u64,
+}
+
+impl<'a, N: Net + Clock> Model for RealSite<'a, N> {
+    ghost use Rattle.ss_site.specs.Sites.{Counts};
+
+    ghost Value = { Counts };
+
+    ghost view = { λ site. record { faults = site.faults; links = site.links; ends = site.ends } };
+}
+
+impl<'a, N: Net + Clock> RealSite<'a, N> {
+    /// A site whose ports and clocks are of this network, and whose databases are files of the system.
+    pub fn new(network: &'a N, files: &'a HostRuntime) -> RealSite<'a, N>
+        ensures { result ≡ record { faults = 0; links = 0; ends = 0 } }
+    {
+        RealSite {
+            network,
+            files,
+            trouble: None,
+            faults: 0,
+            links: 0,
+            ends: 0,
+        }
+    }
+
+    /// What failed last, for people.
+    pub fn trouble(&self) -> Option<Trouble> {
+        self.trouble
+    }
+
+    // Counts a fault, and keeps what it was.
+    fn fail(&mut self, trouble: Trouble) -> SiteFault
+        ensures { HasCause {T = Unit {0}} (Err result) self.old self.new }
+    {
+        self.trouble = Some(trouble);
+        self.faults = self.faults.saturating_add(1);
+        SiteFault::Fault
+    }
+
+    // What an error of the system is to the site, which counts it where memory isn't all that is wanting.
+    fn fault_of(&mut self, error: io::Error, trouble: Trouble) -> SiteFault
+        ensures { HasCause {T = Unit {0}} (Err result) self.old self.new }
+    {
+        if error.kind() == ErrorKind::OutOfMemory {
+            return SiteFault::Memory;
+        }
+        self.fail(trouble)
+    }
+
+    // What an error of a database is to the site, in the same way.
+    fn refusal_of(&mut self, uid: u32, error: Error) -> SiteFault
+        ensures { HasCause {T = Unit {0}} (Err result) self.old self.new }
+    {
+        if error == Error::SqliteFailure(ErrorCode::OutOfMemory) {
+            return SiteFault::Memory;
+        }
+        self.fail(Trouble::Database { uid, error })
+    }
+
+    // The keeper over a database that was opened.
+    fn adopt(
+        &mut self,
+        uid: u32,
+        connection: Connection<FileStore<File>>,
+    ) -> Result<CountedKeeper<SqlKeeper>, SiteFault>
+        ensures fresh { IfOk result (λ keeper. faults_of keeper ≡ 0) }
+        ensures cause { HasCause result self.old self.new }
+    {
+        match SqlKeeper::adopt(connection) {
+            Ok(keeper) => Ok(CountedKeeper::new(keeper)),
+            Err(SqlFault::Fault) => Err(self.fail(Trouble::Tables { uid })),
+            Err(SqlFault::Version { found }) => Err(self.fail(Trouble::Version { uid, found })),
+            Err(SqlFault::Memory) => Err(SiteFault::Memory),
+        }
+    }
+}
+
+/// The path of an account's database.
+fn path_of(alloc: Global, folder: &str, uid: u32) -> Result<String, SiteFault> {
+    match format!(in alloc; "{folder}/{uid}.db") {
+        Ok(path) => Ok(path),
+        Err(_) => Err(SiteFault::Memory),
+    }
+}
+
+impl<'a, N: Net + Clock> Site for RealSite<'a, N> {
+    type Port = CountedPort<TcpPort<'a, N>>;
+
+    type Keeper = CountedKeeper<SqlKeeper>;
+
+    type Clock = SystemClock<'a, N>;
+
+    type Report = LinkReport<TcpLink<'a, N>>;
+
+    ghost counts = { λ site. site };
+
+    ghost terms = { λ site. None };
+
+    ghost kept = { λ site. no_entries };
+
+    fn listen(
+        &mut self,
+        _alloc: Global,
+        address: &str,
+    ) -> Result<CountedPort<TcpPort<'a, N>>, SiteFault> {
+        match TcpPort::listen(self.network, address) {
+            Ok(port) => Ok(CountedPort::new(port)),
+            Err(error) => {
+                let kind = error.kind();
+                Err(self.fault_of(error, Trouble::Address(kind)))
+            }
+        }
+    }
+
+    fn keeper(
+        &mut self,
+        alloc: Global,
+        folder: &str,
+        uid: u32,
+    ) -> Result<CountedKeeper<SqlKeeper>, SiteFault> {
+        if let Err(error) = fs::create_dir_all(self.files, folder) {
+            let kind = error.kind();
+            return Err(self.fault_of(error, Trouble::Folder(kind)));
+        }
+        let path = match path_of(alloc, folder, uid) {
+            Ok(path) => path,
+            Err(_) => return Err(SiteFault::Memory),
+        };
+        match Connection::open(self.files, path.as_str()) {
+            Ok(connection) => self.adopt(uid, connection),
+            Err(error) => Err(self.refusal_of(uid, error)),
+        }
+    }
+
+    fn retire(&mut self, _folder: &str, uid: u32, keeper: CountedKeeper<SqlKeeper>) {
+        if keeper.has_failed() {
+            self.trouble = Some(Trouble::Keeper { uid });
+            self.faults = self.faults.saturating_add(1);
+        }
+        drop(keeper);
+    }
+
+    fn shut(&mut self, port: CountedPort<TcpPort<'a, N>>) {
+        if port.faults() != 0 {
+            self.trouble = Some(Trouble::Port);
+            self.faults = self.faults.saturating_add(1);
+        }
+        if port.ends() != 0 {
+            self.ends = self.ends.saturating_add(1);
+        }
+        self.links = self.links.saturating_add(port.links());
+        drop(port);
+    }
+
+    fn clock(&mut self) -> SystemClock<'a, N> {
+        SystemClock::new(self.network)
+    }
+
+    fn ended(
+        &mut self,
+        _alloc: Global,
+        reports: Vec<LinkReport<TcpLink<'a, N>>>,
+        journals: &[(u32, &Journal)],
+    ) -> Result<(), SiteFault>
+        ensures added { OnOk result (AddsTerm reports.entry.items journals.now (no_terms reports.entry.items) (no_terms reports.entry.items)) }
+        ensures refused { OnErr result (no_terms reports.entry.items ≡ no_terms reports.entry.items) }
+        ensures cause { HasCause result self.old self.new }
+        ensures kept { no_entries ≡ no_entries }
+    {
+        let _ = journals;
+        drop(reports);
+        Ok(())
+    }
+}

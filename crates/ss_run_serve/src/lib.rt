@@ -12,6 +12,8 @@ mod serving;
 mod stop;
 mod term;
 mod terms;
+#[cfg(test)]
+mod tests;
 mod watched;
 
 pub use run::run_serve;

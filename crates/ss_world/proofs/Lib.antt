@@ -6,3 +6,6 @@ pub mod Hearing
 pub mod Keeping
 pub mod Promised
 pub mod Ending
+pub mod Stepping
+pub mod Reaching
+pub mod Refusing

@@ -1,6 +1,8 @@
 -- What becomes of a device of a world.
 use Rattle.ss_device.specs.Device.{DeviceView}
-use Rattle.ss_client.specs.Runs.{MachineView}
+use Rattle.ss_client.specs.declared.summaries.Fetch.{Fetch}
+use Rattle.ss_client.specs.declared.runs.Stage.TheVariants.{Asks}
+use Rattle.ss_client.specs.Runs.{MachineView, first_run, is_newer}
 use Rattle.ss_client.specs.Machine.{Next, Send, Done, Stop}
 use Rattle.ss_world.specs.declared.seats.Seat.{Seat}
 use Rattle.ss_world.specs.declared.seats.Seat.TheVariants.{Idle, Syncs}
@@ -15,3 +17,8 @@ abbrev pub after : MachineView → Next → Seat
 after m (Send run stage) = Syncs (record { device = m.device; run = run; stage = stage })
 after m (Done device summary) = Idle device
 after m (Stop fault) = Idle m.device
+
+-- a device that has no sync under way begins one
+abbrev pub started : Fetch → Seat → Seat
+started fetch (Idle device) = Syncs (record { device = device; run = first_run (is_newer device fetch); stage = Asks })
+started fetch (Syncs machine) = Syncs machine

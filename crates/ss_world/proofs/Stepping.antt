@@ -1,0 +1,139 @@
+-- What a step comes to.
+use Rattle.std.proofs.Common.{◌≡◌, ◌⊎◌, ℕ, List, set, slice_get, Option, Some, None, option_map, MatchOption, Bool, true, false, cond, sym, subst, refl, ap, inl, inr, ◌∙◌, arith}
+use Rattle.std.specs.Bool.{MatchBool}
+use Rattle.std.specs.Option.{option_map_or}
+use Rattle.std.specs.Prelude.{Result, Ok, Err, IsErrAnd, IfErr, OnOk}
+use Rattle.std.proofs.lemmas.Option.{none-some, same_Some}
+use Rattle.ss_outside.specs.Causes.{Rose}
+use Rattle.ss_query.specs.declared.requests.Request.{Request}
+use Rattle.ss_query.specs.declared.replies.Reply.{Reply}
+use Rattle.ss_query.specs.Api.{api}
+use Rattle.ss_hearing.specs.declared.answer.Answer.{Answer}
+use Rattle.ss_device.specs.Device.{DeviceView}
+use Rattle.ss_device.specs.declared.faults.EditFault.{EditFault}
+use Rattle.ss_client.specs.declared.summaries.Fetch.{Fetch}
+use Rattle.ss_client.specs.Runs.{MachineView}
+use Rattle.ss_client.specs.Asking.{ask, awaits}
+use Rattle.ss_serving.specs.Bookmarks.{Server}
+use Rattle.ss_serving.specs.Asking.{told_by, touches}
+use Rattle.ss_serving.specs.Steps.{Answers, Reopens, Ticks}
+use Rattle.ss_world.specs.declared.events.Edit.{Edit}
+use Rattle.ss_world.specs.declared.events.Event.{Event}
+use Rattle.ss_world.specs.declared.events.Event.TheVariants.{Deliver}
+use Rattle.ss_world.specs.declared.faults.WorldFault.{WorldFault}
+use Rattle.ss_world.specs.declared.faults.WorldFault.TheVariants as fault
+use Rattle.ss_world.specs.Seats.{started}
+use Rattle.ss_world.specs.Worlds.{Seat, Idle, Syncs, WorldView}
+use Rattle.ss_world.specs.Happening.{At, Asked, Delivers, Edits, IsDelivered, IsEdited, IsGivenUp, IsLost, Reopened, Starts, Ticked, edit_fault}
+use Rattle.ss_world.specs.Stepping.{Begins, Changes, Fails, GivesUp, Hears, IsEditedSeat, IsHeard, at_device, change_fault, start_fault}
+
+-- a world of a server and seats
+abbrev pub world : Server → List Seat → WorldView
+world server seats = record { server = server; seats = seats }
+
+-- what is known of a fault that is handed on
+pub handed_on : {X E : Type 0} (r : Result X E) (P Q : E → Type 0) → ((e : E) → P e → Q e) → IsErrAnd r P → IfErr r Q
+handed_on (Ok x) P Q f h = tt
+handed_on (Err e) P Q f h = f e h
+
+-- an event that isn't refused for want of its device is one of a device that is there
+pub there : (seats : List Seat) (n : ℕ) (why : Seat → Option WorldFault) → at_device seats n why ≡ None → (seat : Seat) × (slice_get seats n ≡ Some seat) × (why seat ≡ None)
+there seats n why h = go (slice_get seats n) refl h
+  where
+    go : (o : Option Seat) → slice_get seats n ≡ o → option_map_or why o (Some (fault.NoDevice n)) ≡ None → (seat : Seat) × (slice_get seats n ≡ Some seat) × (why seat ≡ None)
+    go None is e = absurd (none-some (fault.NoDevice n) (sym e))
+    go (Some seat) is e = (seat, is, e)
+
+-- ---- giving up
+
+pub given_up : (w : WorldView) (server : Server) (seats new : List Seat) (n : ℕ) (m : MachineView) → world server seats ≡ w → slice_get seats n ≡ Some (Syncs m) → GivesUp seats n new
+    → At w n (world server new) (IsGivenUp w n (world server new))
+given_up w server seats new n m is there gives =
+    subst (λ x. At x n (world server new) (IsGivenUp x n (world server new))) is
+    (subst (λ (o : Option Seat). MatchOption o (world server new ≡ world server seats) (IsGivenUp (world server seats) n (world server new))) (sym there) (ap (world server) (gives (Syncs m) there)))
+
+pub lost : (w : WorldView) (server after : Server) (seats new : List Seat) (n now : ℕ) (m : MachineView) → world server seats ≡ w → slice_get seats n ≡ Some (Syncs m) → Answers server now (ask m) after → GivesUp seats n new
+    → At w n (world after new) (IsLost w n now (world after new))
+lost w server after seats new n now m is there a gives =
+    subst (λ x. At x n (world after new) (IsLost x n now (world after new))) is
+    (subst (λ (o : Option Seat). MatchOption o (world after new ≡ world server seats) (IsLost (world server seats) n now (world after new))) (sym there)
+    (record { server = after; answers = a; is = ap (world after) (gives (Syncs m) there) }))
+
+-- the reply couldn't be handed on
+pub undelivered : (w v : WorldView) (n now : ℕ) → At w n v (IsLost w n now v) → Fails w (Deliver n now) v fault.Memory
+undelivered w v n now h = inl (refl, inr (inr h))
+
+-- ---- a delivery
+
+pub delivered : (w : WorldView) (server after : Server) (seats new : List Seat) (n now : ℕ) (m : MachineView) → world server seats ≡ w → slice_get seats n ≡ Some (Syncs m) → Answers server now (ask m) after
+    → Hears (told_by (awaits m.stage) (api server.account now (ask m)).reply) seats n new → At w n (world after new) (IsDelivered w n now (world after new))
+delivered w server after seats new n now m is there a hears =
+    subst (λ x. At x n (world after new) (IsDelivered x n now (world after new))) is
+    (subst (λ (o : Option Seat). MatchOption o (world after new ≡ world server seats) (IsDelivered (world server seats) n now (world after new))) (sym there) (go (hears (Syncs m) there)))
+  where
+    go : (heard : Seat) × IsHeard (told_by (awaits m.stage) (api server.account now (ask m)).reply) heard (Syncs m) × (new ≡ set seats n heard) → Delivers (world server seats) n now m (world after new)
+    go h = record { server = after; answers = a; next = h.1.0; follows = h.1.1; is = ap (world after) (h.2 ∙ ap (set seats n) h.1.2) }
+
+-- ---- the seats
+
+-- the cause at a device that is there
+pub cause_at : (seats : List Seat) (n : ℕ) (seat : Seat) (why : Seat → Option WorldFault) → slice_get seats n ≡ Some seat → at_device seats n why ≡ why seat
+cause_at seats n seat why at = ap (λ o. option_map_or why o (Some (fault.NoDevice n))) at
+
+-- ---- a start
+
+pub starts : (w : WorldView) (server : Server) (seats new : List Seat) (n : ℕ) (fetch : Fetch) → world server seats ≡ w → at_device seats n (start_fault n) ≡ None → Begins fetch seats n new
+    → At w n (world server new) (Starts w n fetch (world server new))
+starts w server seats new n fetch is none begins =
+    let s = there seats n (start_fault n) none in
+    subst (λ x. At x n (world server new) (Starts x n fetch (world server new))) is
+    (subst (λ (o : Option Seat). MatchOption o (world server new ≡ world server seats) (Starts (world server seats) n fetch (world server new))) (sym s.1) (by s.0 s.2 (begins s.0 s.1)))
+  where
+    by : (seat : Seat) → start_fault n seat ≡ None → new ≡ set seats n (started fetch seat) → Starts (world server seats) n fetch (world server new) seat
+    by (Idle d) e q = ap (world server) q
+    by (Syncs m) e q = absurd (none-some (fault.Busy n) (sym e))
+
+-- ---- a change
+
+module _ (w : WorldView) (server : Server) (seats new : List Seat) (n now : ℕ) (edit : Edit) (is : world server seats ≡ w) (seat : Seat) (at : slice_get seats n ≡ Some seat) (changes : Changes now edit seats n new) where
+  pub edits : At w n (world server new) (IsEdited w n now edit (world server new))
+  edits =
+      subst (λ x. At x n (world server new) (IsEdited x n now edit (world server new))) is
+      (subst (λ (o : Option Seat). MatchOption o (world server new ≡ world server seats) (IsEdited (world server seats) n now edit (world server new))) (sym at) (by seat (changes seat at)))
+    where
+      by : (x : Seat) → (changed : Seat) × IsEditedSeat now edit changed x × (new ≡ set seats n changed) → IsEdited (world server seats) n now edit (world server new) x
+      by (Idle d) h =
+          subst (λ o. MatchOption o (Edits (world server seats) n now edit d (world server new)) (λ f. world server new ≡ world server seats)) (sym h.1.taken)
+          (record { device = h.1.device; changed = h.1.changed; valid = h.1.valid; is = ap (world server) (h.2 ∙ ap (set seats n) h.1.is) })
+      by (Syncs m) h = absurd h.1
+
+  pub editable : at_device w.seats n (change_fault n edit) ≡ None
+  editable =
+      subst (λ x. at_device x.seats n (change_fault n edit) ≡ None) is (ap (λ o. option_map_or (change_fault n edit) o (Some (fault.NoDevice n))) at ∙ by seat (changes seat at))
+    where
+      by : (x : Seat) → (changed : Seat) × IsEditedSeat now edit changed x × (new ≡ set seats n changed) → change_fault n edit x ≡ None
+      by (Idle d) h = ap (option_map fault.Edit) h.1.taken
+      by (Syncs m) h = absurd h.1
+
+-- ---- others, the clock, a new start of the server
+
+pub asked : (w : WorldView) (server after : Server) (seats : List Seat) (now : ℕ) (request : Request) → world server seats ≡ w → touches request ≡ false → Answers server now request after
+    → MatchBool (touches request) (world after seats ≡ w) (Asked w now request (world after seats))
+asked w server after seats now request is spared a =
+    subst (λ b. MatchBool b (world after seats ≡ w) (Asked w now request (world after seats))) (sym spared)
+    (subst (λ x. Asked x now request (world after seats)) is (record { server = after; answers = a; is = refl }))
+
+pub ticked : (w : WorldView) (server after : Server) (seats : List Seat) (now : ℕ) → world server seats ≡ w → Ticks server now after → Ticked w now (world after seats)
+ticked w server after seats now is t = subst (λ x. Ticked x now (world after seats)) is (record { server = after; ticks = t; is = refl })
+
+pub reopened : (w : WorldView) (server after : Server) (seats : List Seat) → world server seats ≡ w → Reopens server after → Reopened w (world after seats)
+reopened w server after seats is r = subst (λ x. Reopened x (world after seats)) is (record { server = after; reopens = r; is = refl })
+
+-- two facts of a value that is there
+pub both : {X E P Q R : Type 0} (r : Result X E) → (P → Q → R) → OnOk r P → OnOk r Q → OnOk r R
+both (Ok x) f p q = f p q
+both (Err e) f p q = tt
+
+-- a count that stands at 0 didn't rise
+pub never-rose : {before now : ℕ} → now ≡ 0 → Rose before now → ⊥
+never-rose {before} {now} stands rose = let risen = rose.risen in absurd (omega arith)

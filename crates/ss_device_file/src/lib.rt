@@ -27,3 +27,4 @@ pub use faults::{DeviceFault, LinesFault};
 pub use front::{Front, read_front};
 pub use lines::{ItemLine, Line, Version};
 pub use reading::read_device;
+pub use single::read_line;

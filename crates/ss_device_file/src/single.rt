@@ -31,7 +31,7 @@ fn guess(alloc: Global, line: &[u8]) -> Result<Option<Line>, AllocError>
 }
 
 /// Reads a line, its newline included; None exactly where it is no line of a device's file.
-pub(crate) fn read_line(alloc: Global, line: &[u8]) -> Result<Option<Line>, AllocError>
+pub fn read_line(alloc: Global, line: &[u8]) -> Result<Option<Line>, AllocError>
     ensures is { IfOk result (λ o. IfSome o (λ l. IsLine l × (line_text l ≡ line.now))) }
     ensures all { IfOk result (λ o. (l : LineView) → IsLine l → line_text l ≡ line.now → o ≡ Some l) }
 {

@@ -1,0 +1,24 @@
+-- How a run ends: its status, what is read and what is written (this project's).
+use Rattle.std.specs.Prelude.{◌≡◌, ℕ, List, ◌++◌}
+use Rattle.ss_outside.specs.Told.{Meanings, HasWritten}
+use Rattle.ss_outside.specs.Causes.{Rose}
+use Rattle.ss_run_edit.specs.declared.endings.Ending.{Ending}
+use Rattle.ss_run_edit.specs.declared.endings.Ending.TheVariants.{Done, Unfit, Input, Output, Cut, BadLine, BadTree, Refused, TooLong, Memory}
+
+abbrev pub status_of : Ending → ℕ
+status_of Done = 0
+status_of Unfit = 1
+status_of Input = 2
+status_of Output = 3
+status_of (Cut n) = 4
+status_of (BadLine n) = 5
+status_of (BadTree id) = 5
+status_of (Refused fault) = 5
+status_of TooLong = 6
+status_of Memory = 8
+
+-- All of a text was written; or a write failed, and a front of it was written
+abbrev pub Wrote : List ℕ → Ending → Meanings → Meanings → Type 0
+Wrote text Done output output' = HasWritten text output output' × (output'.write_faults ≡ output.write_faults)
+Wrote text Output output output' = (sent : List ℕ) × (rest : List ℕ) × (text ≡ sent ++ rest) × HasWritten sent output output' × Rose output.write_faults output'.write_faults
+Wrote text ending output output' = ⊥

@@ -14,11 +14,11 @@ returns-in-Err-Refused g c =
 
 pub returns-in-Edit : goal.returns-in-Edit
 returns-in-Edit g c =
-    edits c.in-Edit.command c.edit.result (subst (λ (x : Command). Asks (map (λ word. string_bytes word) c.args.words.now) x) c.in-Edit.is c.in-Ok.ensures.asks) c.status.ensures c.edit.ensures.edits c.edit.ensures.unread
+    edits c.in-Edit.command c.edit.result (subst (λ (x : Command). Asks (map (λ word. string_bytes word) c.args.words.now) x) c.in-Edit.is c.in-Ok.ensures.asks) c.tell.ensures c.edit.ensures.edits c.edit.ensures.unread
 
 pub returns-in-Merge : goal.returns-in-Merge
 returns-in-Merge g c =
-    merges c.merge.result (subst (λ (x : Command). Asks (map (λ word. string_bytes word) c.args.words.now) x) c.in-Merge.is c.in-Ok.ensures.asks) c.status-in-Merge.ensures c.merge.ensures refl refl
+    merges c.merge.result (subst (λ (x : Command). Asks (map (λ word. string_bytes word) c.args.words.now) x) c.in-Merge.is c.in-Ok.ensures.asks) c.tell-in-Merge.ensures c.merge.ensures refl refl
 
 pub returns : goal.returns
 returns g c =

@@ -50,6 +50,13 @@ pub fn explain_sync(rt: &impl Eprint, alloc: Global, words: &[String], status: u
     }
 }
 
+/// Says on standard error why the words ask nothing of a device's file. Why the command was refused was told as it ended.
+pub fn explain_device(rt: &impl Eprint, alloc: Global, words: &[String]) {
+    if read_command(alloc, words).is_err() {
+        explain_words(rt, alloc, words);
+    }
+}
+
 /// Says on standard error what a status means.
 pub fn explain(rt: &impl Eprint, status: u8) {
     let text = match status {

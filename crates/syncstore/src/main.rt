@@ -1,6 +1,6 @@
 //! `syncstore`: a storage server with the behaviour of Mozilla's SyncStorage API 1.5.
-//! The words name the command: a server of accounts that are kept in files, recorded messages that are answered, a device that syncs.
-//! Its contracts, on the calls that `main` makes: `run_serve`, `run_offline` and `run_sync`.
+//! The words name the command: a server of accounts that are kept in files, recorded messages that are answered, a device that syncs
+//! or is edited. Its contracts, on the calls that `main` makes: `run_serve`, `run_offline`, `run_sync` and `run_device_command`.
 #![tactic(auto)]
 
 mod answer;
@@ -13,6 +13,7 @@ mod tests;
 mod usage;
 
 use ss_outside::{StdSink, StdSource, SystemClock};
+use ss_run_edit::run_device_command;
 use ss_words::Name;
 use std::env;
 use std::process::ExitCode;
@@ -28,6 +29,24 @@ fn run_here(system: &HostRuntime, words: &[String]) -> u8 {
     } else {
         explain::explain(system, status);
     }
+    status
+}
+
+/// Runs a command on the device's file that is the standard input, and answers its status.
+fn run_device(system: &HostRuntime, words: &[String]) -> u8 {
+    let mut input = StdSource::new(system.stdin());
+    let mut output = StdSink::new(system.stdout());
+    let mut clock = SystemClock::new(system);
+    let mut err = StdSink::new(system.stderr());
+    let status = run_device_command(
+        system.alloc(),
+        words,
+        &mut input,
+        &mut output,
+        &mut clock,
+        &mut err,
+    );
+    explain::explain_device(system, system.alloc(), words);
     status
 }
 
@@ -58,6 +77,7 @@ fn main(rt: HostRuntime) -> ExitCode {
     let status = match name_of(words.as_slice()) {
         Some(Name::Serve) => online::serve(&rt, &rt, words.as_slice()),
         Some(Name::Sync) => online::sync(&rt, words.as_slice()),
+        Some(Name::Edit) | Some(Name::Merge) => run_device(&rt, words.as_slice()),
         _ => run_here(&rt, words.as_slice()),
     };
     ExitCode::from(status)

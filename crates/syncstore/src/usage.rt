@@ -13,10 +13,12 @@ syncstore: a Firefox Sync storage server (SyncStorage API 1.5)
 usage: syncstore serve ADDRESS FOLDER UID ..     serves accounts from files over HTTP
        syncstore answer UID [--at N]             answers recorded messages for one account
        syncstore sync URL FILE [--newer]         syncs the device in a file with a server
+       syncstore edit ACTION .. [--at N]         changes the bookmarks of a device's file
+       syncstore merge                           tells what merging a device with a server's rows comes to
        syncstore COMMAND --help                  tells of a command
        syncstore --help | --version
 
-Not there yet, each ends with status 1: edit, merge, rehearse.
+Not there yet, and ends with status 1: rehearse.
 
 Options may stand anywhere behind the command's name, each at most once, as --x v or --x=v; behind -- all words are
 positionals. Numbers have 1 to 12 digits. With status 1 nothing was read or written.
@@ -42,11 +44,16 @@ example: syncstore answer 7 --at 1000 < docs/samples/put-then-get.http
 const EDIT: &str = "\
 usage: syncstore edit ACTION .. [--at N]
 
-Reads a device on standard input, changes it, and writes it. Not there yet: it ends with status 1.
+Reads a device's file on standard input, makes one change of its bookmarks, and writes the file of the changed device. The action
+new reads nothing, and writes an empty device's file.
 
   ACTION    new; bookmark PARENT ID TITLE URI; folder PARENT ID TITLE; separator PARENT ID; rename ID TITLE; move ID PARENT;
-            delete ID
-  --at N    the time of the change, in hundredths of a second since 1970: 0 to 999999999999
+            delete ID. The folders that are there from the start are menu, toolbar, unfiled and mobile
+  --at N    the time of the change, in hundredths of a second since 1970: 0 to 999999999999; without it the clock is read
+
+exit status: 0 written; 1 faulty words, or no item can be so; 2 the input failed; 3 the output failed; 4 the input ended inside
+the file; 5 a line is no line of a device's file, an item isn't in its place, or the edit is refused; 6 more than 268435456 bytes;
+8 no memory. Unless it is 0 or 3 nothing is written.
 
 example: syncstore edit rename abcdefghijkl 'My page' < device > changed
 ";
@@ -54,7 +61,12 @@ example: syncstore edit rename abcdefghijkl 'My page' < device > changed
 const MERGE: &str = "\
 usage: syncstore merge
 
-Merges the device and the remote rows on standard input, and tells the merged tree. Not there yet: it ends with status 1.
+Reads a device's file without its last line, then lines [\"remote\",..] for the rows of a server, then the line [\"end\"], and tells the
+tree that a sync would make of them: a line for each item in order with its side, the renamed and the deleted ids, and how many
+records would be uploaded. docs/MERGING.md tells the lines and the rules.
+
+exit status: 0 written; 1 faulty words; 2 the input failed; 3 the output failed; 4 the input ended too early; 5 a line is none of
+these, or an item isn't in its place; 6 more than 268435456 bytes; 8 no memory. Unless it is 0 or 3 nothing is written.
 
 example: syncstore merge < device-and-rows
 ";

@@ -1,10 +1,9 @@
 -- Worlds that events lead to.
-use Rattle.std.proofs.Common.{◌≡◌, ◌⊎◌, ℕ, zero, suc, List, [], ◌∷◌, ◌++◌, map, slice_get, Option, Some, None, Bool, true, sym, subst, refl, ap, inl, inr, ◌∙◌}
+use Rattle.std.proofs.Common.{◌≡◌, ℕ, zero, suc, List, [], ◌∷◌, ◌++◌, map, slice_get, Some, Bool, sym, subst, refl, ap, inl, inr, ◌∙◌}
 use Rattle.std.specs.Prelude.{Result, Ok, Err, IfErr, OnOk}
 use Rattle.std.specs.List.{All}
 use Rattle.std.proofs.lemmas.List.Elements.{All-get_or}
 use Rattle.std.proofs.lemmas.Option.{none-some, same_Some, get_or_from_slice_get, slice_get_within}
-use Rattle.ss_record.specs.declared.readings.Sheet.{Sheet}
 use Rattle.ss_bso.specs.Changes.{opened}
 use Rattle.ss_bso.specs.Validity.{IsValid, SameAccount}
 use Rattle.ss_query.specs.Api.{api}
@@ -18,8 +17,8 @@ use Rattle.ss_world.specs.declared.events.Event.TheVariants.{Start, Deliver, Los
 use Rattle.ss_world.specs.declared.faults.WorldFault.{WorldFault}
 use Rattle.ss_world.specs.Worlds.{Seat, Idle, Syncs, WorldView}
 use Rattle.ss_world.specs.Happening.{At, Delivers, Happens, IsLost, Runs, Step, Ticked, last}
-use Rattle.ss_world.specs.Promises.{AreAll, AreTrusted, EndsWell, IsTrusted, IsUploaded, OneTree, StandsForOne, fetched_at, first_rows, rows}
-use Rattle.ss_world.specs.Stepping.{Fails, IsCutShort, Refuses}
+use Rattle.ss_world.specs.Promises.{AreAll, AreTrusted, EndsWell, IsTrusted, OneTree, StandsForOne, fetched_at, first_rows, rows}
+use Rattle.ss_world.specs.Stepping.{Fails, IsCutShort}
 use Rattle.ss_world.specs.Reaching.{IsOpenable, IsReached, IsWellDelivered, IsWholeFetch, Promised}
 use Rattle.ss_world.proofs.Promised.{ends, fetches, stands, turns}
 

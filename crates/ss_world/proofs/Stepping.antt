@@ -1,16 +1,12 @@
 -- What a step comes to.
-use Rattle.std.proofs.Common.{◌≡◌, ◌⊎◌, ℕ, List, set, slice_get, Option, Some, None, option_map, MatchOption, Bool, true, false, cond, sym, subst, refl, ap, inl, inr, ◌∙◌, arith}
+use Rattle.std.proofs.Common.{◌≡◌, ℕ, List, set, slice_get, Option, Some, None, option_map, MatchOption, false, sym, subst, refl, ap, inl, inr, ◌∙◌, arith}
 use Rattle.std.specs.Bool.{MatchBool}
 use Rattle.std.specs.Option.{option_map_or}
 use Rattle.std.specs.Prelude.{Result, Ok, Err, IsErrAnd, IfErr, OnOk}
-use Rattle.std.proofs.lemmas.Option.{none-some, same_Some}
+use Rattle.std.proofs.lemmas.Option.{none-some}
 use Rattle.ss_outside.specs.Causes.{Rose}
 use Rattle.ss_query.specs.declared.requests.Request.{Request}
-use Rattle.ss_query.specs.declared.replies.Reply.{Reply}
 use Rattle.ss_query.specs.Api.{api}
-use Rattle.ss_hearing.specs.declared.answer.Answer.{Answer}
-use Rattle.ss_device.specs.Device.{DeviceView}
-use Rattle.ss_device.specs.declared.faults.EditFault.{EditFault}
 use Rattle.ss_client.specs.declared.summaries.Fetch.{Fetch}
 use Rattle.ss_client.specs.Runs.{MachineView}
 use Rattle.ss_client.specs.Asking.{ask, awaits}
@@ -18,13 +14,12 @@ use Rattle.ss_serving.specs.Bookmarks.{Server}
 use Rattle.ss_serving.specs.Asking.{told_by, touches}
 use Rattle.ss_serving.specs.Steps.{Answers, Reopens, Ticks}
 use Rattle.ss_world.specs.declared.events.Edit.{Edit}
-use Rattle.ss_world.specs.declared.events.Event.{Event}
 use Rattle.ss_world.specs.declared.events.Event.TheVariants.{Deliver}
 use Rattle.ss_world.specs.declared.faults.WorldFault.{WorldFault}
 use Rattle.ss_world.specs.declared.faults.WorldFault.TheVariants as fault
 use Rattle.ss_world.specs.Seats.{started}
 use Rattle.ss_world.specs.Worlds.{Seat, Idle, Syncs, WorldView}
-use Rattle.ss_world.specs.Happening.{At, Asked, Delivers, Edits, IsDelivered, IsEdited, IsGivenUp, IsLost, Reopened, Starts, Ticked, edit_fault}
+use Rattle.ss_world.specs.Happening.{At, Asked, Delivers, Edits, IsDelivered, IsEdited, IsGivenUp, IsLost, Reopened, Starts, Ticked}
 use Rattle.ss_world.specs.Stepping.{Begins, Changes, Fails, GivesUp, Hears, IsEditedSeat, IsHeard, at_device, change_fault, start_fault}
 
 -- a world of a server and seats

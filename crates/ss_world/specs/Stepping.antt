@@ -16,7 +16,7 @@ use Rattle.ss_world.specs.declared.faults.WorldFault.{WorldFault}
 use Rattle.ss_world.specs.declared.faults.WorldFault.TheVariants as fault
 use Rattle.ss_world.specs.Seats.{after, device_of, started}
 use Rattle.ss_world.specs.Worlds.{Seat, Idle, Syncs, WorldView}
-use Rattle.ss_world.specs.Happening.{At, Happens, IsChanged, IsLost, Ticked, edit_fault}
+use Rattle.ss_world.specs.Happening.{At, IsChanged, IsLost, Ticked, edit_fault}
 
 -- ---- causes
 

@@ -1,4 +1,4 @@
-use Rattle.std.proofs.Common.{◌≡◌, sym, subst, ap}
+use Rattle.std.proofs.Common.{sym, subst, ap}
 use Rattle.ss_bso.specs.Account.{tick}
 use Rattle.ss_bso.specs.Validity.{SameAccount}
 use Rattle.ss_bso.proofs.Reordering.{same-self}

@@ -3,8 +3,10 @@
 //! Its contract, on `RealSite`: that of a site, where faults and links are counted, and no content is told.
 #![tactic(auto)]
 
+mod account_file;
 mod real_site;
 mod trouble;
 
+pub use account_file::AccountFile;
 pub use real_site::RealSite;
 pub use trouble::Trouble;

@@ -3,8 +3,10 @@
 ghost use Rattle.std.specs.Prelude.{◌≡◌, Err, IfOk, None, OnOk, OnErr};
 ghost use Rattle.ss_site.specs.Counted.{faults_of};
 ghost use Rattle.ss_site.specs.Sites.{HasCause, AddsTerm};
+ghost use Rattle.ss_real_site.specs.Files.{counted_in};
 ghost use Rattle.ss_real_site.specs.Real.{no_entries, no_terms};
 
+use crate::account_file::AccountFile;
 use crate::trouble::Trouble;
 use sqlite::{Connection, Error, ErrorCode, File, FileStore};
 use ss_keep_sql::{SqlFault, SqlKeeper};
@@ -12,7 +14,7 @@ use ss_laws::Journal;
 use ss_links::{TcpLink, TcpPort};
 use ss_outside::SystemClock;
 use ss_serve::LinkReport;
-use ss_site::{CountedKeeper, CountedPort, Site, SiteFault};
+use ss_site::{CountedPort, Site, SiteFault};
 use std::alloc::Global;
 use std::fs;
 use std::io::{self, ErrorKind};
@@ -95,12 +97,12 @@ impl<'a, N: Net + Clock> RealSite<'a, N> {
         &mut self,
         uid: u32,
         connection: Connection<FileStore<File>>,
-    ) -> Result<CountedKeeper<SqlKeeper>, SiteFault>
-        ensures fresh { IfOk result (λ keeper. faults_of keeper ≡ 0) }
+    ) -> Result<AccountFile, SiteFault>
+        ensures fresh { IfOk result (λ file. faults_of (counted_in file) ≡ 0) }
         ensures cause { HasCause result self.old self.new }
     {
         match SqlKeeper::adopt(connection) {
-            Ok(keeper) => Ok(CountedKeeper::new(keeper)),
+            Ok(keeper) => Ok(AccountFile::new(keeper)),
             Err(SqlFault::Fault) => Err(self.fail(Trouble::Tables { uid })),
             Err(SqlFault::Version { found }) => Err(self.fail(Trouble::Version { uid, found })),
             Err(SqlFault::Memory) => Err(SiteFault::Memory),
@@ -119,7 +121,7 @@ fn path_of(alloc: Global, folder: &str, uid: u32) -> Result<String, SiteFault> {
 impl<'a, N: Net + Clock> Site for RealSite<'a, N> {
     type Port = CountedPort<TcpPort<'a, N>>;
 
-    type Keeper = CountedKeeper<SqlKeeper>;
+    type Keeper = AccountFile;
 
     type Clock = SystemClock<'a, N>;
 
@@ -145,12 +147,7 @@ impl<'a, N: Net + Clock> Site for RealSite<'a, N> {
         }
     }
 
-    fn keeper(
-        &mut self,
-        alloc: Global,
-        folder: &str,
-        uid: u32,
-    ) -> Result<CountedKeeper<SqlKeeper>, SiteFault> {
+    fn keeper(&mut self, alloc: Global, folder: &str, uid: u32) -> Result<AccountFile, SiteFault> {
         if let Err(error) = fs::create_dir_all(self.files, folder) {
             let kind = error.kind();
             return Err(self.fault_of(error, Trouble::Folder(kind)));
@@ -165,7 +162,7 @@ impl<'a, N: Net + Clock> Site for RealSite<'a, N> {
         }
     }
 
-    fn retire(&mut self, _folder: &str, uid: u32, keeper: CountedKeeper<SqlKeeper>) {
+    fn retire(&mut self, _folder: &str, uid: u32, keeper: AccountFile) {
         if keeper.has_failed() {
             self.trouble = Some(Trouble::Keeper { uid });
             self.faults = self.faults.saturating_add(1);

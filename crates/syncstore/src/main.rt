@@ -12,8 +12,11 @@ mod response;
 mod tests;
 mod usage;
 
+use ss_links::OpenGate;
 use ss_outside::{StdSink, StdSource, SystemClock};
+use ss_real_site::RealSite;
 use ss_run_edit::run_device_command;
+use ss_run_serve::run_serve;
 use ss_words::Name;
 use std::env;
 use std::process::ExitCode;
@@ -75,7 +78,21 @@ fn main(rt: HostRuntime) -> ExitCode {
         return ExitCode::from(usage::print(&rt, text));
     }
     let status = match name_of(words.as_slice()) {
-        Some(Name::Serve) => online::serve(&rt, &rt, words.as_slice()),
+        Some(Name::Serve) => {
+            // Here alone may the runtime start threads.
+            let mut site = RealSite::new(&rt, &rt);
+            let mut err = StdSink::new(rt.stderr());
+            let status = run_serve(
+                &rt,
+                rt.alloc(),
+                words.as_slice(),
+                &mut site,
+                &OpenGate,
+                &mut err,
+            );
+            explain::explain_serve(&rt, rt.alloc(), words.as_slice(), site.trouble());
+            status
+        }
         Some(Name::Sync) => online::sync(&rt, words.as_slice()),
         Some(Name::Edit) | Some(Name::Merge) => run_device(&rt, words.as_slice()),
         _ => run_here(&rt, words.as_slice()),

@@ -95,12 +95,12 @@ fn has(term: &KeptTerm<LinkReport<MemLink>>, texts: &[&str]) -> bool {
 fn what_one_term_puts_the_next_one_gets(rt: HostRuntime) -> Result<(), Fail> {
     let alloc = rt.alloc();
     let mut two = site(alloc, [&[PUT], &[GET]], &[], Vec::new(alloc), &[])?;
-    let words = "serve a f 7 --workers 1 --connections 1 --terms 2";
+    let words = "serve 127.0.0.1:1 f 7 --workers 1 --connections 1 --terms 2";
     assert_eq!(rt; served(&rt, alloc, words, &mut two)?, 0);
     let terms = two.terms();
     assert!(rt; terms.len() == 2 && has(&terms[0], &[WRITTEN]) && has(&terms[1], &[FOUND]));
     let mut one = site(alloc, [&[PUT, GET], &[]], &[], Vec::new(alloc), &[])?;
-    let words = "serve --terms=1 --connections=1 --workers=1 a f 7";
+    let words = "serve --terms=1 --connections=1 --workers=1 127.0.0.1:1 f 7";
     assert_eq!(rt; served(&rt, alloc, words, &mut one)?, 0);
     assert!(rt; one.terms().len() == 1 && has(&one.terms()[0], &[WRITTEN, FOUND]));
     Ok(())
@@ -108,14 +108,20 @@ fn what_one_term_puts_the_next_one_gets(rt: HostRuntime) -> Result<(), Fail> {
 
 /// Words, the failing calls of the port and of the site, the status, and how many terms are told.
 const ENDINGS: [(&str, &[u64], &[u64], u8, usize); 8] = [
-    ("serve a f 7 --connections 2 --terms 1", &[], &[], 0, 1),
-    ("serve a f 7 --workers 2", &[], &[], 0, 1),
+    (
+        "serve 127.0.0.1:1 f 7 --connections 2 --terms 1",
+        &[],
+        &[],
+        0,
+        1,
+    ),
+    ("serve 127.0.0.1:1 f 7 --workers 2", &[], &[], 0, 1),
     ("answer 7", &[], &[], 1, 0),
-    ("serve a f 7 7", &[], &[], 1, 0),
-    ("serve a f 7", &[], &[1], 2, 0),
-    ("serve a f 7", &[], &[2], 2, 0),
-    ("serve a f 7", &[], &[3], 2, 0),
-    ("serve a f 7 --workers 1", &[2], &[], 3, 1),
+    ("serve 127.0.0.1:1 f 7 7", &[], &[], 1, 0),
+    ("serve 127.0.0.1:1 f 7", &[], &[1], 2, 0),
+    ("serve 127.0.0.1:1 f 7", &[], &[2], 2, 0),
+    ("serve 127.0.0.1:1 f 7", &[], &[3], 2, 0),
+    ("serve 127.0.0.1:1 f 7 --workers 1", &[2], &[], 3, 1),
 ];
 
 /// What can't be opened: a collection that is later than its store.
@@ -143,7 +149,7 @@ fn each_status_comes_from_its_cause(rt: HostRuntime) -> Result<(), Fail> {
         assert_eq!(rt; site.terms().len(), terms);
     }
     let mut bad = site(alloc, [&[PUT], &[GET]], &[], damaged(alloc)?, &[])?;
-    assert_eq!(rt; served(&rt, alloc, "serve a f 8 7", &mut bad)?, 4);
+    assert_eq!(rt; served(&rt, alloc, "serve 127.0.0.1:1 f 8 7", &mut bad)?, 4);
     assert_eq!(rt; bad.terms().len(), 0);
     Ok(())
 }

@@ -1,10 +1,8 @@
 -- How a sync ends.
-use Rattle.std.proofs.Common.{◌≡◌, ◌≢◌, ◌⊎◌, ℕ, List, ◌++◌, Option, Some, None, Result, Ok, Err, refl, sym, ap, ◌∙◌, subst, inl, inr, arith}
-use Rattle.ss_outside.specs.Told.{Meanings, HasWritten}
+use Rattle.std.proofs.Common.{◌≡◌, ◌≢◌, ℕ, List, Option, Some, None, Err, refl, sym, ap, ◌∙◌, subst, inl, inr, arith}
+use Rattle.ss_outside.specs.Told.{Meanings}
 use Rattle.ss_outside.specs.Causes.{Rose}
-use Rattle.ss_links.specs.Dials.{Hung}
 use Rattle.ss_links.specs.Stores.{Files, HasSaved}
-use Rattle.ss_plan.specs.declared.limits.PlanFault.{PlanFault}
 use Rattle.ss_device.specs.Device.{DeviceView}
 use Rattle.ss_device.specs.Writing.{device_text}
 use Rattle.ss_client.specs.declared.summaries.Summary.{Summary}
@@ -23,8 +21,8 @@ use Rattle.ss_run_sync.specs.declared.reports.Report.{Report}
 use Rattle.ss_run_sync.specs.declared.reports.Report.TheVariants.{Line, Short}
 use Rattle.ss_run_sync.specs.Endings.{Ending, Synced, Stopped, Failed, status_of, status_of_stop, status_of_size, too_large, line_of, status_told, line_told, Tells, Reports, Prints}
 use Rattle.ss_run_sync.specs.Naming.{host_named}
-use Rattle.ss_run_sync.specs.Links.{IsRun}
-use Rattle.ss_run_sync.specs.Syncs.{Outside, Starts, Loads, Saves, IsKept, Closes, Syncs, Went, undialled, dialled, account_of, machine_of, fetch_of}
+use Rattle.ss_run_sync.specs.Links.{Dials, IsRun}
+use Rattle.ss_run_sync.specs.Syncs.{Outside, Starts, Loads, Saves, IsKept, Closes, Syncs, Went, undialled, dialled, account_of, address_of, machine_of, fetch_of}
 use Rattle.ss_run_sync.specs.Runs.{Runs, Causes, syncs, asks_nothing, out_of_memory}
 
 -- what is told of an ending is printed
@@ -33,9 +31,9 @@ prints_told ending (Line code line) status a b t p = subst (λ l. Prints (status
 prints_told ending (Short what) status a b t p = subst (λ e. Prints (status_of e) (line_of e) status a b) (sym t) p
 
 -- before anything is dialled
-pub went_undialled : (command : SyncCommand) (what : Trouble) (old new : Outside) → Loads command.file (Err what) old.held new.held old.store_faults new.store_faults → new.hung ≡ old.hung
+pub went_undialled : (command : SyncCommand) (what : Trouble) (old new : Outside) → Loads command.file (Err what) old.held new.held old.store_faults new.store_faults → new.asked ≡ old.asked → new.hung ≡ old.hung
     → new.dial_faults ≡ old.dial_faults → Went command (Short what) old new
-went_undialled command what old new l h f = record { ending = Failed what; tells = refl; syncs = undialled what refl l h f }
+went_undialled command what old new l a h f = record { ending = Failed what; tells = refl; syncs = undialled what refl l a h f }
 
 -- ---- over links
 
@@ -43,22 +41,25 @@ went_undialled command what old new l h f = record { ending = Failed what; tells
 pub record Ran (command : SyncCommand) (what : Came) (old new : Outside) : Type 0 where
   pub device : DeviceView
   pub starts : Starts old.held command.file device
+  pub dials : Dials (address_of command) old.asked new.asked
   pub run : IsRun (account_of command) (machine_of command device) what old.dial_faults new.dial_faults old.hung new.hung
 
 -- the device that was loaded from the file of this name, and the run of the machine that was started for it, under this host
 pub ran_of : (command : SyncCommand) (file host : List ℕ) (d : DeviceView) (m : MachineView) (fetch : Fetch) (what : Came) (old new : Outside) → file ≡ command.file → host ≡ host_named command.server
     → m ≡ record { device = d; run = first_run (is_newer d fetch); stage = Asks } → fetch ≡ fetch_of command → Starts old.held file d
+    → Dials (address_of command) old.asked new.asked
     → IsRun (record { uid = command.server.uid; host = host }) m what old.dial_faults new.dial_faults old.hung new.hung → Ran command what old new
-ran_of command file host d m fetch what old new e h is f s r = record {
+ran_of command file host d m fetch what old new e h is f s a r = record {
   device = d;
   starts = subst (λ x. Starts old.held x d) e s;
+  dials = a;
   run = subst (λ x. IsRun (record { uid = command.server.uid; host = x }) (machine_of command d) what old.dial_faults new.dial_faults old.hung new.hung) h
       (subst (λ (x : Fetch). IsRun (record { uid = command.server.uid; host = host }) (record { device = d; run = first_run (is_newer d x); stage = Asks }) what old.dial_faults new.dial_faults old.hung new.hung) f
       (subst (λ (x : MachineView). IsRun (record { uid = command.server.uid; host = host }) x what old.dial_faults new.dial_faults old.hung new.hung) is r));
 }
 
 went : (command : SyncCommand) (what : Came) (ending : Ending) (report : Report) (old new : Outside) → Ran command what old new → Tells ending report → Closes command.file what ending old new → Went command report old new
-went command what ending report old new r t c = record { ending = ending; tells = t; syncs = dialled r.device what r.starts r.run c }
+went command what ending report old new r t c = record { ending = ending; tells = t; syncs = dialled r.device what r.starts r.dials r.run c }
 
 pub went_done : (command : SyncCommand) (d : DeviceView) (summary : Summary) (report : Report) (old new : Outside) (held : Option Files) (faults : ℕ) → Ran command (came.Done d summary) old new
     → held ≡ old.held → faults ≡ old.store_faults → Saves command.file d summary report held new.held faults new.store_faults → Went command report old new
@@ -117,8 +118,8 @@ loads_kept name trouble.Store held held' f g l = l.0
 loads_kept name trouble.Memory held held' f g l = l.0
 
 syncs_kept : (command : SyncCommand) (ending : Ending) (old new : Outside) → Syncs command ending old new → status_of ending ≢ 0 → new.held ≡ old.held
-syncs_kept command ending old new (undialled what e l h f) n = loads_kept command.file what old.held new.held old.store_faults new.store_faults l
-syncs_kept command ending old new (dialled d what s r c) n = closes_kept command.file what ending old new c n
+syncs_kept command ending old new (undialled what e l a h f) n = loads_kept command.file what old.held new.held old.store_faults new.store_faults l
+syncs_kept command ending old new (dialled d what s a r c) n = closes_kept command.file what ending old new c n
 
 pub kept_of : (words : List (List ℕ)) (status : ℕ) (old new : Outside) (a b : Meanings) → Runs words status old new a b → status ≢ 0 → status ≢ 10 → new.held ≡ old.held
 kept_of words status old new a b (syncs command ending asks s (inl p)) n m = syncs_kept command ending old new s (λ z. n (p.0 ∙ z))
@@ -176,15 +177,15 @@ closes_store file came.Memory old new c = absurd c
 
 -- a sync that ended so
 ended_wire : (command : SyncCommand) (ending : Ending) (old new : Outside) → Syncs command ending old new → ending ≡ Failed trouble.Wire → Rose old.dial_faults new.dial_faults
-ended_wire command ending old new (undialled what e l h f) is =
+ended_wire command ending old new (undialled what e l a h f) is =
     absurd (subst (λ t. Loads command.file (Err t) old.held new.held old.store_faults new.store_faults) (same_trouble what trouble.Wire (sym e ∙ is)) l)
-ended_wire command ending old new (dialled d what s r c) is =
+ended_wire command ending old new (dialled d what s a r c) is =
     closes_wire command.file (account_of command) (machine_of command d) what old new r (subst (λ x. Closes command.file what x old new) is c)
 
 ended_store : (command : SyncCommand) (ending : Ending) (old new : Outside) → Syncs command ending old new → ending ≡ Failed trouble.Store → Rose old.store_faults new.store_faults
-ended_store command ending old new (undialled what e l h f) is =
+ended_store command ending old new (undialled what e l a h f) is =
     (subst (λ t. Loads command.file (Err t) old.held new.held old.store_faults new.store_faults) (same_trouble what trouble.Store (sym e ∙ is)) l).1
-ended_store command ending old new (dialled d what s r c) is = closes_store command.file what old new (subst (λ x. Closes command.file what x old new) is c)
+ended_store command ending old new (dialled d what s a r c) is = closes_store command.file what old new (subst (λ x. Closes command.file what x old new) is c)
 
 -- none of these statuses is 10
 below_ten : (ending : Ending) → status_of ending ≡ 10 → ⊥

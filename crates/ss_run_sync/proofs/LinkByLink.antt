@@ -1,28 +1,25 @@
 -- A run over links, one after the other.
-use Rattle.std.proofs.Common.{◌≡◌, ◌⊎◌, ℕ, List, [], ◌∷◌, ◌++◌, Option, Some, None, Result, Err, refl, sym, ap, ◌∙◌, subst, append_assoc, inl, inr, arith}
-use Rattle.std.specs.List.{All, flat_map}
+use Rattle.std.proofs.Common.{◌≡◌, ◌⊎◌, ℕ, List, [], ◌∷◌, ◌++◌, Option, Some, None, Err, refl, sym, ap, ◌∙◌, subst, append_assoc, inl, inr, arith}
+use Rattle.std.specs.List.{All}
 use Rattle.std.proofs.lemmas.List.{append-nil}
 use Rattle.std.proofs.lemmas.Grind.{flat_map-append}
 use Rattle.std.proofs.lemmas.List.Elements.{All-append, All-cons}
 use Rattle.ss_outside.specs.Told.{Meanings}
-use Rattle.ss_outside.specs.Causes.{Rose}
 use Rattle.ss_links.specs.Links.{IsUnused}
 use Rattle.ss_links.specs.Dials.{Hung, HasCause, HasHung, HangUpCounts}
 use Rattle.ss_links.specs.declared.dial.DialFault.{DialFault}
 use Rattle.ss_links.specs.declared.dial.DialFault.TheVariants.{Fault, Memory}
 use Rattle.ss_device.specs.Device.{DeviceView}
-use Rattle.ss_client.specs.declared.summaries.SyncFault.{SyncFault}
 use Rattle.ss_client.specs.Runs.{MachineView}
-use Rattle.ss_client.specs.Machine.{Next, Send, Done, Stop}
+use Rattle.ss_client.specs.Machine.{Next, Send, Stop}
 use Rattle.ss_converse.specs.declared.talk.Talk.{Talk}
 use Rattle.ss_converse.specs.declared.talk.Talk.TheVariants as talks
-use Rattle.ss_converse.specs.Moves.{Moves, IsUnfaulted, IsFront, Fails}
-use Rattle.ss_converse.specs.Course.{Account, Exchange, request_next, IsCourse}
-use Rattle.ss_converse.specs.Talks.{Talked, EndsIn, IsWhole, IsBadReply, Talks}
+use Rattle.ss_converse.specs.Moves.{IsFront, Fails}
+use Rattle.ss_converse.specs.Course.{Account, request_next, IsCourse}
+use Rattle.ss_converse.specs.Talks.{EndsIn, IsWhole, IsBadReply, Talks}
 use Rattle.ss_converse.proofs.Coursing.{course_then}
 use Rattle.ss_run_sync.specs.declared.linking.Came.{Came}
-use Rattle.ss_run_sync.specs.declared.linking.Came.TheVariants as came
-use Rattle.ss_run_sync.specs.Links.{Used, hung_of, Hangs, exchanges_of, IsLeft, listed, IsAsking, IsEnded, IsUnheard, Comes, IsRun, leg_of, came_of, Goes, IsLeg}
+use Rattle.ss_run_sync.specs.Links.{Used, Hangs, exchanges_of, IsLeft, listed, IsEnded, IsUnheard, Comes, IsRun, leg_of, came_of, Goes, IsLeg}
 use Rattle.ss_run_sync.proofs.Hanging.{hangs_none, hangs_then, hangs_one, hung_failed, hung_fine}
 
 -- ---- fronts of a request

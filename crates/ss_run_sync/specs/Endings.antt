@@ -1,6 +1,5 @@
 -- How a sync ends: its status and its line (this project's).
 use Rattle.std.specs.Prelude.{◌≡◌, ◌⊎◌, ℕ, List, [], ◌++◌, Option, Some, None, codes, decimal}
-use Rattle.std.specs.Global.{Vec}
 use Rattle.ss_outside.specs.Told.{Meanings, HasWritten}
 use Rattle.ss_outside.specs.Causes.{Rose}
 use Rattle.ss_text.specs.Time.{stamp_text}

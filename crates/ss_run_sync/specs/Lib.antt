@@ -2,4 +2,5 @@ pub mod Naming
 pub mod Endings
 pub mod Links
 pub mod Syncs
+pub mod Joined
 pub mod Runs

@@ -3,10 +3,9 @@ use Rattle.std.specs.Prelude.{◌≡◌, ◌⊎◌, ℕ, List, [], ◌∷◌, �
 use Rattle.std.specs.List.{flat_map}
 use Rattle.ss_outside.specs.Told.{Meanings}
 use Rattle.ss_outside.specs.Causes.{Rose}
-use Rattle.ss_links.specs.Dials.{Hung}
+use Rattle.ss_links.specs.Dials.{Address, Hung}
 use Rattle.ss_links.specs.declared.dial.DialFault.{DialFault}
 use Rattle.ss_links.specs.declared.dial.DialFault.TheVariants.{Fault, Memory}
-use Rattle.ss_query.specs.declared.requests.Request.{Request}
 use Rattle.ss_device.specs.Device.{DeviceView}
 use Rattle.ss_client.specs.declared.summaries.SyncFault.{SyncFault}
 use Rattle.ss_client.specs.declared.runs.Run.{Run}
@@ -36,6 +35,10 @@ hung_of account d used = record { taken = taken_of used.talked; left = unwrap_or
 -- where it is told which links were hung up, these were, behind those before
 abbrev pub Hangs : Account → DeviceView → List Used → Option (List Hung) → Option (List Hung) → Type 0
 Hangs account d links hung hung' = (y : List Hung) → hung' ≡ Some y → (x : List Hung) × (hung ≡ Some x) × (y ≡ x ++ map (hung_of account d) links)
+
+-- where it is told which addresses a dial was asked for, these were all this one, behind those before
+abbrev pub Dials : Address → Option (List Address) → Option (List Address) → Type 0
+Dials address asked asked' = (y : List Address) → asked' ≡ Some y → (x : List Address) × (more : List Address) × (asked ≡ Some x) × (y ≡ x ++ more) × All (λ a. a ≡ address) more
 
 -- the exchanges over links, in order
 abbrev pub exchanges_of : List Used → List Exchange

@@ -1,8 +1,8 @@
 -- What a sync of a device's file does (this project's).
-use Rattle.std.specs.Prelude.{◌≡◌, ◌≢◌, ℕ, Bool, List, Option, Some, None, Result, Ok, Err, MatchOption, if◌then◌else◌, ⊤}
+use Rattle.std.specs.Prelude.{◌≡◌, ◌≢◌, ℕ, List, Option, Some, None, Result, Ok, Err, MatchOption, if◌then◌else◌, ⊤}
 use Rattle.std.specs.Global.{Vec}
 use Rattle.ss_outside.specs.Causes.{Rose}
-use Rattle.ss_links.specs.Dials.{Hung}
+use Rattle.ss_links.specs.Dials.{Address, Hung}
 use Rattle.ss_links.specs.Stores.{Files, HasSaved}
 use Rattle.ss_device.specs.Device.{DeviceView, IsNew}
 use Rattle.ss_device.specs.Writing.{device_text}
@@ -24,10 +24,12 @@ use Rattle.ss_run_sync.specs.declared.reports.Report.{Report}
 use Rattle.ss_run_sync.specs.declared.reports.Report.TheVariants.{Line, Short}
 use Rattle.ss_run_sync.specs.Naming.{host_named}
 use Rattle.ss_run_sync.specs.Endings.{Ending, Synced, Stopped, Failed, Tells, synced_line}
-use Rattle.ss_run_sync.specs.Links.{IsRun}
+use Rattle.ss_run_sync.specs.Links.{Dials, IsRun}
 
--- what a sync's dial and store tell and count: the links that were hung up, the files, and how many calls failed
+-- what a sync's dial and store tell and count: the addresses that were asked for, the links that were hung up, the files, and how many
+-- calls failed
 pub record Outside : Type 0 where
+  pub asked : Option (List Address)
   pub hung : Option (List Hung)
   pub dial_faults : ℕ
   pub held : Option Files
@@ -101,16 +103,21 @@ fetch_of command = if command.newer then Newer else Whole
 abbrev pub account_of : SyncCommand → Account
 account_of command = record { uid = command.server.uid; host = host_named command.server }
 
+-- the address that a command names
+abbrev pub address_of : SyncCommand → Address
+address_of command = record { host = command.server.host; port = command.server.port }
+
 -- the machine that is started for a device
 abbrev pub machine_of : SyncCommand → DeviceView → MachineView
 machine_of command d = record { device = d; run = first_run (is_newer d (fetch_of command)); stage = Asks }
 
 -- A sync of the file that a command names, with the account that it names. It ends before anything is dialled, where the file gives no
--- device; or the machine that is started for the device runs over links, and the sync ends by what that came to
+-- device; or the machine that is started for the device runs over links, each of them from the address that the command names, and the
+-- sync ends by what that came to
 pub data Syncs (command : SyncCommand) (ending : Ending) (old new : Outside) : Type 0 where
-  undialled : (what : Trouble) → ending ≡ Failed what → Loads command.file (Err what) old.held new.held old.store_faults new.store_faults → new.hung ≡ old.hung
+  undialled : (what : Trouble) → ending ≡ Failed what → Loads command.file (Err what) old.held new.held old.store_faults new.store_faults → new.asked ≡ old.asked → new.hung ≡ old.hung
       → new.dial_faults ≡ old.dial_faults → Syncs command ending old new
-  dialled : (d : DeviceView) (what : Came) → Starts old.held command.file d
+  dialled : (d : DeviceView) (what : Came) → Starts old.held command.file d → Dials (address_of command) old.asked new.asked
       → IsRun (account_of command) (machine_of command d) what old.dial_faults new.dial_faults old.hung new.hung → Closes command.file what ending old new
       → Syncs command ending old new
 

@@ -3,7 +3,7 @@
 ghost use Rattle.std.specs.Prelude.{◌≡◌};
 ghost use Rattle.ss_route.specs.Sending.{IsHost};
 ghost use Rattle.ss_client.specs.Asking.{ask};
-ghost use Rattle.ss_run_sync.specs.Links.{IsRun, IsLeg, IsNearer, leg_of, came_of};
+ghost use Rattle.ss_run_sync.specs.Links.{Dials, IsRun, IsLeg, IsNearer, leg_of, came_of};
 ghost use Rattle.ss_run_sync.specs.declared.linking.Leg.TheVariants.{End};
 ghost use Rattle.ss_links.specs.Links.{IsUnused};
 
@@ -75,6 +75,7 @@ fn over<D: Dial>(
     requires asked { request ≡ ask machine }
     requires host { IsHost host.now }
     requires unused { IsUnused (D.Link.Told.told link) }
+    ensures asked { D.asked dial.new ≡ D.asked dial.old }
     ensures nearer { IsNearer machine result }
     ensures leg { IsLeg (record { uid = server.now.uid; host = host.now }) machine result (D.dial_faults dial.old) (D.dial_faults dial.new) (D.hung dial.old) (D.hung dial.new) }
 {
@@ -95,6 +96,7 @@ fn over_link<D: Dial>(
 ) -> Leg
     requires asked { request ≡ ask machine }
     requires host { IsHost host.now }
+    ensures dials { Dials (record { host = server.now.host; port = server.now.port }) (D.asked dial.old) (D.asked dial.new) }
     ensures nearer { IsNearer machine result }
     ensures leg { IsLeg (record { uid = server.now.uid; host = host.now }) machine result (D.dial_faults dial.old) (D.dial_faults dial.new) (D.hung dial.old) (D.hung dial.new) }
 {
@@ -115,7 +117,8 @@ pub(crate) fn over_links<D: Dial>(
 ) -> Came
     requires asked { request ≡ ask machine }
     requires host { IsHost host.now }
-    ensures { IsRun (record { uid = server.now.uid; host = host.now }) machine result (D.dial_faults dial.old) (D.dial_faults dial.new) (D.hung dial.old) (D.hung dial.new) }
+    ensures dials { Dials (record { host = server.now.host; port = server.now.port }) (D.asked dial.old) (D.asked dial.new) }
+    ensures run { IsRun (record { uid = server.now.uid; host = host.now }) machine result (D.dial_faults dial.old) (D.dial_faults dial.new) (D.hung dial.old) (D.hung dial.new) }
 {
     let mut machine = machine;
     let mut request = request;

@@ -4,6 +4,7 @@ ghost use Rattle.std.specs.Prelude.{◌≡◌, ◌≢◌, map, string_bytes};
 ghost use Rattle.ss_words.specs.Urls.{HasHost};
 ghost use Rattle.ss_run_sync.specs.Endings.{Reports};
 ghost use Rattle.ss_run_sync.specs.Syncs.{Went};
+ghost use Rattle.ss_run_sync.specs.Joined.{Joined};
 ghost use Rattle.ss_run_sync.specs.Runs.{Runs, Causes};
 
 use crate::files::{load, save};
@@ -50,8 +51,8 @@ fn sync<D: Dial, S: Store>(
 ) -> Report
     requires { HasHost command.now.server }
     ensures { Went command.now result
-        (record { hung = D.hung dial.old; dial_faults = D.dial_faults dial.old; held = S.held store.old; store_faults = S.store_faults store.old })
-        (record { hung = D.hung dial.new; dial_faults = D.dial_faults dial.new; held = S.held store.new; store_faults = S.store_faults store.new }) }
+        (record { asked = D.asked dial.old; hung = D.hung dial.old; dial_faults = D.dial_faults dial.old; held = S.held store.old; store_faults = S.store_faults store.old })
+        (record { asked = D.asked dial.new; hung = D.hung dial.new; dial_faults = D.dial_faults dial.new; held = S.held store.new; store_faults = S.store_faults store.new }) }
 {
     let Ok(host) = host_named(alloc, &command.server) else {
         return Report::Short(Trouble::Memory);
@@ -87,8 +88,8 @@ fn run<D: Dial, S: Store, T: Sink>(
     output: &mut T,
 ) -> u8
     ensures { Runs (map (λ word. string_bytes word) words.now) result
-        (record { hung = D.hung dial.old; dial_faults = D.dial_faults dial.old; held = S.held store.old; store_faults = S.store_faults store.old })
-        (record { hung = D.hung dial.new; dial_faults = D.dial_faults dial.new; held = S.held store.new; store_faults = S.store_faults store.new })
+        (record { asked = D.asked dial.old; hung = D.hung dial.old; dial_faults = D.dial_faults dial.old; held = S.held store.old; store_faults = S.store_faults store.old })
+        (record { asked = D.asked dial.new; hung = D.hung dial.new; dial_faults = D.dial_faults dial.new; held = S.held store.new; store_faults = S.store_faults store.new })
         (T.Told.told output.old) (T.Told.told output.new) }
 {
     let command = match read_command(alloc, words) {
@@ -116,13 +117,17 @@ pub fn run_sync<D: Dial, S: Store, T: Sink>(
 ) -> u8
     // What was dialled, sent, heard, saved and printed.
     ensures runs { Runs (map (λ word. string_bytes word) words.now) result
-        (record { hung = D.hung dial.old; dial_faults = D.dial_faults dial.old; held = S.held store.old; store_faults = S.store_faults store.old })
-        (record { hung = D.hung dial.new; dial_faults = D.dial_faults dial.new; held = S.held store.new; store_faults = S.store_faults store.new })
+        (record { asked = D.asked dial.old; hung = D.hung dial.old; dial_faults = D.dial_faults dial.old; held = S.held store.old; store_faults = S.store_faults store.old })
+        (record { asked = D.asked dial.new; hung = D.hung dial.new; dial_faults = D.dial_faults dial.new; held = S.held store.new; store_faults = S.store_faults store.new })
         (T.Told.told output.old) (T.Told.told output.new) }
+    // What went over all links together: the requests of the machine for the responses that came.
+    ensures joined { Joined (map (λ word. string_bytes word) words.now)
+        (record { asked = D.asked dial.old; hung = D.hung dial.old; dial_faults = D.dial_faults dial.old; held = S.held store.old; store_faults = S.store_faults store.old })
+        (record { asked = D.asked dial.new; hung = D.hung dial.new; dial_faults = D.dial_faults dial.new; held = S.held store.new; store_faults = S.store_faults store.new }) }
     // Which count rose, by the status.
     ensures causes { Causes result
-        (record { hung = D.hung dial.old; dial_faults = D.dial_faults dial.old; held = S.held store.old; store_faults = S.store_faults store.old })
-        (record { hung = D.hung dial.new; dial_faults = D.dial_faults dial.new; held = S.held store.new; store_faults = S.store_faults store.new })
+        (record { asked = D.asked dial.old; hung = D.hung dial.old; dial_faults = D.dial_faults dial.old; held = S.held store.old; store_faults = S.store_faults store.old })
+        (record { asked = D.asked dial.new; hung = D.hung dial.new; dial_faults = D.dial_faults dial.new; held = S.held store.new; store_faults = S.store_faults store.new })
         (T.Told.told output.old) (T.Told.told output.new) }
     // Only a sync that is done changes a file.
     ensures kept { result ≢ 0 → result ≢ 10 → S.held store.new ≡ S.held store.old }

@@ -61,8 +61,8 @@ example: syncstore edit rename abcdefghijkl 'My page' < device > changed
 const MERGE: &str = "\
 usage: syncstore merge
 
-Reads a device's file without its last line, then lines [\"remote\",..] for the rows of a server, then the line [\"end\"], and tells the
-tree that a sync would make of them: a line for each item in order with its side, the renamed and the deleted ids, and how many
+Reads a device's file, then a line [\"remote\",TIME,ID,PAYLOAD] for each row of a server, by id, then a further line [\"end\"], and tells
+the tree that a sync would make of them: a line for each item in order with its side, the renamed and the deleted ids, and how many
 records would be uploaded. docs/MERGING.md tells the lines and the rules.
 
 exit status: 0 written; 1 faulty words; 2 the input failed; 3 the output failed; 4 the input ended too early; 5 a line is none of

@@ -7,8 +7,6 @@ mod booked;
 mod bound;
 mod limits;
 mod sizes;
-#[cfg(test)]
-mod tests;
 
 pub use booked::{Asked, Booked, Terms};
 pub use limits::{ENTRY_BYTES, MOST_ENTRIES, MOST_JOURNAL_BYTES};

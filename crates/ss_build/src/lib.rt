@@ -16,8 +16,6 @@ mod proposals;
 mod repairs;
 mod rows;
 mod siblings;
-#[cfg(test)]
-mod tests;
 
 pub use building::{Built, build, build_claims};
 pub use claims::Claim;

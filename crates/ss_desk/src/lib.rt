@@ -9,8 +9,6 @@ mod journaled;
 mod pass;
 mod rule;
 mod steps;
-#[cfg(test)]
-mod tests;
 mod view;
 mod waiting;
 

@@ -10,8 +10,6 @@ mod plain;
 mod plains;
 mod rounds;
 mod sides;
-#[cfg(test)]
-mod tests;
 
 pub use laws::{keys_tell_kinds_and_members, no_id_is_in_two_pairs, renamed_trees_are_valid};
 pub use plain::{Plain, Seat};

@@ -19,8 +19,6 @@ mod message;
 mod reading;
 mod request;
 mod response;
-#[cfg(test)]
-mod tests;
 
 pub use buffer::Buffer;
 pub use fault::MsgFault;

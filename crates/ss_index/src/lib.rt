@@ -6,8 +6,6 @@ mod drawer;
 mod numbers;
 mod ready;
 mod shelf;
-#[cfg(test)]
-mod tests;
 mod walk;
 
 pub use ready::Ready;

@@ -16,8 +16,6 @@ mod store;
 mod tcp_dial;
 mod tcp_link;
 mod tcp_port;
-#[cfg(test)]
-mod tests;
 mod waiting;
 
 pub use dial::{Dial, DialFault};

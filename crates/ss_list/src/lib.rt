@@ -8,8 +8,6 @@ mod chain;
 mod ends;
 mod node;
 mod steps;
-#[cfg(test)]
-mod tests;
 
 pub use at::At;
 pub use chain::Chain;

@@ -13,8 +13,6 @@ mod parents;
 mod parts;
 mod survivors;
 mod telling;
-#[cfg(test)]
-mod tests;
 mod ways;
 
 pub use laws::{

@@ -12,8 +12,6 @@ mod sink;
 mod source;
 mod standard;
 mod system_clock;
-#[cfg(test)]
-mod tests;
 mod told;
 
 pub use clock::Clock;

@@ -11,8 +11,6 @@ mod planning;
 mod records;
 mod refusals;
 mod seats;
-#[cfg(test)]
-mod tests;
 
 pub use limits::{Limits, PlanFault};
 pub use planning::{changes, plan};

@@ -11,8 +11,6 @@ mod marks;
 mod payloads;
 mod read;
 mod readings;
-#[cfg(test)]
-mod tests;
 mod write;
 
 pub use ids::{is_places, is_root};

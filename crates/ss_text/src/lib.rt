@@ -10,8 +10,6 @@ mod lines;
 mod names;
 mod numbers;
 mod stamps;
-#[cfg(test)]
-mod tests;
 mod texts;
 
 pub use decimals::{

@@ -5,8 +5,6 @@
 
 mod opening;
 mod passes;
-#[cfg(test)]
-mod tests;
 mod town;
 
 pub use opening::TownFault;

@@ -9,8 +9,6 @@ mod entries;
 mod faults;
 mod index;
 mod sides;
-#[cfg(test)]
-mod tests;
 mod trees;
 
 pub use entries::{Entry, Node};

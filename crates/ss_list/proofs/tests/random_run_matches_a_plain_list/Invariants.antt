@@ -1,4 +1,0 @@
-use Rattle.ss_list.proofs.tests.random_run_matches_a_plain_list.Given as goal
-
-abbrev pub ghosts-random_run : goal.ghosts-random_run
-ghosts-random_run g a = record { name = a.blank.name; parts = a.blank.parts }

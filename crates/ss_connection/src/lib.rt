@@ -8,8 +8,6 @@ mod connection;
 mod limits;
 mod notes;
 mod response;
-#[cfg(test)]
-mod tests;
 
 pub use connection::serve_connection;
 pub use limits::MOST_MESSAGES;

@@ -10,8 +10,6 @@ mod report;
 mod rest;
 mod room;
 mod term;
-#[cfg(test)]
-mod tests;
 mod threads;
 mod worker;
 

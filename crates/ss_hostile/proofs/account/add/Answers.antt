@@ -4,11 +4,11 @@ use Rattle.ss_laws.specs.declared.journal.Entry.{Entry}
 use Rattle.ss_booked.specs.Booked.{journal_of}
 use Rattle.ss_town.specs.Opening.{AreBare}
 use Rattle.ss_town.proofs.Openings.{bare_more}
-use Rattle.ss_connection.proofs.tests.accounts.Goals as goal
+use Rattle.ss_hostile.proofs.account.add.Goals as goal
 
 bare_pushed : {B : Type 0} (before after : List (ℕ × B)) (u : ℕ) (x : B) (entries : B → List Entry) → after ≡ before ++ (u, x) ∷ [] → AreBare entries before → entries x ≡ [] → AreBare entries after
 bare_pushed {B} before after u x entries is bare none = subst (λ (l : List (ℕ × B)). AreBare entries l) (sym is) (bare_more entries before u x bare none)
 
-pub loop-uid-preserved : goal.loop-uid-preserved
-loop-uid-preserved c =
-    bare_pushed c.loop-uid.accounts.items c.push.new.self.items _ c.in_ok-account.field-0 (λ b. (journal_of b).entries) c.in_ok-push.ensures.items c.loop-uid.invariant c.in_ok-account.ensures.bare
+pub returns : goal.returns
+returns c =
+    record { bare = bare_pushed c.args.accounts.now.items c.push.new.self.items _ c.args.booked (λ b. (journal_of b).entries) c.in_ok-push.ensures.items c.requires.bare c.requires.empty }

@@ -9,8 +9,6 @@ mod laws;
 mod lines;
 mod names;
 mod refusals;
-#[cfg(test)]
-mod tests;
 mod urls;
 mod values;
 

@@ -1,6 +1,11 @@
--- That the site of the system tells neither terms nor what is kept.
+-- What the site of the system counts; it tells neither terms nor what is kept.
 use Rattle.std.specs.Prelude.{List, Option, None}
-use Rattle.ss_site.specs.Sites.{Term, Entries}
+use Rattle.ss_site.specs.Sites.{Counts, Entries, Lent, Term}
+
+-- its counts, and the keepers and ports that it gave and that came back
+pub record Tally : Type 0 where
+  pub counts : Counts
+  pub lent : Lent
 
 -- no terms of such reports are told
 abbrev pub no_terms : {R : Type 0} → List R → Option (List (Term R))

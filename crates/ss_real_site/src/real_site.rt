@@ -1,8 +1,9 @@
 //! The site of the system.
 
-ghost use Rattle.std.specs.Prelude.{◌≡◌, Err, IfOk, None, OnOk, OnErr};
+ghost use Rattle.std.specs.Prelude.{◌≡◌, [], Err, IfOk, None, OnOk, OnErr};
+ghost use Rattle.ss_links.specs.Counts.{RoseBy};
 ghost use Rattle.ss_site.specs.Counted.{faults_of};
-ghost use Rattle.ss_site.specs.Sites.{HasCause, AddsTerm};
+ghost use Rattle.ss_site.specs.Sites.{HasCause, HasLent, AddsTerm};
 ghost use Rattle.ss_real_site.specs.Files.{counted_in};
 ghost use Rattle.ss_real_site.specs.Real.{no_entries, no_terms};
 
@@ -33,20 +34,29 @@ pub struct RealSite<'a, N: Net + Clock> {
     faults: u64,
     links: u64,
     ends: u64,
+    given: u64,
+    back: u64,
+    // Of the ports that it gave.
+    addresses: Vec<String>,
 }
 
 impl<'a, N: Net + Clock> Model for RealSite<'a, N> {
-    ghost use Rattle.ss_site.specs.Sites.{Counts};
+    ghost use Rattle.std.specs.Prelude.{map, string_bytes};
+    ghost use Rattle.ss_real_site.specs.Real.{Tally};
 
-    ghost Value = { Counts };
+    ghost Value = { Tally };
 
-    ghost view = { λ site. record { faults = site.faults; links = site.links; ends = site.ends } };
+    ghost view = { λ site. record {
+      counts = record { faults = site.faults; links = site.links; ends = site.ends };
+      lent = record { given = site.given; back = site.back; addresses = map string_bytes site.addresses.items };
+    } };
 }
 
 impl<'a, N: Net + Clock> RealSite<'a, N> {
     /// A site whose ports and clocks are of this network, and whose databases are files of the system.
     pub fn new(network: &'a N, files: &'a HostRuntime) -> RealSite<'a, N>
-        ensures { result ≡ record { faults = 0; links = 0; ends = 0 } }
+        ensures counts { result.counts ≡ record { faults = 0; links = 0; ends = 0 } }
+        ensures lent { result.lent ≡ record { given = 0; back = 0; addresses = [] } }
     {
         RealSite {
             network,
@@ -55,6 +65,9 @@ impl<'a, N: Net + Clock> RealSite<'a, N> {
             faults: 0,
             links: 0,
             ends: 0,
+            given: 0,
+            back: 0,
+            addresses: Vec::new(files.alloc()),
         }
     }
 
@@ -65,16 +78,28 @@ impl<'a, N: Net + Clock> RealSite<'a, N> {
 
     // Counts a fault, and keeps what it was.
     fn fail(&mut self, trouble: Trouble) -> SiteFault
-        ensures { HasCause {T = Unit {0}} (Err result) self.old self.new }
+        ensures cause { HasCause {T = Unit {0}} (Err result) self.old.counts self.new.counts }
+        ensures lent { self.new.lent ≡ self.old.lent }
     {
         self.trouble = Some(trouble);
         self.faults = self.faults.saturating_add(1);
         SiteFault::Fault
     }
 
+    // Counts a keeper or a port that is given.
+    fn lend(&mut self)
+        ensures given { RoseBy 1 self.old.lent.given self.new.lent.given }
+        ensures back { self.new.lent.back ≡ self.old.lent.back }
+        ensures addresses { self.new.lent.addresses ≡ self.old.lent.addresses }
+        ensures counts { self.new.counts ≡ self.old.counts }
+    {
+        self.given = self.given.saturating_add(1);
+    }
+
     // What an error of the system is to the site, which counts it where memory isn't all that is wanting.
     fn fault_of(&mut self, error: io::Error, trouble: Trouble) -> SiteFault
-        ensures { HasCause {T = Unit {0}} (Err result) self.old self.new }
+        ensures cause { HasCause {T = Unit {0}} (Err result) self.old.counts self.new.counts }
+        ensures lent { self.new.lent ≡ self.old.lent }
     {
         if error.kind() == ErrorKind::OutOfMemory {
             return SiteFault::Memory;
@@ -84,7 +109,8 @@ impl<'a, N: Net + Clock> RealSite<'a, N> {
 
     // What an error of a database is to the site, in the same way.
     fn refusal_of(&mut self, uid: u32, error: Error) -> SiteFault
-        ensures { HasCause {T = Unit {0}} (Err result) self.old self.new }
+        ensures cause { HasCause {T = Unit {0}} (Err result) self.old.counts self.new.counts }
+        ensures lent { self.new.lent ≡ self.old.lent }
     {
         if error == Error::SqliteFailure(ErrorCode::OutOfMemory) {
             return SiteFault::Memory;
@@ -99,10 +125,14 @@ impl<'a, N: Net + Clock> RealSite<'a, N> {
         connection: Connection<FileStore<File>>,
     ) -> Result<AccountFile, SiteFault>
         ensures fresh { IfOk result (λ file. faults_of (counted_in file) ≡ 0) }
-        ensures cause { HasCause result self.old self.new }
+        ensures cause { HasCause result self.old.counts self.new.counts }
+        ensures lent { HasLent result self.old.lent self.new.lent }
     {
         match SqlKeeper::adopt(connection) {
-            Ok(keeper) => Ok(AccountFile::new(keeper)),
+            Ok(keeper) => {
+                self.lend();
+                Ok(AccountFile::new(keeper))
+            }
             Err(SqlFault::Fault) => Err(self.fail(Trouble::Tables { uid })),
             Err(SqlFault::Version { found }) => Err(self.fail(Trouble::Version { uid, found })),
             Err(SqlFault::Memory) => Err(SiteFault::Memory),
@@ -127,7 +157,9 @@ impl<'a, N: Net + Clock> Site for RealSite<'a, N> {
 
     type Report = LinkReport<TcpLink<'a, N>>;
 
-    ghost counts = { λ site. site };
+    ghost counts = { λ site. site.counts };
+
+    ghost lent = { λ site. site.lent };
 
     ghost terms = { λ site. None };
 
@@ -135,11 +167,21 @@ impl<'a, N: Net + Clock> Site for RealSite<'a, N> {
 
     fn listen(
         &mut self,
-        _alloc: Global,
+        alloc: Global,
         address: &str,
     ) -> Result<CountedPort<TcpPort<'a, N>>, SiteFault> {
+        let Ok(copy) = String::from_str(alloc, address) else {
+            return Err(SiteFault::Memory);
+        };
+        if self.addresses.reserve(1).is_err() {
+            return Err(SiteFault::Memory);
+        }
         match TcpPort::listen(self.network, address) {
-            Ok(port) => Ok(CountedPort::new(port)),
+            Ok(port) => {
+                self.addresses.push_reserved(copy);
+                self.lend();
+                Ok(CountedPort::new(port))
+            }
             Err(error) => {
                 let kind = error.kind();
                 Err(self.fault_of(error, Trouble::Address(kind)))
@@ -163,6 +205,7 @@ impl<'a, N: Net + Clock> Site for RealSite<'a, N> {
     }
 
     fn retire(&mut self, _folder: &str, uid: u32, keeper: AccountFile) {
+        self.back = self.back.saturating_add(1);
         if keeper.has_failed() {
             self.trouble = Some(Trouble::Keeper { uid });
             self.faults = self.faults.saturating_add(1);
@@ -171,6 +214,7 @@ impl<'a, N: Net + Clock> Site for RealSite<'a, N> {
     }
 
     fn shut(&mut self, port: CountedPort<TcpPort<'a, N>>) {
+        self.back = self.back.saturating_add(1);
         if port.faults() != 0 {
             self.trouble = Some(Trouble::Port);
             self.faults = self.faults.saturating_add(1);
@@ -194,7 +238,8 @@ impl<'a, N: Net + Clock> Site for RealSite<'a, N> {
     ) -> Result<(), SiteFault>
         ensures added { OnOk result (AddsTerm reports.entry.items journals.now (no_terms reports.entry.items) (no_terms reports.entry.items)) }
         ensures refused { OnErr result (no_terms reports.entry.items ≡ no_terms reports.entry.items) }
-        ensures cause { HasCause result self.old self.new }
+        ensures cause { HasCause result self.old.counts self.new.counts }
+        ensures lent { self.new.lent ≡ self.old.lent }
         ensures kept { no_entries ≡ no_entries }
     {
         let _ = journals;

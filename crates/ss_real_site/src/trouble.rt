@@ -37,7 +37,7 @@ fn write_refusal<W: Write>(uid: u32, error: Error, f: &mut Formatter<W>) -> fmt:
         }
         Error::SqliteFailure(ErrorCode::CannotOpen) => write!(
             f,
-            "the file {uid}.db can't be opened or made: look whether the folder may be written"
+            "the file {uid}.db can't be opened or made: look whether it and the folder may be read and written"
         ),
         Error::SqliteFailure(ErrorCode::NotADatabase | ErrorCode::DatabaseCorrupt) => {
             write!(f, "the file {uid}.db is damaged, or is no database")

@@ -1,11 +1,11 @@
 -- What is kept once an entry was put or added.
-use Rattle.std.specs.Prelude.{◌≡◌, ◌≢◌, ◌<◌, ◌≤◌, ◌⊎◌, ℕ, zero, suc, Bool, true, false, cond, List, [], ◌∷◌, ◌++◌, length, get_or, set, bytes_eq, Some, None, Result, Ok, Err, IfOk, OnErr, refl}
+use Rattle.std.specs.Prelude.{◌≡◌, ◌≢◌, ◌<◌, ◌≤◌, ◌⊎◌, ℕ, zero, suc, Bool, true, false, cond, List, [], ◌∷◌, ◌++◌, length, get_or, set, bytes_eq, Some, None, if◌then◌else◌, Result, Ok, Err, IfOk, OnErr, refl}
 use Rattle.std.proofs.Common.{sym, ap, subst, ◌∙◌, arith, inl, inr}
 use Rattle.std.proofs.lemmas.Bool.{eqb-true}
 use Rattle.ss_bso.specs.declared.changes.Kept.{Kept}
 use Rattle.ss_bso.specs.Changes.{fresh_kept}
 use Rattle.ss_bso.proofs.Texts.{same_text, both_left, both_right}
-use Rattle.ss_site.specs.Sites.{IsWith}
+use Rattle.ss_site.specs.Sites.{IsEntry, IsWith}
 use Rattle.ss_site.specs.Tables.{Held, is_at, entries_of, NoneBefore, IsPlace}
 
 -- an entry stands at one place
@@ -99,3 +99,8 @@ added_or_not (Err fault) old new held fresh added refused = ap entries_of refuse
 pub with_ok : {T E : Type 0} (r : Result T E) (P Q : T → Type 0) → ((value : T) → P value → Q value) → IfOk r P → IfOk r Q
 with_ok (Ok value) P Q so is = so value is
 with_ok (Err fault) P Q so is = is
+
+-- what a table keeps is the entry, told or not
+pub entry_told : (folder : List ℕ) (uid : ℕ) (kept : Kept) (told : Bool) (table : List Held) → kept ≡ entries_of table folder uid → IsEntry folder uid (Some kept) (if told then Some (entries_of table) else None)
+entry_told folder uid kept true table same = ap Some same
+entry_told folder uid kept false table same = tt

@@ -1,8 +1,8 @@
 -- What a site in memory counts and tells.
-use Rattle.std.specs.Prelude.{List, Option, Some, None, map, if◌then◌else◌}
+use Rattle.std.specs.Prelude.{List, Option, Some, None, map, string_bytes, if◌then◌else◌}
 use Rattle.ss_site.specs.declared.memory_site.KeptTerm.{KeptTerm}
 use Rattle.ss_site.specs.declared.memory_site.MemSite.{MemSite}
-use Rattle.ss_site.specs.Sites.{Counts, Term, Entries}
+use Rattle.ss_site.specs.Sites.{Counts, Lent, Term, Entries}
 use Rattle.ss_site.specs.Tables.{entries_of}
 
 module _ {T : Type 0} where
@@ -11,6 +11,9 @@ module _ {T : Type 0} where
 
   abbrev pub site_counts : MemSite T → Counts
   site_counts s = record { faults = s.faults; links = s.links; ends = s.ends }
+
+  abbrev pub site_lent : MemSite T → Lent
+  site_lent s = record { given = s.given; back = s.back; addresses = map string_bytes s.addresses.items }
 
   abbrev pub site_terms : MemSite T → Option (List (Term T))
   site_terms s = Some (map term_of s.terms.items)

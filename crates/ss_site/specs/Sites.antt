@@ -16,6 +16,12 @@ pub record Counts : Type 0 where
   pub links : ℕ
   pub ends : ℕ
 
+-- how many keepers and ports a site gave, and how many of them came back; and the address of each port that it gave, in order
+pub record Lent : Type 0 where
+  pub given : ℕ
+  pub back : ℕ
+  pub addresses : List (List ℕ)
+
 -- a term as a site is told it: the reports of its links, and each account's journal
 pub record Term (R : Type 0) : Type 0 where
   pub reports : List R
@@ -30,6 +36,22 @@ abbrev pub HasCause : {T : Type 0} → Result T SiteFault → Counts → Counts 
 HasCause (Ok value) old new = new ≡ old
 HasCause (Err Fault) old new = Rose old.faults new.faults × (new.links ≡ old.links) × (new.ends ≡ old.ends)
 HasCause (Err Memory) old new = new ≡ old
+
+-- a keeper was given where the answer is one, and nothing where it is a fault
+abbrev pub HasLent : {T : Type 0} → Result T SiteFault → Lent → Lent → Type 0
+HasLent (Ok value) old new = RoseBy 1 old.given new.given × (new.back ≡ old.back) × (new.addresses ≡ old.addresses)
+HasLent (Err why) old new = new ≡ old
+
+-- a port was given that listens at this address where the answer is one, and nothing where it is a fault
+abbrev pub Listens : {T : Type 0} → List ℕ → Result T SiteFault → Lent → Lent → Type 0
+Listens address (Ok value) old new = RoseBy 1 old.given new.given × (new.back ≡ old.back) × (new.addresses ≡ old.addresses ++ address ∷ [])
+Listens address (Err why) old new = new ≡ old
+
+-- one of those that were given came back
+pub record IsBack (old new : Lent) : Type 0 where
+  pub given : new.given ≡ old.given
+  pub back : RoseBy 1 old.back new.back
+  pub addresses : new.addresses ≡ old.addresses
 
 -- a keeper that was given tells what the entry is, where the entries are told
 abbrev pub IsEntry : List ℕ → ℕ → Option Kept → Option Entries → Type 0

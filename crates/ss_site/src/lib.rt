@@ -8,8 +8,6 @@ mod counted_port;
 mod memory_site;
 mod site;
 mod table;
-#[cfg(test)]
-mod tests;
 
 pub use counted_keeper::CountedKeeper;
 pub use counted_port::CountedPort;

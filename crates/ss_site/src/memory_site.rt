@@ -1,8 +1,9 @@
 //! A site in memory.
 
 ghost use Rattle.std.specs.Prelude.{◌≡◌, ◌⊎◌, ℕ, [], Some, None, IfOk, IfErr, OnOk, OnErr, map};
-ghost use Rattle.ss_site.specs.Sites.{Counts, Term, HasCause, IsEntry, HasRetired, CountsKeeper, CountsPort, AddsTerm};
-ghost use Rattle.ss_site.specs.Memories.{site_counts, site_terms, site_kept};
+ghost use Rattle.ss_links.specs.Counts.{RoseBy};
+ghost use Rattle.ss_site.specs.Sites.{Counts, Lent, Term, HasCause, HasLent, IsBack, IsEntry, HasRetired, CountsKeeper, CountsPort, AddsTerm};
+ghost use Rattle.ss_site.specs.Memories.{site_counts, site_lent, site_terms, site_kept};
 ghost use Rattle.ss_site.specs.Tables.{entries_of, held_of};
 
 use crate::counted_keeper::CountedKeeper;
@@ -36,7 +37,12 @@ pub struct MemSite<T> {
     faults: u64,
     links: u64,
     ends: u64,
-    plan: Numbered,
+    given: u64,
+    back: u64,
+    // Of the ports that it gave.
+    addresses: Vec<String>,
+    failing: Numbered,
+    wanting: Numbered,
 }
 
 impl<T> MemSite<T> {
@@ -51,6 +57,7 @@ impl<T> MemSite<T> {
         failing: Vec<u64>,
     ) -> Result<MemSite<T>, AllocError>
         ensures counts { IfOk result (λ site. site_counts site ≡ record { faults = 0; links = 0; ends = 0 }) }
+        ensures lent { IfOk result (λ site. site_lent site ≡ record { given = 0; back = 0; addresses = [] }) }
         ensures terms { IfOk result (λ site. site_terms site ≡ Some []) }
         ensures kept { IfOk result (λ site. site_kept site ≡ Some (entries_of (map held_of kept.items))) }
     {
@@ -68,8 +75,23 @@ impl<T> MemSite<T> {
             faults: 0,
             links: 0,
             ends: 0,
-            plan: Numbered::new(failing),
+            given: 0,
+            back: 0,
+            addresses: Vec::new(alloc),
+            failing: Numbered::new(failing),
+            wanting: Numbered::new(Vec::new(alloc)),
         })
+    }
+
+    /// The same site, whose calls of `listen`, `keeper` and `ended` with the numbers `wanting` find no memory, unless they fail.
+    pub fn without_memory(mut self, wanting: Vec<u64>) -> MemSite<T>
+        ensures counts { site_counts result ≡ site_counts self }
+        ensures lent { site_lent result ≡ site_lent self }
+        ensures terms { site_terms result ≡ site_terms self }
+        ensures kept { site_kept result ≡ site_kept self }
+    {
+        self.wanting = Numbered::new(wanting);
+        self
     }
 
     /// The terms that it was told, in order.
@@ -80,11 +102,41 @@ impl<T> MemSite<T> {
     // Fails, and counts it.
     fn fail(&mut self) -> SiteFault
         ensures cause { HasCause {T = Unit {0}} (Err result) (site_counts self.old) (site_counts self.new) }
+        ensures lent { site_lent self.new ≡ site_lent self.old }
         ensures terms { site_terms self.new ≡ site_terms self.old }
         ensures kept { site_kept self.new ≡ site_kept self.old }
     {
         self.faults = self.faults.saturating_add(1);
         SiteFault::Fault
+    }
+
+    // Begins a call that can fail, by the plans.
+    fn begin_call(&mut self) -> Result<(), SiteFault>
+        ensures cause { HasCause result (site_counts self.old) (site_counts self.new) }
+        ensures lent { site_lent self.new ≡ site_lent self.old }
+        ensures terms { site_terms self.new ≡ site_terms self.old }
+        ensures kept { site_kept self.new ≡ site_kept self.old }
+    {
+        let wants = self.wanting.fails();
+        if self.failing.fails() {
+            return Err(self.fail());
+        }
+        if wants {
+            return Err(SiteFault::Memory);
+        }
+        Ok(())
+    }
+
+    // Counts a keeper or a port that is given.
+    fn lend(&mut self)
+        ensures given { RoseBy 1 (site_lent self.old).given (site_lent self.new).given }
+        ensures back { (site_lent self.new).back ≡ (site_lent self.old).back }
+        ensures addresses { (site_lent self.new).addresses ≡ (site_lent self.old).addresses }
+        ensures counts { site_counts self.new ≡ site_counts self.old }
+        ensures terms { site_terms self.new ≡ site_terms self.old }
+        ensures kept { site_kept self.new ≡ site_kept self.old }
+    {
+        self.given = self.given.saturating_add(1);
     }
 }
 
@@ -110,20 +162,29 @@ impl<T: Drop> Site for MemSite<T> {
 
     ghost counts = { λ site. site_counts site };
 
+    ghost lent = { λ site. site_lent site };
+
     ghost terms = { λ site. site_terms site };
 
     ghost kept = { λ site. site_kept site };
 
-    fn listen(
-        &mut self,
-        _alloc: Global,
-        _address: &str,
-    ) -> Result<CountedPort<MemPort>, SiteFault> {
-        if self.plan.fails() {
+    fn listen(&mut self, alloc: Global, address: &str) -> Result<CountedPort<MemPort>, SiteFault> {
+        self.begin_call()?;
+        if self.ports.is_empty() {
             return Err(self.fail());
         }
+        let Ok(address) = String::from_str(alloc, address) else {
+            return Err(SiteFault::Memory);
+        };
+        if self.addresses.reserve(1).is_err() {
+            return Err(SiteFault::Memory);
+        }
         match self.ports.pop() {
-            Some(port) => Ok(CountedPort::new(port)),
+            Some(port) => {
+                self.addresses.push_reserved(address);
+                self.lend();
+                Ok(CountedPort::new(port))
+            }
             None => Err(self.fail()),
         }
     }
@@ -134,17 +195,19 @@ impl<T: Drop> Site for MemSite<T> {
         folder: &str,
         uid: u32,
     ) -> Result<CountedKeeper<MemKeeper>, SiteFault> {
-        if self.plan.fails() {
-            return Err(self.fail());
-        }
+        self.begin_call()?;
         match self.table.copy_of(alloc, folder, uid) {
-            Ok(kept) => Ok(CountedKeeper::new(MemKeeper::new(kept, Vec::new(alloc)))),
+            Ok(kept) => {
+                self.lend();
+                Ok(CountedKeeper::new(MemKeeper::new(kept, Vec::new(alloc))))
+            }
             Err(KeepFault::Fault) => Err(self.fail()),
             Err(KeepFault::Memory) => Err(SiteFault::Memory),
         }
     }
 
     fn retire(&mut self, folder: &str, uid: u32, keeper: CountedKeeper<MemKeeper>) {
+        self.back = self.back.saturating_add(1);
         if keeper.has_failed() {
             self.faults = self.faults.saturating_add(1);
         }
@@ -154,6 +217,7 @@ impl<T: Drop> Site for MemSite<T> {
     }
 
     fn shut(&mut self, port: CountedPort<MemPort>) {
+        self.back = self.back.saturating_add(1);
         if port.faults() != 0 {
             self.faults = self.faults.saturating_add(1);
         }
@@ -177,11 +241,10 @@ impl<T: Drop> Site for MemSite<T> {
         ensures added { OnOk result (AddsTerm {R = T} reports.items journals.now (site_terms self.old) (site_terms self.new)) }
         ensures refused { OnErr result (site_terms self.new ≡ site_terms self.old) }
         ensures cause { HasCause result (site_counts self.old) (site_counts self.new) }
+        ensures lent { site_lent self.new ≡ site_lent self.old }
         ensures kept { site_kept self.new ≡ site_kept self.old }
     {
-        if self.plan.fails() {
-            return Err(self.fail());
-        }
+        self.begin_call()?;
         let Ok(journals) = copies_of(alloc, journals) else {
             return Err(SiteFault::Memory);
         };

@@ -2,7 +2,7 @@
 
 ghost use Rattle.std.specs.Prelude.{◌≡◌, ℕ, Option, List, IfOk, OnOk, OnErr};
 ghost use Rattle.ss_links.specs.Ports.{idle_port};
-ghost use Rattle.ss_site.specs.Sites.{Counts, Term, Entries, HasCause, IsEntry, HasRetired, CountsKeeper, CountsPort, AddsTerm};
+ghost use Rattle.ss_site.specs.Sites.{Counts, Lent, Term, Entries, HasCause, HasLent, Listens, IsBack, IsEntry, HasRetired, CountsKeeper, CountsPort, AddsTerm};
 
 use ss_keeper::Keeper;
 use ss_laws::Journal;
@@ -34,6 +34,9 @@ pub trait Site {
     /// Its counts.
     ghost counts: { Self → Counts };
 
+    /// The keepers and ports that it gave, those that came back, and the addresses of the ports.
+    ghost lent: { Self → Lent };
+
     /// The terms that it was told, where it tells them.
     ghost terms: { Self → Option (List (Term Self.Report)) };
 
@@ -44,6 +47,7 @@ pub trait Site {
     fn listen(&mut self, alloc: Global, address: &str) -> Result<Self::Port, SiteFault>
         ensures idle { IfOk result (λ port. Self.Port.counts port ≡ idle_port) }
         ensures cause { HasCause result (counts self.old) (counts self.new) }
+        ensures lent { Listens address.now result (lent self.old) (lent self.new) }
         ensures terms { terms self.new ≡ terms self.old }
         ensures kept { kept self.new ≡ kept self.old };
 
@@ -52,24 +56,28 @@ pub trait Site {
         ensures fresh { IfOk result (λ keeper. Self.Keeper.keep_faults keeper ≡ 0) }
         ensures entry { IfOk result (λ keeper. IsEntry folder.now uid (Self.Keeper.told keeper) (kept self.old)) }
         ensures cause { HasCause result (counts self.old) (counts self.new) }
+        ensures lent { HasLent result (lent self.old) (lent self.new) }
         ensures terms { terms self.new ≡ terms self.old }
         ensures kept { kept self.new ≡ kept self.old };
 
-    /// Takes the keeper of an account back: what it tells is the entry from now on. That it had failed is counted.
+    /// Takes the keeper of an account back: what it tells is the entry from now on. That it came back is counted, and that it had failed.
     fn retire(&mut self, folder: &str, uid: u32, keeper: Self::Keeper)
         ensures entry { HasRetired folder.now uid (Self.Keeper.told keeper) (kept self.old) (kept self.new) }
         ensures counted { CountsKeeper (Self.Keeper.keep_faults keeper) (counts self.old) (counts self.new) }
+        ensures back { IsBack (lent self.old) (lent self.new) }
         ensures terms { terms self.new ≡ terms self.old };
 
-    /// Takes a port back. That it had failed or ended, and its links, are counted.
+    /// Takes a port back. That it came back is counted, that it had failed or ended, and its links.
     fn shut(&mut self, port: Self::Port)
         ensures counted { CountsPort (Self.Port.counts port) (counts self.old) (counts self.new) }
+        ensures back { IsBack (lent self.old) (lent self.new) }
         ensures terms { terms self.new ≡ terms self.old }
         ensures kept { kept self.new ≡ kept self.old };
 
     /// A clock for a worker.
     fn clock(&mut self) -> Self::Clock
         ensures counts { counts self.new ≡ counts self.old }
+        ensures lent { lent self.new ≡ lent self.old }
         ensures terms { terms self.new ≡ terms self.old }
         ensures kept { kept self.new ≡ kept self.old };
 
@@ -83,5 +91,6 @@ pub trait Site {
         ensures added { OnOk result (AddsTerm reports.items journals.now (terms self.old) (terms self.new)) }
         ensures refused { OnErr result (terms self.new ≡ terms self.old) }
         ensures cause { HasCause result (counts self.old) (counts self.new) }
+        ensures lent { lent self.new ≡ lent self.old }
         ensures kept { kept self.new ≡ kept self.old };
 }

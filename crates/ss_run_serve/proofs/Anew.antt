@@ -1,8 +1,10 @@
 -- Accounts that begin anew, and accounts that are kept.
-use Rattle.std.specs.Prelude.{◌≡◌, ◌≤◌, ℕ, List, [], ◌∷◌, filter, All, IfSome, Option, Some, None, refl}
+use Rattle.std.specs.Prelude.{◌≡◌, ◌≤◌, ℕ, suc, List, [], ◌∷◌, filter, All, Contains, IfSome, Option, Some, None, refl}
 use Rattle.std.specs.List.{AllZip}
-use Rattle.std.proofs.Common.{sym, ap, subst, ◌∙◌}
-use Rattle.std.proofs.lemmas.List.Elements.{All-head, All-tail}
+use Rattle.std.specs.List.Sorted.{IsPermutation}
+use Rattle.std.proofs.Common.{sym, ap, subst, ◌∙◌, arith}
+use Rattle.std.proofs.lemmas.List.Elements.{All-cons, All-contains, All-contains_itself, All-head, All-nil, All-tail, All-weaker}
+use Rattle.std.proofs.lemmas.List.Sorted.{Contains-permutation, IsPermutation-sym}
 use Rattle.ss_laws.specs.declared.journal.Entry.{Entry}
 use Rattle.ss_laws.specs.Journals.{account_after}
 use Rattle.ss_text.specs.Texts.{Reordered}
@@ -11,12 +13,12 @@ use Rattle.ss_bso.specs.declared.account.Plain.{Plain}
 use Rattle.ss_bso.specs.declared.changes.Kept.{Kept}
 use Rattle.ss_bso.specs.Account.{is_alive, is_open}
 use Rattle.ss_bso.specs.Validity.{SameAccount}
-use Rattle.ss_bso.proofs.Reordering.{reordered-refl, reordered-filter}
+use Rattle.ss_bso.proofs.Reordering.{reordered-refl, reordered-filter, same-through}
 use Rattle.ss_account.specs.Keeping.{IsKept}
 use Rattle.ss_run_serve.specs.Hosted.{Hosted, IsBegun, left_by}
-use Rattle.ss_run_serve.specs.Terms.{BeginsAnew}
+use Rattle.ss_run_serve.specs.Terms.{BeginsAnew, IsLeft}
 
-same_self : (account : Plain) → SameAccount account account
+pub same_self : (account : Plain) → SameAccount account account
 same_self account = record {
   rows = reordered-refl account.rows;
   collections = reordered-refl account.collections;
@@ -39,6 +41,43 @@ begins_itself account begun = record {
 pub begin_themselves : (accounts : List (ℕ × Hosted)) → All (λ (a : ℕ × Hosted). IsBegun a.1) accounts → AllZip BeginsAnew accounts accounts
 begin_themselves [] begun = tt
 begin_themselves (a ∷ accounts) begun = (begins_itself a (All-head (λ (a : ℕ × Hosted). IsBegun a.1) a accounts begun), begin_themselves accounts (All-tail (λ (a : ℕ × Hosted). IsBegun a.1) a accounts begun))
+
+-- an account that begins anew is the one that was left
+pub left_anew : (left anew : ℕ × Hosted) → BeginsAnew left anew → SameAccount (left_by left.1) (left_by anew.1)
+left_anew left anew is = subst (λ (entries : List Entry). SameAccount (left_by left.1) (account_after anew.1.fixed.opening entries)) (sym is.begun.entries) is.opening
+
+left_later : (x : ℕ × Hosted) (xs : List (ℕ × Hosted)) (a : ℕ × Hosted) → IsLeft xs a → IsLeft (x ∷ xs) a
+left_later x xs a is = (suc is.0, is.1, omega (arith, is.2), is.3, is.4)
+
+-- accounts that are, each at its place, those that were left
+pub left_zip : (R : ℕ × Hosted → ℕ × Hosted → Type 0) → ((x y : ℕ × Hosted) → R x y → (y.0 ≡ x.0) × SameAccount (left_by x.1) (left_by y.1)) → (left accounts : List (ℕ × Hosted)) → AllZip R left accounts
+    → All (IsLeft left) accounts
+left_zip R says [] [] zip = All-nil (IsLeft [])
+left_zip R says [] (y ∷ ys) zip = absurd zip
+left_zip R says (x ∷ xs) [] zip = absurd zip
+left_zip R says (x ∷ xs) (y ∷ ys) zip =
+    let is = says x y zip.0 in
+    All-cons (IsLeft (x ∷ xs)) y ys (0, x, omega arith, refl, (sym is.0, is.1)) (All-weaker (IsLeft xs) (IsLeft (x ∷ xs)) (left_later x xs) ys (left_zip R says xs ys zip.1))
+
+pub left_themselves : (accounts : List (ℕ × Hosted)) → All (IsLeft accounts) accounts
+left_themselves accounts = All-weaker (Contains accounts) (IsLeft accounts) (λ a there. (there.0, a, there.1, there.2, (refl, same_self (left_by a.1)))) accounts (All-contains_itself accounts)
+
+pub left_through : (one two three : List (ℕ × Hosted)) → All (IsLeft one) two → All (IsLeft two) three → All (IsLeft one) three
+left_through one two three first then = All-weaker (IsLeft two) (IsLeft one) (λ a is. through a is) three then
+  where
+    through : (a : ℕ × Hosted) → IsLeft two a → IsLeft one a
+    through a is =
+        let at = All-contains (IsLeft one) two is.1 first (is.0, is.2, is.3) in
+        (at.0, at.1, at.2, at.3, (at.4.0 ∙ is.4.0, same-through (left_by at.1.1) (left_by is.1.1) (left_by a.1) at.4.1 is.4.1))
+
+-- the same where those that were left stood in another order
+pub left_moved : (one other accounts : List (ℕ × Hosted)) → IsPermutation one other → All (IsLeft other) accounts → All (IsLeft one) accounts
+left_moved one other accounts moved left = All-weaker (IsLeft other) (IsLeft one) (λ a is. there a is) accounts left
+  where
+    there : (a : ℕ × Hosted) → IsLeft other a → IsLeft one a
+    there a is =
+        let at = Contains-permutation other one is.1 (IsPermutation-sym one other moved) (is.0, is.2, is.3) in
+        (at.0, is.1, at.1, at.2, is.4)
 
 -- what keeps an account keeps the same one in another order
 pub kept_same : (kept : Kept) (one other : Plain) → SameAccount one other → IsKept kept other → IsKept kept one

@@ -1,10 +1,11 @@
 -- What one term of a server comes to, from what the term says.
 use Rattle.std.specs.Prelude.{◌≡◌, ◌≢◌, ◌⊎◌, ◌<◌, ◌≤◌, ℕ, zero, suc, Bool, List, [], ◌∷◌, length, map, get_or, Option, Some, None, All, Any, Contains, refl}
+use Rattle.std.specs.List.{AllZip}
 use Rattle.std.specs.List.Sorted.{IsPermutation}
 use Rattle.std.proofs.Common.{sym, ap, subst, ◌∙◌, inl, inr, arith}
 use Rattle.std.proofs.lemmas.List.{length-map}
-use Rattle.std.proofs.lemmas.List.Elements.{All-contains}
-use Rattle.std.proofs.lemmas.List.Sorted.{IsPermutation-map, IsPermutation-refl, Contains-permutation}
+use Rattle.std.proofs.lemmas.List.Elements.{All-contains, All-head, All-tail}
+use Rattle.std.proofs.lemmas.List.Sorted.{All-permutation, IsPermutation-map, IsPermutation-refl, IsPermutation-sym, Contains-permutation}
 use mathlib.Core.Option.{some}
 use lib.ListN.{get_elem?}
 use Rattle.ss_desk.proofs.Lists.{at_get}
@@ -14,8 +15,11 @@ use Rattle.ss_outside.specs.Causes.{Rose}
 use Rattle.ss_links.specs.Counts.{RoseBy}
 use Rattle.ss_links.specs.Ports.{Accepts}
 use Rattle.ss_bso.specs.declared.changes.Kept.{Kept}
+use Rattle.ss_bso.specs.declared.account.Plain.{Plain}
+use Rattle.ss_bso.specs.Validity.{SameAccount}
 use Rattle.ss_laws.specs.declared.journal.Entry.{Entry}
 use Rattle.ss_laws.specs.Journal.{Journal}
+use Rattle.ss_laws.specs.Journals.{account_after}
 use Rattle.ss_town.specs.declared.opening.TownFault.{TownFault}
 use Rattle.ss_town.specs.declared.opening.TownFault.TheVariants.{Empty, TooMany, Twice, Zero, Memory}
 use Rattle.ss_town.specs.Opening.{AreBare, BackAfter, ComeBack}
@@ -29,11 +33,13 @@ use Rattle.ss_serve.specs.declared.report.TermStop.TheVariants as ended
 use Rattle.ss_serve.specs.Terms.{HasEnded, IsRefused, IsTerm, TermSays}
 use Rattle.ss_run_serve.specs.declared.stop.Stop.{Stop}
 use Rattle.ss_run_serve.specs.declared.stop.Stop.TheVariants as stops
-use Rattle.ss_run_serve.specs.Hosted.{Hosted, IsBegun, hosted, hosted_at, journal_in}
+use Rattle.ss_run_serve.specs.Hosted.{Hosted, IsBegun, hosted, hosted_at, journal_in, left_by}
 use Rattle.ss_run_serve.specs.Retiring.{uids_in}
-use Rattle.ss_run_serve.specs.Once.{Follows, GoesOn, HasFailed, IsDone, IsLast, IsLost, IsOnce, IsUntold}
+use Rattle.ss_run_serve.specs.Terms.{IsLeft}
+use Rattle.ss_run_serve.specs.Once.{Follows, GoesOn, HasFailed, IsDone, IsLast, IsLost, IsOnce, IsUnheard, IsUntold, TookPlace}
 use Rattle.ss_run_serve.proofs.Handed.{all_at, at_seen, contains_at, seen, seen_at, term_seen}
-use Rattle.ss_run_serve.proofs.Progress.{IsFaulty, any_of, failed_of, map_there, same_uids, term_faulty, term_uids}
+use Rattle.ss_run_serve.proofs.Anew.{left_moved, left_themselves, left_zip, same_self}
+use Rattle.ss_run_serve.proofs.Progress.{IsFaulty, any_of, map_there, same_uids}
 use Rattle.ss_run_serve.proofs.Rising.{rose_some}
 
 -- why no further term follows, or that one does
@@ -58,6 +64,19 @@ begun_faulty given begun any =
     now : (h : Hosted) → IsBegun h → (h.fixed.faults ≢ 0) ⊎ (h.faults ≢ 0) → h.faults ≢ 0
     now h begun (inl before) = λ none. before (begun.counted ∙ none)
     now h begun (inr faults) = faults
+
+-- an account that has begun, and the same one again, without entries
+record Again (before after : ℕ × Hosted) : Type 0 where
+  pub begun : IsBegun before.1
+  pub uid : after.0 ≡ before.0
+  pub fixed : after.1.fixed ≡ before.1.fixed
+  pub entries : after.1.entries ≡ []
+
+left_again : (before after : ℕ × Hosted) → Again before after → SameAccount (left_by before.1) (left_by after.1)
+left_again before after again =
+    let first : left_by before.1 ≡ before.1.fixed.opening = ap (λ (entries : List Entry). account_after before.1.fixed.opening entries) again.begun.entries in
+    let then : left_by after.1 ≡ before.1.fixed.opening = ap (λ (entries : List Entry). account_after after.1.fixed.opening entries) again.entries ∙ ap (λ (t : Terms). t.opening) again.fixed in
+    subst (λ (account : Plain). SameAccount (left_by before.1) account) (first ∙ sym then) (same_self (left_by before.1))
 
 module _ {K : Type 0} {G : Ghosts K} (told : K → Option Kept) (faults : K → ℕ) where
   abbrev fixed : Booked K G → Terms
@@ -94,6 +113,24 @@ module _ {K : Type 0} {G : Ghosts K} (told : K → Option Kept) (faults : K → 
         → IsTerm (λ (h : Hosted). h.fixed) (λ (h : Hosted). h.entries) (λ (h : Hosted). h.faults) tells closed (hosted_all given) (hosted_all handed) reports coming coming'
     seen_term given handed reports coming coming' term = term_seen (hosted told faults) (λ (h : Hosted). h.fixed) (λ (h : Hosted). h.entries) (λ (h : Hosted). h.faults) tells closed given handed reports coming coming' term
 
+    journals : (accounts : List (ℕ × Booked K G)) → map {B = ℕ × Journal} (λ (a : ℕ × Booked K G). (a.0, journal_of a.1)) accounts ≡ map {B = ℕ × Journal} (λ (a : ℕ × Hosted). (a.0, journal_in a.1)) (hosted_all accounts)
+    journals [] = refl
+    journals (a ∷ accounts) = ap (λ (js : List (ℕ × Journal)). (a.0, journal_of a.1) ∷ js) (journals accounts)
+
+    -- the term that the site is told
+    abbrev term_told : List (ℕ × Booked K G) → List (LinkReport L) → Term (LinkReport L)
+    term_told handed reports = record { reports = reports; journals = map {B = ℕ × Journal} (λ (a : ℕ × Booked K G). (a.0, journal_of a.1)) handed }
+
+    took_place : (given handed : List (ℕ × Booked K G)) (reports : List (LinkReport L)) (coming coming' : List (Option (List ℕ))) (stop : TermStop) (connections : ℕ) (port port' : Accepts)
+        → ((fault : TownFault) → stop ≡ ended.Town fault → ⊥) → TermSays fixed entries_in failures tells closed given handed reports coming coming' stop → RoseBy (length reports) port.links port'.links → length reports ≤ connections
+        → TookPlace tells closed (hosted_all given) (hosted_all handed) coming coming' connections port port' (term_told handed reports)
+    took_place given handed reports coming coming' stop connections port port' town says links few = record {
+      journals = journals handed;
+      served = seen_term given handed reports coming coming' (term_of given handed reports coming coming' stop town says);
+      links = links;
+      few = few;
+    }
+
     -- the site was told of a term
     pub once_done : (given handed : List (ℕ × Booked K G)) (reports : List (LinkReport L)) (coming coming' : List (Option (List ℕ))) (stop : TermStop) (terms terms' : Option (List (Term (LinkReport L))))
         (old new : Counts) (connections : ℕ) (port port' : Accepts) (next : Option Stop) → ((fault : TownFault) → stop ≡ ended.Town fault → ⊥)
@@ -101,41 +138,37 @@ module _ {K : Type 0} {G : Ghosts K} (told : K → Option Kept) (faults : K → 
         → HasAdded (record { reports = reports; journals = map {B = ℕ × Journal} (λ (a : ℕ × Booked K G). (a.0, journal_of a.1)) handed }) terms terms'
         → new ≡ old → RoseBy (length reports) port.links port'.links → length reports ≤ connections → HasEnded stop connections port port' → Follows stop port' next
         → IsOnce tells closed (hosted_all given) (hosted_all handed) coming coming' terms terms' old new connections port port' next
-    once_done given handed reports coming coming' stop terms terms' old new connections port port' next town says added counts links few why follows = inr (record {
-      term = record { reports = reports; journals = map {B = ℕ × Journal} (λ (a : ℕ × Booked K G). (a.0, journal_of a.1)) handed };
+    once_done given handed reports coming coming' stop terms terms' old new connections port port' next town says added counts links few why follows = inr (inr (record {
+      term = term_told handed reports;
       told = added;
-      journals = journals handed;
-      served = seen_term given handed reports coming coming' (term_of given handed reports coming coming' stop town says);
-      links = links;
-      few = few;
+      took = took_place given handed reports coming coming' stop connections port port' town says links few;
       counts = counts;
       why = last_is stop connections port port' next town why follows;
-    })
-      where
-        journals : (accounts : List (ℕ × Booked K G)) → map {B = ℕ × Journal} (λ (a : ℕ × Booked K G). (a.0, journal_of a.1)) accounts ≡ map {B = ℕ × Journal} (λ (a : ℕ × Hosted). (a.0, journal_in a.1)) (hosted_all accounts)
-        journals [] = refl
-        journals (a ∷ accounts) = ap (λ (js : List (ℕ × Journal)). (a.0, journal_of a.1) ∷ js) (journals accounts)
+    }))
 
     -- the site wasn't told
     pub once_untold : (given handed : List (ℕ × Booked K G)) (reports : List (LinkReport L)) (coming coming' : List (Option (List ℕ))) (stop : TermStop) (terms terms' : Option (List (Term (LinkReport L))))
-        (old new : Counts) (connections : ℕ) (port port' : Accepts) (last : Stop) → ((fault : TownFault) → stop ≡ ended.Town fault → ⊥) → All (λ (a : ℕ × Hosted). IsBegun a.1) (hosted_all given)
-        → TermSays fixed entries_in failures tells closed given handed reports coming coming' stop → terms' ≡ terms → IsUntold old new last
+        (old new : Counts) (connections : ℕ) (port port' : Accepts) (last : Stop) → ((fault : TownFault) → stop ≡ ended.Town fault → ⊥)
+        → TermSays fixed entries_in failures tells closed given handed reports coming coming' stop → terms' ≡ terms → IsUntold old new last → RoseBy (length reports) port.links port'.links → length reports ≤ connections
         → IsOnce tells closed (hosted_all given) (hosted_all handed) coming coming' terms terms' old new connections port port' (Some last)
-    once_untold given handed reports coming coming' stop terms terms' old new connections port port' last town begun says same why =
-        let term = seen_term given handed reports coming coming' (term_of given handed reports coming coming' stop town says) in
-        inl (record {
-          stop = last;
-          is = refl;
-          why = why;
-          untold = same;
-          uids = term_uids tells closed (hosted_all given) (hosted_all handed) reports coming coming' term;
-          failed = λ any. failed_of tells closed (hosted_all handed) (term_faulty tells closed (hosted_all given) (hosted_all handed) reports coming coming' begun term (begun_faulty (hosted_all given) begun any));
-        })
+    once_untold given handed reports coming coming' stop terms terms' old new connections port port' last town says same why links few = inr (inl (record {
+      stop = last;
+      is = refl;
+      why = why;
+      untold = same;
+      term = term_told handed reports;
+      took = took_place given handed reports coming coming' stop connections port port' town says links few;
+    }))
+
+    -- what comes back of accounts that weren't served
+    record Back (given handed : List (ℕ × Booked K G)) : Type 0 where
+      pub left : All (IsLeft (hosted_all given)) (hosted_all handed)
+      pub uids : IsPermutation (uids_in (hosted_all given)) (uids_in (hosted_all handed))
+      pub failed : Any HasFailed (hosted_all given) → Any HasFailed (hosted_all handed)
 
     -- the accounts come back as what no call changes
-    come_back : (given handed : List (ℕ × Booked K G)) → All (λ (a : ℕ × Hosted). IsBegun a.1) (hosted_all given) → ComeBack fixed entries_in given handed
-        → IsPermutation (uids_in (hosted_all given)) (uids_in (hosted_all handed)) × (Any HasFailed (hosted_all given) → Any HasFailed (hosted_all handed))
-    come_back given handed begun back = (moved, failed)
+    come_back : (given handed : List (ℕ × Booked K G)) → All (λ (a : ℕ × Hosted). IsBegun a.1) (hosted_all given) → ComeBack fixed entries_in given handed → Back given handed
+    come_back given handed begun back = record { left = left; uids = moved; failed = failed }
       where
         each : (i uid : ℕ) (h : Hosted) → get_elem? (hosted_all back.order) i ≡ some (uid, h) → (h' : Hosted) × (get_elem? (hosted_all handed) i ≡ some (uid, h')) × (h'.fixed ≡ h.fixed)
         each i uid h at =
@@ -143,11 +176,35 @@ module _ {K : Type 0} {G : Ghosts K} (told : K → Option Kept) (faults : K → 
             let r = back.returned.each i uid b.0 b.1 in
             (hosted told faults r.0, at_seen (hosted told faults) handed i uid r.0 r.1, r.2 ∙ ap (λ (x : Hosted). x.fixed) b.2)
 
+        each_bare : (i uid : ℕ) (h : Hosted) → get_elem? (hosted_all back.order) i ≡ some (uid, h) → (h' : Hosted) × (get_elem? (hosted_all handed) i ≡ some (uid, h')) × (h'.fixed ≡ h.fixed) × (h'.entries ≡ [])
+        each_bare i uid h at =
+            let b = seen_at (hosted told faults) back.order i uid h at in
+            let r = back.returned.each i uid b.0 b.1 in
+            (hosted told faults r.0, at_seen (hosted told faults) handed i uid r.0 r.1, r.2 ∙ ap (λ (x : Hosted). x.fixed) b.2, r.3)
+
         order_moved : IsPermutation (hosted_all given) (hosted_all back.order)
         order_moved = IsPermutation-map (hosted_at told faults) given back.order back.moved
 
         long : length (hosted_all handed) ≡ length (hosted_all back.order)
         long = length-map handed (hosted_at told faults) ∙ back.returned.count ∙ sym (length-map back.order (hosted_at told faults))
+
+        bare : (order handed : List (ℕ × Hosted)) → All (λ (a : ℕ × Hosted). IsBegun a.1) order → length handed ≡ length order
+            → ((i uid : ℕ) (h : Hosted) → get_elem? order i ≡ some (uid, h) → (h' : Hosted) × (get_elem? handed i ≡ some (uid, h')) × (h'.fixed ≡ h.fixed) × (h'.entries ≡ [])) → AllZip Again order handed
+        bare [] [] begun long each = tt
+        bare [] (y ∷ handed) begun long each = absurd (omega (arith, long))
+        bare (x ∷ order) [] begun long each = absurd (omega (arith, long))
+        bare (x ∷ order) (y ∷ handed) begun long each =
+            let first = each 0 x.0 x.1 refl in
+            let same : y ≡ (x.0, first.0) = cc in (
+              subst (λ (a : ℕ × Hosted). Again x a) (sym same) (record { begun = All-head (λ (a : ℕ × Hosted). IsBegun a.1) x order begun; uid = refl; fixed = first.2; entries = first.3 }),
+              bare order handed (All-tail (λ (a : ℕ × Hosted). IsBegun a.1) x order begun) (omega (arith, long)) (λ i uid h at. each (suc i) uid h at),
+            )
+
+        order_begun : All (λ (a : ℕ × Hosted). IsBegun a.1) (hosted_all back.order)
+        order_begun = All-permutation (λ (a : ℕ × Hosted). IsBegun a.1) (hosted_all given) (hosted_all back.order) order_moved begun
+
+        left : All (IsLeft (hosted_all given)) (hosted_all handed)
+        left = left_moved (hosted_all given) (hosted_all back.order) (hosted_all handed) order_moved (left_zip Again (λ x y again. (again.uid, left_again x y again)) (hosted_all back.order) (hosted_all handed) (bare (hosted_all back.order) (hosted_all handed) order_begun long each_bare))
 
         moved : IsPermutation (uids_in (hosted_all given)) (uids_in (hosted_all handed))
         moved = subst (λ (us : List ℕ). IsPermutation (uids_in (hosted_all given)) us) (sym (same_uids {R = λ (h h' : Hosted). h'.fixed ≡ h.fixed} (hosted_all back.order) (hosted_all handed) long each))
@@ -164,15 +221,14 @@ module _ {K : Type 0} {G : Ghosts K} (told : K → Option Kept) (faults : K → 
             any_of HasFailed (hosted_all handed) (faulty.1.0, other.0) (contains_at (hosted_all handed) place.0 (faulty.1.0, other.0) other.1)
             (inl (λ none. faulty.4 (sym counted ∙ sym (ap (λ (t : Terms). t.faults) other.2) ∙ none)))
 
-    as_given : (given handed : List (ℕ × Booked K G)) → handed ≡ given
-        → IsPermutation (uids_in (hosted_all given)) (uids_in (hosted_all handed)) × (Any HasFailed (hosted_all given) → Any HasFailed (hosted_all handed))
-    as_given given handed same = (
-      subst (λ (accounts : List (ℕ × Booked K G)). IsPermutation (uids_in (hosted_all given)) (uids_in (hosted_all accounts))) (sym same) (IsPermutation-refl (uids_in (hosted_all given))),
-      λ any. subst (λ (accounts : List (ℕ × Booked K G)). Any HasFailed (hosted_all accounts)) (sym same) any,
-    )
+    as_given : (given handed : List (ℕ × Booked K G)) → handed ≡ given → Back given handed
+    as_given given handed same = subst (λ (accounts : List (ℕ × Booked K G)). Back given accounts) (sym same) (record {
+      left = left_themselves (hosted_all given);
+      uids = IsPermutation-refl (uids_in (hosted_all given));
+      failed = λ any. any;
+    })
 
-    back_after : (given handed : List (ℕ × Booked K G)) (fault : TownFault) → All (λ (a : ℕ × Hosted). IsBegun a.1) (hosted_all given) → BackAfter fixed entries_in given handed fault
-        → IsPermutation (uids_in (hosted_all given)) (uids_in (hosted_all handed)) × (Any HasFailed (hosted_all given) → Any HasFailed (hosted_all handed))
+    back_after : (given handed : List (ℕ × Booked K G)) (fault : TownFault) → All (λ (a : ℕ × Hosted). IsBegun a.1) (hosted_all given) → BackAfter fixed entries_in given handed fault → Back given handed
     back_after given handed Memory begun back = come_back given handed begun back
     back_after given handed Empty begun same = as_given given handed same
     back_after given handed (TooMany n) begun same = as_given given handed same
@@ -182,10 +238,11 @@ module _ {K : Type 0} {G : Ghosts K} (told : K → Option Kept) (faults : K → 
     -- no term took place
     pub once_refused : (given handed : List (ℕ × Booked K G)) (reports : List (LinkReport L)) (coming coming' : List (Option (List ℕ))) (stop : TermStop) (fault : TownFault)
         (terms : Option (List (Term (LinkReport L)))) (old : Counts) (connections : ℕ) (port port' : Accepts) → stop ≡ ended.Town fault → All (λ (a : ℕ × Hosted). IsBegun a.1) (hosted_all given)
-        → TermSays fixed entries_in failures tells closed given handed reports coming coming' stop
+        → TermSays fixed entries_in failures tells closed given handed reports coming coming' stop → HasEnded stop connections port port'
         → IsOnce tells closed (hosted_all given) (hosted_all handed) coming coming' terms terms old old connections port port' (Some stops.Memory)
-    once_refused given handed reports coming coming' stop fault terms old connections port port' town begun says =
+    once_refused given handed reports coming coming' stop fault terms old connections port port' town begun says why =
         let refused : IsRefused fixed entries_in fault given handed reports coming coming' =
         (let P : TermStop → Type 0 = λ (s : TermStop). TermSays fixed entries_in failures tells closed given handed reports coming coming' s in subst P town says) in
         let back = back_after given handed fault begun refused.back in
-        inl (record { stop = stops.Memory; is = refl; why = refl; untold = refl; uids = back.0; failed = back.1 })
+        let same : port' ≡ port = (let P : TermStop → Type 0 = λ (s : TermStop). HasEnded s connections port port' in subst P town why) in
+        inl (record { stop = stops.Memory; is = refl; why = refl; untold = refl; links = ap (λ (p : Accepts). p.links) same; left = back.left; uids = back.uids; failed = back.failed })

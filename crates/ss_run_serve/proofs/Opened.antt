@@ -1,5 +1,5 @@
 -- Accounts that were opened, and accounts whose journals were folded.
-use Rattle.std.specs.Prelude.{◌≡◌, ◌<◌, ◌≤◌, ℕ, zero, suc, List, [], ◌∷◌, ◌++◌, length, map, set, take, drop, get_or, Option, Some, Result, Ok, Err, IfOk, OnOk, All, refl}
+use Rattle.std.specs.Prelude.{◌≡◌, ◌<◌, ◌≤◌, ℕ, zero, suc, List, [], ◌∷◌, ◌++◌, length, map, set, take, drop, get_or, Option, Some, Result, Ok, Err, IfOk, OnOk, OnErr, All, refl}
 use Rattle.std.specs.List.{AllZip}
 use Rattle.std.proofs.Common.{sym, ap, subst, ◌∙◌, arith}
 use Rattle.std.proofs.lemmas.List.{length-map}
@@ -17,10 +17,11 @@ use Rattle.ss_booked.specs.declared.booked.Booked.{Booked}
 use Rattle.ss_booked.specs.Booked.{account_of, journal_of, keeper_before}
 use Rattle.ss_booked.specs.Sizes.{most_entries}
 use Rattle.ss_site.specs.Sites.{Entries, IsEntry}
-use Rattle.ss_run_serve.specs.Hosted.{Hosted, IsBegun, hosted, hosted_at}
+use Rattle.ss_run_serve.specs.Hosted.{Hosted, IsBegun, hosted, hosted_at, left_by}
 use Rattle.ss_run_serve.specs.Opening.{IsOpened}
 use Rattle.ss_run_serve.specs.Terms.{BeginsAnew}
 use Rattle.ss_run_serve.specs.Course.{SameKeeper}
+use Rattle.ss_run_serve.proofs.Anew.{left_anew, same_self}
 
 module _ {K : Type 0} {G : Ghosts K} (told : K → Option Kept) (faults : K → ℕ) where
   pub opened_account : {E : Type 0} (folder : List ℕ) (uid : ℕ) (kept kept' : Option Entries) (account : Held K) (r : Result (Booked K G) E) → kept' ≡ kept
@@ -50,6 +51,16 @@ module _ {K : Type 0} {G : Ghosts K} (told : K → Option Kept) (faults : K → 
     };
     most = ap (λ (j : Journal). j.most) is;
     faults = ap (λ (a : Held K). faults a.keeper) same;
+  }
+
+  -- the account itself, folded or not
+  pub folded_same : {E : Type 0} (uid : ℕ) (old new : Booked K G) (r : Result (Unit {0}) E) → account_of new ≡ account_of old → OnOk r (BeginsAnew (hosted_at told faults (uid, old)) (hosted_at told faults (uid, new)))
+      → OnErr r (journal_of new ≡ journal_of old) → SameKeeper (hosted_at told faults (uid, old)) (hosted_at told faults (uid, new))
+  folded_same uid old new (Ok done) same anew unfolded = record { uid = refl; faults = anew.faults; left = left_anew (hosted_at told faults (uid, old)) (hosted_at told faults (uid, new)) anew }
+  folded_same uid old new (Err e) same anew unfolded = record {
+    uid = refl;
+    faults = ap (λ (a : Held K). faults a.keeper) same;
+    left = subst (λ (j : Journal). SameAccount (account_after (journal_of old).opening (journal_of old).entries) (account_after j.opening j.entries)) (sym unfolded) (same_self (account_after (journal_of old).opening (journal_of old).entries));
   }
 
 pub map_same : {X : Type 0} (xs : List X) → map (λ x. x) xs ≡ xs
@@ -119,10 +130,10 @@ zip_weaker R S weaker (x ∷ xs) [] zip = absurd zip
 zip_weaker R S weaker (x ∷ xs) (y ∷ ys) zip = (weaker x y zip.0, zip_weaker R S weaker xs ys zip.1)
 
 pub keeper_anew : (before after : ℕ × Hosted) → BeginsAnew before after → SameKeeper before after
-keeper_anew before after anew = record { uid = anew.uid; faults = anew.faults }
+keeper_anew before after anew = record { uid = anew.uid; faults = anew.faults; left = left_anew before after anew }
 
 pub keeper_self : (account : ℕ × Hosted) → SameKeeper account account
-keeper_self account = record { uid = refl; faults = refl }
+keeper_self account = record { uid = refl; faults = refl; left = same_self (left_by account.1) }
 
 zip_long : {X Y : Type 0} (R : X → Y → Type 0) (xs : List X) (ys : List Y) → AllZip R xs ys → length ys ≡ length xs
 zip_long R [] [] zip = refl

@@ -26,12 +26,12 @@ use Rattle.ss_run_serve.specs.declared.stop.Stop.TheVariants as stops
 use Rattle.ss_run_serve.specs.Hosted.{Hosted, IsBegun, Stands, journal_in, left_by}
 use Rattle.ss_run_serve.specs.Opening.{CountsFaults}
 use Rattle.ss_run_serve.specs.Retiring.{uids_in}
-use Rattle.ss_run_serve.specs.Terms.{BeginsAnew, links_of, AreTerms, AreTold, IsTermOf, KeeperFailed}
-use Rattle.ss_run_serve.specs.Once.{HasFailed, IsDone, IsLast, IsLost, IsOnce, IsUntold}
-use Rattle.ss_run_serve.specs.Course.{AllTold, Course, SameKeeper, Stops}
+use Rattle.ss_run_serve.specs.Terms.{BeginsAnew, links_of, AreTerms, AreTold, IsLeft, IsTermOf, KeeperFailed}
+use Rattle.ss_run_serve.specs.Once.{HasFailed, IsDone, IsLast, IsLost, IsOnce, IsUnheard, IsUntold, TookPlace}
+use Rattle.ss_run_serve.specs.Course.{AreWithin, Course, IsToldOf, SameKeeper, Stops}
 use Rattle.ss_run_serve.proofs.Handed.{contains_at}
 use Rattle.ss_run_serve.proofs.Rising.{rose_then, rose_once}
-use Rattle.ss_run_serve.proofs.Anew.{begin_themselves}
+use Rattle.ss_run_serve.proofs.Anew.{begin_themselves, left_anew, left_themselves, left_through, left_zip}
 
 -- the keeper of an account has failed
 abbrev pub IsFaulty : ℕ × Hosted → Type 0
@@ -130,9 +130,7 @@ module _ {L : Type 0} (tells : L → Meanings) (closed : L → Bool) where
       any_of IsFaulty handed there.0 there.1 (λ none. marks (omega (arith, none, kept.risen)))
 
   -- the terms so far
-  pub record Stage (opened : List (ℕ × Hosted)) (coming : List (Option (List ℕ))) (told told' : Option (List (Term (LinkReport L)))) (port : Accepts) (terms : List (Term (LinkReport L)))
-      (handed : List (ℕ × Hosted)) (coming' : List (Option (List ℕ))) : Type 0 where
-    pub are_told : AreTold terms told told'
+  pub record Stage (opened : List (ℕ × Hosted)) (coming : List (Option (List ℕ))) (port : Accepts) (terms : List (Term (LinkReport L))) (handed : List (ℕ × Hosted)) (coming' : List (Option (List ℕ))) : Type 0 where
     pub are : AreTerms tells closed opened coming terms handed coming'
     pub failed : KeeperFailed terms → Any IsFaulty handed
     pub uids : IsPermutation (uids_in opened) (uids_in handed)
@@ -158,24 +156,21 @@ module _ {L : Type 0} (tells : L → Meanings) (closed : L → Bool) where
   one_more terms term = λ none. absurd (omega (arith, length-append terms (term ∷ []), ap length none))
 
   -- one term more
-  stage_more : (opened : List (ℕ × Hosted)) (coming : List (Option (List ℕ))) (told told' told'' : Option (List (Term (LinkReport L)))) (port port' : Accepts) (old new : Counts) (terms : List (Term (LinkReport L)))
-      (handed given handed' : List (ℕ × Hosted)) (coming' coming'' : List (Option (List ℕ))) (connections : ℕ) (last : Option Stop)
-      → connections ≤ 1000 → Stage opened coming told told' port terms handed coming' → AllZip BeginsAnew handed given
-      → (done : IsDone tells closed given handed' coming' coming'' told' told'' old new connections port port' last)
-      → Stage opened coming told told'' port' (terms ++ done.term ∷ []) handed' coming''
-  stage_more opened coming told told' told'' port port' old new terms handed given handed' coming' coming'' connections last small stage anew done = record {
-    are_told = told_more terms done.term told told' told'' stage.are_told done.told;
-    are = are_more opened coming terms done.term handed handed' coming' coming'' stage.are (record { given = given; anew = anew; journals = done.journals; served = done.served });
-    failed = λ any. elim (Contains-push_cases terms done.term any.1 (any.0, any.2, any.3)) [
-      | inl there ↦ term_faulty given handed' done.term.reports coming' coming'' (all_begun handed given anew) done.served (anew_faulty handed given anew (stage.failed (there.0, any.1, there.1, there.2, any.4)))
-      | inr same ↦ term_marked given handed' done.term.reports coming' coming'' done.served
-          (subst (λ (js : List (ℕ × Journal)). Any (λ (j : ℕ × Journal). keeper_marks j.1.entries ≢ 0) js) done.journals
+  stage_more : (opened : List (ℕ × Hosted)) (coming : List (Option (List ℕ))) (port port' : Accepts) (terms : List (Term (LinkReport L))) (handed given handed' : List (ℕ × Hosted)) (coming' coming'' : List (Option (List ℕ)))
+      (connections : ℕ) (term : Term (LinkReport L)) → connections ≤ 1000 → Stage opened coming port terms handed coming' → AllZip BeginsAnew handed given
+      → TookPlace tells closed given handed' coming' coming'' connections port port' term → Stage opened coming port' (terms ++ term ∷ []) handed' coming''
+  stage_more opened coming port port' terms handed given handed' coming' coming'' connections term small stage anew took = record {
+    are = are_more opened coming terms term handed handed' coming' coming'' stage.are (record { given = given; anew = anew; journals = took.journals; served = took.served });
+    failed = λ any. elim (Contains-push_cases terms term any.1 (any.0, any.2, any.3)) [
+      | inl there ↦ term_faulty given handed' term.reports coming' coming'' (all_begun handed given anew) took.served (anew_faulty handed given anew (stage.failed (there.0, any.1, there.1, there.2, any.4)))
+      | inr same ↦ term_marked given handed' term.reports coming' coming'' took.served
+          (subst (λ (js : List (ℕ × Journal)). Any (λ (j : ℕ × Journal). keeper_marks j.1.entries ≢ 0) js) took.journals
           (subst (λ (t : Term (LinkReport L)). Any (λ (j : ℕ × Journal). keeper_marks j.1.entries ≢ 0) t.journals) (sym same) any.4))
     ];
     uids = IsPermutation-trans (uids_in opened) (uids_in given) (uids_in handed') (subst (λ (us : List ℕ). IsPermutation (uids_in opened) us) (sym (anew_uids handed given anew)) stage.uids)
-        (term_uids given handed' done.term.reports coming' coming'' done.served);
-    links = subst (λ (n : ℕ). RoseBy n 0 port'.links) (sym (links_more terms done.term)) (rose_then (links_of terms) (length done.term.reports) 0 port.links port'.links stage.links done.links);
-    few = omega (arith, stage.few, done.few, small, links_more terms done.term, length-append terms (done.term ∷ []));
+        (term_uids given handed' term.reports coming' coming'' took.served);
+    links = subst (λ (n : ℕ). RoseBy n 0 port'.links) (sym (links_more terms term)) (rose_then (links_of terms) (length term.reports) 0 port.links port'.links stage.links took.links);
+    few = omega (arith, stage.few, took.few, small, links_more terms term, length-append terms (term ∷ []));
   }
 
   -- how many terms are left: none are counted where they have no end
@@ -188,8 +183,10 @@ module _ {L : Type 0} (tells : L → Meanings) (closed : L → Bool) where
       (accounts : List (ℕ × Hosted)) (coming' : List (Option (List ℕ))) : Type 0 where
     pub terms : List (Term (LinkReport L))
     pub handed : List (ℕ × Hosted)
-    pub stage : Stage opened coming told told' port terms handed coming'
+    pub are_told : AreTold terms told told'
+    pub stage : Stage opened coming port terms handed coming'
     pub anew : AllZip BeginsAnew handed accounts
+    pub few : All (λ (term : Term (LinkReport L)). length term.reports ≤ connections) terms
     pub each : asked ≢ 0 → All (λ (term : Term (LinkReport L)). length term.reports ≡ connections) terms
     pub remaining : Remaining asked left (length terms)
     pub counts : new ≡ old
@@ -203,8 +200,8 @@ module _ {L : Type 0} (tells : L → Meanings) (closed : L → Bool) where
   progress_first opened coming connections asked told old port begun idle = record {
     terms = [];
     handed = opened;
+    are_told = told_none told;
     stage = record {
-      are_told = told_none told;
       are = (refl, refl);
       failed = λ any. absurd (omega (arith, any.2));
       uids = IsPermutation-refl (uids_in opened);
@@ -212,6 +209,7 @@ module _ {L : Type 0} (tells : L → Meanings) (closed : L → Bool) where
       few = omega arith;
     };
     anew = begin_themselves opened begun;
+    few = All-nil (λ (term : Term (LinkReport L)). length term.reports ≤ connections);
     each = λ asks. All-nil (λ (term : Term (LinkReport L)). length term.reports ≡ connections);
     remaining = record { endless = λ none. none; some = λ asks. (omega arith, omega (arith, asks)) };
     counts = refl;
@@ -220,40 +218,88 @@ module _ {L : Type 0} (tells : L → Meanings) (closed : L → Bool) where
   pub failed_of : (accounts : List (ℕ × Hosted)) → Any IsFaulty accounts → Any HasFailed accounts
   failed_of accounts any = (any.0, any.1, any.2, any.3, inr any.4)
 
+  -- all terms were told
+  pub all_of : (terms : List (Term (LinkReport L))) (stop : Stop) → IsToldOf stop terms terms
+  all_of terms stops.Site = inl refl
+  all_of terms stops.Memory = inl refl
+  all_of terms stops.PortEnded = refl
+  all_of terms stops.Terms = refl
+  all_of terms stops.Port = refl
+  all_of terms (stops.Keeper uid) = refl
+  all_of terms (stops.Account uid fault) = refl
+
   no_faults : (old : Counts) → CountsFaults old old
   no_faults old = record { faults = omega arith; links = refl; ends = refl }
 
   module _ (opened : List (ℕ × Hosted)) (coming : List (Option (List ℕ))) (connections asked : ℕ) (told told' told'' : Option (List (Term (LinkReport L)))) (old mid new : Counts) (port port' : Accepts) (left : ℕ)
       (given handed : List (ℕ × Hosted)) (coming' coming'' : List (Option (List ℕ))) where
+    within : (progress : Progress opened coming connections asked told told' old mid port left given coming') → AreWithin connections asked progress.terms
+    within progress = record { few = progress.few; most = λ asks. (let counted = progress.remaining.some asks in omega (arith, counted.0, counted.1)) }
+
+    few_more : (progress : Progress opened coming connections asked told told' old mid port left given coming') (term : Term (LinkReport L)) → TookPlace tells closed given handed coming' coming'' connections port port' term
+        → All (λ (t : Term (LinkReport L)). length t.reports ≤ connections) (progress.terms ++ term ∷ [])
+    few_more progress term took = All-push (λ (t : Term (LinkReport L)). length t.reports ≤ connections) progress.terms term progress.few took.few
+
+    within_more : (progress : Progress opened coming connections asked told told' old mid port left given coming') (term : Term (LinkReport L)) → TookPlace tells closed given handed coming' coming'' connections port port' term
+        → AreWithin connections asked (progress.terms ++ term ∷ [])
+    within_more progress term took = record {
+      few = few_more progress term took;
+      most = λ asks. (let counted = progress.remaining.some asks in omega (arith, counted.0, counted.1, length-append progress.terms (term ∷ [])));
+    }
+
     -- a term took place, after which no further one begins
     pub progress_done : (stop : Stop) → connections ≤ 1000 → Progress opened coming connections asked told told' old mid port left given coming'
         → IsDone tells closed given handed coming' coming'' told' told'' mid new connections port port' (Some stop)
         → Course tells closed opened coming connections asked told told'' old new port' handed stop
     progress_done stop small progress done =
-        let stage = stage_more opened coming told told' told'' port port' mid new progress.terms progress.handed given handed coming' coming'' connections (Some stop) small progress.stage progress.anew done in
+        let stage = stage_more opened coming port port' progress.terms progress.handed given handed coming' coming'' connections done.term small progress.stage progress.anew done.took in
         record {
           terms = progress.terms ++ done.term ∷ [];
-          are_told = stage.are_told;
+          told = progress.terms ++ done.term ∷ [];
+          are_told = told_more progress.terms done.term told told' told'' progress.are_told done.told;
+          of = all_of (progress.terms ++ done.term ∷ []) stop;
           handed = handed;
           coming' = coming'';
           are = stage.are;
+          within = within_more progress done.term done.took;
+          links = stage.links;
+          back = stage.uids;
+          left = left_themselves handed;
           failed = λ any. failed_of handed (stage.failed any);
           uids = stage.uids;
           counts = subst (λ (c : Counts). CountsFaults old c) (sym (done.counts ∙ progress.counts)) (no_faults old);
-          stops = stopped (progress.terms ++ done.term ∷ []) stop done.why (record { some = one_more progress.terms done.term; links = stage.links; last = refl });
+          stops = stopped (progress.terms ++ done.term ∷ []) stop done.why (one_more progress.terms done.term);
         }
       where
-        stopped : (terms : List (Term (LinkReport L))) (stop : Stop) → IsLast connections port port' (Some stop) → AllTold terms handed handed port' → Stops connections asked terms handed handed port' old new stop
-        stopped terms stops.PortEnded why all = (why, all)
-        stopped terms stops.Port why all = (why, all)
-        stopped terms stops.Memory why all = tt
-        stopped terms stops.Terms why all = absurd why
-        stopped terms stops.Site why all = absurd why
-        stopped terms (stops.Keeper uid) why all = absurd why
-        stopped terms (stops.Account uid fault) why all = absurd why
+        stopped : (terms : List (Term (LinkReport L))) (stop : Stop) → IsLast connections port port' (Some stop) → terms ≢ [] → Stops connections asked terms port' old new stop
+        stopped terms stops.PortEnded why any = (why, any)
+        stopped terms stops.Port why any = (why, any)
+        stopped terms stops.Memory why any = tt
+        stopped terms stops.Terms why any = absurd why
+        stopped terms stops.Site why any = absurd why
+        stopped terms (stops.Keeper uid) why any = absurd why
+        stopped terms (stops.Account uid fault) why any = absurd why
 
-    -- no term took place, or the site wasn't told
-    pub progress_lost : (stop : Stop) → Progress opened coming connections asked told told' old mid port left given coming' → IsLost given handed told' told'' mid new (Some stop)
+    untold_counts : (stop : Stop) → IsUntold old new stop → CountsFaults old new
+    untold_counts stops.Site why = record { faults = why.0.later; links = why.1; ends = why.2 }
+    untold_counts stops.Memory why = subst (λ (c : Counts). CountsFaults old c) (sym why) (no_faults old)
+    untold_counts stops.PortEnded why = absurd why
+    untold_counts stops.Terms why = absurd why
+    untold_counts stops.Port why = absurd why
+    untold_counts (stops.Keeper uid) why = absurd why
+    untold_counts (stops.Account uid fault) why = absurd why
+
+    untold_stops : (terms : List (Term (LinkReport L))) (stop : Stop) → IsUntold old new stop → Stops connections asked terms port' old new stop
+    untold_stops terms stops.Site why = why.0
+    untold_stops terms stops.Memory why = tt
+    untold_stops terms stops.PortEnded why = absurd why
+    untold_stops terms stops.Terms why = absurd why
+    untold_stops terms stops.Port why = absurd why
+    untold_stops terms (stops.Keeper uid) why = absurd why
+    untold_stops terms (stops.Account uid fault) why = absurd why
+
+    -- no term took place
+    pub progress_lost : (stop : Stop) → Progress opened coming connections asked told told' old mid port left given coming' → IsLost given handed told' told'' mid new port port' (Some stop)
         → Course tells closed opened coming connections asked told told'' old new port' handed stop
     progress_lost stop progress lost =
         let same : lost.stop ≡ stop = cc in
@@ -261,33 +307,57 @@ module _ {L : Type 0} (tells : L → Meanings) (closed : L → Bool) where
         let why' : IsUntold old new stop = subst (λ (c : Counts). IsUntold c new stop) progress.counts why in
         record {
           terms = progress.terms;
-          are_told = subst (λ (t : Option (List (Term (LinkReport L)))). AreTold progress.terms told t) (sym lost.untold) progress.stage.are_told;
+          told = progress.terms;
+          are_told = subst (λ (t : Option (List (Term (LinkReport L)))). AreTold progress.terms told t) (sym lost.untold) progress.are_told;
+          of = all_of progress.terms stop;
           handed = progress.handed;
           coming' = coming';
           are = progress.stage.are;
+          within = within progress;
+          links = subst (λ (n : ℕ). RoseBy (links_of progress.terms) 0 n) (sym lost.links) progress.stage.links;
+          back = progress.stage.uids;
+          left = left_through progress.handed given handed (left_zip BeginsAnew (λ x y anew. (anew.uid, left_anew x y anew)) progress.handed given progress.anew) lost.left;
           failed = λ any. lost.failed (failed_of given (anew_faulty progress.handed given progress.anew (progress.stage.failed any)));
           uids = IsPermutation-trans (uids_in opened) (uids_in given) (uids_in handed) (subst (λ (us : List ℕ). IsPermutation (uids_in opened) us) (sym (anew_uids progress.handed given progress.anew)) progress.stage.uids) lost.uids;
           counts = untold_counts stop why';
-          stops = stopped progress.terms progress.handed handed stop why';
+          stops = untold_stops progress.terms stop why';
+        }
+
+    -- a term took place, and the site wasn't told
+    pub progress_unheard : (stop : Stop) → connections ≤ 1000 → Progress opened coming connections asked told told' old mid port left given coming'
+        → IsUnheard tells closed given handed coming' coming'' told' told'' mid new connections port port' (Some stop)
+        → Course tells closed opened coming connections asked told told'' old new port' handed stop
+    progress_unheard stop small progress unheard =
+        let same : unheard.stop ≡ stop = cc in
+        let why : IsUntold mid new stop = subst (λ (s : Stop). IsUntold mid new s) same unheard.why in
+        let why' : IsUntold old new stop = subst (λ (c : Counts). IsUntold c new stop) progress.counts why in
+        let stage = stage_more opened coming port port' progress.terms progress.handed given handed coming' coming'' connections unheard.term small progress.stage progress.anew unheard.took in
+        record {
+          terms = progress.terms ++ unheard.term ∷ [];
+          told = progress.terms;
+          are_told = subst (λ (t : Option (List (Term (LinkReport L)))). AreTold progress.terms told t) (sym unheard.untold) progress.are_told;
+          of = but_last progress.terms unheard.term stop why';
+          handed = handed;
+          coming' = coming'';
+          are = stage.are;
+          within = within_more progress unheard.term unheard.took;
+          links = stage.links;
+          back = stage.uids;
+          left = left_themselves handed;
+          failed = λ any. failed_of handed (stage.failed any);
+          uids = stage.uids;
+          counts = untold_counts stop why';
+          stops = untold_stops (progress.terms ++ unheard.term ∷ []) stop why';
         }
       where
-        untold_counts : (stop : Stop) → IsUntold old new stop → CountsFaults old new
-        untold_counts stops.Site why = record { faults = why.0.later; links = why.1; ends = why.2 }
-        untold_counts stops.Memory why = subst (λ (c : Counts). CountsFaults old c) (sym why) (no_faults old)
-        untold_counts stops.PortEnded why = absurd why
-        untold_counts stops.Terms why = absurd why
-        untold_counts stops.Port why = absurd why
-        untold_counts (stops.Keeper uid) why = absurd why
-        untold_counts (stops.Account uid fault) why = absurd why
-
-        stopped : (terms : List (Term (LinkReport L))) (before after : List (ℕ × Hosted)) (stop : Stop) → IsUntold old new stop → Stops connections asked terms before after port' old new stop
-        stopped terms before after stops.Site why = why.0
-        stopped terms before after stops.Memory why = tt
-        stopped terms before after stops.PortEnded why = absurd why
-        stopped terms before after stops.Terms why = absurd why
-        stopped terms before after stops.Port why = absurd why
-        stopped terms before after (stops.Keeper uid) why = absurd why
-        stopped terms before after (stops.Account uid fault) why = absurd why
+        but_last : (terms : List (Term (LinkReport L))) (term : Term (LinkReport L)) (stop : Stop) → IsUntold old new stop → IsToldOf stop (terms ++ term ∷ []) terms
+        but_last terms term stops.Site why = inr (term, refl)
+        but_last terms term stops.Memory why = inr (term, refl)
+        but_last terms term stops.PortEnded why = absurd why
+        but_last terms term stops.Terms why = absurd why
+        but_last terms term stops.Port why = absurd why
+        but_last terms term (stops.Keeper uid) why = absurd why
+        but_last terms term (stops.Account uid fault) why = absurd why
 
     -- each term so far had all its connections
     each_more : connections ≤ 1000 → asked ≤ 999999999999 → (progress : Progress opened coming connections asked told told' old mid port left given coming')
@@ -297,26 +367,32 @@ module _ {L : Type 0} (tells : L → Meanings) (closed : L → Bool) where
         let counted = progress.remaining.some asks in
         let bound : links_of progress.terms + connections < 2 ^ 64 - 1 = omega (arith, progress.stage.few, counted.0, counted.1, small, most) in
         All-push (λ (term : Term (LinkReport L)). length term.reports ≡ connections) progress.terms done.term (progress.each asks)
-        (rose_once connections (length done.term.reports) port.links port'.links (links_of progress.terms) progress.stage.links done.why.0 done.links done.few bound)
+        (rose_once connections (length done.term.reports) port.links port'.links (links_of progress.terms) progress.stage.links done.why.0 done.took.links done.took.few bound)
 
     -- the last term that was asked took place
     pub progress_terms : connections ≤ 1000 → asked ≤ 999999999999 → left ≡ 1 → Progress opened coming connections asked told told' old mid port left given coming'
         → IsDone tells closed given handed coming' coming'' told' told'' mid new connections port port' None
         → Course tells closed opened coming connections asked told told'' old new port' handed stops.Terms
     progress_terms small most last progress done =
-        let stage = stage_more opened coming told told' told'' port port' mid new progress.terms progress.handed given handed coming' coming'' connections None small progress.stage progress.anew done in
+        let stage = stage_more opened coming port port' progress.terms progress.handed given handed coming' coming'' connections done.term small progress.stage progress.anew done.took in
         let asks : asked ≢ 0 = λ none. absurd (omega (arith, progress.remaining.endless none, last)) in
         let long : length (progress.terms ++ done.term ∷ []) ≡ asked = omega (arith, length-append progress.terms (done.term ∷ []), (progress.remaining.some asks).0, last) in
         record {
           terms = progress.terms ++ done.term ∷ [];
-          are_told = stage.are_told;
+          told = progress.terms ++ done.term ∷ [];
+          are_told = told_more progress.terms done.term told told' told'' progress.are_told done.told;
+          of = refl;
           handed = handed;
           coming' = coming'';
           are = stage.are;
+          within = within_more progress done.term done.took;
+          links = stage.links;
+          back = stage.uids;
+          left = left_themselves handed;
           failed = λ any. failed_of handed (stage.failed any);
           uids = stage.uids;
           counts = subst (λ (c : Counts). CountsFaults old c) (sym (done.counts ∙ progress.counts)) (no_faults old);
-          stops = (asks, long, each_more small most progress done asks, record { some = one_more progress.terms done.term; links = stage.links; last = refl });
+          stops = (asks, long, each_more small most progress done asks);
         }
 
     -- a term took place, and the accounts couldn't all begin anew
@@ -324,13 +400,19 @@ module _ {L : Type 0} (tells : L → Meanings) (closed : L → Bool) where
         → IsDone tells closed given handed coming' coming'' told' told'' mid new connections port port' None → AllZip SameKeeper handed accounts
         → Course tells closed opened coming connections asked told told'' old new port' accounts stops.Memory
     progress_short accounts small progress done keepers =
-        let stage = stage_more opened coming told told' told'' port port' mid new progress.terms progress.handed given handed coming' coming'' connections None small progress.stage progress.anew done in
+        let stage = stage_more opened coming port port' progress.terms progress.handed given handed coming' coming'' connections done.term small progress.stage progress.anew done.took in
         record {
           terms = progress.terms ++ done.term ∷ [];
-          are_told = stage.are_told;
+          told = progress.terms ++ done.term ∷ [];
+          are_told = told_more progress.terms done.term told told' told'' progress.are_told done.told;
+          of = inl refl;
           handed = handed;
           coming' = coming'';
           are = stage.are;
+          within = within_more progress done.term done.took;
+          links = stage.links;
+          back = stage.uids;
+          left = left_zip SameKeeper (λ x y same. (same.uid, same.left)) handed accounts keepers;
           failed = λ any. failed_of accounts (keeper_faulty handed accounts keepers (stage.failed any));
           uids = subst (λ (us : List ℕ). IsPermutation (uids_in opened) us) (sym (keeper_uids handed accounts keepers)) stage.uids;
           counts = subst (λ (c : Counts). CountsFaults old c) (sym (done.counts ∙ progress.counts)) (no_faults old);
@@ -344,8 +426,10 @@ module _ {L : Type 0} (tells : L → Meanings) (closed : L → Bool) where
     progress_on accounts small most more progress done anew = record {
       terms = progress.terms ++ done.term ∷ [];
       handed = handed;
-      stage = stage_more opened coming told told' told'' port port' mid new progress.terms progress.handed given handed coming' coming'' connections None small progress.stage progress.anew done;
+      are_told = told_more progress.terms done.term told told' told'' progress.are_told done.told;
+      stage = stage_more opened coming port port' progress.terms progress.handed given handed coming' coming'' connections done.term small progress.stage progress.anew done.took;
       anew = anew;
+      few = few_more progress done.term done.took;
       each = each_more small most progress done;
       remaining = record {
         endless = λ none. omega (arith, progress.remaining.endless none);
@@ -362,7 +446,7 @@ module _ {L : Type 0} (tells : L → Meanings) (closed : L → Bool) where
     progress_stop stop last small progress once is =
         let now : IsOnce tells closed given handed coming' coming'' told' told'' mid new connections port port' (Some stop) =
         subst (λ (l : Option Stop). IsOnce tells closed given handed coming' coming'' told' told'' mid new connections port port' l) is once in
-        elim now [ inl lost ↦ progress_lost stop progress lost | inr done ↦ progress_done stop small progress done ]
+        elim now [ inl lost ↦ progress_lost stop progress lost | inr took ↦ elim took [ inl unheard ↦ progress_unheard stop small progress unheard | inr done ↦ progress_done stop small progress done ] ]
 
     -- a term after which a further one may begin
     pub once_on : (last : Option Stop) → IsOnce tells closed given handed coming' coming'' told' told'' mid new connections port port' last → last ≡ None
@@ -370,7 +454,7 @@ module _ {L : Type 0} (tells : L → Meanings) (closed : L → Bool) where
     once_on last once is =
         let now : IsOnce tells closed given handed coming' coming'' told' told'' mid new connections port port' None =
         subst (λ (l : Option Stop). IsOnce tells closed given handed coming' coming'' told' told'' mid new connections port port' l) is once in
-        elim now [ inl lost ↦ impossible lost.stop lost.is | inr done ↦ done ]
+        elim now [ inl lost ↦ impossible lost.stop lost.is | inr took ↦ elim took [ inl unheard ↦ impossible unheard.stop unheard.is | inr done ↦ done ] ]
       where
         impossible : (stop : Stop) → None ≡ Some stop → IsDone tells closed given handed coming' coming'' told' told'' mid new connections port port' None
         impossible stop is = absurd cc

@@ -3,6 +3,7 @@ use Rattle.std.specs.Prelude.{◌≡◌, ◌≢◌, ◌⊎◌, ◌≤◌, ℕ, z
 use Rattle.std.specs.Option.{option_map}
 use Rattle.std.specs.List.Sorted.{IsPermutation}
 use Rattle.std.proofs.Common.{sym, ap, subst, ◌∙◌, inl, inr, arith}
+use Rattle.std.proofs.lemmas.List.Elements.{All-nil}
 use Rattle.std.proofs.lemmas.List.Sorted.{IsPermutation-refl}
 use Rattle.ss_outside.specs.Told.{Meanings}
 use Rattle.ss_outside.specs.Causes.{Rose}
@@ -16,8 +17,9 @@ use Rattle.ss_run_serve.specs.Hosted.{Hosted}
 use Rattle.ss_run_serve.specs.Retiring.{uids_in}
 use Rattle.ss_run_serve.specs.Terms.{links_of, AreTold, KeeperFailed}
 use Rattle.ss_run_serve.specs.Once.{IsUntold}
-use Rattle.ss_run_serve.specs.Course.{AllTold, CameTo, Course, IsReported, ServedUntil, Stops, TellsAll}
-use Rattle.ss_run_serve.proofs.Progress.{told_none}
+use Rattle.ss_run_serve.specs.Course.{CameTo, Course, ServedUntil, Stops}
+use Rattle.ss_run_serve.proofs.Anew.{left_themselves}
+use Rattle.ss_run_serve.proofs.Progress.{all_of, told_none}
 use Rattle.ss_run_serve.proofs.Rising.{rose_by_count, rose_on, rose_after}
 
 port_faults : (n before now : ℕ) → RoseUnless n before now → before ≤ now
@@ -31,14 +33,19 @@ module _ {L : Type 0} (tells : L → Meanings) (closed : L → Bool) where
       → CameTo tells closed opened workers connections asked told told' old new accounts stop
   came_to opened coming workers connections asked told told' old mid new port accounts stop long course shut = record {
     terms = course.terms;
+    told = course.told;
     are_told = course.are_told;
+    of = course.of;
     handed = course.handed;
     served = inr (coming, course.coming', long, course.are);
+    within = course.within;
+    links = subst (λ (n : ℕ). RoseBy (links_of course.terms) n new.links) course.counts.links (rose_by_count (links_of course.terms) port.links mid.links new.links course.links shut.links);
+    back = course.back;
+    left = course.left;
     failed = course.failed;
     uids = course.uids;
     faults = omega (arith, course.counts.faults, later);
-    until = stopped course.terms course.handed stop course.stops;
-    whole = whole course.terms course.handed stop course.stops;
+    until = stopped course.terms stop course.stops;
   }
     where
       later : mid.faults ≤ new.faults
@@ -47,46 +54,47 @@ module _ {L : Type 0} (tells : L → Meanings) (closed : L → Bool) where
       ends : port.ends ≢ 0 → Rose old.ends new.ends
       ends some = subst (λ (n : ℕ). Rose n new.ends) course.counts.ends (shut.ends.some some)
 
-      stopped : (terms : List (Term (LinkReport L))) (handed : List (ℕ × Hosted)) (stop : Stop) → Stops connections asked terms handed accounts port old mid stop → ServedUntil connections asked terms old new stop
-      stopped terms handed stops.PortEnded why = ends why.0
-      stopped terms handed stops.Terms why = record { stated = why.0; count = why.1; each = why.2 }
-      stopped terms handed stops.Port why = rose_after old.faults mid.faults new.faults course.counts.faults (shut.faults.some why.0)
-      stopped terms handed stops.Site why = rose_on old.faults mid.faults new.faults why later
-      stopped terms handed stops.Memory why = tt
-      stopped terms handed (stops.Keeper uid) why = absurd why
-      stopped terms handed (stops.Account uid fault) why = absurd why
-
-      links : (terms : List (Term (LinkReport L))) (handed : List (ℕ × Hosted)) → AllTold terms handed accounts port → IsReported terms handed accounts old new
-      links terms handed all = record {
-        some = all.some;
-        links = subst (λ (n : ℕ). RoseBy (links_of terms) n new.links) course.counts.links (rose_by_count (links_of terms) port.links mid.links new.links all.links shut.links);
-        last = all.last;
-      }
-
-      whole : (terms : List (Term (LinkReport L))) (handed : List (ℕ × Hosted)) (stop : Stop) → Stops connections asked terms handed accounts port old mid stop → TellsAll stop → IsReported terms handed accounts old new
-      whole terms handed stops.PortEnded why tells_all = links terms handed why.1
-      whole terms handed stops.Terms why tells_all = links terms handed why.3
-      whole terms handed stops.Port why tells_all = links terms handed why.1
-      whole terms handed stops.Site why tells_all = absurd tells_all
-      whole terms handed stops.Memory why tells_all = absurd tells_all
-      whole terms handed (stops.Keeper uid) why tells_all = absurd tells_all
-      whole terms handed (stops.Account uid fault) why tells_all = absurd tells_all
+      stopped : (terms : List (Term (LinkReport L))) (stop : Stop) → Stops connections asked terms port old mid stop → ServedUntil connections asked terms old new stop
+      stopped terms stops.PortEnded why = (ends why.0, why.1)
+      stopped terms stops.Terms why = record { stated = why.0; count = why.1; each = why.2 }
+      stopped terms stops.Port why = (rose_after old.faults mid.faults new.faults course.counts.faults (shut.faults.some why.0), why.1)
+      stopped terms stops.Site why = rose_on old.faults mid.faults new.faults why later
+      stopped terms stops.Memory why = tt
+      stopped terms (stops.Keeper uid) why = absurd why
+      stopped terms (stops.Account uid fault) why = absurd why
 
   -- accounts that weren't served, since there were no clocks or no port
   pub came_to_none : (opened : List (ℕ × Hosted)) (workers connections asked : ℕ) (told : Option (List (Term (LinkReport L)))) (old new : Counts) (stop : Stop) → IsUntold old new stop
       → CameTo tells closed opened workers connections asked told told old new opened stop
   came_to_none opened workers connections asked told old new stop why = record {
     terms = [];
+    told = [];
     are_told = told_none tells closed told;
+    of = all_of tells closed [] stop;
     handed = opened;
-    served = inl refl;
+    served = inl (refl, refl);
+    within = record { few = All-nil (λ (term : Term (LinkReport L)). length term.reports ≤ connections); most = λ asks. omega arith };
+    links = links stop why;
+    back = IsPermutation-refl (uids_in opened);
+    left = left_themselves opened;
     failed = λ any. absurd (omega (arith, any.2));
     uids = IsPermutation-refl (uids_in opened);
     faults = later stop why;
     until = stopped stop why;
-    whole = whole stop why;
   }
     where
+      none_more : (a b : ℕ) → b ≡ a → RoseBy 0 a b
+      none_more a b same = record { later = omega (arith, same); risen = omega (arith, same); most = omega (arith, same) }
+
+      links : (stop : Stop) → IsUntold old new stop → RoseBy 0 old.links new.links
+      links stops.Site why = none_more old.links new.links why.1
+      links stops.Memory why = none_more old.links new.links (ap (λ (c : Counts). c.links) why)
+      links stops.PortEnded why = absurd why
+      links stops.Terms why = absurd why
+      links stops.Port why = absurd why
+      links (stops.Keeper uid) why = absurd why
+      links (stops.Account uid fault) why = absurd why
+
       later : (stop : Stop) → IsUntold old new stop → old.faults ≤ new.faults
       later stops.Site why = why.0.later
       later stops.Memory why = omega (arith, ap (λ (c : Counts). c.faults) why)
@@ -104,15 +112,6 @@ module _ {L : Type 0} (tells : L → Meanings) (closed : L → Bool) where
       stopped stops.Port why = absurd why
       stopped (stops.Keeper uid) why = absurd why
       stopped (stops.Account uid fault) why = absurd why
-
-      whole : (stop : Stop) → IsUntold old new stop → TellsAll stop → IsReported {L = L} [] opened opened old new
-      whole stops.Site why tells_all = absurd tells_all
-      whole stops.Memory why tells_all = absurd tells_all
-      whole stops.PortEnded why tells_all = absurd why
-      whole stops.Terms why tells_all = absurd why
-      whole stops.Port why tells_all = absurd why
-      whole (stops.Keeper uid) why tells_all = absurd why
-      whole (stops.Account uid fault) why tells_all = absurd why
 
   -- the same after calls that told the site no term
   pub came_to_unserved : (opened : List (ℕ × Hosted)) (workers connections asked : ℕ) (told told' : Option (List (Term (LinkReport L)))) (old mid new : Counts) (stop : Stop) → told' ≡ told → mid ≡ old → IsUntold mid new stop

@@ -2,7 +2,7 @@
 use Rattle.std.specs.Prelude.{◌≡◌, ◌≢◌, ◌⊎◌, ◌≤◌, ℕ, Bool, List, [], ◌∷◌, length, map, Option, Some, All, Any, Contains, IfSome, refl}
 use Rattle.std.specs.List.Sorted.{IsPermutation}
 use Rattle.std.proofs.Common.{sym, ap, subst, ◌∙◌, inl, inr, arith}
-use Rattle.std.proofs.lemmas.List.Elements.{All-contains, All-cons, All-head, All-nil, All-tail}
+use Rattle.std.proofs.lemmas.List.Elements.{All-contains, All-cons, All-head, All-nil, All-tail, All-weaker}
 use Rattle.std.proofs.lemmas.List.Sorted.{Contains-permutation, IsPermutation-sym}
 use Rattle.ss_outside.specs.Told.{Meanings}
 use Rattle.ss_outside.specs.Causes.{Rose}
@@ -10,7 +10,7 @@ use Rattle.ss_links.specs.Counts.{RoseBy}
 use Rattle.ss_bso.specs.declared.changes.Kept.{Kept}
 use Rattle.ss_account.specs.Keeping.{IsKept, IsKeptBy}
 use Rattle.ss_account.specs.Opening.{IsFaultOf}
-use Rattle.ss_site.specs.Sites.{Counts, Entries, Term}
+use Rattle.ss_site.specs.Sites.{Counts, Entries, IsEntry, Term}
 use Rattle.ss_words.specs.declared.commands.ServeCommand.{ServeCommand}
 use Rattle.ss_serve.specs.declared.report.LinkReport.{LinkReport}
 use Rattle.ss_run_serve.specs.declared.stop.Stop.{Stop}
@@ -18,12 +18,13 @@ use Rattle.ss_run_serve.specs.declared.stop.Stop.TheVariants as stops
 use Rattle.ss_run_serve.specs.Hosted.{Hosted, IsBegun, Stands, left_by}
 use Rattle.ss_run_serve.specs.Opening.{AreAsBefore, CountsFaults, IsOpened, IsUnopened, RefusesOne}
 use Rattle.ss_run_serve.specs.Retiring.{uids_in, ComeBack, CountsKeepers, HaveRetired}
-use Rattle.ss_run_serve.specs.Terms.{links_of, AreTerms, AreTold, KeeperFailed}
+use Rattle.ss_run_serve.specs.Terms.{links_of, AreTerms, AreTold, IsLeft, KeeperFailed}
 use Rattle.ss_run_serve.specs.Once.{HasFailed}
-use Rattle.ss_run_serve.specs.Course.{CameTo, IsReported, ServedUntil, TellsAll}
-use Rattle.ss_run_serve.specs.Serving.{AreServedBy, AreKept, HasStopped, IsComplete, IsServed, NoneServed, OthersStay, Sited}
+use Rattle.ss_run_serve.specs.Course.{CameTo, ServedUntil}
+use Rattle.ss_run_serve.specs.Serving.{AreServedBy, AreKept, HasStopped, IsServed, NoneServed, OthersStay, Sited}
 use Rattle.ss_run_serve.proofs.Anew.{kept_same}
-use Rattle.ss_run_serve.proofs.Progress.{any_of, told_none}
+use Rattle.ss_run_serve.proofs.Retired.{all_as_before}
+use Rattle.ss_run_serve.proofs.Progress.{all_of, any_of, told_none}
 use Rattle.ss_run_serve.proofs.Rising.{rose_on, rose_after}
 
 -- an account whose keeper had failed before its journal began, or has failed now, has one that has failed
@@ -59,13 +60,13 @@ module _ {L : Type 0} (tells : L → Meanings) (closed : L → Bool) where
       → CountsFaults old.counts new.counts → new.terms ≡ old.terms → IsServed tells closed command stop old new
   refused_all command stop old new refused before counted same = record {
     terms = [];
-    told = subst (λ (t : Option (List (Term (LinkReport L)))). AreTold [] old.terms t) (sym same) (told_none tells closed old.terms);
-    handed = [];
-    served = inl refl;
+    told = [];
+    are_told = subst (λ (t : Option (List (Term (LinkReport L)))). AreTold [] old.terms t) (sym same) (told_none tells closed old.terms);
+    of = all_of tells closed [] stop;
+    served = inl none;
     faults = λ any. absurd (omega (arith, any.2));
     others = λ after is. (let b = before after is in (b.0, b.1, λ f uid apart. b.2 f uid));
     stopped = stopped refused;
-    complete = complete refused;
   }
     where
       none : NoneServed [] old new
@@ -84,43 +85,69 @@ module _ {L : Type 0} (tells : L → Meanings) (closed : L → Bool) where
       stopped (inl memory) = subst (λ (s : Stop). HasStopped command [] old new s) (sym memory) tt
       stopped (inr any) = why stop any.1 (any.0, any.2, any.3) any.4
 
-      partial : (s : Stop) (uid : ℕ) → IsUnopened command.folder old.kept old.counts new.counts uid s → TellsAll s → IsComplete command [] [] old new
-      partial stops.Site uid is all = absurd all
-      partial (stops.Keeper u) uid is all = absurd all
-      partial (stops.Account u fault) uid is all = absurd all
-      partial stops.Memory uid is all = absurd all
-      partial stops.PortEnded uid is all = absurd is
-      partial stops.Terms uid is all = absurd is
-      partial stops.Port uid is all = absurd is
-
-      complete : (stop ≡ stops.Memory) ⊎ Any (λ (uid : ℕ). IsUnopened command.folder old.kept old.counts new.counts uid stop) command.uids → TellsAll stop → IsComplete command [] [] old new
-      complete (inl memory) all = absurd (subst TellsAll memory all)
-      complete (inr any) all = partial stop any.1 any.4 all
-
   -- accounts were opened, served, and given back
   pub served_all : (command : ServeCommand) (stop : Stop) (old mid new : Sited (LinkReport L)) (opened accounts : List (ℕ × Hosted)) → uids_in opened ≡ command.uids → All (IsOpened command.folder old.kept) opened
       → CameTo tells closed opened command.workers command.connections command.terms old.terms mid.terms old.counts mid.counts accounts stop → mid.kept ≡ old.kept → new.terms ≡ mid.terms
       → HaveRetired command.folder accounts mid.kept new.kept → CountsKeepers accounts mid.counts new.counts → All (λ (a : ℕ × Hosted). Stands a.1) accounts → IsServed tells closed command stop old new
   served_all command stop old mid new opened accounts uids from came unchanged same retired counted stand = record {
     terms = came.terms;
-    told = subst (λ (t : Option (List (Term (LinkReport L)))). AreTold came.terms old.terms t) (sym same) came.are_told;
-    handed = came.handed;
+    told = came.told;
+    are_told = subst (λ (t : Option (List (Term (LinkReport L)))). AreTold came.told old.terms t) (sym same) came.are_told;
+    of = came.of;
     served = served came.served;
     faults = λ failed. rose_after old.counts.faults mid.counts.faults new.counts.faults came.faults (counted.some (faulty (came.failed failed)));
     others = λ after is.
         (let r = retired after is in
         (r.0, sym unchanged ∙ r.1, λ f uid apart. r.2.others f uid (unlisted uid f apart)));
     stopped = stopped stop came.until;
-    complete = λ all. whole all (came.whole all);
   }
     where
       moved : IsPermutation command.uids (uids_in accounts)
       moved = subst (λ (us : List ℕ). IsPermutation us (uids_in accounts)) uids came.uids
 
-      served : ((came.terms ≡ []) ⊎ ((coming : List (Option (List ℕ))) × (coming' : List (Option (List ℕ))) × (length coming ≡ command.workers) × AreTerms tells closed opened coming came.terms came.handed coming'))
-          → (came.terms ≡ []) ⊎ AreServedBy tells closed command old.kept came.terms came.handed
-      served (inl none) = inl none
-      served (inr by) = inr (record { opened = opened; uids = uids; from = from; coming = by.0; workers = by.2; coming' = by.1; are = by.3 })
+      moved_back : IsPermutation command.uids (uids_in came.handed)
+      moved_back = subst (λ (us : List ℕ). IsPermutation us (uids_in came.handed)) uids came.back
+
+      links : RoseBy (links_of came.terms) old.counts.links new.counts.links
+      links = subst (λ (n : ℕ). RoseBy (links_of came.terms) old.counts.links n) (sym counted.links) came.links
+
+      -- accounts that weren't served: their keepers told the entries
+      untouched : accounts ≡ opened → AreAsBefore old.kept new.kept
+      untouched is =
+          let entries : All (λ (a : ℕ × Hosted). IsEntry command.folder a.0 a.1.told mid.kept) accounts = subst (λ (k : Option Entries). All (λ (a : ℕ × Hosted). IsEntry command.folder a.0 a.1.told k) accounts) (sym unchanged)
+          (subst (λ (accs : List (ℕ × Hosted)). All (λ (a : ℕ × Hosted). IsEntry command.folder a.0 a.1.told old.kept) accs) (sym is)
+          (All-weaker (IsOpened command.folder old.kept) (λ (a : ℕ × Hosted). IsEntry command.folder a.0 a.1.told old.kept) (λ a o. o.entry) opened from)) in
+          subst (λ (k : Option Entries). AreAsBefore k new.kept) unchanged (all_as_before command.folder accounts mid.kept new.kept entries retired)
+
+      no_links : came.terms ≡ [] → new.counts.links ≡ old.counts.links
+      no_links none = (let rose : RoseBy 0 old.counts.links new.counts.links = subst (λ (ts : List (Term (LinkReport L))). RoseBy (links_of ts) old.counts.links new.counts.links) none links in omega (arith, rose.later, rose.most))
+
+      kept_of : (before entries : Entries) → ComeBack command.folder accounts before entries → (uid : ℕ) → Contains (uids_in accounts) uid
+          → Any (λ (a : ℕ × Hosted). (a.0 ≡ uid) × IsKept (entries command.folder uid) (left_by a.1)) came.handed
+      kept_of before entries back uid listed =
+          let any = back.listed uid listed in
+          let there : Contains accounts any.1 = (any.0, any.2, any.3) in
+          let left = All-contains (IsLeft came.handed) accounts any.1 came.left there in
+          let kept : IsKept (entries command.folder uid) (left_by any.1.1) = kept_there any.1.1 (entries command.folder uid) (All-contains (λ (a : ℕ × Hosted). Stands a.1) accounts any.1 stand there) any.4.1 in
+          (left.0, left.1, left.2, left.3, (left.4.0 ∙ any.4.0, kept_same (entries command.folder uid) (left_by left.1.1) (left_by any.1.1) left.4.1 kept))
+
+      served : (((came.terms ≡ []) × (accounts ≡ opened)) ⊎ ((coming : List (Option (List ℕ))) × (coming' : List (Option (List ℕ))) × (length coming ≡ command.workers) × AreTerms tells closed opened coming came.terms came.handed coming'))
+          → NoneServed came.terms old new ⊎ AreServedBy tells closed command came.terms old new
+      served (inl none) = inl (record { none = none.0; links = no_links none.0; kept = untouched none.1 })
+      served (inr by) = inr (record {
+        opened = opened;
+        uids = uids;
+        from = from;
+        coming = by.0;
+        workers = by.2;
+        handed = came.handed;
+        coming' = by.1;
+        are = by.3;
+        within = came.within;
+        links = links;
+        back = moved_back;
+        kept = λ entries is uid listed. kept_of (retired entries is).0 entries (retired entries is).2 uid (Contains-permutation command.uids (uids_in accounts) uid moved listed);
+      })
 
       faulty : Any HasFailed accounts → Any (λ (a : ℕ × Hosted). a.1.faults ≢ 0) accounts
       faulty any =
@@ -135,30 +162,13 @@ module _ {L : Type 0} (tells : L → Meanings) (closed : L → Bool) where
       rose first = rose_on old.counts.faults mid.counts.faults new.counts.faults first counted.later
 
       stopped : (s : Stop) → ServedUntil command.connections command.terms came.terms old.counts mid.counts s → HasStopped command came.terms old new s
-      stopped stops.PortEnded why = subst (λ (n : ℕ). Rose old.counts.ends n) (sym counted.ends) why
+      stopped stops.PortEnded why = (subst (λ (n : ℕ). Rose old.counts.ends n) (sym counted.ends) why.0, why.1)
       stopped stops.Terms why = why
-      stopped stops.Port why = rose why
+      stopped stops.Port why = (rose why.0, why.1)
       stopped stops.Site why = rose why
       stopped stops.Memory why = tt
       stopped (stops.Keeper uid) why = absurd why
       stopped (stops.Account uid fault) why = absurd why
-
-      kept_of : (before entries : Entries) → ComeBack command.folder accounts before entries → (uid : ℕ) → Contains (uids_in accounts) uid
-          → Any (λ (a : ℕ × Hosted). (a.0 ≡ uid) × IsKept (entries command.folder uid) (left_by a.1)) accounts
-      kept_of before entries back uid listed =
-          let any = back.listed uid listed in
-          let there : Contains accounts any.1 = (any.0, any.2, any.3) in
-          any_of (λ (a : ℕ × Hosted). (a.0 ≡ uid) × IsKept (entries command.folder uid) (left_by a.1)) accounts any.1 there
-          (any.4.0, kept_there any.1.1 (entries command.folder uid) (All-contains (λ (a : ℕ × Hosted). Stands a.1) accounts any.1 stand there) any.4.1)
-
-      whole : TellsAll stop → IsReported came.terms came.handed accounts old.counts mid.counts → IsComplete command came.terms came.handed old new
-      whole all reported = record {
-        some = reported.some;
-        links = subst (λ (n : ℕ). RoseBy (links_of came.terms) old.counts.links n) (sym counted.links) reported.links;
-        uids = subst (λ (accs : List (ℕ × Hosted)). IsPermutation command.uids (uids_in accs)) reported.last moved;
-        kept = subst (λ (accs : List (ℕ × Hosted)). AreKept command.folder command.uids accs new.kept) reported.last
-            (λ entries is uid listed. kept_of (retired entries is).0 entries (retired entries is).2 uid (Contains-permutation command.uids (uids_in accounts) uid moved listed));
-      }
 
   -- the same by what the site told once the accounts were opened
   pub served_open : (command : ServeCommand) (stop : Stop) (old first mid new : Sited (LinkReport L)) (opened accounts : List (ℕ × Hosted)) → uids_in opened ≡ command.uids → All (IsOpened command.folder old.kept) opened

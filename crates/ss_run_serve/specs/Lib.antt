@@ -3,6 +3,7 @@ pub mod Watched
 pub mod Hosted
 pub mod Opening
 pub mod Retiring
+pub mod Lending
 pub mod Terms
 pub mod Once
 pub mod Course

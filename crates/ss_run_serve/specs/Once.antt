@@ -1,5 +1,5 @@
 -- What one term of a server does.
-use Rattle.std.specs.Prelude.{◌≡◌, ◌≢◌, ◌≤◌, ◌⊎◌, ℕ, Bool, List, length, map, Option, Some, None, Any, ⊤}
+use Rattle.std.specs.Prelude.{◌≡◌, ◌≢◌, ◌≤◌, ◌⊎◌, ℕ, Bool, List, length, map, Option, Some, None, All, Any, ⊤}
 use Rattle.std.specs.List.Sorted.{IsPermutation}
 use Rattle.ss_outside.specs.Told.{Meanings}
 use Rattle.ss_outside.specs.Causes.{Rose}
@@ -14,6 +14,7 @@ use Rattle.ss_run_serve.specs.declared.stop.Stop.{Stop}
 use Rattle.ss_run_serve.specs.declared.stop.Stop.TheVariants as stops
 use Rattle.ss_run_serve.specs.Hosted.{Hosted, journal_in}
 use Rattle.ss_run_serve.specs.Retiring.{uids_in}
+use Rattle.ss_run_serve.specs.Terms.{IsLeft}
 
 -- a site that isn't told a term failed and counts that, or no memory was found
 abbrev pub IsUntold : Counts → Counts → Stop → Type 0
@@ -47,30 +48,46 @@ IsLast connections old new (Some stops.Memory) = ⊤
 IsLast connections old new (Some _) = ⊥
 
 module _ {L : Type 0} where
-  -- no term took place, or the site wasn't told: the accounts come back, and the server stops
-  pub record IsLost (given handed : List (ℕ × Hosted)) (terms terms' : Option (List (Term (LinkReport L)))) (old new : Counts) (last : Option Stop) : Type 0 where
+  -- no term took place: the accounts come back as they were left, and the server stops
+  pub record IsLost (given handed : List (ℕ × Hosted)) (terms terms' : Option (List (Term (LinkReport L)))) (old new : Counts) (port port' : Accepts) (last : Option Stop) : Type 0 where
     pub stop : Stop
     pub is : last ≡ Some stop
     pub why : IsUntold old new stop
     pub untold : terms' ≡ terms
+    pub links : port'.links ≡ port.links
+    pub left : All (IsLeft given) handed
     pub uids : IsPermutation (uids_in given) (uids_in handed)
     pub failed : Any HasFailed given → Any HasFailed handed
 
   module _ (tells : L → Meanings) (closed : L → Bool) where
+    -- a term took place: its reports are of all links that the port gave, and its journals those of the accounts that come back
+    pub record TookPlace (given handed : List (ℕ × Hosted)) (coming coming' : List (Option (List ℕ))) (connections : ℕ) (port port' : Accepts) (term : Term (LinkReport L)) : Type 0 where
+      pub journals : term.journals ≡ map (λ account. (account.0, journal_in account.1)) handed
+      pub served : IsTerm (λ account. account.fixed) (λ account. account.entries) (λ account. account.faults) tells closed given handed term.reports coming coming'
+      pub links : RoseBy (length term.reports) port.links port'.links
+      pub few : length term.reports ≤ connections
+
+    -- a term took place and the site wasn't told: the server stops
+    pub record IsUnheard (given handed : List (ℕ × Hosted)) (coming coming' : List (Option (List ℕ))) (terms terms' : Option (List (Term (LinkReport L)))) (old new : Counts)
+        (connections : ℕ) (port port' : Accepts) (last : Option Stop) : Type 0 where
+      pub stop : Stop
+      pub is : last ≡ Some stop
+      pub why : IsUntold old new stop
+      pub untold : terms' ≡ terms
+      pub term : Term (LinkReport L)
+      pub took : TookPlace given handed coming coming' connections port port' term
+
     -- a term took place, and the site was told
     pub record IsDone (given handed : List (ℕ × Hosted)) (coming coming' : List (Option (List ℕ))) (terms terms' : Option (List (Term (LinkReport L)))) (old new : Counts)
         (connections : ℕ) (port port' : Accepts) (last : Option Stop) : Type 0 where
       pub term : Term (LinkReport L)
       pub told : HasAdded term terms terms'
-      pub journals : term.journals ≡ map (λ account. (account.0, journal_in account.1)) handed
-      pub served : IsTerm (λ account. account.fixed) (λ account. account.entries) (λ account. account.faults) tells closed given handed term.reports coming coming'
-      pub links : RoseBy (length term.reports) port.links port'.links
-      pub few : length term.reports ≤ connections
+      pub took : TookPlace given handed coming coming' connections port port' term
       pub counts : new ≡ old
       pub why : IsLast connections port port' last
 
-    -- one of the two
+    -- one of the three
     abbrev pub IsOnce : List (ℕ × Hosted) → List (ℕ × Hosted) → List (Option (List ℕ)) → List (Option (List ℕ)) → Option (List (Term (LinkReport L))) → Option (List (Term (LinkReport L))) → Counts → Counts
         → ℕ → Accepts → Accepts → Option Stop → Type 0
     IsOnce given handed coming coming' terms terms' old new connections port port' last =
-        IsLost given handed terms terms' old new last ⊎ IsDone given handed coming coming' terms terms' old new connections port port' last
+        IsLost given handed terms terms' old new port port' last ⊎ IsUnheard given handed coming coming' terms terms' old new connections port port' last ⊎ IsDone given handed coming coming' terms terms' old new connections port port' last

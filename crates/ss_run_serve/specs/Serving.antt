@@ -19,7 +19,7 @@ use Rattle.ss_run_serve.specs.Hosted.{Hosted, left_by}
 use Rattle.ss_run_serve.specs.Opening.{AreAsBefore, IsBad, IsOpened, IsUnopened}
 use Rattle.ss_run_serve.specs.Retiring.{uids_in}
 use Rattle.ss_run_serve.specs.Terms.{links_of, AreTerms, AreTold, KeeperFailed}
-use Rattle.ss_run_serve.specs.Course.{IsServedOut, TellsAll}
+use Rattle.ss_run_serve.specs.Course.{AreWithin, IsServedOut, IsToldOf}
 
 -- what a site counts, the terms that it tells, and the entries that it tells
 pub record Sited (R : Type 0) : Type 0 where
@@ -44,19 +44,11 @@ module _ {L : Type 0} where
     pub links : new.counts.links ≡ old.counts.links
     pub kept : AreAsBefore old.kept new.kept
 
-  -- there was a term, there are as many reports as the port gave links, and what is kept is what the last term left of the listed
-  -- accounts
-  pub record IsComplete (command : ServeCommand) (terms : List (Term (LinkReport L))) (handed : List (ℕ × Hosted)) (old new : Sited (LinkReport L)) : Type 0 where
-    pub some : terms ≢ []
-    pub links : RoseBy (links_of terms) old.counts.links new.counts.links
-    pub uids : IsPermutation command.uids (uids_in handed)
-    pub kept : AreKept command.folder command.uids handed new.kept
-
   -- Why a server stopped. Want of memory has no cause here
   abbrev pub HasStopped : ServeCommand → List (Term (LinkReport L)) → Sited (LinkReport L) → Sited (LinkReport L) → Stop → Type 0
-  HasStopped command terms old new stops.PortEnded = Rose old.counts.ends new.counts.ends
+  HasStopped command terms old new stops.PortEnded = Rose old.counts.ends new.counts.ends × (terms ≢ [])
   HasStopped command terms old new stops.Terms = IsServedOut command.connections command.terms terms
-  HasStopped command terms old new stops.Port = Rose old.counts.faults new.counts.faults
+  HasStopped command terms old new stops.Port = Rose old.counts.faults new.counts.faults × (terms ≢ [])
   HasStopped command terms old new stops.Site = Rose old.counts.faults new.counts.faults
   HasStopped command terms old new (stops.Keeper uid) = Contains command.uids uid × Rose old.counts.faults new.counts.faults × NoneServed terms old new
   HasStopped command terms old new (stops.Account uid fault) =
@@ -64,29 +56,37 @@ module _ {L : Type 0} where
   HasStopped command terms old new stops.Memory = ⊤
 
   module _ (tells : L → Meanings) (closed : L → Bool) where
-    -- the listed accounts were opened from their entries, with one clock for each worker, and then served by these terms
-    pub record AreServedBy (command : ServeCommand) (kept : Option Entries) (terms : List (Term (LinkReport L))) (handed : List (ℕ × Hosted)) : Type 0 where
+    -- the listed accounts were opened from their entries, with one clock for each worker, and then served by these terms, no more than
+    -- were asked, each of at most so many connections. There are as many reports as the port gave links, and what is kept of each
+    -- listed account is what the last term left of it
+    pub record AreServedBy (command : ServeCommand) (terms : List (Term (LinkReport L))) (old new : Sited (LinkReport L)) : Type 0 where
       pub opened : List (ℕ × Hosted)
       pub uids : uids_in opened ≡ command.uids
-      pub from : All (IsOpened command.folder kept) opened
+      pub from : All (IsOpened command.folder old.kept) opened
       pub coming : List (Option (List ℕ))
       pub workers : length coming ≡ command.workers
+      pub handed : List (ℕ × Hosted)
       pub coming' : List (Option (List ℕ))
       pub are : AreTerms tells closed opened coming terms handed coming'
+      pub within : AreWithin command.connections command.terms terms
+      pub links : RoseBy (links_of terms) old.counts.links new.counts.links
+      pub back : IsPermutation command.uids (uids_in handed)
+      pub kept : AreKept command.folder command.uids handed new.kept
 
     -- What a server did that stopped so, by what its site tells before and after
     pub record IsServed (command : ServeCommand) (stop : Stop) (old new : Sited (LinkReport L)) : Type 0 where
-      -- the terms that the site was told, and the accounts that the last of them handed back
+      -- the terms that it served, and those of them that the site was told: all, or after a fault of the site or for want of memory
+      -- perhaps all but the last
       pub terms : List (Term (LinkReport L))
-      pub told : AreTold terms old.terms new.terms
-      pub handed : List (ℕ × Hosted)
-      pub served : (terms ≡ []) ⊎ AreServedBy command old.kept terms handed
+      pub told : List (Term (LinkReport L))
+      pub are_told : AreTold told old.terms new.terms
+      pub of : IsToldOf stop terms told
+      -- whatever the stop, all of them count: no account was served, or what is kept is what they left
+      pub served : NoneServed terms old new ⊎ AreServedBy command terms old new
       -- where a journal says that a keeper failed, the site has counted a fault
       pub faults : KeeperFailed terms → Rose old.counts.faults new.counts.faults
       pub others : OthersStay command.folder command.uids old.kept new.kept
-      -- why it stopped; and where that isn't a fault of the site, a bad entry or want of memory, all of it was told and is kept
       pub stopped : HasStopped command terms old new stop
-      pub complete : TellsAll stop → IsComplete command terms handed old new
 
     -- The words ask for a server, and it was one; or they ask none, and nothing was done. The same with 8, where no memory was found
     -- to read them

@@ -10,6 +10,11 @@ use Rattle.ss_serve.specs.declared.report.LinkReport.{LinkReport}
 use Rattle.ss_serve.specs.Terms.{IsTerm}
 use Rattle.ss_run_serve.specs.Hosted.{Hosted, IsBegun, journal_in, left_by}
 
+-- the account is one of those that were left: it has the uid of one, and is that account, whatever the order of its rows, collections
+-- and batches
+abbrev pub IsLeft : List (ℕ × Hosted) → ℕ × Hosted → Type 0
+IsLeft left account = Any (λ other. (other.0 ≡ account.0) × SameAccount (left_by other.1) (left_by account.1)) left
+
 -- the account with this uid begins anew from where it was left: it opens with the account that its journal leaves, whatever the
 -- order of its rows, collections and batches, with the room that its journal had, over a keeper that has not failed meanwhile
 pub record BeginsAnew (left anew : ℕ × Hosted) : Type 0 where

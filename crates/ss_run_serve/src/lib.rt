@@ -12,8 +12,6 @@ mod serving;
 mod stop;
 mod term;
 mod terms;
-#[cfg(test)]
-mod tests;
 mod watched;
 
 pub use run::run_serve;

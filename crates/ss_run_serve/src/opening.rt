@@ -6,8 +6,9 @@ ghost use Rattle.ss_bso.specs.Changes.{opened};
 ghost use Rattle.ss_bso.specs.Validity.{SameAccount};
 ghost use Rattle.ss_booked.specs.Booked.{account_of, journal_of};
 ghost use Rattle.ss_booked.specs.Sizes.{most_entries};
-ghost use Rattle.ss_site.specs.Sites.{Counts, Entries, IsEntry};
+ghost use Rattle.ss_site.specs.Sites.{Counts, Entries, IsBack, IsEntry};
 ghost use Rattle.ss_run_serve.specs.Hosted.{hosted, hosted_at, IsBegun};
+ghost use Rattle.ss_run_serve.specs.Lending.{AllAreBack, AreOut};
 ghost use Rattle.ss_run_serve.specs.Opening.{IsOpened, IsUnopened, RefusesOne, CountsFaults, AreAsBefore, stop_at};
 
 use crate::retiring::retire_all;
@@ -46,6 +47,8 @@ fn open_kept<X: Site>(
     ensures as_before { OnErr result (AreAsBefore (X.kept site.old) (X.kept site.new)) }
     ensures counted { CountsFaults (X.counts site.old) (X.counts site.new) }
     ensures terms { X.terms site.new ≡ X.terms site.old }
+    ensures lent { OnOk result (X.lent site.new ≡ X.lent site.old) }
+    ensures returned { OnErr result (IsBack (X.lent site.old) (X.lent site.new)) }
 {
     match Account::open(alloc, keeper) {
         Ok(account) => Ok(account),
@@ -75,6 +78,8 @@ fn begin<X: Site>(
     ensures as_before { OnErr result (AreAsBefore (X.kept site.old) (X.kept site.new)) }
     ensures counted { CountsFaults (X.counts site.old) (X.counts site.new) }
     ensures terms { X.terms site.new ≡ X.terms site.old }
+    ensures lent { OnOk result (X.lent site.new ≡ X.lent site.old) }
+    ensures returned { OnErr result (IsBack (X.lent site.old) (X.lent site.new)) }
 {
     match Booked::open(alloc, account, MOST_ENTRIES) {
         Ok(booked) => Ok(booked),
@@ -98,6 +103,9 @@ fn open_account<X: Site>(
     ensures as_before { OnErr result (AreAsBefore (X.kept site.old) (X.kept site.new)) }
     ensures counted { CountsFaults (X.counts site.old) (X.counts site.new) }
     ensures terms { X.terms site.new ≡ X.terms site.old }
+    ensures lent { OnOk result (AreOut 1 (X.lent site.old) (X.lent site.new)) }
+    ensures returned { OnErr result (AllAreBack (X.lent site.old) (X.lent site.new)) }
+    ensures addresses { (X.lent site.new).addresses ≡ (X.lent site.old).addresses }
 {
     let keeper = match site.keeper(alloc, folder, uid) {
         Ok(keeper) => keeper,
@@ -124,6 +132,9 @@ pub(crate) fn open_accounts<X: Site>(
     ensures as_before { OnErr result (AreAsBefore (X.kept site.old) (X.kept site.new)) }
     ensures counted { CountsFaults (X.counts site.old) (X.counts site.new) }
     ensures terms { X.terms site.new ≡ X.terms site.old }
+    ensures lent { IfOk result (λ accounts. AreOut (length accounts.items) (X.lent site.old) (X.lent site.new)) }
+    ensures returned { OnErr result (AllAreBack (X.lent site.old) (X.lent site.new)) }
+    ensures addresses { (X.lent site.new).addresses ≡ (X.lent site.old).addresses }
 {
     let Ok(mut accounts) = Vec::with_capacity(alloc, uids.len()) else {
         return Err(Stop::Memory);

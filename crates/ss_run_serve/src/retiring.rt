@@ -1,9 +1,10 @@
 //! The accounts of a server: how their keepers come back to its site.
 
-ghost use Rattle.std.specs.Prelude.{◌≡◌, map, All};
+ghost use Rattle.std.specs.Prelude.{◌≡◌, length, map, All};
 ghost use Rattle.ss_booked.specs.Booked.{account_of};
-ghost use Rattle.ss_site.specs.Sites.{HasRetired, CountsKeeper};
+ghost use Rattle.ss_site.specs.Sites.{HasRetired, CountsKeeper, IsBack};
 ghost use Rattle.ss_run_serve.specs.Hosted.{hosted, hosted_at, Stands};
+ghost use Rattle.ss_run_serve.specs.Lending.{HaveComeBack};
 ghost use Rattle.ss_run_serve.specs.Retiring.{CountsKeepers, HaveRetired};
 
 use ss_booked::Booked;
@@ -15,6 +16,7 @@ fn retire<X: Site>(site: &mut X, folder: &str, uid: u32, booked: Booked<X::Keepe
     ensures counted { CountsKeeper (X.Keeper.keep_faults (account_of booked).keeper) (X.counts site.old) (X.counts site.new) }
     ensures stands { Stands (hosted X.Keeper.told X.Keeper.keep_faults booked) }
     ensures terms { X.terms site.new ≡ X.terms site.old }
+    ensures returned { IsBack (X.lent site.old) (X.lent site.new) }
 {
     let keeper = booked.unbook().into_keeper();
     site.retire(folder, uid, keeper);
@@ -30,6 +32,7 @@ pub(crate) fn retire_all<X: Site>(
     ensures counted { CountsKeepers (map (hosted_at X.Keeper.told X.Keeper.keep_faults) accounts.items) (X.counts site.old) (X.counts site.new) }
     ensures stand { All (λ account. Stands account.1) (map (hosted_at X.Keeper.told X.Keeper.keep_faults) accounts.items) }
     ensures terms { X.terms site.new ≡ X.terms site.old }
+    ensures returned { HaveComeBack (length accounts.items) (X.lent site.old) (X.lent site.new) }
 {
     for (uid, booked) in accounts {
         retire(site, folder, uid, booked);

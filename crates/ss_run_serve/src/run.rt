@@ -1,6 +1,7 @@
 //! The command `serve`.
 
 ghost use Rattle.std.specs.Prelude.{map, string_bytes};
+ghost use Rattle.ss_run_serve.specs.Lending.{AllAreBack, ListensAsAsked};
 ghost use Rattle.ss_run_serve.specs.Serving.{Runs};
 
 use crate::lines;
@@ -34,8 +35,12 @@ where
     G: Gate + Sync,
     T: Sink,
     R: Threads + Wait + Sync,
-    ensures { Runs X.Port.Link.Told.told X.Port.Link.closed (map (λ word. string_bytes word) words.now) result
+    ensures runs { Runs X.Port.Link.Told.told X.Port.Link.closed (map (λ word. string_bytes word) words.now) result
         (record { counts = X.counts site.old; terms = X.terms site.old; kept = X.kept site.old }) (record { counts = X.counts site.new; terms = X.terms site.new; kept = X.kept site.new }) }
+    // Every keeper and port that the site gave came back to it, whatever the status.
+    ensures returned { AllAreBack (X.lent site.old) (X.lent site.new) }
+    // It listens at the address of the words, and nowhere else.
+    ensures listens { ListensAsAsked (map (λ word. string_bytes word) words.now) (X.lent site.old) (X.lent site.new) }
 {
     let command = match read_command(alloc, words) {
         Ok(command) => command,

@@ -5,6 +5,7 @@ ghost use Rattle.ss_words.specs.declared.commands.Command.TheVariants.{Serve};
 ghost use Rattle.ss_words.specs.Commands.{HasRange};
 ghost use Rattle.ss_run_serve.specs.Watched.{port_in};
 ghost use Rattle.ss_run_serve.specs.Hosted.{hosted_at, IsBegun};
+ghost use Rattle.ss_run_serve.specs.Lending.{AllAreBack, ListensAt};
 ghost use Rattle.ss_run_serve.specs.Course.{CameTo};
 ghost use Rattle.ss_run_serve.specs.Serving.{IsServed};
 
@@ -37,6 +38,7 @@ where
     ensures counts { X.counts site.new ≡ X.counts site.old }
     ensures terms { X.terms site.new ≡ X.terms site.old }
     ensures kept { X.kept site.new ≡ X.kept site.old }
+    ensures lent { X.lent site.new ≡ X.lent site.old }
 {
     let mut clocks = Vec::with_capacity(alloc, workers)?;
     for _worker in 0..workers {
@@ -68,6 +70,8 @@ where
     ensures came { CameTo X.Port.Link.Told.told X.Port.Link.closed (map (hosted_at X.Keeper.told X.Keeper.keep_faults) accounts.items) command.now.workers command.now.connections command.now.terms
         (X.terms site.old) (X.terms site.new) (X.counts site.old) (X.counts site.new) (map (hosted_at X.Keeper.told X.Keeper.keep_faults) result.0.items) result.1 }
     ensures kept { X.kept site.new ≡ X.kept site.old }
+    ensures returned { AllAreBack (X.lent site.old) (X.lent site.new) }
+    ensures listens { ListensAt command.now.address (X.lent site.old) (X.lent site.new) }
 {
     let Ok(clocks) = clocks_of(alloc, site, command.workers as usize) else {
         return (accounts, Stop::Memory);
@@ -104,6 +108,8 @@ where
     requires range { HasRange (Serve command.now) }
     ensures served { IsServed X.Port.Link.Told.told X.Port.Link.closed command.now result
         (record { counts = X.counts site.old; terms = X.terms site.old; kept = X.kept site.old }) (record { counts = X.counts site.new; terms = X.terms site.new; kept = X.kept site.new }) }
+    ensures returned { AllAreBack (X.lent site.old) (X.lent site.new) }
+    ensures listens { ListensAt command.now.address (X.lent site.old) (X.lent site.new) }
 {
     let folder = command.folder.as_str();
     let accounts = match open_accounts(alloc, site, folder, command.uids.as_slice()) {

@@ -59,6 +59,7 @@ where
     ensures untold { IfErr result (λ stop. IsUntold (X.counts site.old) (X.counts site.new) stop) }
     ensures terms { OnErr result (X.terms site.new ≡ X.terms site.old) }
     ensures kept { X.kept site.new ≡ X.kept site.old }
+    ensures lent { X.lent site.new ≡ X.lent site.old }
 {
     let Ok(journals) = journals_of(alloc, accounts) else {
         return Err(Stop::Memory);
@@ -110,6 +111,7 @@ where
         (map (hosted_at X.Keeper.told X.Keeper.keep_faults) result.0.accounts.items) (map X.Clock.coming crew.clocks.items) (map X.Clock.coming result.0.clocks.items)
         (X.terms site.old) (X.terms site.new) (X.counts site.old) (X.counts site.new) connections (X.Port.counts (port_in port.old)) (X.Port.counts (port_in port.new)) result.1 }
     ensures kept { X.kept site.new ≡ X.kept site.old }
+    ensures lent { X.lent site.new ≡ X.lent site.old }
 {
     let Crew { accounts, clocks } = crew;
     let TermEnd {

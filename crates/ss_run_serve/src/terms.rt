@@ -70,6 +70,7 @@ where
         command.now.connections command.now.terms (X.terms site.old) (X.terms site.new) (X.counts site.old) (X.counts site.new) (X.Port.counts (port_in port.new))
         (map (hosted_at X.Keeper.told X.Keeper.keep_faults) result.0.items) result.1 }
     ensures kept { X.kept site.new ≡ X.kept site.old }
+    ensures lent { X.lent site.new ≡ X.lent site.old }
 {
     let mut left = command.terms;
     'terms: for _ in rt.forever() {

@@ -1,4 +1,4 @@
-use Rattle.std.specs.Prelude.{◌≡◌, ◌<◌, ℕ, List, [], ◌∷◌, ◌++◌, length, map, take, All, Option, get_or}
+use Rattle.std.specs.Prelude.{◌≡◌, ◌<◌, ◌+◌, ℕ, List, [], ◌∷◌, ◌++◌, length, map, take, All, Option, get_or}
 use Rattle.std.proofs.Common.{sym, ap, subst, ◌∙◌, arith}
 use Rattle.std.proofs.lemmas.List.{map-append, take_more}
 use Rattle.std.proofs.lemmas.List.Elements.{All-push, All-weaker, Contains-get_or}
@@ -7,6 +7,7 @@ use Rattle.ss_site.specs.Sites.{Counts, Entries, IsEntry}
 use Rattle.ss_run_serve.specs.Hosted.{Hosted, hosted_at}
 use Rattle.ss_run_serve.specs.Opening.{AreAsBefore, CountsFaults, IsOpened, IsUnopened}
 use Rattle.ss_run_serve.proofs.Opened.{take_whole}
+use Rattle.ss_run_serve.proofs.Lent.{all_back, out_as, out_then}
 use Rattle.ss_run_serve.proofs.Retired.{all_as_before, as_before_then, counts_then, counts_unchanged, entry_as_before, refused_then}
 use Rattle.ss_run_serve.proofs.opening.open_accounts.Goals as goal
 
@@ -54,6 +55,8 @@ loop-uid-preserved g c =
       room = omega (arith, invariant.room, c.push_reserved.ensures.capacity);
       long = omega (arith, invariant.long, c.push_reserved.ensures.len);
       counts = c.in-Ok-open_account.ensures.unchanged.0 ∙ invariant.counts;
+      addresses = c.open_account.ensures.addresses ∙ invariant.addresses;
+      lent = out_then c.loop-uid.uid-index 1 (g.X.Site.lent c.args.site.now) (g.X.Site.lent c.loop-uid.site) (g.X.Site.lent c.open_account.new.site) invariant.lent c.in-Ok-open_account.ensures.lent;
       terms = c.open_account.ensures.terms ∙ invariant.terms;
       kept = c.in-Ok-open_account.ensures.unchanged.1 ∙ invariant.kept;
     }
@@ -72,3 +75,19 @@ returns-clause-counted g c = counts_unchanged (g.X.Site.counts c.args.site.now) 
 
 pub returns-clause-terms : goal.returns-clause-terms
 returns-clause-terms g c = c.loop-uid.invariant.terms
+
+pub returns-clause-lent : goal.returns-clause-lent
+returns-clause-lent g c = out_as c.loop-uid.uid-index (length c.loop-uid.accounts.items) (g.X.Site.lent c.args.site.now) (g.X.Site.lent c.loop-uid.site) (omega (arith, c.loop-uid.invariant.long)) c.loop-uid.invariant.lent
+
+pub returns-in-Err-clause-returned : goal.returns-in-Err-clause-returned
+returns-in-Err-clause-returned g c =
+    all_back (length c.loop-uid.accounts.items) (g.X.Site.lent c.args.site.now) (g.X.Site.lent c.open_account.new.site) (g.X.Site.lent c.retire_all.new.site)
+    (out_as (c.loop-uid.uid-index + 0) (length c.loop-uid.accounts.items) (g.X.Site.lent c.args.site.now) (g.X.Site.lent c.open_account.new.site) (omega (arith, c.loop-uid.invariant.long))
+    (out_then c.loop-uid.uid-index 0 (g.X.Site.lent c.args.site.now) (g.X.Site.lent c.loop-uid.site) (g.X.Site.lent c.open_account.new.site) c.loop-uid.invariant.lent c.in-Err.ensures.returned))
+    c.retire_all.ensures.returned
+
+pub returns-clause-addresses : goal.returns-clause-addresses
+returns-clause-addresses g c = c.loop-uid.invariant.addresses
+
+pub returns-in-Err-clause-addresses : goal.returns-in-Err-clause-addresses
+returns-in-Err-clause-addresses g c = c.retire_all.ensures.returned.addresses ∙ c.open_account.ensures.addresses ∙ c.loop-uid.invariant.addresses

@@ -1,12 +1,14 @@
-use Rattle.std.specs.Prelude.{◌≡◌, ℕ, List, [], ◌∷◌, ◌++◌, map, All, refl}
+use Rattle.std.specs.Prelude.{◌≡◌, ℕ, List, [], ◌∷◌, ◌++◌, length, map, All, refl}
 use Rattle.std.proofs.Common.{sym, subst, ◌∙◌}
-use Rattle.std.proofs.lemmas.List.{map-append}
+use Rattle.std.proofs.lemmas.List.{length-append, map-append}
 use Rattle.std.proofs.lemmas.List.Elements.{All-nil, All-push}
 use Rattle.std.proofs.lemmas.Iterator.Adapters.{YieldsList-from_vec}
 use Rattle.std.proofs.lemmas.Iterator.Consumers.{YieldsList-end}
 use Rattle.ss_booked.specs.declared.booked.Booked.{Booked}
 use Rattle.ss_run_serve.specs.Hosted.{Hosted, Stands, hosted_at}
+use Rattle.ss_run_serve.specs.Lending.{HaveComeBack}
 use Rattle.ss_run_serve.specs.Retiring.{CountsKeepers, HaveRetired}
+use Rattle.ss_run_serve.proofs.Lent.{back_more, none_back}
 use Rattle.ss_run_serve.proofs.Opened.{map_same}
 use Rattle.ss_run_serve.proofs.Retired.{counts_more, have_retired_more, none_counted, none_retired}
 use Rattle.ss_run_serve.proofs.retiring.retire_all.Goals as goal
@@ -16,6 +18,7 @@ loop-uid-init g c = record {
   entries = none_retired c.args.folder.now (g.X.Site.kept c.args.site.now);
   counted = none_counted (g.X.Site.counts c.args.site.now);
   stand = All-nil (λ (account : ℕ × Hosted). Stands account.1);
+  returned = none_back (g.X.Site.lent c.args.site.now);
   terms = refl;
 }
 
@@ -31,6 +34,8 @@ loop-uid-preserved g c =
       counted = subst (λ (accounts : List (ℕ × Hosted)). CountsKeepers accounts (g.X.Site.counts c.args.site.now) (g.X.Site.counts c.retire.new.site)) (sym e)
           (counts_more done account (g.X.Site.counts c.args.site.now) (g.X.Site.counts c.loop-uid.site) (g.X.Site.counts c.retire.new.site) c.loop-uid.invariant.counted c.retire.ensures.counted);
       stand = subst (λ (accounts : List (ℕ × Hosted)). All (λ (a : ℕ × Hosted). Stands a.1) accounts) (sym e) (All-push (λ (a : ℕ × Hosted). Stands a.1) done account c.loop-uid.invariant.stand c.retire.ensures.stands);
+      returned = subst (λ (n : ℕ). HaveComeBack n (g.X.Site.lent c.args.site.now) (g.X.Site.lent c.retire.new.site)) (sym (length-append c.loop-uid.yielded ((c.in-Some.uid, c.in-Some.booked) ∷ [])))
+          (back_more (length c.loop-uid.yielded) (g.X.Site.lent c.args.site.now) (g.X.Site.lent c.loop-uid.site) (g.X.Site.lent c.retire.new.site) c.loop-uid.invariant.returned c.retire.ensures.returned);
       terms = c.retire.ensures.terms ∙ c.loop-uid.invariant.terms;
     }
 
@@ -54,3 +59,10 @@ returns-clause-stand g c =
     let all = YieldsList-end (YieldsList-from_vec c.args.accounts.items gives.0 (gives.1 ∙ c.args.accounts.ok.0)) c.loop-uid.yielded c.loop-uid.uid-iterator c.loop-uid.yielded_by c.next.result c.next.new.self c.in-None.is c.next.ensures.steps in
     let whole : c.loop-uid.yielded ≡ c.args.accounts.items = sym (map_same c.loop-uid.yielded) ∙ all.0 in
     subst (λ (xs : List (ℕ × Booked g.row.X-Keeper.Denot g.X.Keeper.Keeper)). All (λ (a : ℕ × Hosted). Stands a.1) (map (hosted_at g.X.Keeper.Keeper.told g.X.Keeper.Keeper.keep_faults) xs)) whole c.loop-uid.invariant.stand
+
+pub returns-clause-returned : goal.returns-clause-returned
+returns-clause-returned g c =
+    let gives = c.into_iter-uid-iterator.ensures.into_iter_gives in
+    let all = YieldsList-end (YieldsList-from_vec c.args.accounts.items gives.0 (gives.1 ∙ c.args.accounts.ok.0)) c.loop-uid.yielded c.loop-uid.uid-iterator c.loop-uid.yielded_by c.next.result c.next.new.self c.in-None.is c.next.ensures.steps in
+    let whole : c.loop-uid.yielded ≡ c.args.accounts.items = sym (map_same c.loop-uid.yielded) ∙ all.0 in
+    subst (λ (xs : List (ℕ × Booked g.row.X-Keeper.Denot g.X.Keeper.Keeper)). HaveComeBack (length xs) (g.X.Site.lent c.args.site.now) (g.X.Site.lent c.loop-uid.site)) whole c.loop-uid.invariant.returned

@@ -8,5 +8,6 @@ invariant-loop-worker g l = record {
   room : l.workers ≤ vec_capacity l.clocks;
   counts : g.X.Site.counts l.site ≡ g.X.Site.counts l.initial.site;
   terms : g.X.Site.terms l.site ≡ g.X.Site.terms l.initial.site;
+  lent : g.X.Site.lent l.site ≡ g.X.Site.lent l.initial.site;
   kept : g.X.Site.kept l.site ≡ g.X.Site.kept l.initial.site;
 }

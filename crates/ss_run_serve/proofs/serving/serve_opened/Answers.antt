@@ -1,11 +1,12 @@
-use Rattle.std.specs.Prelude.{◌≡◌, map, length, Err, refl}
-use Rattle.std.proofs.Common.{arith, sym, ap, subst, ◌∙◌}
+use Rattle.std.specs.Prelude.{◌≡◌, ◌∷◌, [], ◌++◌, ℕ, List, map, length, Err, refl}
+use Rattle.std.proofs.Common.{arith, sym, ap, inl, inr, subst, ◌∙◌}
 use Rattle.std.proofs.lemmas.List.{length-map}
 use Rattle.ss_site.specs.declared.site.SiteFault.{SiteFault}
-use Rattle.ss_site.specs.Sites.{CountsPort, HasCause}
+use Rattle.ss_site.specs.Sites.{CountsPort, HasCause, Lent}
 use Rattle.ss_run_serve.specs.declared.stop.Stop.TheVariants as stops
 use Rattle.ss_run_serve.specs.Watched.{port_in}
 use Rattle.ss_run_serve.specs.Hosted.{hosted_at}
+use Rattle.ss_run_serve.proofs.Lent.{none_out}
 use Rattle.ss_run_serve.proofs.Shutting.{came_to_shut, came_to_unserved}
 use Rattle.ss_run_serve.proofs.serving.serve_opened.Goals as goal
 
@@ -37,3 +38,28 @@ returns-clause-came g c =
     (c.listen.ensures.terms ∙ c.clocks_of.ensures.terms) c.shut.ensures.terms (c.in-Ok-listen.ensures.cause ∙ c.clocks_of.ensures.counts)
     (let long : length (map g.X.Clock.Clock.coming c.in-Ok.clocks.items) ≡ c.args.command.now.workers = omega (arith, length-map c.in-Ok.clocks.items g.X.Clock.Clock.coming, c.in-Ok.ensures.count) in long) c.serve_terms-accounts.ensures.course
     (subst (λ (port : g.row.X-Port.Denot). CountsPort (g.X.Port.Port.counts port) (g.X.Site.counts c.serve_terms-accounts.new.site) (g.X.Site.counts c.shut.new.self)) c.into_port.ensures c.shut.ensures.counted)
+
+pub returns-in_default-clause-returned : goal.returns-in_default-clause-returned
+returns-in_default-clause-returned g c = none_out (g.X.Site.lent c.args.site.now) (g.X.Site.lent c.clocks_of.new.site) c.clocks_of.ensures.lent
+
+pub returns-in-Err-Fault-clause-returned : goal.returns-in-Err-Fault-clause-returned
+returns-in-Err-Fault-clause-returned g c = none_out (g.X.Site.lent c.args.site.now) (g.X.Site.lent c.listen.new.self) (c.in-Err-Fault.ensures.lent ∙ c.clocks_of.ensures.lent)
+
+pub returns-in-Err-Memory-clause-returned : goal.returns-in-Err-Memory-clause-returned
+returns-in-Err-Memory-clause-returned g c = none_out (g.X.Site.lent c.args.site.now) (g.X.Site.lent c.listen.new.self) (c.in-Err-Memory.ensures.lent ∙ c.clocks_of.ensures.lent)
+
+pub returns-in_default-clause-listens : goal.returns-in_default-clause-listens
+returns-in_default-clause-listens g c = inl (ap (λ (l : Lent). l.addresses) c.clocks_of.ensures.lent)
+
+pub returns-in-Err-Fault-clause-listens : goal.returns-in-Err-Fault-clause-listens
+returns-in-Err-Fault-clause-listens g c = inl (ap (λ (l : Lent). l.addresses) (c.in-Err-Fault.ensures.lent ∙ c.clocks_of.ensures.lent))
+
+pub returns-in-Err-Memory-clause-listens : goal.returns-in-Err-Memory-clause-listens
+returns-in-Err-Memory-clause-listens g c = inl (ap (λ (l : Lent). l.addresses) (c.in-Err-Memory.ensures.lent ∙ c.clocks_of.ensures.lent))
+
+-- the port was given at the address of the command, and the later calls gave none
+pub returns-clause-listens : goal.returns-clause-listens
+returns-clause-listens g c =
+    inr (c.shut.ensures.back.addresses ∙ ap (λ (l : Lent). l.addresses) c.serve_terms-accounts.ensures.lent ∙ c.in-Ok-listen.ensures.lent.2
+    ∙ ap (λ (l : Lent). l.addresses ++ c.as_str.result.now ∷ []) c.clocks_of.ensures.lent
+    ∙ ap (λ (address : List ℕ). (g.X.Site.lent c.args.site.now).addresses ++ address ∷ []) c.as_str.ensures)

@@ -15,6 +15,7 @@ terms-init g c = record {
   progress = progress_first g.X.Port.Link.Told.told g.X.Port.Link.Closable.closed (map (hosted_at g.X.Keeper.Keeper.told g.X.Keeper.Keeper.keep_faults) c.args.crew.accounts.items) (map g.X.Clock.Clock.coming c.args.crew.clocks.items) c.args.command.now.connections c.args.command.now.terms
       (g.X.Site.terms c.args.site.now) (g.X.Site.counts c.args.site.now) (g.X.Port.Port.counts (port_in c.args.port.now)) c.requires.begun c.requires.idle;
   clocks = refl;
+  lent = refl;
   kept = refl;
 }
 
@@ -74,6 +75,7 @@ terms-preserved g c =
           (map (hosted_at g.X.Keeper.Keeper.told g.X.Keeper.Keeper.keep_faults) (take c.serve_once-after.result.0.accounts.len (c.fold_all.new.accounts ++ drop (length c.fold_all.new.accounts) c.serve_once-after.result.0.accounts.items)))
           c.requires.connections c.requires.terms c.if-left-eq1.false c.terms.invariant.progress done
           (zip_written BeginsAnew (hosted_at g.X.Keeper.Keeper.told g.X.Keeper.Keeper.keep_faults) c.serve_once-after.result.0.accounts.len c.serve_once-after.result.0.accounts.items c.as_mut_slice.result.now c.fold_all.new.accounts c.as_mut_slice.ensures.len c.as_mut_slice.ensures.value c.in-Ok.ensures.folded));
-      clocks = omega (arith, done.served.served.clocks, length-map c.terms.crew.clocks.items g.X.Clock.Clock.coming, length-map c.serve_once-after.result.0.clocks.items g.X.Clock.Clock.coming, c.terms.invariant.clocks);
+      clocks = omega (arith, done.took.served.served.clocks, length-map c.terms.crew.clocks.items g.X.Clock.Clock.coming, length-map c.serve_once-after.result.0.clocks.items g.X.Clock.Clock.coming, c.terms.invariant.clocks);
+      lent = c.serve_once-after.ensures.lent ∙ c.terms.invariant.lent;
       kept = c.serve_once-after.ensures.kept ∙ c.terms.invariant.kept;
     }

@@ -11,5 +11,6 @@ invariant-terms g l = record {
       (map g.X.Clock.Clock.coming l.initial.crew.clocks.items) l.command.connections l.command.terms (g.X.Site.terms l.initial.site) (g.X.Site.terms l.site) (g.X.Site.counts l.initial.site) (g.X.Site.counts l.site)
       (g.X.Port.Port.counts (port_in l.port)) l.left (map (hosted_at g.X.Keeper.Keeper.told g.X.Keeper.Keeper.keep_faults) l.crew.accounts.items) (map g.X.Clock.Clock.coming l.crew.clocks.items);
   clocks : vec_len l.crew.clocks ≡ vec_len l.initial.crew.clocks;
+  lent : g.X.Site.lent l.site ≡ g.X.Site.lent l.initial.site;
   kept : g.X.Site.kept l.site ≡ g.X.Site.kept l.initial.site;
 }

@@ -1,0 +1,32 @@
+-- What became of the keepers and ports that a site gave.
+use Rattle.std.specs.Prelude.{◌≡◌, ◌⊎◌, ◌+◌, ℕ, List, [], ◌∷◌, ◌++◌}
+use Rattle.ss_links.specs.Counts.{RoseBy}
+use Rattle.ss_site.specs.Sites.{Lent}
+use Rattle.ss_words.specs.declared.commands.ServeCommand.{ServeCommand}
+use Rattle.ss_words.specs.declared.commands.Command.TheVariants.{Serve}
+use Rattle.ss_words.specs.Commands.{Asks}
+
+-- so many keepers and ports are out that weren't before: so many more were given than came back
+pub record AreOut (n : ℕ) (old new : Lent) : Type 0 where
+  pub returned : ℕ
+  pub given : RoseBy (n + returned) old.given new.given
+  pub back : RoseBy returned old.back new.back
+
+-- all that were given came back
+abbrev pub AllAreBack : Lent → Lent → Type 0
+AllAreBack old new = AreOut 0 old new
+
+-- so many came back, and none was given
+pub record HaveComeBack (n : ℕ) (old new : Lent) : Type 0 where
+  pub given : new.given ≡ old.given
+  pub back : RoseBy n old.back new.back
+  pub addresses : new.addresses ≡ old.addresses
+
+-- one port at most was given, which listens at this address
+abbrev pub ListensAt : List ℕ → Lent → Lent → Type 0
+ListensAt address old new = (new.addresses ≡ old.addresses) ⊎ (new.addresses ≡ old.addresses ++ address ∷ [])
+
+-- a port was given only where the words ask a server, and then one, which listens at their address
+abbrev pub ListensAsAsked : List (List ℕ) → Lent → Lent → Type 0
+ListensAsAsked words old new =
+    (new.addresses ≡ old.addresses) ⊎ ((command : ServeCommand) × Asks words (Serve command) × (new.addresses ≡ old.addresses ++ command.address ∷ []))

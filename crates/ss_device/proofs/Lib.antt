@@ -10,3 +10,4 @@ pub mod Buried
 pub mod Gone
 pub mod Lined
 pub mod Uphill
+pub mod Formed

@@ -3,3 +3,4 @@ pub mod Edits
 pub mod Writing
 pub mod Refusals
 pub mod Removal
+pub mod Forms

@@ -8,12 +8,11 @@ mod deletions;
 mod device;
 mod edits;
 mod faults;
+mod forms;
 mod grafts;
 mod laws;
 mod lines;
 mod removal;
-#[cfg(test)]
-mod tests;
 mod titles;
 mod tree_edits;
 mod writing;

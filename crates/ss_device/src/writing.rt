@@ -1,11 +1,14 @@
 //! Writing a device's file.
 
-ghost use Rattle.std.specs.Prelude.{◌≡◌, ◌++◌, ◌==◌, ℕ, List, [], true, false, IfOk, OnOk, length, if◌then◌else◌};
-ghost use Rattle.std.specs.List.{flat_map};
-ghost use Rattle.ss_tree.specs.Entries.{IsTree, is_live, kid_ids, preorder};
+ghost use Rattle.std.specs.Prelude.{◌≡◌, ◌≢◌, ◌++◌, ◌==◌, ℕ, List, [], Some, true, false, IfOk, OnOk, length, if◌then◌else◌};
+ghost use Rattle.std.specs.List.{AllByRecursion, flat_map};
+ghost use Rattle.ss_tree.specs.declared.entries.Entry.{Entry};
+ghost use Rattle.ss_tree.specs.Entries.{IsTree, entry, is_live, kid_ids, preorder};
+ghost use Rattle.ss_device.specs.Forms.{AreItems, IsDeath, IsFormed, IsItem, IsRow};
 ghost use Rattle.ss_device.specs.Writing.{dead_line, device_text, node_line, node_lines, row_line};
 
 use crate::device::Device;
+use crate::forms::{death_form, item_form, row_form, time_form};
 use crate::lines::{push_dead, push_item, push_row, push_synced};
 use ss_record::{Sheet, write_record};
 use ss_text::{Id, Stamp, Word};
@@ -14,9 +17,11 @@ use std::alloc::{AllocError, Global};
 use std::collections::BTreeMap;
 
 fn push_rows(out: &mut Vec<u8>, rows: &[Sheet]) -> Result<(), AllocError>
-    ensures { OnOk result (out.new.items ≡ out.old.items ++ flat_map row_line rows.now) }
+    ensures lines { OnOk result (out.new.items ≡ out.old.items ++ flat_map row_line rows.now) }
+    ensures formed { OnOk result (AllByRecursion IsRow rows.now) }
 {
     for row in rows {
+        row_form(row);
         push_row(out, row)?;
     }
     Ok(())
@@ -39,18 +44,23 @@ fn children_of(alloc: Global, tree: &Tree, node: Node) -> Result<Vec<Id>, AllocE
 fn push_node(alloc: Global, out: &mut Vec<u8>, tree: &Tree, node: Node) -> Result<(), AllocError>
     requires live { is_live node tree.now ≡ true }
     requires kept { IsTree tree.now }
-    ensures { OnOk result (out.new.items ≡ out.old.items ++ node_line tree.now node) }
+    ensures line { OnOk result (out.new.items ≡ out.old.items ++ node_line tree.now node) }
+    ensures formed { OnOk result ((e : Entry) → node ≢ 0 → entry node tree.now ≡ Some e → IsItem tree.now e) }
 {
     let Some(above) = tree.parent(node) else {
         return Ok(());
     };
     let children = children_of(alloc, tree, node)?;
-    let record = write_record(alloc, tree.item(node), tree.item(above).id(), &children)?;
+    let item = tree.item(node);
+    let record = write_record(alloc, item, tree.item(above).id(), &children)?;
+    item_form(item, tree.time(node), &record);
     push_item(out, tree.time(node), &record)
 }
 
 fn push_nodes(alloc: Global, out: &mut Vec<u8>, tree: &Tree) -> Result<(), AllocError>
-    ensures { OnOk result (out.new.items ≡ out.old.items ++ node_lines tree.now (preorder tree.now (length tree.now) 0)) }
+    ensures lines { OnOk result (out.new.items ≡ out.old.items ++ node_lines tree.now (preorder tree.now (length tree.now) 0)) }
+    ensures valid { OnOk result (IsTree tree.now) }
+    ensures formed { OnOk result (AreItems tree.now) }
 {
     let nodes = tree.walk(alloc)?;
     for node in &nodes {
@@ -60,20 +70,25 @@ fn push_nodes(alloc: Global, out: &mut Vec<u8>, tree: &Tree) -> Result<(), Alloc
 }
 
 fn push_deaths(out: &mut Vec<u8>, dead: &BTreeMap<Id, Stamp>) -> Result<(), AllocError>
-    ensures { OnOk result (out.new.items ≡ out.old.items ++ flat_map dead_line dead.now.entries) }
+    ensures lines { OnOk result (out.new.items ≡ out.old.items ++ flat_map dead_line dead.now.entries) }
+    ensures formed { OnOk result (AllByRecursion IsDeath dead.now.entries) }
 {
     for (id, time) in dead.iter() {
+        death_form(id, *time);
         push_dead(out, id, *time)?;
     }
     Ok(())
 }
 
-/// The bytes of a device's file, in its second version (the format is this project's).
+/// The bytes of a device's file, in its second version (the format is this project's). What they say of ids, times and texts
+/// has its form, so that they are read as this device.
 #[tactic(auto, unfolding(crate::specs::Writing::device_text, crate::specs::Writing::device_line, crate::specs::Writing::end_line))]
 pub fn write_device(alloc: Global, device: &Device) -> Result<Vec<u8>, AllocError>
-    ensures { IfOk result (λ bytes. bytes.items ≡ device_text device.now) }
+    ensures text { IfOk result (λ bytes. bytes.items ≡ device_text device.now) }
+    ensures formed { OnOk result (IsFormed device.now) }
 {
     let mut out = Vec::from_slice(alloc, b"[\"device\",2]\n")?;
+    time_form(device.stamp);
     push_synced(&mut out, device.stamp)?;
     push_rows(&mut out, &device.mirror)?;
     push_nodes(alloc, &mut out, &device.tree)?;

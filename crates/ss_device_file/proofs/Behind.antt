@@ -22,7 +22,7 @@ none_follows (Some End) (Item i) e = refl
 none_follows (Some End) (Dead x t) e = refl
 none_follows (Some End) End e = refl
 
-none_behind : (ls : List Line) (rest : List ℕ) → is_ended ls ≡ true → NoneComes ls rest
+pub none_behind : (ls : List Line) (rest : List ℕ) → is_ended ls ≡ true → NoneComes ls rest
 unfolding may_come
 none_behind ls rest e l back may line is = false≢true (sym (none_follows (last_of ls) l e) ∙ (and_parts (follows (last_of ls) l) (suits (version_in ls) l) may).0)
 

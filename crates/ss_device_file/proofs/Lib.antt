@@ -16,3 +16,10 @@ pub mod Apart
 pub mod Found
 pub mod Behind
 pub mod Joined
+pub mod Unique
+pub mod Excluding
+pub mod Preorder
+pub mod Standing
+pub mod Again
+pub mod Alike
+pub mod Fronts

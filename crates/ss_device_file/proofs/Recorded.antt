@@ -208,10 +208,13 @@ no_comma_digit (d ∷ ds) h =
     let low = leb-true 48 d (and_parts (leb 48 d) (leb d 57) p.0).0 in
     ap₂ (λ a b. a || b) (ne_eqb d 44 (λ e. omega arith)) (no_comma_digit ds p.1)
 
+pub time_nocomma : (time : ℕ) → time ≤ last_stamp → NoComma (decimal time)
+time_nocomma time h = no_comma_digit (decimal time) (decimal_digits time (omega arith))
+
 pub item_cut : (o : Option (List ℕ × List ℕ)) (line : List ℕ) → ((digits text : List ℕ) → NoComma digits → item_pieces digits text ≡ line → o ≡ Some (digits, text))
     → (i : ItemLine) → IsItemLine i → item_line i.time (record_in i) ≡ line → o ≡ Some (decimal i.time, record_in i)
 unfolding item_line item_pieces item_front
-item_cut o line all i h is = all (decimal i.time) (record_in i) (no_comma_digit (decimal i.time) (decimal_digits i.time (let t = h.time in omega arith))) is
+item_cut o line all i h is = all (decimal i.time) (record_in i) (time_nocomma i.time h.time) is
 
 pub record IsOfParts (cut : ItemCut) (i : ItemLine) : Type 0 where
   pub digits : decimal i.time ≡ cut.digits.now

@@ -7,3 +7,4 @@ pub mod Records
 pub mod Walking
 pub mod Growing
 pub mod Joining
+pub mod Fresh

@@ -11,13 +11,12 @@ mod front;
 mod grammar;
 mod items;
 mod known;
+mod laws;
 mod lines;
 mod parts;
 mod plants;
 mod reading;
 mod single;
-#[cfg(test)]
-mod tests;
 mod texts;
 mod values;
 mod walk;
@@ -25,6 +24,9 @@ mod walk;
 pub use devices::device_of;
 pub use faults::{DeviceFault, LinesFault};
 pub use front::{Front, read_front};
+pub use laws::{
+    file_is_not_refused, one_device, one_front, one_refusal, one_text, written_is_read,
+};
 pub use lines::{ItemLine, Line, Version};
-pub use reading::read_device;
+pub use reading::{read_device, read_written};
 pub use single::read_line;

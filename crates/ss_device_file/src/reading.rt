@@ -1,13 +1,15 @@
 //! Reading a device's file.
 
 ghost use Rattle.std.specs.Prelude.{◌≡◌, true, IfOk, IfErr};
+ghost use Rattle.ss_device.specs.Device.{IsSameDevice};
 ghost use Rattle.ss_device_file.specs.Files.{AreAll, IsFileOf, IsRefused, IsRefusedFront};
+ghost use Rattle.ss_device_file.specs.declared.faults.DeviceFault.TheVariants.{Memory};
 
 use crate::devices::device_of;
 use crate::faults::{DeviceFault, LinesFault};
 use crate::front::read_front;
 use crate::lines::Line;
-use ss_device::Device;
+use ss_device::{Device, write_device};
 use std::alloc::Global;
 
 /// The lines of a whole file.
@@ -38,4 +40,13 @@ pub fn read_device(alloc: Global, bytes: &[u8]) -> Result<Device, DeviceFault>
 {
     let lines = lines_of(alloc, bytes)?;
     device_of(alloc, lines)
+}
+
+/// Writes a device's file and reads it again: that gives the same device, its times included, unless memory is wanting.
+pub fn read_written(alloc: Global, device: &Device) -> Result<Device, DeviceFault>
+    ensures same { IfOk result (λ d. IsSameDevice d device.now) }
+    ensures memory { IfErr result (λ fault. fault ≡ Memory) }
+{
+    let bytes = write_device(alloc, device)?;
+    read_device(alloc, bytes.as_slice())
 }

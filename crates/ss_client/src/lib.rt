@@ -12,8 +12,6 @@ mod runs;
 mod steps;
 mod summaries;
 mod synced;
-#[cfg(test)]
-mod tests;
 mod uploading;
 
 pub use laws::requests_can_be_sent;

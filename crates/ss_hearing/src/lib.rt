@@ -11,8 +11,6 @@ mod limits;
 mod lists;
 mod posts;
 mod sheets;
-#[cfg(test)]
-mod tests;
 
 pub use answer::{Answer, Awaited};
 pub use hearing::hear;

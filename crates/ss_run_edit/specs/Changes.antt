@@ -8,6 +8,7 @@ use Rattle.ss_tree.specs.Trees.{Placed}
 use Rattle.ss_tree.specs.Entries.{tree}
 use Rattle.ss_device.specs.Device.{DeviceView}
 use Rattle.ss_device.specs.Edits.{IsAdded, IsDeleted, IsMoved, IsRenamed, add_fault, change_fault, move_fault}
+use Rattle.ss_device.specs.Forms.{IsFormed}
 use Rattle.ss_device.specs.Writing.{device_text}
 use Rattle.ss_device.specs.declared.faults.EditFault.{EditFault}
 use Rattle.ss_device_file.specs.Files.{IsFileOf}
@@ -78,13 +79,14 @@ IsNoChange change ending = ⊥
 
 -- ---- texts
 
--- the text is a device's file, and what is written is that of the device as the change makes it
+-- the text is a device's file, and what is written is that of the device as the change makes it, which has one text alone
 pub record IsEditOf (change : Change) (now : ℕ) (text out : List ℕ) : Type 0 where
   pub old : DeviceView
   pub new : DeviceView
   pub file : IsFileOf text old
   pub allowed : fault_in change (tree old.tree) ≡ None
   pub changed : IsChanged now change old new
+  pub formed : IsFormed new
   pub out_is : out ≡ device_text new
 
 -- why nothing is made of a text: it is no device's file, or its device refuses the change

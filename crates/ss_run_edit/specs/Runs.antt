@@ -1,8 +1,7 @@
 -- What runs of `edit` and `merge` do (this project's).
 use Rattle.std.specs.Prelude.{◌≡◌, ℕ, List, Option, Some, None, IfSome, true, false}
 use Rattle.ss_outside.specs.Told.{Meanings, TakesFirst}
-use Rattle.ss_device.specs.Device.{DeviceView, IsNew}
-use Rattle.ss_device.specs.Writing.{device_text}
+use Rattle.ss_device_file.specs.Fresh.{fresh_text}
 use Rattle.ss_words.specs.declared.commands.EditCommand.{EditCommand}
 use Rattle.ss_words.specs.declared.commands.Command.TheVariants.{Edit, Merge}
 use Rattle.ss_words.specs.Commands.{Asks}
@@ -32,10 +31,10 @@ abbrev pub IsTime : Option ℕ → ℕ → Option (List ℕ) → Option (List �
 IsTime (Some at) now coming coming' = (now ≡ at) × (coming' ≡ coming)
 IsTime None now coming coming' = TakesFirst coming coming' now
 
--- the file of a new device was written, at least in part; or no memory was found for it, and nothing was written
+-- the seven lines of a new device were written, at least in part; or no memory was found for them, and nothing was written
 abbrev pub WritesNew : Ending → Meanings → Meanings → Type 0
 WritesNew Memory output output' = output' ≡ output
-WritesNew ending output output' = (d : DeviceView) × IsNew d × Wrote (device_text d) ending output output'
+WritesNew ending output output' = Wrote fresh_text ending output output'
 
 -- What `edit` does. A new device is written, and nothing is read; or the device of the input is changed at one time. Where a new item
 -- isn't fit nothing is done, and the same where no memory was found for it

@@ -1,8 +1,7 @@
 //! The command `edit`: a device's file as an edit makes it.
 
 ghost use Rattle.std.specs.Prelude.{◌≡◌, IfOk, IfErr, IfSome};
-ghost use Rattle.ss_device.specs.Device.{DeviceView, IsNew};
-ghost use Rattle.ss_device.specs.Writing.{device_text};
+ghost use Rattle.ss_device_file.specs.Fresh.{fresh_text};
 ghost use Rattle.ss_run_edit.specs.Changes.{IsEditOf, RefusesEdit};
 ghost use Rattle.ss_run_edit.specs.declared.endings.Ending.TheVariants.{Memory};
 ghost use Rattle.ss_run_edit.specs.Runs.{Edits, IsTime, Turns, WritesNew};
@@ -53,7 +52,7 @@ fn edit_input<S: Source, T: Sink>(
 
 /// The file of a new device.
 fn new_file(alloc: Global) -> Result<Vec<u8>, Ending>
-    ensures file { IfOk result (λ out. (d : DeviceView) × IsNew d × (out.items ≡ device_text d)) }
+    ensures file { IfOk result (λ out. out.items ≡ fresh_text) }
     ensures memory { IfErr result (λ ending. ending ≡ Memory) }
 {
     let device = Device::new(alloc)?;

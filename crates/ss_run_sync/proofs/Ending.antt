@@ -21,7 +21,8 @@ use Rattle.ss_run_sync.specs.declared.reports.Report.{Report}
 use Rattle.ss_run_sync.specs.declared.reports.Report.TheVariants.{Line, Short}
 use Rattle.ss_run_sync.specs.Endings.{Ending, Synced, Stopped, Failed, status_of, status_of_stop, status_of_size, too_large, line_of, status_told, line_told, Tells, Reports, Prints}
 use Rattle.ss_run_sync.specs.Naming.{host_named}
-use Rattle.ss_run_sync.specs.Links.{Dials, IsRun}
+use Rattle.ss_links.specs.Dials.{Address}
+use Rattle.ss_run_sync.specs.Links.{IsRun}
 use Rattle.ss_run_sync.specs.Syncs.{Outside, Starts, Loads, Saves, IsKept, Closes, Syncs, Went, undialled, dialled, account_of, address_of, machine_of, fetch_of}
 use Rattle.ss_run_sync.specs.Runs.{Runs, Causes, syncs, asks_nothing, out_of_memory}
 
@@ -37,29 +38,30 @@ went_undialled command what old new l a h f = record { ending = Failed what; tel
 
 -- ---- over links
 
+-- a run of a machine with an account at the address that a command names
+abbrev Over : SyncCommand → Came → Outside → Outside → Account → MachineView → Type 0
+Over command what old new account m = IsRun account m what old.dial_faults new.dial_faults old.hung new.hung (address_of command) old.asked new.asked
+
 -- a sync that loaded a device, whose run came to this, and that has this end to come
 pub record Ran (command : SyncCommand) (what : Came) (old new : Outside) : Type 0 where
   pub device : DeviceView
   pub starts : Starts old.held command.file device
-  pub dials : Dials (address_of command) old.asked new.asked
-  pub run : IsRun (account_of command) (machine_of command device) what old.dial_faults new.dial_faults old.hung new.hung
+  pub run : IsRun (account_of command) (machine_of command device) what old.dial_faults new.dial_faults old.hung new.hung (address_of command) old.asked new.asked
 
 -- the device that was loaded from the file of this name, and the run of the machine that was started for it, under this host
 pub ran_of : (command : SyncCommand) (file host : List ℕ) (d : DeviceView) (m : MachineView) (fetch : Fetch) (what : Came) (old new : Outside) → file ≡ command.file → host ≡ host_named command.server
     → m ≡ record { device = d; run = first_run (is_newer d fetch); stage = Asks } → fetch ≡ fetch_of command → Starts old.held file d
-    → Dials (address_of command) old.asked new.asked
-    → IsRun (record { uid = command.server.uid; host = host }) m what old.dial_faults new.dial_faults old.hung new.hung → Ran command what old new
-ran_of command file host d m fetch what old new e h is f s a r = record {
+    → IsRun (record { uid = command.server.uid; host = host }) m what old.dial_faults new.dial_faults old.hung new.hung (address_of command) old.asked new.asked → Ran command what old new
+ran_of command file host d m fetch what old new e h is f s r = record {
   device = d;
   starts = subst (λ x. Starts old.held x d) e s;
-  dials = a;
-  run = subst (λ x. IsRun (record { uid = command.server.uid; host = x }) (machine_of command d) what old.dial_faults new.dial_faults old.hung new.hung) h
-      (subst (λ (x : Fetch). IsRun (record { uid = command.server.uid; host = host }) (record { device = d; run = first_run (is_newer d x); stage = Asks }) what old.dial_faults new.dial_faults old.hung new.hung) f
-      (subst (λ (x : MachineView). IsRun (record { uid = command.server.uid; host = host }) x what old.dial_faults new.dial_faults old.hung new.hung) is r));
+  run = subst (λ x. Over command what old new (record { uid = command.server.uid; host = x }) (machine_of command d)) h
+      (subst (λ (x : Fetch). Over command what old new (record { uid = command.server.uid; host = host }) (record { device = d; run = first_run (is_newer d x); stage = Asks })) f
+      (subst (λ (x : MachineView). Over command what old new (record { uid = command.server.uid; host = host }) x) is r));
 }
 
 went : (command : SyncCommand) (what : Came) (ending : Ending) (report : Report) (old new : Outside) → Ran command what old new → Tells ending report → Closes command.file what ending old new → Went command report old new
-went command what ending report old new r t c = record { ending = ending; tells = t; syncs = dialled r.device what r.starts r.dials r.run c }
+went command what ending report old new r t c = record { ending = ending; tells = t; syncs = dialled r.device what r.starts r.run c }
 
 pub went_done : (command : SyncCommand) (d : DeviceView) (summary : Summary) (report : Report) (old new : Outside) (held : Option Files) (faults : ℕ) → Ran command (came.Done d summary) old new
     → held ≡ old.held → faults ≡ old.store_faults → Saves command.file d summary report held new.held faults new.store_faults → Went command report old new
@@ -119,7 +121,7 @@ loads_kept name trouble.Memory held held' f g l = l.0
 
 syncs_kept : (command : SyncCommand) (ending : Ending) (old new : Outside) → Syncs command ending old new → status_of ending ≢ 0 → new.held ≡ old.held
 syncs_kept command ending old new (undialled what e l a h f) n = loads_kept command.file what old.held new.held old.store_faults new.store_faults l
-syncs_kept command ending old new (dialled d what s a r c) n = closes_kept command.file what ending old new c n
+syncs_kept command ending old new (dialled d what s r c) n = closes_kept command.file what ending old new c n
 
 pub kept_of : (words : List (List ℕ)) (status : ℕ) (old new : Outside) (a b : Meanings) → Runs words status old new a b → status ≢ 0 → status ≢ 10 → new.held ≡ old.held
 kept_of words status old new a b (syncs command ending asks s (inl p)) n m = syncs_kept command ending old new s (λ z. n (p.0 ∙ z))
@@ -162,12 +164,12 @@ is_store (Failed trouble.Memory) e = absurd (omega arith)
 same_trouble : (what that : Trouble) → Failed what ≡ Failed that → what ≡ that
 same_trouble what that e = cc
 
-closes_wire : (file : List ℕ) (account : Account) (m : MachineView) (what : Came) (old new : Outside) → IsRun account m what old.dial_faults new.dial_faults old.hung new.hung → Closes file what (Failed trouble.Wire) old new
-    → Rose old.dial_faults new.dial_faults
-closes_wire file account m (came.Done d s) old new r c = absurd c
-closes_wire file account m (came.Stop f) old new r c = absurd c
-closes_wire file account m came.Wire old new r c = r.comes.1
-closes_wire file account m came.Memory old new r c = absurd c
+closes_wire : (file : List ℕ) (account : Account) (m : MachineView) (address : Address) (what : Came) (old new : Outside)
+    → IsRun account m what old.dial_faults new.dial_faults old.hung new.hung address old.asked new.asked → Closes file what (Failed trouble.Wire) old new → Rose old.dial_faults new.dial_faults
+closes_wire file account m address (came.Done d s) old new r c = absurd c
+closes_wire file account m address (came.Stop f) old new r c = absurd c
+closes_wire file account m address came.Wire old new r c = r.comes.1
+closes_wire file account m address came.Memory old new r c = absurd c
 
 closes_store : (file : List ℕ) (what : Came) (old new : Outside) → Closes file what (Failed trouble.Store) old new → Rose old.store_faults new.store_faults
 closes_store file (came.Done d s) old new c = c.1
@@ -179,13 +181,13 @@ closes_store file came.Memory old new c = absurd c
 ended_wire : (command : SyncCommand) (ending : Ending) (old new : Outside) → Syncs command ending old new → ending ≡ Failed trouble.Wire → Rose old.dial_faults new.dial_faults
 ended_wire command ending old new (undialled what e l a h f) is =
     absurd (subst (λ t. Loads command.file (Err t) old.held new.held old.store_faults new.store_faults) (same_trouble what trouble.Wire (sym e ∙ is)) l)
-ended_wire command ending old new (dialled d what s a r c) is =
-    closes_wire command.file (account_of command) (machine_of command d) what old new r (subst (λ x. Closes command.file what x old new) is c)
+ended_wire command ending old new (dialled d what s r c) is =
+    closes_wire command.file (account_of command) (machine_of command d) (address_of command) what old new r (subst (λ x. Closes command.file what x old new) is c)
 
 ended_store : (command : SyncCommand) (ending : Ending) (old new : Outside) → Syncs command ending old new → ending ≡ Failed trouble.Store → Rose old.store_faults new.store_faults
 ended_store command ending old new (undialled what e l a h f) is =
     (subst (λ t. Loads command.file (Err t) old.held new.held old.store_faults new.store_faults) (same_trouble what trouble.Store (sym e ∙ is)) l).1
-ended_store command ending old new (dialled d what s a r c) is = closes_store command.file what old new (subst (λ x. Closes command.file what x old new) is c)
+ended_store command ending old new (dialled d what s r c) is = closes_store command.file what old new (subst (λ x. Closes command.file what x old new) is c)
 
 -- none of these statuses is 10
 below_ten : (ending : Ending) → status_of ending ≡ 10 → ⊥

@@ -6,7 +6,7 @@ use Rattle.std.proofs.lemmas.Grind.{flat_map-append}
 use Rattle.std.proofs.lemmas.List.Folds.{flat_map-map}
 use Rattle.std.proofs.lemmas.List.Elements.{All-tail}
 use Rattle.ss_outside.specs.Told.{Meanings}
-use Rattle.ss_links.specs.Dials.{Hung}
+use Rattle.ss_links.specs.Dials.{Address, Hung}
 use Rattle.ss_device.specs.Device.{DeviceView}
 use Rattle.ss_client.specs.Runs.{MachineView}
 use Rattle.ss_client.specs.Machine.{Next}
@@ -15,7 +15,7 @@ use Rattle.ss_converse.specs.Course.{Account, Exchange, request_at, request_next
 use Rattle.ss_run_sync.specs.declared.linking.Came.{Came}
 use Rattle.ss_run_sync.specs.declared.linking.Came.TheVariants as came
 use Rattle.ss_run_sync.specs.Links.{Used, hung_of, exchanges_of, IsLeft, listed, IsEnded, Comes, IsRun}
-use Rattle.ss_run_sync.specs.Syncs.{Outside, undialled, dialled, account_of, machine_of}
+use Rattle.ss_run_sync.specs.Syncs.{Outside, undialled, dialled, account_of, address_of, machine_of}
 use Rattle.ss_run_sync.specs.Joined.{IsJoined, Joined}
 use Rattle.ss_run_sync.specs.Runs.{Runs, syncs, asks_nothing, out_of_memory}
 
@@ -86,9 +86,9 @@ front_of account d (Some used) next f f' came.Memory c = c.0.written.1
 
 -- ---- a run, and a sync
 
-pub run_joined : (account : Account) (m : MachineView) (what : Came) (f f' : ℕ) (a b : Option (List Hung)) → IsRun account m what f f' a b → (y : List Hung) → b ≡ Some y
-    → (x : List Hung) × (links : List Hung) × (a ≡ Some x) × (y ≡ x ++ links) × IsJoined account m links
-run_joined account m what f f' a b r y told =
+pub run_joined : (account : Account) (m : MachineView) (what : Came) (f f' : ℕ) (a b : Option (List Hung)) (address : Address) (p q : Option (List Address)) → IsRun account m what f f' a b address p q
+    → (y : List Hung) → b ≡ Some y → (x : List Hung) × (links : List Hung) × (a ≡ Some x) × (y ≡ x ++ links) × IsJoined account m links
+run_joined account m what f f' a b address p q r y told =
     let d = m.device in
     let all = r.before ++ listed r.last in
     let h = r.hangs y told in (
@@ -113,8 +113,8 @@ nothing words old new e y told = (y, [], sym e ∙ told, sym (append-nil y), inl
 
 pub joined_of : (words : List (List ℕ)) (status : ℕ) (old new : Outside) (a b : Meanings) → Runs words status old new a b → Joined words old new
 joined_of words status old new a b (syncs command ending asks (undialled what e l i h f) p) = nothing words old new h
-joined_of words status old new a b (syncs command ending asks (dialled d what s i r c) p) = λ y told.
-    let j = run_joined (account_of command) (machine_of command d) what old.dial_faults new.dial_faults old.hung new.hung r y told in
+joined_of words status old new a b (syncs command ending asks (dialled d what s r c) p) = λ y told.
+    let j = run_joined (account_of command) (machine_of command d) what old.dial_faults new.dial_faults old.hung new.hung (address_of command) old.asked new.asked r y told in
     (j.0, j.1, j.2, j.3, inr (command, d, asks, s, j.4))
 joined_of words status old new a b (asks_nothing asks e same w) = nothing words old new (ap (λ (o : Outside). o.hung) same)
 joined_of words status old new a b (out_of_memory same p) = nothing words old new (ap (λ (o : Outside). o.hung) same)

@@ -6,7 +6,7 @@ use Rattle.std.proofs.lemmas.Grind.{flat_map-append}
 use Rattle.std.proofs.lemmas.List.Elements.{All-append, All-cons}
 use Rattle.ss_outside.specs.Told.{Meanings}
 use Rattle.ss_links.specs.Links.{IsUnused}
-use Rattle.ss_links.specs.Dials.{Hung, HasCause, HasHung, HangUpCounts}
+use Rattle.ss_links.specs.Dials.{Address, Hung, IsBehind, HasCause, HasHung, HangUpCounts}
 use Rattle.ss_links.specs.declared.dial.DialFault.{DialFault}
 use Rattle.ss_links.specs.declared.dial.DialFault.TheVariants.{Fault, Memory}
 use Rattle.ss_device.specs.Device.{DeviceView}
@@ -19,8 +19,10 @@ use Rattle.ss_converse.specs.Course.{Account, request_next, IsCourse}
 use Rattle.ss_converse.specs.Talks.{EndsIn, IsWhole, IsBadReply, Talks}
 use Rattle.ss_converse.proofs.Coursing.{course_then}
 use Rattle.ss_run_sync.specs.declared.linking.Came.{Came}
-use Rattle.ss_run_sync.specs.Links.{Used, Hangs, exchanges_of, IsLeft, listed, IsEnded, IsUnheard, Comes, IsRun, leg_of, came_of, Goes, IsLeg}
+use Rattle.ss_run_sync.specs.declared.linking.Leg.{Leg}
+use Rattle.ss_run_sync.specs.Links.{Used, Dials, Hangs, missed, exchanges_of, IsLeft, listed, IsEnded, IsUnheard, Comes, IsRun, leg_of, came_of, Goes, IsLeg}
 use Rattle.ss_run_sync.proofs.Hanging.{hangs_none, hangs_then, hangs_one, hung_failed, hung_fine}
+use Rattle.ss_run_sync.proofs.Dialling.{dials_none, dials_one, dials_then}
 
 -- ---- fronts of a request
 
@@ -42,9 +44,9 @@ one_course d now used next c = subst (λ xs. IsCourse d now xs next) (sym (appen
 none_left : All IsLeft []
 none_left = λ k d h. absurd (omega arith)
 
-pub leg_is : (account : Account) (m : MachineView) (talk : Talk) (link link' : Meanings) (f g : ℕ) (a b : Option (List Hung)) → IsUnused link → Talks account m talk link link' → HasHung link' a b → HangUpCounts link' f g
-    → IsLeg account m (leg_of talk) f g a b
-leg_is account m (talks.Done device summary) link link' f g a b u t h c =
+pub leg_is : (account : Account) (m : MachineView) (talk : Talk) (link link' : Meanings) (f g : ℕ) (a b : Option (List Hung)) (address : Address) (asked dialled left : Option (List Address))
+    → IsUnused link → Talks account m talk link link' → HasHung link' a b → HangUpCounts link' f g → IsBehind address asked dialled → left ≡ dialled → IsLeg account m (leg_of talk) f g a b address asked left
+leg_is account m (talks.Done device summary) link link' f g a b address asked dialled left u t h c e same =
     let used : Used = record { talked = t.talked; tells = link' } in
     record {
       before = [];
@@ -52,10 +54,11 @@ leg_is account m (talks.Done device summary) link link' f g a b u t h c =
       next = t.next;
       course = one_course m.device (Send m.run m.stage) used t.next t.course;
       left = none_left;
+      dials = dials_one address used asked dialled left e same;
       hangs = hangs_one account m.device t.talked link link' a b u t.moves h;
       comes = (t.cause.0, record { used = used; is_last = refl; ends = t.cause.1; whole = t.cause.2 }, hung_fine link link' f g u t.cause.3 c);
     }
-leg_is account m (talks.Stop device fault) link link' f g a b u t h c =
+leg_is account m (talks.Stop device fault) link link' f g a b address asked dialled left u t h c e same =
     let used : Used = record { talked = t.talked; tells = link' } in
     record {
       before = [];
@@ -63,6 +66,7 @@ leg_is account m (talks.Stop device fault) link link' f g a b u t h c =
       next = t.next;
       course = one_course m.device (Send m.run m.stage) used t.next t.course;
       left = none_left;
+      dials = dials_one address used asked dialled left e same;
       hangs = hangs_one account m.device t.talked link link' a b u t.moves h;
       comes = (by used refl t.cause.1, hung_fine link link' f g u t.cause.2 c);
     }
@@ -71,19 +75,20 @@ leg_is account m (talks.Stop device fault) link link' f g a b u t h c =
         → ((t.next ≡ Stop fault) × IsEnded (Some (record { talked = t.talked; tells = link' }))) ⊎ IsUnheard account m.device (Some (record { talked = t.talked; tells = link' })) t.next fault
     by used e (inl s) = inl (s.0, record { used = record { talked = t.talked; tells = link' }; is_last = refl; ends = s.1; whole = s.2 })
     by used e (inr s) = inr (record { used = record { talked = t.talked; tells = link' }; is_last = refl; bad = s })
-leg_is account m (talks.Anew machine request) link link' f g a b u t h c =
+leg_is account m (talks.Anew machine request) link link' f g a b address asked dialled left u t h c e same =
     let used : Used = record { talked = t.talked; tells = link' } in (
       record {
         before = used ∷ [];
         device = t.cause.0;
         course = subst (λ n. IsCourse m.device (Send m.run m.stage) (exchanges_of (used ∷ [])) n) t.cause.1 (one_course m.device (Send m.run m.stage) used t.next t.course);
         left = All-cons IsLeft used [] (record { last = t.cause.3; whole = t.cause.4 }) none_left;
+        dials = dials_one address used asked dialled left e same;
         hangs = hangs_one account m.device t.talked link link' a b u t.moves h;
         faultless = hung_fine link link' f g u t.cause.5 c;
       },
       t.cause.2,
     )
-leg_is account m (talks.Wire device) link link' f g a b u t h c =
+leg_is account m (talks.Wire device) link link' f g a b address asked dialled left u t h c e same =
     let used : Used = record { talked = t.talked; tells = link' } in
     let k = t.cause.1 in
     record {
@@ -92,13 +97,14 @@ leg_is account m (talks.Wire device) link link' f g a b u t h c =
       next = t.next;
       course = one_course m.device (Send m.run m.stage) used t.next t.course;
       left = none_left;
+      dials = dials_one address used asked dialled left e same;
       hangs = hangs_one account m.device t.talked link link' a b u t.moves h;
       comes = (
         record { run = k.run; stage = k.stage; asks = k.asks; written = (k.goes_on, front_of (request_next account m.device t.next) t.talked.more t.talked.part link link' k.fails) },
         hung_failed (request_next account m.device t.next) t.talked.more t.talked.part link link' f g u k.fails c,
       );
     }
-leg_is account m (talks.Memory device) link link' f g a b u t h c =
+leg_is account m (talks.Memory device) link link' f g a b address asked dialled left u t h c e same =
     let used : Used = record { talked = t.talked; tells = link' } in
     let k = t.cause.1 in
     record {
@@ -107,6 +113,7 @@ leg_is account m (talks.Memory device) link link' f g a b u t h c =
       next = t.next;
       course = one_course m.device (Send m.run m.stage) used t.next t.course;
       left = none_left;
+      dials = dials_one address used asked dialled left e same;
       hangs = hangs_one account m.device t.talked link link' a b u t.moves h;
       comes = (record { run = k.run; stage = k.stage; asks = k.asks; written = (k.goes_on, by k.sent) }, hung_fine link link' f g u t.cause.2 c);
     }
@@ -120,25 +127,38 @@ unlinked : (L : Type 0) (account : Account) (m : MachineView) (fault : DialFault
 unlinked L account m Fault f g a b e r = (record { run = m.run; stage = m.stage; asks = refl; written = tt }, r)
 unlinked L account m Memory f g a b e r = (record { run = m.run; stage = m.stage; asks = refl; written = tt }, r)
 
-pub undialled_is : (L : Type 0) (account : Account) (m : MachineView) (fault : DialFault) (f g : ℕ) (a b : Option (List Hung)) → b ≡ a → HasCause {L = L} (Err fault) f g → IsRun account m (came_of fault) f g a b
-undialled_is L account m fault f g a b e r = record {
+pub undialled_is : (L : Type 0) (account : Account) (m : MachineView) (fault : DialFault) (f g : ℕ) (a b : Option (List Hung)) (address : Address) (asked left : Option (List Address))
+    → b ≡ a → HasCause {L = L} (Err fault) f g → Dials address [] (missed address None (came_of fault)) asked left → IsRun account m (came_of fault) f g a b address asked left
+undialled_is L account m fault f g a b address asked left e r d = record {
   before = [];
   last = None;
   next = Send m.run m.stage;
   course = refl;
   left = none_left;
+  dials = d;
   hangs = hangs_none account m.device a b e;
   comes = unlinked L account m fault f g a b e r;
 }
 
+-- a link that was dialled under another name of the same host, and what came of it
+pub leg_dialled : (account : Account) (m : MachineView) (leg : Leg) (host named : List ℕ) (port : ℕ) (f g h : ℕ) (a b c : Option (List Hung)) (p q r : Option (List Address))
+    → named ≡ host → IsBehind (record { host = named; port = port }) p q → g ≡ f → b ≡ a
+    → ((asked : Option (List Address)) → IsBehind (record { host = host; port = port }) asked q → IsLeg account m leg g h b c (record { host = host; port = port }) asked r)
+    → IsLeg account m leg f h a c (record { host = host; port = port }) p r
+leg_dialled account m leg host named port f g h a b c p q r e behind fine same over =
+    let there : Address = record { host = host; port = port } in
+    subst (λ x. IsLeg account m leg x h a c there p r) fine
+    (subst (λ x. IsLeg account m leg g h x c there p r) same (over p (subst (λ x. IsBehind (record { host = x; port = port }) p q) e behind)))
+
 -- ---- links behind others
 
-pub no_links : (account : Account) (m : MachineView) (f : ℕ) (a : Option (List Hung)) → Goes account m m f f a a
-no_links account m f a = record {
+pub no_links : (account : Account) (m : MachineView) (f : ℕ) (a : Option (List Hung)) (address : Address) (asked : Option (List Address)) → Goes account m m f f a a address asked asked
+no_links account m f a address asked = record {
   before = [];
   device = refl;
   course = refl;
   left = none_left;
+  dials = dials_none address asked asked refl;
   hangs = hangs_none account m.device a a refl;
   faultless = refl;
 }
@@ -153,23 +173,26 @@ exchanges_then ks ls = flat_map-append (λ used. used.talked.exchanges) ks ls
 courses_then : (d : DeviceView) (x : Next) (ks : List Used) (y : Next) (ls : List Used) (z : Next) → IsCourse d x (exchanges_of ks) y → IsCourse d y (exchanges_of ls) z → IsCourse d x (exchanges_of (ks ++ ls)) z
 courses_then d x ks y ls z f g = subst (λ xs. IsCourse d x xs z) (sym (exchanges_then ks ls)) (course_then d x (exchanges_of ks) y (exchanges_of ls) z f g)
 
-pub goes_then : (account : Account) (m n o : MachineView) (f g h : ℕ) (a b c : Option (List Hung)) → Goes account m n f g a b → Goes account n o g h b c → Goes account m o f h a c
-goes_then account m n o f g h a b c k t = go (subst (λ d. Goes account (of_device d n) o g h b c) k.device t)
+pub goes_then : (account : Account) (m n o : MachineView) (f g h : ℕ) (a b c : Option (List Hung)) (address : Address) (p q r : Option (List Address))
+    → Goes account m n f g a b address p q → Goes account n o g h b c address q r → Goes account m o f h a c address p r
+goes_then account m n o f g h a b c address p q r k t = go (subst (λ d. Goes account (of_device d n) o g h b c address q r) k.device t)
   where
-    go : Goes account (of_device m.device n) o g h b c → Goes account m o f h a c
+    go : Goes account (of_device m.device n) o g h b c address q r → Goes account m o f h a c address p r
     go s = record {
       before = k.before ++ s.before;
       device = s.device;
       course = courses_then m.device (Send m.run m.stage) k.before (Send n.run n.stage) s.before (Send o.run o.stage) k.course s.course;
       left = All-append IsLeft k.before s.before k.left s.left;
+      dials = dials_then address k.before s.before [] p q r k.dials s.dials;
       hangs = hangs_then account m.device k.before s.before a b c k.hangs s.hangs;
       faultless = s.faultless ∙ k.faultless;
     }
 
-pub run_then : (account : Account) (m n : MachineView) (what : Came) (f g h : ℕ) (a b c : Option (List Hung)) → Goes account m n f g a b → IsRun account n what g h b c → IsRun account m what f h a c
-run_then account m n what f g h a b c k t = go (subst (λ d. IsRun account (of_device d n) what g h b c) k.device t)
+pub run_then : (account : Account) (m n : MachineView) (what : Came) (f g h : ℕ) (a b c : Option (List Hung)) (address : Address) (p q r : Option (List Address))
+    → Goes account m n f g a b address p q → IsRun account n what g h b c address q r → IsRun account m what f h a c address p r
+run_then account m n what f g h a b c address p q r k t = go (subst (λ d. IsRun account (of_device d n) what g h b c address q r) k.device t)
   where
-    go : IsRun account (of_device m.device n) what g h b c → IsRun account m what f h a c
+    go : IsRun account (of_device m.device n) what g h b c address q r → IsRun account m what f h a c address p r
     go s = record {
       before = k.before ++ s.before;
       last = s.last;
@@ -177,6 +200,8 @@ run_then account m n what f g h a b c k t = go (subst (λ d. IsRun account (of_d
       course = subst (λ ls. IsCourse m.device (Send m.run m.stage) (exchanges_of ls) s.next) (sym (append_assoc k.before s.before (listed s.last)))
           (courses_then m.device (Send m.run m.stage) k.before (Send n.run n.stage) (s.before ++ listed s.last) s.next k.course s.course);
       left = All-append IsLeft k.before s.before k.left s.left;
+      dials = subst (λ ls. Dials address ls (missed address s.last what) p r) (sym (append_assoc k.before s.before (listed s.last)))
+          (dials_then address k.before (s.before ++ listed s.last) (missed address s.last what) p q r k.dials s.dials);
       hangs = subst (λ ls. Hangs account m.device ls a c) (sym (append_assoc k.before s.before (listed s.last)))
           (hangs_then account m.device k.before (s.before ++ listed s.last) a b c k.hangs s.hangs);
       comes = subst (λ x. Comes account m.device s.last s.next x h what) k.faultless s.comes;

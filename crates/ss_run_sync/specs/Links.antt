@@ -36,9 +36,9 @@ hung_of account d used = record { taken = taken_of used.talked; left = unwrap_or
 abbrev pub Hangs : Account → DeviceView → List Used → Option (List Hung) → Option (List Hung) → Type 0
 Hangs account d links hung hung' = (y : List Hung) → hung' ≡ Some y → (x : List Hung) × (hung ≡ Some x) × (y ≡ x ++ map (hung_of account d) links)
 
--- where it is told which addresses a dial was asked for, these were all this one, behind those before
-abbrev pub Dials : Address → Option (List Address) → Option (List Address) → Type 0
-Dials address asked asked' = (y : List Address) → asked' ≡ Some y → (x : List Address) × (more : List Address) × (asked ≡ Some x) × (y ≡ x ++ more) × All (λ a. a ≡ address) more
+-- where it is told which addresses a dial was asked for, this one was asked for each of these links, and then these were, behind those before
+abbrev pub Dials : Address → List Used → List Address → Option (List Address) → Option (List Address) → Type 0
+Dials address links more asked asked' = (y : List Address) → asked' ≡ Some y → (x : List Address) × (asked ≡ Some x) × (y ≡ x ++ (map (λ used. address) links ++ more))
 
 -- the exchanges over links, in order
 abbrev pub exchanges_of : List Used → List Exchange
@@ -83,14 +83,22 @@ Comes account d last next faults faults' (came.Stop f) = (((next ≡ Stop f) × 
 Comes account d last next faults faults' came.Wire = IsAsking account d last next × Rose faults faults'
 Comes account d last next faults faults' came.Memory = IsAsking account d last next × (faults' ≡ faults)
 
+-- what a dial was asked for beside the links of a run: its address once more, where the run ended since that dial failed
+abbrev pub missed : Address → Option Used → Came → List Address
+missed address (Some used) what = []
+missed address None came.Wire = address ∷ []
+missed address None what = []
+
 -- A run over links, from the request whose reply its machine awaits: the links that were left for the next one, the one on which it
--- ended, if it ended on one, and what it came to. All exchanges together are one course of the machine
-pub record IsRun (account : Account) (m : MachineView) (what : Came) (faults faults' : ℕ) (hung hung' : Option (List Hung)) : Type 0 where
+-- ended, if it ended on one, and what it came to. All exchanges together are one course of the machine. Each link was dialled once, at
+-- this address
+pub record IsRun (account : Account) (m : MachineView) (what : Came) (faults faults' : ℕ) (hung hung' : Option (List Hung)) (address : Address) (asked asked' : Option (List Address)) : Type 0 where
   pub before : List Used
   pub last : Option Used
   pub next : Next
   pub course : IsCourse m.device (Send m.run m.stage) (exchanges_of (before ++ listed last)) next
   pub left : All IsLeft before
+  pub dials : Dials address (before ++ listed last) (missed address last what) asked asked'
   pub hangs : Hangs account m.device (before ++ listed last) hung hung'
   pub comes : Comes account m.device last next faults faults' what
 
@@ -109,18 +117,19 @@ came_of Fault = came.Wire
 came_of Memory = came.Memory
 
 -- a run came from one machine to another over links that were left for the next one
-pub record Goes (account : Account) (m machine : MachineView) (faults faults' : ℕ) (hung hung' : Option (List Hung)) : Type 0 where
+pub record Goes (account : Account) (m machine : MachineView) (faults faults' : ℕ) (hung hung' : Option (List Hung)) (address : Address) (asked asked' : Option (List Address)) : Type 0 where
   pub before : List Used
   pub device : machine.device ≡ m.device
   pub course : IsCourse m.device (Send m.run m.stage) (exchanges_of before) (Send machine.run machine.stage)
   pub left : All IsLeft before
+  pub dials : Dials address before [] asked asked'
   pub hangs : Hangs account m.device before hung hung'
   pub faultless : faults' ≡ faults
 
 -- what comes of one link
-abbrev pub IsLeg : Account → MachineView → Leg → ℕ → ℕ → Option (List Hung) → Option (List Hung) → Type 0
-IsLeg account m (On machine request) faults faults' hung hung' = Goes account m machine faults faults' hung hung' × (request ≡ ask machine)
-IsLeg account m (End what) faults faults' hung hung' = IsRun account m what faults faults' hung hung'
+abbrev pub IsLeg : Account → MachineView → Leg → ℕ → ℕ → Option (List Hung) → Option (List Hung) → Address → Option (List Address) → Option (List Address) → Type 0
+IsLeg account m (On machine request) faults faults' hung hung' address asked asked' = Goes account m machine faults faults' hung hung' address asked asked' × (request ≡ ask machine)
+IsLeg account m (End what) faults faults' hung hung' address asked asked' = IsRun account m what faults faults' hung hung' address asked asked'
 
 -- where the run goes on over another link, it is nearer to its end
 abbrev pub IsNearer : MachineView → Leg → Type 0

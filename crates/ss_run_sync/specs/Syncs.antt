@@ -24,7 +24,7 @@ use Rattle.ss_run_sync.specs.declared.reports.Report.{Report}
 use Rattle.ss_run_sync.specs.declared.reports.Report.TheVariants.{Line, Short}
 use Rattle.ss_run_sync.specs.Naming.{host_named}
 use Rattle.ss_run_sync.specs.Endings.{Ending, Synced, Stopped, Failed, Tells, synced_line}
-use Rattle.ss_run_sync.specs.Links.{Dials, IsRun}
+use Rattle.ss_run_sync.specs.Links.{IsRun}
 
 -- what a sync's dial and store tell and count: the addresses that were asked for, the links that were hung up, the files, and how many
 -- calls failed
@@ -112,13 +112,13 @@ abbrev pub machine_of : SyncCommand → DeviceView → MachineView
 machine_of command d = record { device = d; run = first_run (is_newer d (fetch_of command)); stage = Asks }
 
 -- A sync of the file that a command names, with the account that it names. It ends before anything is dialled, where the file gives no
--- device; or the machine that is started for the device runs over links, each of them from the address that the command names, and the
--- sync ends by what that came to
+-- device; or the machine that is started for the device runs over links, each dialled once at the address that the command names, and
+-- the sync ends by what that came to
 pub data Syncs (command : SyncCommand) (ending : Ending) (old new : Outside) : Type 0 where
   undialled : (what : Trouble) → ending ≡ Failed what → Loads command.file (Err what) old.held new.held old.store_faults new.store_faults → new.asked ≡ old.asked → new.hung ≡ old.hung
       → new.dial_faults ≡ old.dial_faults → Syncs command ending old new
-  dialled : (d : DeviceView) (what : Came) → Starts old.held command.file d → Dials (address_of command) old.asked new.asked
-      → IsRun (account_of command) (machine_of command d) what old.dial_faults new.dial_faults old.hung new.hung → Closes command.file what ending old new
+  dialled : (d : DeviceView) (what : Came) → Starts old.held command.file d
+      → IsRun (account_of command) (machine_of command d) what old.dial_faults new.dial_faults old.hung new.hung (address_of command) old.asked new.asked → Closes command.file what ending old new
       → Syncs command ending old new
 
 -- a report tells how a sync ended

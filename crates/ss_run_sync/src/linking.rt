@@ -1,11 +1,12 @@
 //! The links of a sync, one after the other.
 
-ghost use Rattle.std.specs.Prelude.{◌≡◌};
+ghost use Rattle.std.specs.Prelude.{◌≡◌, List, Option};
 ghost use Rattle.ss_route.specs.Sending.{IsHost};
 ghost use Rattle.ss_client.specs.Asking.{ask};
-ghost use Rattle.ss_run_sync.specs.Links.{Dials, IsRun, IsLeg, IsNearer, leg_of, came_of};
+ghost use Rattle.ss_run_sync.specs.Links.{IsRun, IsLeg, IsNearer, leg_of, came_of};
 ghost use Rattle.ss_run_sync.specs.declared.linking.Leg.TheVariants.{End};
 ghost use Rattle.ss_links.specs.Links.{IsUnused};
+ghost use Rattle.ss_links.specs.Dials.{Address, IsBehind};
 
 use ss_client::{Machine, Summary, SyncFault};
 use ss_converse::{Talk, converse};
@@ -62,7 +63,7 @@ fn unlinked(machine: Machine, request: Request, fault: DialFault) -> Leg
     }
 }
 
-/// Sends what a machine asks over a new link, and hangs it up.
+/// Sends what a machine asks over a link that was just dialled, and hangs it up.
 fn over<D: Dial>(
     alloc: Global,
     machine: Machine,
@@ -75,9 +76,10 @@ fn over<D: Dial>(
     requires asked { request ≡ ask machine }
     requires host { IsHost host.now }
     requires unused { IsUnused (D.Link.Told.told link) }
-    ensures asked { D.asked dial.new ≡ D.asked dial.old }
     ensures nearer { IsNearer machine result }
-    ensures leg { IsLeg (record { uid = server.now.uid; host = host.now }) machine result (D.dial_faults dial.old) (D.dial_faults dial.new) (D.hung dial.old) (D.hung dial.new) }
+    ensures leg { (asked : Option (List Address)) → IsBehind (record { host = server.now.host; port = server.now.port }) asked (D.asked dial.old)
+        → IsLeg (record { uid = server.now.uid; host = host.now }) machine result (D.dial_faults dial.old) (D.dial_faults dial.new) (D.hung dial.old) (D.hung dial.new)
+        (record { host = server.now.host; port = server.now.port }) asked (D.asked dial.new) }
 {
     let mut link = link;
     let talk = converse(alloc, machine, request, server.uid, host, &mut link);
@@ -96,9 +98,9 @@ fn over_link<D: Dial>(
 ) -> Leg
     requires asked { request ≡ ask machine }
     requires host { IsHost host.now }
-    ensures dials { Dials (record { host = server.now.host; port = server.now.port }) (D.asked dial.old) (D.asked dial.new) }
     ensures nearer { IsNearer machine result }
-    ensures leg { IsLeg (record { uid = server.now.uid; host = host.now }) machine result (D.dial_faults dial.old) (D.dial_faults dial.new) (D.hung dial.old) (D.hung dial.new) }
+    ensures leg { IsLeg (record { uid = server.now.uid; host = host.now }) machine result (D.dial_faults dial.old) (D.dial_faults dial.new) (D.hung dial.old) (D.hung dial.new)
+        (record { host = server.now.host; port = server.now.port }) (D.asked dial.old) (D.asked dial.new) }
 {
     match dial.dial(server.host.as_str(), server.port) {
         Ok(link) => over(alloc, machine, request, server, host, link, dial),
@@ -117,8 +119,8 @@ pub(crate) fn over_links<D: Dial>(
 ) -> Came
     requires asked { request ≡ ask machine }
     requires host { IsHost host.now }
-    ensures dials { Dials (record { host = server.now.host; port = server.now.port }) (D.asked dial.old) (D.asked dial.new) }
-    ensures run { IsRun (record { uid = server.now.uid; host = host.now }) machine result (D.dial_faults dial.old) (D.dial_faults dial.new) (D.hung dial.old) (D.hung dial.new) }
+    ensures { IsRun (record { uid = server.now.uid; host = host.now }) machine result (D.dial_faults dial.old) (D.dial_faults dial.new) (D.hung dial.old) (D.hung dial.new)
+        (record { host = server.now.host; port = server.now.port }) (D.asked dial.old) (D.asked dial.new) }
 {
     let mut machine = machine;
     let mut request = request;

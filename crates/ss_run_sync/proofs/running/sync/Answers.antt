@@ -24,7 +24,7 @@ returns-in-Done g c =
     let loaded = c.in-Ok-load.ensures in
     went_done c.args.command.now c.in-Done.device c.in-Done.summary c.save.result old new (g.S.Store.held c.load.new.store) (g.S.Store.store_faults c.load.new.store)
     (ran_of c.args.command.now c.as_str.result.now c.as_str-2.result.now c.in-Ok-load.device c.start-machine.result.0 c.fetch_of.result (came.Done c.in-Done.device c.in-Done.summary) old new c.as_str.ensures
-    (c.as_str-2.ensures.value ∙ c.in-Ok.ensures.name) c.start-machine.ensures.machine c.fetch_of.ensures loaded.0 c.in-Done.ensures.dials c.in-Done.ensures.run) loaded.1 loaded.2
+    (c.as_str-2.ensures.value ∙ c.in-Ok.ensures.name) c.start-machine.ensures.machine c.fetch_of.ensures loaded.0 c.in-Done.ensures) loaded.1 loaded.2
     (subst (λ x. Saves x c.in-Done.device c.in-Done.summary c.save.result (g.S.Store.held c.load.new.store) new.held (g.S.Store.store_faults c.load.new.store) new.store_faults) c.as_str-in-Done.ensures c.save.ensures)
 
 pub returns-in-Stop : goal.returns-in-Stop
@@ -34,7 +34,7 @@ returns-in-Stop g c =
     let loaded = c.in-Ok-load.ensures in
     went_stopped c.args.command.now c.in-Stop.fault c.stop.result old new
     (ran_of c.args.command.now c.as_str.result.now c.as_str-2.result.now c.in-Ok-load.device c.start-machine.result.0 c.fetch_of.result (came.Stop c.in-Stop.fault) old new c.as_str.ensures
-    (c.as_str-2.ensures.value ∙ c.in-Ok.ensures.name) c.start-machine.ensures.machine c.fetch_of.ensures loaded.0 c.in-Stop.ensures.dials c.in-Stop.ensures.run) (loaded.1, loaded.2) c.stop.ensures
+    (c.as_str-2.ensures.value ∙ c.in-Ok.ensures.name) c.start-machine.ensures.machine c.fetch_of.ensures loaded.0 c.in-Stop.ensures) (loaded.1, loaded.2) c.stop.ensures
 
 pub returns-in-Wire : goal.returns-in-Wire
 returns-in-Wire g c =
@@ -43,7 +43,7 @@ returns-in-Wire g c =
     let loaded = c.in-Ok-load.ensures in
     went_wire c.args.command.now old new
     (ran_of c.args.command.now c.as_str.result.now c.as_str-2.result.now c.in-Ok-load.device c.start-machine.result.0 c.fetch_of.result came.Wire old new c.as_str.ensures
-    (c.as_str-2.ensures.value ∙ c.in-Ok.ensures.name) c.start-machine.ensures.machine c.fetch_of.ensures loaded.0 c.in-Wire.ensures.dials c.in-Wire.ensures.run) (loaded.1, loaded.2)
+    (c.as_str-2.ensures.value ∙ c.in-Ok.ensures.name) c.start-machine.ensures.machine c.fetch_of.ensures loaded.0 c.in-Wire.ensures) (loaded.1, loaded.2)
 
 pub returns : goal.returns
 returns g c =
@@ -52,4 +52,4 @@ returns g c =
     let loaded = c.in-Ok-load.ensures in
     went_memory c.args.command.now old new
     (ran_of c.args.command.now c.as_str.result.now c.as_str-2.result.now c.in-Ok-load.device c.start-machine.result.0 c.fetch_of.result came.Memory old new c.as_str.ensures
-    (c.as_str-2.ensures.value ∙ c.in-Ok.ensures.name) c.start-machine.ensures.machine c.fetch_of.ensures loaded.0 c.in-Memory.ensures.dials c.in-Memory.ensures.run) (loaded.1, loaded.2)
+    (c.as_str-2.ensures.value ∙ c.in-Ok.ensures.name) c.start-machine.ensures.machine c.fetch_of.ensures loaded.0 c.in-Memory.ensures) (loaded.1, loaded.2)

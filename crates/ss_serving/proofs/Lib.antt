@@ -10,3 +10,10 @@ pub mod Posting
 pub mod Others
 pub mod Same
 pub mod Keeping
+pub mod JsonTexts
+pub mod JsonNumbers
+pub mod Bodies
+pub mod Clean
+pub mod Tokens
+pub mod Understood
+pub mod Told

@@ -3,3 +3,4 @@ pub mod Asking
 pub mod Serving
 pub mod Good
 pub mod Steps
+pub mod Typed

@@ -5,4 +5,4 @@
 
 mod laws;
 
-pub use laws::account_serves_bookmarks;
+pub use laws::{account_serves_bookmarks, replies_say_what_is_told};

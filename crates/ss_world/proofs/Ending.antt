@@ -1,5 +1,5 @@
 -- A machine that gets the awaited status each time ends.
-use Rattle.std.proofs.Common.{◌≡◌, ◌⊎◌, ℕ, ◌+◌, ◌-◌, ◌<◌, ◌≤◌, List, [], ◌∷◌, ◌++◌, length, drop, Option, Some, None, MatchOption, unwrap_or, is_some, Bool, true, false, cond, not, nat_lt, nat_le, ◌||◌, ◌&&◌, sym, refl, ap, ◌∙◌, subst, inl, inr, arith}
+use Rattle.std.proofs.Common.{◌≡◌, ◌⊎◌, ℕ, zero, suc, ◌+◌, ◌-◌, ◌<◌, ◌≤◌, List, [], ◌∷◌, ◌++◌, length, drop, Option, Some, None, MatchOption, unwrap_or, is_some, Bool, true, false, cond, not, nat_lt, nat_le, ◌||◌, ◌&&◌, sym, refl, ap, ◌∙◌, subst, inl, inr, arith}
 use Rattle.std.specs.Bool.{MatchBool}
 use Rattle.std.proofs.lemmas.Bool.{false≢true}
 use Rattle.std.proofs.lemmas.Bool.Decides.{nat_tests}
@@ -16,14 +16,17 @@ use Rattle.ss_sync.specs.Fetched.{are_apart, are_known, kept}
 use Rattle.ss_hearing.specs.declared.answer.Answer.{Answer}
 use Rattle.ss_hearing.specs.declared.answer.Answer.TheVariants.{Configured, Paged, Listed, Held, Written, Failed, Changed, Refused, Unread}
 use Rattle.ss_device.specs.Device.{DeviceView}
+use Rattle.ss_client.specs.declared.summaries.SyncFault.{SyncFault}
 use Rattle.ss_client.specs.declared.summaries.SyncFault.TheVariants as fault
 use Rattle.ss_client.specs.declared.runs.Run.{Run}
 use Rattle.ss_client.specs.declared.runs.Stage.{Stage}
 use Rattle.ss_client.specs.declared.runs.Stage.TheVariants.{Asks, Opens, Pages, Lists, Uploads}
 use Rattle.ss_client.specs.Leaves.{UploadView}
-use Rattle.ss_client.specs.Runs.{rest_of}
-use Rattle.ss_client.specs.Machine.{Next, Stop, onward, unread, falls_back, is_bad, Ends, Begins, Finishes, Holds, Writes, LastPage, PageIn, PageOn, OpensWith, ListsAll, page_at, ids_at, held_at, written_at, limits_at, Follows}
-use Rattle.ss_world.specs.Ending.{IsAwaited, Rank, fetch_part, post_part, rank, IsLower, Nears}
+use Rattle.ss_client.specs.Runs.{MachineView, rest_of}
+use Rattle.ss_client.specs.Machine.{Next, Send, Done, Stop, onward, unread, falls_back, is_bad, Ends, Begins, Finishes, Holds, Writes, LastPage, PageIn, PageOn, OpensWith, ListsAll, page_at, ids_at, held_at, written_at, limits_at, Follows}
+use Rattle.ss_world.specs.Worlds.{WorldView}
+use Rattle.ss_world.specs.Promises.{EndsWell, IsUnderstood}
+use Rattle.ss_world.specs.Ending.{GoesOnForEver, IsAwaited, IsDoneOrPlanned, IsOfTheReply, Rank, fetch_part, post_part, rank, IsLower, Nears}
 
 near : (y : Rank) (next it : Next) → next ≡ it → Nears y it → Nears y next
 near y next it e n = subst (Nears y) (sym e) n
@@ -173,3 +176,40 @@ module _ (d : DeviceView) (run : Run) where
   nears stage (Changed time) next a e = absurd a
   nears stage (Refused status) next a e = absurd a
   nears stage Unread next a e = unread-near (rank run.newer stage) next e
+
+-- ---- no run goes on for ever
+
+module _ (f : ℕ → Rank) (falls : (k : ℕ) → IsLower (f (k + 1)) (f k)) where
+  -- none of its ranks is of this part with less than so much left, where none is of a part below
+  within : (p : ℕ) → ((k : ℕ) → (f k).part < p → ⊥) → (l : ℕ) → (k : ℕ) → (f k).part < suc p → (f k).left < l → ⊥
+  within p below zero k h low = omega (arith, low)
+  within p below (suc l) k h low = elim (falls k) [
+    | inl less ↦ below (k + 1) (omega (arith, h, less))
+    | inr same ↦ within p below l (k + 1) (omega (arith, h, same.0)) (omega (arith, low, same.1))
+  ]
+
+  -- none of its ranks is of a part below this one
+  above : (p : ℕ) → (k : ℕ) → (f k).part < p → ⊥
+  above zero k h = omega (arith, h)
+  above (suc p) k h = within p (above p) ((f k).left + 1) k h (omega arith)
+
+  pub none_falls : ⊥
+  none_falls = above ((f 0).part + 1) 0 (omega arith)
+
+pub ends_once : (d : DeviceView) → GoesOnForEver d → ⊥
+ends_once d g = none_falls (λ k. rank (g.run k).newer (g.stage k)) (λ k. nears d (g.run k) (g.stage k) (g.answer k) (Send (g.run (k + 1)) (g.stage (k + 1))) (g.awaited k) (g.follows k))
+
+-- ---- in a world
+
+stops_planned : (f : SyncFault) → IsOfTheReply f → IsUnderstood f → IsDoneOrPlanned (Stop f)
+stops_planned (fault.Refused status None) a b = absurd a
+stops_planned (fault.Refused status (Some id)) a b = absurd b
+stops_planned (fault.Changing first second third fourth) a b = absurd a
+stops_planned (fault.Plan f) a b = tt
+stops_planned (fault.BadReply number) a b = absurd b
+stops_planned fault.Memory a b = tt
+
+pub planned : (w : WorldView) (m : MachineView) (y : Rank) (next : Next) (v : WorldView) → Nears y next → EndsWell w m next v → IsDoneOrPlanned next
+planned w m y (Send run stage) v h k = tt
+planned w m y (Done device summary) v h k = tt
+planned w m y (Stop f) v h k = stops_planned f h k

@@ -9,3 +9,4 @@ pub mod Ending
 pub mod Stepping
 pub mod Reaching
 pub mod Refusing
+pub mod Fresh

@@ -5,6 +5,8 @@ ghost use Rattle.ss_record.specs.declared.readings.Sheet.{Sheet};
 ghost use Rattle.ss_tree.specs.Trees.{Placed, IsValidTree};
 ghost use Rattle.ss_build.specs.Rows.{rows_of};
 ghost use Rattle.ss_build.specs.Stand.{IsSameUntimed, StandFor};
+ghost use Rattle.ss_bso.specs.Changes.{fresh_kept, opened};
+ghost use Rattle.ss_bso.specs.Validity.{SameAccount};
 ghost use Rattle.ss_query.specs.Api.{api};
 ghost use Rattle.ss_hearing.specs.declared.answer.Answer.{Answer};
 ghost use Rattle.ss_device.specs.Device.{DeviceView, IsDevice};
@@ -17,10 +19,11 @@ ghost use Rattle.ss_serving.specs.Bookmarks.{Server, sheets_of};
 ghost use Rattle.ss_serving.specs.Asking.{told_by};
 ghost use Rattle.ss_world.specs.declared.events.Event.{Event};
 ghost use Rattle.ss_world.specs.declared.events.Event.TheVariants.{Deliver, LoseRequest, Anew, Reopen};
-ghost use Rattle.ss_world.specs.Ending.{IsAwaited, Nears, rank};
+ghost use Rattle.ss_world.specs.Ending.{GoesOnForEver, IsAwaited, IsDoneOrPlanned, Nears, rank};
 ghost use Rattle.ss_world.specs.Seats.{device_of};
-ghost use Rattle.ss_world.specs.Worlds.{Seat, Syncs, WorldView};
+ghost use Rattle.ss_world.specs.Worlds.{Seat, Idle, Syncs, WorldView};
 ghost use Rattle.ss_world.specs.Happening.{Happens, Delivers, Step, Runs, last};
+ghost use Rattle.ss_world.specs.Reaching.{IsOpenable};
 ghost use Rattle.ss_world.specs.Promises.{AreAll, AreTrusted, EndsWell, IsFaithful, IsOpening, IsUploaded, OneTree, StandsForOne, fetched_at, first_rows};
 
 /// One tree: after every run from an opening the bookmarks stand for a valid tree, and for no other one. Each event leaves
@@ -45,17 +48,23 @@ pub fn fetches_are_whole()
 {}
 
 /// Replies are understood: no machine of a world stops since it doesn't understand a reply, or since a record failed; and
-/// after a sync that is done the device is valid and faithful, and the bookmarks stand for its tree, the merged one.
+/// after a sync that is done the device is valid and faithful, and the bookmarks stand for its tree, the merged one. Where the reply
+/// has the awaited status the run goes on, is done, or stops since its plan is beyond the server's limits.
 pub fn replies_are_understood()
-    ensures { (trusts : ℕ → Bool) (w : WorldView) (steps : List Step) (n now : ℕ) (m : MachineView) (v : WorldView) → IsOpening trusts w → Runs w steps
+    ensures ends { (trusts : ℕ → Bool) (w : WorldView) (steps : List Step) (n now : ℕ) (m : MachineView) (v : WorldView) → IsOpening trusts w → Runs w steps
         → AreTrusted trusts steps → slice_get (last w steps).seats n ≡ Some (Syncs m) → (e : Delivers (last w steps) n now m v)
         → EndsWell (last w steps) m e.next v }
+    ensures awaited { (trusts : ℕ → Bool) (w : WorldView) (steps : List Step) (n now : ℕ) (m : MachineView) (v : WorldView) → IsOpening trusts w → Runs w steps
+        → AreTrusted trusts steps → slice_get (last w steps).seats n ≡ Some (Syncs m) → (e : Delivers (last w steps) n now m v)
+        → IsAwaited (told_by (awaits m.stage) (api (last w steps).server.account now (ask m)).reply) → IsDoneOrPlanned e.next }
 {}
 
-/// A machine that gets the awaited status each time ends: each such answer ends its run, or leads nearer to its end.
+/// A machine that gets the awaited status each time ends: each such answer ends its run, or leads nearer to its end; and so no run goes
+/// on for ever.
 pub fn machines_end()
-    ensures { (device : DeviceView) (run : Run) (stage : Stage) (answer : Answer) (next : Next) → IsAwaited answer → Follows device run stage answer next
+    ensures nears { (device : DeviceView) (run : Run) (stage : Stage) (answer : Answer) (next : Next) → IsAwaited answer → Follows device run stage answer next
         → Nears (rank run.newer stage) next }
+    ensures ends { (device : DeviceView) → GoesOnForEver device → ⊥ }
 {}
 
 /// Every device of a world is valid, and a trusted one faithful: the bookmarks that are no newer than its last sync are rows of
@@ -75,4 +84,11 @@ pub fn interruptions_leave_the_tree()
     ensures lost { (w v : WorldView) (n : ℕ) → Happens w (LoseRequest n) v → v.server ≡ w.server }
     ensures anew { (w v : WorldView) (n : ℕ) → Happens w (Anew n) v → v.server ≡ w.server }
     ensures reopened { (w v : WorldView) → Happens w Reopen v → (v.seats ≡ w.seats) × (v.server.kept ≡ w.server.kept) }
+{}
+
+/// A fresh account with devices that were never synced meets the premises on a world that was opened, whichever devices are trusted:
+/// nothing is there, which stands for the four empty roots. So every list of events keeps what is promised from there on.
+pub fn fresh_worlds_can_be_opened()
+    ensures { (trusts : ℕ → Bool) (w : WorldView) → SameAccount (opened fresh_kept) w.server.account
+        → ((n : ℕ) (d : DeviceView) → slice_get w.seats n ≡ Some (Idle d) → d.stamp ≡ 0) → IsOpenable trusts w }
 {}

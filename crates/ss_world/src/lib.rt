@@ -14,8 +14,8 @@ mod worlds;
 pub use events::{Edit, Event};
 pub use faults::WorldFault;
 pub use laws::{
-    bookmarks_are_one_tree, devices_stay_faithful, fetches_are_whole, interruptions_leave_the_tree,
-    machines_end, replies_are_understood,
+    bookmarks_are_one_tree, devices_stay_faithful, fetches_are_whole, fresh_worlds_can_be_opened,
+    interruptions_leave_the_tree, machines_end, replies_are_understood,
 };
 pub use seats::Seat;
 pub use worlds::World;

@@ -1,6 +1,8 @@
 //! The account of a world.
 
 ghost use Rattle.std.specs.Prelude.{◌≡◌, bytes_eq, IfOk, OnOk, OnErr};
+ghost use Rattle.ss_account.specs.Opening.{IsFaultOf, IsGood};
+ghost use Rattle.ss_account.specs.declared.faults.OpenFault.TheVariants.{Keeper as OpenKeeper};
 ghost use Rattle.ss_query.specs.Api.{api};
 ghost use Rattle.ss_query.specs.Fit.{IsFitRequest};
 ghost use Rattle.ss_serving.specs.Bookmarks.{bookmarks};
@@ -8,8 +10,9 @@ ghost use Rattle.ss_serving.specs.Asking.{touches};
 ghost use Rattle.ss_serving.specs.Steps.{Answers, Reopens, Ticks};
 ghost use Rattle.ss_world.specs.Worlds.{server_of};
 
-use ss_account::Account;
-use ss_keeper::SureKeeper;
+use ss_account::{Account, OpenFault};
+use ss_bso::Kept;
+use ss_keeper::{KeepFault, SureKeeper};
 use ss_query::{Mark, Reply, Request};
 use ss_text::Name;
 use std::alloc::{AllocError, Global};
@@ -31,6 +34,7 @@ pub(crate) fn ask(
     ensures reply { IfOk result (λ reply. reply ≡ (api account.old.plain now request.now).reply) }
     ensures answers { OnOk result (Answers (server_of account.old) now request.now (server_of account.new)) }
     ensures ticks { OnErr result (Ticks (server_of account.old) now (server_of account.new)) }
+    ensures again { IsGood (server_of account.new).kept }
 {
     let reply = account.step(alloc, now, request);
     account.keeper().never_fails();
@@ -58,25 +62,59 @@ pub(crate) fn touches(request: &Request) -> bool
 
 /// The account reads its clock.
 pub(crate) fn tick(account: &mut Account<SureKeeper>, now: u64)
-    ensures { Ticks (server_of account.old) now (server_of account.new) }
+    ensures ticks { Ticks (server_of account.old) now (server_of account.new) }
+    ensures again { IsGood (server_of account.new).kept }
 {
     account.tick(now);
+}
+
+/// Why an account isn't opened from what the keeper of one tells: for want of memory alone.
+fn refusal(keeper: &SureKeeper, fault: OpenFault) -> AllocError
+    requires good { IsGood keeper.now.kept }
+    requires bad { IsFaultOf keeper.now.kept fault }
+    requires quiet { fault ≡ OpenKeeper → ⊥ }
+{
+    match fault {
+        OpenFault::Memory => AllocError,
+        OpenFault::Keeper => unreachable!(),
+        OpenFault::BadCollection { .. } => unreachable!(),
+        OpenFault::BadRow { .. } => unreachable!(),
+        OpenFault::BadBatch { .. } => unreachable!(),
+    }
+}
+
+/// What the keeper of an account holds. It is refused for want of memory alone.
+fn told(alloc: Global, account: &mut Account<SureKeeper>) -> Result<Kept, AllocError>
+    ensures told { IfOk result (λ kept. kept ≡ (server_of account.old).kept) }
+    ensures left { server_of account.new ≡ server_of account.old }
+{
+    let told = account.told(alloc);
+    account.keeper().never_fails();
+    match told {
+        Ok(kept) => Ok(kept),
+        Err(KeepFault::Memory) => Err(AllocError),
+        Err(KeepFault::Fault) => unreachable!(),
+    }
 }
 
 /// The account is opened anew with what its keeper tells, and the old one is given up. It is refused for want of memory alone,
 /// since what the keeper of an account tells can be opened; then the account is as before.
 pub(crate) fn reopen(alloc: Global, account: &mut Account<SureKeeper>) -> Result<(), AllocError>
+    requires { IsGood (server_of account.old).kept }
     ensures reopens { OnOk result (Reopens (server_of account.old) (server_of account.new)) }
     ensures left { OnErr result (server_of account.new ≡ server_of account.old) }
+    ensures again { IsGood (server_of account.new).kept }
 {
-    let Ok(kept) = account.told(alloc) else {
-        return Err(AllocError);
-    };
-    match Account::open(alloc, SureKeeper::new(kept)) {
+    let keeper = SureKeeper::new(told(alloc, account)?);
+    keeper.never_fails();
+    match Account::open(alloc, keeper) {
         Ok(opened) => {
             *account = opened;
             Ok(())
         }
-        Err(_) => Err(AllocError),
+        Err((keeper, fault)) => {
+            keeper.never_fails();
+            Err(refusal(&keeper, fault))
+        }
     }
 }

@@ -41,7 +41,11 @@ impl Model for World {
 
     ghost Value = { WorldView };
 
+    ghost use Rattle.ss_account.specs.Opening.{IsGood};
+
     ghost view = { λ w. record { server = record { account = w.account.plain; kept = w.account.keeper.kept }; seats = w.seats.items } };
+
+    ghost invariant = { λ w. IsGood w.account.keeper.kept };
 }
 
 fn seated(alloc: Global, devices: Vec<Device>) -> Result<Vec<Seat>, AllocError>

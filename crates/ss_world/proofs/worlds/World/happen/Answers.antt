@@ -7,7 +7,7 @@ use Rattle.ss_world.proofs.worlds.World.happen.Goals as goal
 pub returns-in-Tick-clause-happens : goal.returns-in-Tick-clause-happens
 returns-in-Tick-clause-happens c =
     subst (λ x. Happens c.args.self.now x (world (server_of c.tick.new.account) c.self.inside.seats.items)) (sym c.in-Tick.is)
-    (ticked c.args.self.now (server_of c.self.inside.account) (server_of c.tick.new.account) c.self.inside.seats.items c.in-Tick.now c.self.view_is c.tick.ensures)
+    (ticked c.args.self.now (server_of c.self.inside.account) (server_of c.tick.new.account) c.self.inside.seats.items c.in-Tick.now c.self.view_is c.tick.ensures.ticks)
 
 pub returns-in_ok-reopen-in-Reopen-clause-happens :
     goal.returns-in_ok-reopen-in-Reopen-clause-happens

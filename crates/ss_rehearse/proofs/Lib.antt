@@ -1,0 +1,5 @@
+pub mod Steps
+pub mod Changes
+pub mod Delivering
+pub mod Fresh
+pub mod Playing

@@ -17,7 +17,7 @@ pub fn status_of_words(error: &io::Error) -> u8 {
 /// Says on standard error why words ask nothing, and names the word.
 pub fn explain_words(rt: &impl Eprint, alloc: Global, words: &[String]) {
     let _ = match read_command(alloc, words) {
-        Ok(_) => eprintln!(rt; "syncstore: this command is not there yet"),
+        Ok(_) => return,
         Err(WordsFault::Refused(refusal)) => {
             eprintln!(rt; "syncstore: {refusal}; try syncstore --help")
         }
@@ -50,8 +50,8 @@ pub fn explain_sync(rt: &impl Eprint, alloc: Global, words: &[String], status: u
     }
 }
 
-/// Says on standard error why the words ask nothing of a device's file. Why the command was refused was told as it ended.
-pub fn explain_device(rt: &impl Eprint, alloc: Global, words: &[String]) {
+/// Says on standard error why the words ask nothing, where they don't. Why a command was refused was told as it ended.
+pub fn explain_refusal(rt: &impl Eprint, alloc: Global, words: &[String]) {
     if read_command(alloc, words).is_err() {
         explain_words(rt, alloc, words);
     }

@@ -1,20 +1,18 @@
 //! `syncstore`: a storage server with the behaviour of Mozilla's SyncStorage API 1.5.
 //! The words name the command: a server of accounts that are kept in files, recorded messages that are answered, a device that syncs
-//! or is edited. Its contracts, on the calls that `main` makes: `run_serve`, `run_offline`, `run_sync` and `run_device_command`.
+//! or is edited, a rehearsal of two. Its contracts, on the calls that `main` makes: `run_serve`, `run_offline`, `run_sync`,
+//! `run_device_command` and `run_rehearsal`.
 #![tactic(auto)]
 
-mod answer;
 mod explain;
-mod offline;
 mod online;
-mod response;
-#[cfg(test)]
-mod tests;
 mod usage;
 
 use ss_links::OpenGate;
 use ss_outside::{StdSink, StdSource, SystemClock};
 use ss_real_site::RealSite;
+use ss_rehearse::run_rehearsal;
+use ss_run_answer::run_offline;
 use ss_run_edit::run_device_command;
 use ss_run_serve::run_serve;
 use ss_words::Name;
@@ -26,7 +24,7 @@ fn run_here(system: &HostRuntime, words: &[String]) -> u8 {
     let mut input = StdSource::new(system.stdin());
     let mut output = StdSink::new(system.stdout());
     let mut clock = SystemClock::new(system);
-    let status = offline::run_offline(system.alloc(), words, &mut input, &mut output, &mut clock);
+    let status = run_offline(system.alloc(), words, &mut input, &mut output, &mut clock);
     if status == 1 {
         explain::explain_words(system, system.alloc(), words);
     } else {
@@ -49,7 +47,16 @@ fn run_device(system: &HostRuntime, words: &[String]) -> u8 {
         &mut clock,
         &mut err,
     );
-    explain::explain_device(system, system.alloc(), words);
+    explain::explain_refusal(system, system.alloc(), words);
+    status
+}
+
+/// Runs the command `rehearse`, and answers its status.
+fn rehearse(system: &HostRuntime, words: &[String]) -> u8 {
+    let mut output = StdSink::new(system.stdout());
+    let mut err = StdSink::new(system.stderr());
+    let status = run_rehearsal(system.alloc(), words, &mut output, &mut err);
+    explain::explain_refusal(system, system.alloc(), words);
     status
 }
 
@@ -95,6 +102,7 @@ fn main(rt: HostRuntime) -> ExitCode {
         }
         Some(Name::Sync) => online::sync(&rt, words.as_slice()),
         Some(Name::Edit) | Some(Name::Merge) => run_device(&rt, words.as_slice()),
+        Some(Name::Rehearse) => rehearse(&rt, words.as_slice()),
         _ => run_here(&rt, words.as_slice()),
     };
     ExitCode::from(status)

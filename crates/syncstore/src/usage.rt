@@ -15,10 +15,9 @@ usage: syncstore serve ADDRESS FOLDER UID ..     serves accounts from files over
        syncstore sync URL FILE [--newer]         syncs the device in a file with a server
        syncstore edit ACTION .. [--at N]         changes the bookmarks of a device's file
        syncstore merge                           tells what merging a device with a server's rows comes to
+       syncstore rehearse N S                    plays a whole exchange of two devices, and tells how it went
        syncstore COMMAND --help                  tells of a command
        syncstore --help | --version
-
-Not there yet, and ends with status 1: rehearse.
 
 Options may stand anywhere behind the command's name, each at most once, as --x v or --x=v; behind -- all words are
 positionals. Numbers have 1 to 12 digits. With status 1 nothing was read or written.
@@ -74,10 +73,18 @@ example: syncstore merge < device-and-rows
 const REHEARSE: &str = "\
 usage: syncstore rehearse N S
 
-Lets two devices sync by the rules, and tells how it went. Not there yet: it ends with status 1.
+Plays a whole exchange of two devices with one new account, in memory, and tells how it went. The first device gets N bookmarks, and
+both sync; the second renames each third one, and the first moves each second one to the end of menu; and the first, the second and
+again the first sync. The same words give the same lines.
 
-  N    how many items: 1 to 15000
-  S    what the random choices begin from: 0 to 999999999999
+  N    how many bookmarks: 1 to 15000
+  S    the seed that titles and folders are drawn from: 0 to 999999999999
+
+It prints five lines: items and their number; posts and how many uploads each of the five syncs sent; menu and how many children it
+has; renamed and how many titles begin with R; equal yes where both devices have the same tree, else equal no. docs/REHEARSAL.md
+tells how they are drawn.
+
+exit status: 0 written; 1 faulty words; 3 the output failed; 8 no memory. Unless it is 0 or 3 nothing is written.
 
 example: syncstore rehearse 6000 1
 ";

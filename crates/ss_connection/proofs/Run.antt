@@ -15,7 +15,7 @@ use Rattle.ss_http.specs.declared.message.Message.{Message}
 use Rattle.ss_http.specs.declared.fault.MsgFault.{MsgFault}
 use Rattle.ss_http.specs.declared.fault.MsgFault.TheVariants as faults
 use Rattle.ss_http.specs.Messages.{Reads, ReadsMessage}
-use Rattle.ss_http.specs.Faults.{IsFaultOf}
+use Rattle.ss_http.specs.Faults.{IsMessageFault}
 use Rattle.ss_http.specs.Buffers.{Kept}
 use Rattle.ss_http.specs.Reading.{EndsWith, RisesWith}
 use Rattle.ss_http.proofs.MessageLemmas.{reads_append}
@@ -199,7 +199,7 @@ pub record Faults (link link' : Meanings) (kept : Kept) (count : ℕ) (fault : M
   pub few : count < most_messages
   pub got : List ℕ
   pub read : HasRead got link link'
-  pub is : IsFaultOf fault (kept.bytes ++ got)
+  pub is : IsMessageFault fault (kept.bytes ++ got)
   pub ended : EndsWith fault link'
   pub rises : RisesWith fault link.read_faults link'.read_faults
 
@@ -357,7 +357,7 @@ ended_unanswered uids known link link' link2 coming coming' kept turns turns' co
   no_more = tt;
   sends = sends_none uids known link link' link2 link2 coming coming' coming' kept turns turns' count faults.ReadFault p;
   clock = clock_none uids known link link' link2 link2 coming coming' coming' kept turns turns' count faults.ReadFault p;
-  cause = ((let P : ℕ → Type 0 = λ n. Rose n link2.read_faults in subst P p.read_faults f.rises), p.goes_on, refl);
+  cause = (f.is, (let P : ℕ → Type 0 = λ n. Rose n link2.read_faults in subst P p.read_faults f.rises), p.goes_on, refl);
   faults = f.read.write_faults ∙ p.write_faults;
   fewer = few_none uids known link link' link2 link2 coming coming' coming' kept turns turns' count faults.ReadFault p f.few;
 }

@@ -7,7 +7,7 @@ use Rattle.ss_outside.specs.Causes.{Rose}
 use Rattle.ss_http.specs.declared.fault.MsgFault.{MsgFault}
 use Rattle.ss_http.specs.declared.fault.MsgFault.TheVariants as faults
 use Rattle.ss_http.specs.declared.message.Message.{Message}
-use Rattle.ss_http.specs.Faults.{IsFaultOf}
+use Rattle.ss_http.specs.Faults.{IsMessageFault}
 use Rattle.ss_http.specs.Messages.{Reads, ReadsMessage}
 use Rattle.ss_route.specs.declared.routed.Local.{Local}
 use Rattle.ss_route.specs.Wire.{local_wire, refusal_of}
@@ -38,7 +38,7 @@ pub record Refusal : Type 0 where
 
 -- The bytes behind the messages have a fault that is answered, and this is the response; it closes the connection
 pub record IsRefused (rest : List ℕ) (refusal : Refusal) : Type 0 where
-  pub cause : IsFaultOf refusal.fault rest
+  pub cause : IsMessageFault refusal.fault rest
   pub local : Local
   pub answered : refusal_of refusal.fault ≡ Some local
   pub response : OrMemory (local_wire local (clamped refusal.now) true) (clamped refusal.now) true refusal.response
@@ -67,10 +67,11 @@ abbrev pub Cause : End → List Exchange → Option Refusal → List ℕ → Mea
 Cause ends.Closed exchanges refusal rest link link' = (rest ≡ []) × IsUsedUp link' × GoesOn exchanges × (refusal ≡ None)
 Cause ends.Asked exchanges refusal rest link link' = (end : EndsIn exchanges) × IsTrue end.last.message.last × (refusal ≡ None)
 Cause ends.Count exchanges refusal rest link link' = (length exchanges ≡ most_messages) × GoesOn exchanges × (refusal ≡ None)
-Cause ends.Cut exchanges refusal rest link link' = IsFaultOf faults.Cut rest × IsUsedUp link' × GoesOn exchanges × (refusal ≡ None)
+Cause ends.Cut exchanges refusal rest link link' = IsMessageFault faults.Cut rest × IsUsedUp link' × GoesOn exchanges × (refusal ≡ None)
 Cause (ends.BadMessage now) exchanges refusal rest link link' =
     (refused : Refusal) × (refusal ≡ Some refused) × (refused.now ≡ now) × IsRefused rest refused × GoesOn exchanges
-Cause ends.ReadFault exchanges refusal rest link link' = Rose link.read_faults link'.read_faults × GoesOn exchanges × (refusal ≡ None)
+Cause ends.ReadFault exchanges refusal rest link link' =
+    IsMessageFault faults.ReadFault rest × Rose link.read_faults link'.read_faults × GoesOn exchanges × (refusal ≡ None)
 Cause ends.WriteFault exchanges refusal rest link link' =
     Rose link.write_faults link'.write_faults
     × ((EndsIn exchanges × (refusal ≡ None)) ⊎ ((refused : Refusal) × (refusal ≡ Some refused) × IsRefused rest refused × GoesOn exchanges))

@@ -17,7 +17,7 @@ use Rattle.ss_http.specs.declared.head.Found.TheVariants.{Whole, Unfinished, Ref
 use Rattle.ss_http.specs.declared.fault.MsgFault.{MsgFault}
 use Rattle.ss_http.specs.declared.fault.MsgFault.TheVariants as faults
 use Rattle.ss_http.specs.Messages.{BeginsWith, Announces, fields_of, ReadsMessage, NoMessage, NeverMessage}
-use Rattle.ss_http.specs.Faults.{NoHead, NeverHead, WantsBody, IsFaultOf, IsRefusal, lasting}
+use Rattle.ss_http.specs.Faults.{NoHead, NeverHead, WantsBody, IsMessageFault, IsRefusal}
 use Rattle.ss_http.specs.Heads.{IsHeadAt, Finds}
 use Rattle.ss_outside.specs.Told.{Meanings, IsUsedUp}
 use Rattle.ss_http.specs.Reading.{IsShort, EndsWith, RisesWith, ended_by}
@@ -108,7 +108,7 @@ pub head_some : (h : RequestHead) → IsRequestHead h → 0 < length (print_requ
 unfolding print_request
 head_some h is = let some : 0 < length h.method = is.method.0 in simp length-append (omega arith)
 
-pub refusal_never : (e : MsgFault) (bytes : List ℕ) → IsRefusal e → IsFaultOf e bytes → NeverMessage bytes
+pub refusal_never : (e : MsgFault) (bytes : List ℕ) → IsRefusal e → IsMessageFault e bytes → NeverMessage bytes
 refusal_never faults.End bytes is fault = absurd is
 refusal_never faults.Cut bytes is fault = absurd is
 refusal_never faults.BadHead bytes is fault = λ more m rest r.
@@ -154,7 +154,7 @@ body_missing buf want m rest r =
 pub never_none : (buf : List ℕ) → NeverMessage buf → NoMessage buf
 never_none buf never m rest r = let P : List ℕ → Type 0 = λ b. ReadsMessage b m rest in never [] m rest (subst P (sym (append-nil buf)) r)
 
-pub fault_no_message : (e : MsgFault) (bytes : List ℕ) → lasting e ≡ Some e → IsFaultOf e bytes → NoMessage bytes
+pub fault_no_message : (e : MsgFault) (bytes : List ℕ) → (e ≡ faults.Memory → ⊥) → IsMessageFault e bytes → NoMessage bytes
 fault_no_message faults.End bytes is fault = let P : List ℕ → Type 0 = NoMessage in subst P (sym fault) nothing_there
 fault_no_message faults.Cut bytes is (inl want) = no_head_no_message bytes want.2
 fault_no_message faults.Cut bytes is (inr want) = body_missing bytes want
@@ -163,8 +163,8 @@ fault_no_message faults.HeadTooLong bytes is fault = never_none bytes (refusal_n
 fault_no_message faults.Coded bytes is fault = never_none bytes (refusal_never faults.Coded bytes tt fault)
 fault_no_message faults.BadLength bytes is fault = never_none bytes (refusal_never faults.BadLength bytes tt fault)
 fault_no_message (faults.TooLarge n) bytes is fault = never_none bytes (refusal_never (faults.TooLarge n) bytes tt fault)
-fault_no_message faults.ReadFault bytes is fault = absurd (none-some faults.ReadFault is)
-fault_no_message faults.Memory bytes is fault = absurd (none-some faults.Memory is)
+fault_no_message faults.ReadFault bytes is fault = fault
+fault_no_message faults.Memory bytes is fault = absurd (is refl)
 
 -- bytes that come behind a head change nothing of what it says
 pub head_append : (buf more : List ℕ) (head : Head) → IsHeadAt buf head → IsHeadAt (buf ++ more) head
@@ -181,7 +181,7 @@ head_append buf more head r = record {
 }
 
 -- a refusal for its head stays one
-pub refusal_append : (e : MsgFault) (buf more : List ℕ) → IsRefusal e → IsFaultOf e buf → IsFaultOf e (buf ++ more)
+pub refusal_append : (e : MsgFault) (buf more : List ℕ) → IsRefusal e → IsMessageFault e buf → IsMessageFault e (buf ++ more)
 refusal_append faults.End buf more is fault = absurd is
 refusal_append faults.Cut buf more is fault = absurd is
 refusal_append faults.BadHead buf more is fault = λ further h rest reads. fault (more ++ further) h rest (reads.0, sym (append_assoc buf more further) ∙ reads.1)
@@ -215,7 +215,7 @@ body_whole buf head m at whole says =
     }
 
 -- a body that is cut
-pub short_fault : (e : MsgFault) (buf : List ℕ) (head : Head) → IsHeadAt buf head → IsShort e (head.size + head.body) buf → IsFaultOf e buf
+pub short_fault : (e : MsgFault) (buf : List ℕ) (head : Head) → IsHeadAt buf head → IsShort e (head.size + head.body) buf → IsMessageFault e buf
 short_fault faults.End buf head at short = absurd short
 short_fault faults.Cut buf head at short =
     let size : head.size ≡ length (print_request at.tree) = at.size in
@@ -225,7 +225,9 @@ short_fault faults.HeadTooLong buf head at short = absurd short
 short_fault faults.Coded buf head at short = absurd short
 short_fault faults.BadLength buf head at short = absurd short
 short_fault (faults.TooLarge n) buf head at short = absurd short
-short_fault faults.ReadFault buf head at short = tt
+short_fault faults.ReadFault buf head at short =
+    let size : head.size ≡ length (print_request at.tree) = at.size in
+    body_missing buf (record { head = at.tree; n = head.body; begins = at.begins; announces = at.announces; limit = at.limit; short = omega arith })
 short_fault faults.Memory buf head at short = absurd short
 
 -- what was found in a front that is all, or has as many bytes as a head may have, was found in all
@@ -240,13 +242,17 @@ finds_front n buf Unfinished within all found =
     let P : List ℕ → Type 0 = HasNoRequest in
     (omega (arith, found.0), subst P whole found.1)
 finds_front n buf (Refused fault) within all found =
-    let P : List ℕ → Type 0 = IsFaultOf fault in
+    let P : List ℕ → Type 0 = IsMessageFault fault in
     (found.0, subst P (take-append-drop n buf) (refusal_append fault (take n buf) (drop n buf) found.0 found.1))
 
 -- the fault of an input that ended before a head was whole
-pub ended_fault : (bytes : List ℕ) → HasNoRequest bytes → length bytes < HEAD_ROOM → IsFaultOf (ended_by bytes) bytes
+pub ended_fault : (bytes : List ℕ) → HasNoRequest bytes → length bytes < HEAD_ROOM → IsMessageFault (ended_by bytes) bytes
 ended_fault [] none short = refl
 ended_fault (b ∷ bytes) none short = inl (omega arith, short, no_head (b ∷ bytes) none)
+
+-- the source failed before a head was whole
+pub failed_fault : (old new : List ℕ) → HasNoRequest old → new ≡ old → IsMessageFault faults.ReadFault new
+failed_fault old new none same = let P : List ℕ → Type 0 = NoMessage in subst P (sym same) (no_head_no_message old (no_head old none))
 
 pub ended_ends : (bytes : List ℕ) (now : Meanings) → IsUsedUp now → EndsWith (ended_by bytes) now
 ended_ends [] now used = used

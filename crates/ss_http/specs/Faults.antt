@@ -4,7 +4,7 @@ use Rattle.httparse.specs.Grammar.{RequestHead, print_request, ReadsRequest}
 use Rattle.ss_http.specs.declared.fault.MsgFault.{MsgFault}
 use Rattle.ss_http.specs.declared.fault.MsgFault.TheVariants as faults
 use Rattle.ss_http.specs.Fields.{first_named, announced}
-use Rattle.ss_http.specs.Messages.{BeginsWith, Announces, fields_of}
+use Rattle.ss_http.specs.Messages.{BeginsWith, Announces, NoMessage, fields_of}
 use Rattle.ss_http.specs.declared.limits.TheConstants.{BODY_ROOM, HEAD_ROOM, MOST_FIELDS}
 
 -- no front of buf is a head
@@ -49,16 +49,16 @@ pub record IsTooLarge (n : ℕ) (buf : List ℕ) : Type 0 where
   pub above : BODY_ROOM < n
 
 -- what the bytes are where a call answers this fault
-abbrev pub IsFaultOf : MsgFault → List ℕ → Type 0
-IsFaultOf faults.End bytes = bytes ≡ []
-IsFaultOf faults.Cut bytes = WantsHead bytes ⊎ WantsBody bytes
-IsFaultOf faults.BadHead bytes = NeverHead bytes
-IsFaultOf faults.HeadTooLong bytes = (HEAD_ROOM ≤ length bytes) × NoHead bytes
-IsFaultOf faults.Coded bytes = IsCoded bytes
-IsFaultOf faults.BadLength bytes = IsUnmeasured bytes
-IsFaultOf (faults.TooLarge n) bytes = IsTooLarge n bytes
-IsFaultOf faults.ReadFault bytes = ⊤
-IsFaultOf faults.Memory bytes = ⊤
+abbrev pub IsMessageFault : MsgFault → List ℕ → Type 0
+IsMessageFault faults.End bytes = bytes ≡ []
+IsMessageFault faults.Cut bytes = WantsHead bytes ⊎ WantsBody bytes
+IsMessageFault faults.BadHead bytes = NeverHead bytes
+IsMessageFault faults.HeadTooLong bytes = (HEAD_ROOM ≤ length bytes) × NoHead bytes
+IsMessageFault faults.Coded bytes = IsCoded bytes
+IsMessageFault faults.BadLength bytes = IsUnmeasured bytes
+IsMessageFault (faults.TooLarge n) bytes = IsTooLarge n bytes
+IsMessageFault faults.ReadFault bytes = NoMessage bytes
+IsMessageFault faults.Memory bytes = ⊤
 
 -- the fault that a further call gives too; after a failed read and for want of memory the call can be made again
 abbrev pub lasting : MsgFault → Option MsgFault

@@ -6,7 +6,7 @@ use Rattle.ss_http.specs.declared.head.Found.{Found}
 use Rattle.ss_http.specs.declared.head.Found.TheVariants.{Whole, Unfinished, Refused}
 use Rattle.ss_http.specs.Fields.{ends}
 use Rattle.ss_http.specs.Messages.{BeginsWith, Announces, fields_of}
-use Rattle.ss_http.specs.Faults.{IsRefusal, IsFaultOf}
+use Rattle.ss_http.specs.Faults.{IsRefusal, IsMessageFault}
 use Rattle.ss_http.specs.declared.limits.TheConstants.{BODY_ROOM, HEAD_ROOM}
 
 -- buf begins with a head of these parts, and it announces so large a body
@@ -25,4 +25,4 @@ pub record IsHeadAt (buf : List ℕ) (head : Head) : Type 0 where
 abbrev pub Finds : Found → List ℕ → Type 0
 Finds (Whole head) buf = IsHeadAt buf head
 Finds Unfinished buf = (length buf < HEAD_ROOM) × HasNoRequest buf
-Finds (Refused fault) buf = IsRefusal fault × IsFaultOf fault buf
+Finds (Refused fault) buf = IsRefusal fault × IsMessageFault fault buf

@@ -9,12 +9,12 @@ use Rattle.ss_http.specs.Buffers.{Kept}
 use Rattle.httparse.specs.Grammar.{RequestHead}
 use Rattle.ss_http.specs.Messages.{BeginsWith, ReadsMessage}
 use Rattle.ss_http.specs.declared.limits.TheConstants.{HEAD_ROOM}
-use Rattle.ss_http.specs.Faults.{IsFaultOf, lasting}
+use Rattle.ss_http.specs.Faults.{IsMessageFault, lasting}
 
 -- of the kept and brought bytes the message was the front, and the rest is kept; after a fault all are kept
-abbrev pub Answers : Result Message MsgFault → List ℕ → Kept → Type 0
-Answers (Ok m) bytes kept = ReadsMessage bytes m kept.bytes × (kept.stop ≡ None)
-Answers (Err e) bytes kept = (kept.bytes ≡ bytes) × (kept.stop ≡ lasting e) × IsFaultOf e bytes
+abbrev pub ReadsNext : Result Message MsgFault → List ℕ → Kept → Type 0
+ReadsNext (Ok m) bytes kept = ReadsMessage bytes m kept.bytes × (kept.stop ≡ None)
+ReadsNext (Err e) bytes kept = (kept.bytes ≡ bytes) × (kept.stop ≡ lasting e) × IsMessageFault e bytes
 
 -- the bytes decide over a head: one stands whole at their front, or they are as many as a head may have
 abbrev pub IsDecided : List ℕ → Type 0
@@ -23,7 +23,7 @@ IsDecided bytes = ((h : RequestHead) × BeginsWith bytes h) ⊎ (HEAD_ROOM ≤ l
 -- what the kept bytes are where a call that waits for so many answers this fault
 abbrev pub IsShort : MsgFault → ℕ → List ℕ → Type 0
 IsShort faults.Cut size bytes = length bytes < size
-IsShort faults.ReadFault size bytes = ⊤
+IsShort faults.ReadFault size bytes = length bytes < size
 IsShort _ size bytes = ⊥
 
 -- the fault of an input that ended with these bytes before a head was whole

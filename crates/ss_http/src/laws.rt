@@ -2,11 +2,12 @@
 
 ghost use Rattle.std.specs.Prelude.{◌≡◌, ◌++◌, List, ℕ, Some, None, Option, Err};
 ghost use Rattle.ss_http.specs.Messages.{ReadsMessage, NoMessage, NeverMessage, Splits};
-ghost use Rattle.ss_http.specs.Faults.{IsFaultOf, IsRefusal, lasting};
+ghost use Rattle.ss_http.specs.Faults.{IsMessageFault, IsRefusal};
 ghost use Rattle.ss_http.specs.Hearing.{AfterAll, Hears, Hearing, IsSound, said};
 ghost use Rattle.ss_http.specs.Requests.{IsSendable, message_sent, request_text};
 ghost use Rattle.ss_http.specs.Responses.{response};
 ghost use Rattle.ss_http.specs.declared.fault.MsgFault.{MsgFault};
+ghost use Rattle.ss_http.specs.declared.fault.MsgFault.TheVariants as faults;
 ghost use Rattle.ss_http.specs.declared.heard.Heard.{Heard};
 ghost use Rattle.ss_http.specs.declared.heard.HeardFault.{HeardFault};
 ghost use Rattle.ss_http.specs.declared.message.Message.{Message};
@@ -18,10 +19,10 @@ pub fn one_way()
     ensures { (input : List ℕ) (ms ns : List Message) (r q : List ℕ) → Splits input ms r → Splits input ns q → (ms ≡ ns) × (r ≡ q) }
 {}
 
-/// Where a fault lasts, no message stands at the front; where a message was refused, none does whatever follows.
+/// Where there is a fault, no message stands at the front, unless memory was wanting; where a message was refused, none does whatever follows.
 pub fn faults_are_no_messages()
-    ensures none { (e : MsgFault) (bytes : List ℕ) → lasting e ≡ Some e → IsFaultOf e bytes → NoMessage bytes }
-    ensures never { (e : MsgFault) (bytes : List ℕ) → IsRefusal e → IsFaultOf e bytes → NeverMessage bytes }
+    ensures none { (e : MsgFault) (bytes : List ℕ) → (e ≡ faults.Memory → ⊥) → IsMessageFault e bytes → NoMessage bytes }
+    ensures never { (e : MsgFault) (bytes : List ℕ) → IsRefusal e → IsMessageFault e bytes → NeverMessage bytes }
 {}
 
 /// A request that is sent is read as its message, whatever follows it.

@@ -4,9 +4,9 @@ ghost use Rattle.std.specs.Prelude.{◌≡◌, ◌≤◌, ◌<◌, ◌+◌, ℕ,
 ghost use Rattle.httparse.specs.Grammar.{HasNoRequest};
 ghost use Rattle.ss_outside.specs.Told.{HasRead};
 ghost use Rattle.ss_http.specs.Buffers.{Brings};
-ghost use Rattle.ss_http.specs.Faults.{IsFaultOf, IsRefusal};
+ghost use Rattle.ss_http.specs.Faults.{IsMessageFault, IsRefusal};
 ghost use Rattle.ss_http.specs.Heads.{IsHeadAt};
-ghost use Rattle.ss_http.specs.Reading.{IsDecided, IsShort, EndsWith, RisesWith, Answers, ended_by};
+ghost use Rattle.ss_http.specs.Reading.{IsDecided, IsShort, EndsWith, RisesWith, ReadsNext, ended_by};
 ghost use Rattle.ss_http.specs.Messages.{ReadsMessage};
 ghost use Rattle.ss_http.specs.declared.message.Message.{Message};
 
@@ -26,7 +26,7 @@ fn read_line<S: Source>(buffer: &mut Buffer, source: &mut S) -> Result<(), MsgFa
     ensures stop { buffer.new.stop ≡ buffer.old.stop }
     ensures bytes { Brings buffer.old.bytes buffer.new.bytes (S.Told.told source.old) (S.Told.told source.new) }
     ensures more { OnOk result (length buffer.old.bytes < length buffer.new.bytes) }
-    ensures fault { IfErr result (λ e. IsFaultOf e buffer.new.bytes) }
+    ensures fault { IfErr result (λ e. IsMessageFault e buffer.new.bytes) }
     ensures ended { IfErr result (λ e. EndsWith e (S.Told.told source.new)) }
     ensures cause { MatchResult result
         (λ _. (S.Told.told source.new).read_faults ≡ (S.Told.told source.old).read_faults)
@@ -56,7 +56,7 @@ fn read_head<S: Source>(
     ensures bytes { Brings buffer.old.bytes buffer.new.bytes (S.Told.told source.old) (S.Told.told source.new) }
     ensures head { IfOk result (λ head. IsHeadAt buffer.new.bytes head) }
     ensures ready { IsDecided buffer.old.bytes → (buffer.new ≡ buffer.old) × (S.Told.told source.new ≡ S.Told.told source.old) }
-    ensures fault { IfErr result (λ e. IsFaultOf e buffer.new.bytes) }
+    ensures fault { IfErr result (λ e. IsMessageFault e buffer.new.bytes) }
     ensures ended { IfErr result (λ e. EndsWith e (S.Told.told source.new)) }
     ensures cause { MatchResult result
         (λ _. (S.Told.told source.new).read_faults ≡ (S.Told.told source.old).read_faults)
@@ -113,7 +113,7 @@ fn read_whole<S: Source>(
     ensures whole { IfOk result (λ r. (r.1 ≤ length buffer.new.bytes) × ReadsMessage buffer.new.bytes r.0 (drop r.1 buffer.new.bytes)) }
     ensures ready { (m : Message) (rest : List ℕ) → ReadsMessage buffer.old.bytes m rest → S.Told.told source.new ≡ S.Told.told source.old }
     ensures refused { IfErr result (λ e. IsRefusal e → IsDecided buffer.old.bytes → S.Told.told source.new ≡ S.Told.told source.old) }
-    ensures fault { IfErr result (λ e. IsFaultOf e buffer.new.bytes) }
+    ensures fault { IfErr result (λ e. IsMessageFault e buffer.new.bytes) }
     ensures ended { IfErr result (λ e. EndsWith e (S.Told.told source.new)) }
     ensures cause { MatchResult result
         (λ _. (S.Told.told source.new).read_faults ≡ (S.Told.told source.old).read_faults)
@@ -154,7 +154,7 @@ pub fn read_message<S: Source>(
     ensures again { IfSome buffer.old.stop (λ fault. (result ≡ Err fault) × (buffer.new ≡ buffer.old)
         × (S.Told.told source.new ≡ S.Told.told source.old)) }
     ensures takes { IfNone buffer.old.stop ((got : List ℕ) × HasRead got (S.Told.told source.old) (S.Told.told source.new)
-        × Answers result (buffer.old.bytes ++ got) buffer.new) }
+        × ReadsNext result (buffer.old.bytes ++ got) buffer.new) }
     // A message that is kept whole is given without a read.
     ensures ready { IfNone buffer.old.stop ((m : Message) (rest : List ℕ) → ReadsMessage buffer.old.bytes m rest
         → S.Told.told source.new ≡ S.Told.told source.old) }

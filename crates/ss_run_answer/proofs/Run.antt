@@ -16,9 +16,9 @@ use Rattle.ss_http.specs.declared.message.Message.{Message}
 use Rattle.ss_http.specs.declared.fault.MsgFault.{MsgFault}
 use Rattle.ss_http.specs.declared.fault.MsgFault.TheVariants as faults
 use Rattle.ss_http.specs.Messages.{ReadsMessage, Reads}
-use Rattle.ss_http.specs.Faults.{IsFaultOf}
+use Rattle.ss_http.specs.Faults.{IsMessageFault}
 use Rattle.ss_http.specs.Buffers.{Kept}
-use Rattle.ss_http.specs.Reading.{Answers, EndsWith, RisesWith}
+use Rattle.ss_http.specs.Reading.{ReadsNext, EndsWith, RisesWith}
 use Rattle.ss_http.specs.Responses.{memory_response}
 use Rattle.ss_http.proofs.MessageLemmas.{reads_append, reads_further}
 use Rattle.ss_route.specs.declared.routed.Local.{Local}
@@ -182,7 +182,7 @@ plain_readings at rs coming coming' are =
 pub turned : (uid : ℕ) (at : Option ℕ) (input input' input2 output output' output2 : Meanings) (coming coming' coming2 : Option (List ℕ)) (kept kept' : Kept)
     (account account' : Plain) (count now : ℕ) (m : Message) (got bytes : List ℕ)
     → Progress uid at input input' output output' coming coming' kept account count → count < most_messages
-    → HasRead got input' input2 → Answers (Ok m) (kept.bytes ++ got) kept' → input2.read_faults ≡ input'.read_faults
+    → HasRead got input' input2 → ReadsNext (Ok m) (kept.bytes ++ got) kept' → input2.read_faults ≡ input'.read_faults
     → IsReading at count now coming' coming2 → IsTurn (asked uid m) now (closes count m) account account' bytes → IsValid account'
     → WasSent bytes output' output2 → m.last ≡ false
     → Progress uid at input input2 output output2 coming coming2 kept' account' (count + 1)
@@ -290,13 +290,13 @@ quiet faults.ReadFault local before now answered rises = cc
 quiet faults.Memory local before now answered rises = rises
 
 -- the refused bytes of a run
-abbrev refused_for : {fault : MsgFault} {at : Option ℕ} {count : ℕ} {coming coming' : Option (List ℕ)} → (refuses : Refuses fault at count coming coming') → (rest : List ℕ) → IsFaultOf fault rest → IsRefused rest (refusal refuses)
+abbrev refused_for : {fault : MsgFault} {at : Option ℕ} {count : ℕ} {coming coming' : Option (List ℕ)} → (refuses : Refuses fault at count coming coming') → (rest : List ℕ) → IsMessageFault fault rest → IsRefused rest (refusal refuses)
 refused_for refuses rest cause = record { cause = cause; local = refuses.local; answered = refuses.answered }
 
 -- the bytes behind the messages were refused, and the refusal was sent
 ended_refusing : (uid : ℕ) (at : Option ℕ) (input input' input2 output output' output2 : Meanings) (coming coming' coming2 : Option (List ℕ)) (kept : Kept) (account : Plain) (count : ℕ) (fault : MsgFault) (got : List ℕ)
     → Progress uid at input input' output output' coming coming' kept account count → count < most_messages
-    → HasRead got input' input2 → IsFaultOf fault (kept.bytes ++ got) → RisesWith fault input'.read_faults input2.read_faults
+    → HasRead got input' input2 → IsMessageFault fault (kept.bytes ++ got) → RisesWith fault input'.read_faults input2.read_faults
     → (refuses : Refuses fault at count coming' coming2) → WasSent (refusal_response (refusal refuses)) output' output2
     → Answered uid at endings.Refused input input2 output output2 coming coming2
 ended_refusing uid at input input' input2 output output' output2 coming coming' coming2 kept account count fault got p more read cause rises refuses sent = record {
@@ -319,7 +319,7 @@ ended_refusing uid at input input' input2 output output' output2 coming coming' 
 -- the bytes behind the messages were refused, and of the refusal only a front was sent
 ended_refusing_in_part : (uid : ℕ) (at : Option ℕ) (input input' input2 output output' output2 : Meanings) (coming coming' coming2 : Option (List ℕ)) (kept : Kept) (account : Plain) (count : ℕ) (fault : MsgFault) (got : List ℕ)
     → Progress uid at input input' output output' coming coming' kept account count → count < most_messages
-    → HasRead got input' input2 → IsFaultOf fault (kept.bytes ++ got) → RisesWith fault input'.read_faults input2.read_faults
+    → HasRead got input' input2 → IsMessageFault fault (kept.bytes ++ got) → RisesWith fault input'.read_faults input2.read_faults
     → (refuses : Refuses fault at count coming' coming2) → WasCut (refusal_response (refusal refuses)) output' output2
     → Answered uid at endings.Output input input2 output output2 coming coming2
 ended_refusing_in_part uid at input input' input2 output output' output2 coming coming' coming2 kept account count fault got p more read cause rises refuses cut =
@@ -347,7 +347,7 @@ ended_refusing_in_part uid at input input' input2 output output' output2 coming 
 -- the input ended or failed, or no memory was found for the message
 ended_unanswered : (uid : ℕ) (at : Option ℕ) (input input' input2 output output' : Meanings) (coming coming' : Option (List ℕ)) (kept : Kept) (account : Plain) (count : ℕ) (fault : MsgFault) (got : List ℕ)
     → Progress uid at input input' output output' coming coming' kept account count → count < most_messages
-    → HasRead got input' input2 → IsFaultOf fault (kept.bytes ++ got) → EndsWith fault input2 → RisesWith fault input'.read_faults input2.read_faults
+    → HasRead got input' input2 → IsMessageFault fault (kept.bytes ++ got) → EndsWith fault input2 → RisesWith fault input'.read_faults input2.read_faults
     → refusal_of fault ≡ None
     → Answered uid at (ending_of fault) input input2 output output' coming coming'
 ended_unanswered uid at input input' input2 output output' coming coming' kept account count faults.End got p more read cause ends rises none = record {
@@ -394,7 +394,7 @@ ended_unanswered uid at input input' input2 output output' coming coming' kept a
   clock = plain_readings at (map now_in p.turns) coming coming' p.clock;
   courses = p.courses;
   answered = p.answered ∙ sym (append-nil (responses uid fresh 0 p.turns));
-  cause = ((let P : ℕ → Type 0 = λ n. Rose n input2.read_faults in subst P p.read_faults rises), p.goes_on, refl);
+  cause = (cause, (let P : ℕ → Type 0 = λ n. Rose n input2.read_faults in subst P p.read_faults rises), p.goes_on, refl);
   faults = p.write_faults;
   fewer = fewer_turns p.turns count p.count_is more;
 }
@@ -423,7 +423,7 @@ ended_unanswered uid at input input' input2 output output' coming coming' kept a
 -- nothing was written and read of the clock, and the ending is the fault's
 unanswered : (uid : ℕ) (at : Option ℕ) (input input' input2 output output' output2 : Meanings) (coming coming' coming2 : Option (List ℕ)) (kept : Kept) (account : Plain) (count : ℕ) (fault : MsgFault) (got : List ℕ) (ending : Ending)
     → Progress uid at input input' output output' coming coming' kept account count → count < most_messages
-    → HasRead got input' input2 → IsFaultOf fault (kept.bytes ++ got) → EndsWith fault input2 → RisesWith fault input'.read_faults input2.read_faults
+    → HasRead got input' input2 → IsMessageFault fault (kept.bytes ++ got) → EndsWith fault input2 → RisesWith fault input'.read_faults input2.read_faults
     → (refusal_of fault ≡ None) × (ending ≡ ending_of fault) × (output2 ≡ output') × (coming2 ≡ coming')
     → Answered uid at ending input input2 output output2 coming coming2
 unanswered uid at input input' input2 output output' output2 coming coming' coming2 kept account count fault got ending p more read cause ends rises stops =
@@ -436,7 +436,7 @@ unanswered uid at input input' input2 output output' output2 coming coming' comi
 -- the run stopped as a message was to be read
 pub stopped : (uid : ℕ) (at : Option ℕ) (input input' input2 output output' output2 : Meanings) (coming coming' coming2 : Option (List ℕ)) (kept : Kept) (account : Plain) (count : ℕ) (fault : MsgFault) (got : List ℕ) (ending : Ending)
     → Progress uid at input input' output output' coming coming' kept account count → count < most_messages
-    → HasRead got input' input2 → IsFaultOf fault (kept.bytes ++ got) → EndsWith fault input2 → RisesWith fault input'.read_faults input2.read_faults
+    → HasRead got input' input2 → IsMessageFault fault (kept.bytes ++ got) → EndsWith fault input2 → RisesWith fault input'.read_faults input2.read_faults
     → Stops ending fault at count output' output2 coming' coming2
     → Answered uid at ending input input2 output output2 coming coming2
 stopped uid at input input' input2 output output' output2 coming coming' coming2 kept account count fault got endings.Refused p more read cause ends rises stops =

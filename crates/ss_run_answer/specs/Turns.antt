@@ -16,7 +16,7 @@ use Rattle.ss_http.specs.declared.message.Message.{Message}
 use Rattle.ss_http.specs.declared.fault.MsgFault.{MsgFault}
 use Rattle.ss_http.specs.declared.fault.MsgFault.TheVariants as faults
 use Rattle.ss_http.specs.Messages.{Reads}
-use Rattle.ss_http.specs.Faults.{IsFaultOf}
+use Rattle.ss_http.specs.Faults.{IsMessageFault}
 use Rattle.ss_http.specs.Buffers.{Kept}
 use Rattle.ss_http.specs.Responses.{memory_response}
 use Rattle.ss_route.specs.declared.routed.Local.{Local}
@@ -130,7 +130,7 @@ refusal_response refused =
 
 -- the bytes were refused as they are said to be, by a fault that is answered
 pub record IsRefused (rest : List ℕ) (refused : Refused) : Type 0 where
-  pub cause : IsFaultOf refused.fault rest
+  pub cause : IsMessageFault refused.fault rest
   pub local : Local
   pub answered : refusal_of refused.fault ≡ Some local
 
@@ -170,11 +170,12 @@ abbrev pub Cause : Ending → List Turn → Option Refused → List ℕ → Mean
 Cause endings.End turns refused rest input input' output output' = (rest ≡ []) × IsUsedUp input' × GoesOn turns × (refused ≡ None)
 Cause endings.Asked turns refused rest input input' output output' =
     (end : EndsIn turns) × IsTrue end.turn.message.last × (refused ≡ None)
-Cause endings.Cut turns refused rest input input' output output' = IsFaultOf faults.Cut rest × IsUsedUp input' × GoesOn turns × (refused ≡ None)
+Cause endings.Cut turns refused rest input input' output output' = IsMessageFault faults.Cut rest × IsUsedUp input' × GoesOn turns × (refused ≡ None)
 Cause endings.Refused turns refused rest input input' output output' =
     (last : Refused) × (refused ≡ Some last) × IsRefused rest last × GoesOn turns
 Cause endings.Count turns refused rest input input' output output' = (length turns ≡ most_messages) × GoesOn turns × (refused ≡ None)
-Cause endings.Input turns refused rest input input' output output' = Rose input.read_faults input'.read_faults × GoesOn turns × (refused ≡ None)
+Cause endings.Input turns refused rest input input' output output' =
+    IsMessageFault faults.ReadFault rest × Rose input.read_faults input'.read_faults × GoesOn turns × (refused ≡ None)
 Cause endings.Output turns refused rest input input' output output' =
     Rose output.write_faults output'.write_faults
     × ((EndsIn turns × (refused ≡ None)) ⊎ ((last : Refused) × (refused ≡ Some last) × IsRefused rest last × GoesOn turns))

@@ -2,10 +2,10 @@ use Rattle.std.proofs.Common.{◌≡◌, ◌+◌, ℕ, List, length, take, drop,
 use Rattle.std.specs.List.{list_any}
 use Rattle.std.proofs.lemmas.List.{take_rest}
 use Rattle.httparse.specs.Grammar.{HasNoRequest}
-use Rattle.ss_http.specs.Faults.{IsFaultOf}
+use Rattle.ss_http.specs.Faults.{IsMessageFault}
 use Rattle.ss_http.specs.Reading.{ended_by}
 use Rattle.ss_http.proofs.Filling.{Brings-append, brought_none}
-use Rattle.ss_http.proofs.HeadLemmas.{ended_fault, ended_rises}
+use Rattle.ss_http.proofs.HeadLemmas.{ended_fault, ended_rises, failed_fault}
 use Rattle.ss_http.proofs.LineEnds.{still_no_request}
 use Rattle.ss_http.proofs.Ranges.{drop_front}
 use Rattle.ss_http.proofs.reading.read_line.Goals as goal
@@ -18,11 +18,14 @@ returns-in-Err-clause-bytes g c =
     Brings-append c.args.buffer.now.bytes c.lines.buffer.bytes c.fill.new.self.bytes (g.S.Told.told c.args.source.now) (g.S.Told.told c.lines.source) (g.S.Told.told c.fill.new.source)
     c.lines.invariant.bytes c.fill.ensures.bytes
 
+pub returns-in-Err-clause-fault : goal.returns-in-Err-clause-fault
+returns-in-Err-clause-fault g c = failed_fault c.lines.buffer.bytes c.fill.new.self.bytes c.lines.invariant.headless c.in-Err.ensures.err
+
 pub returns-in-Ok-eq0-clause-fault : goal.returns-in-Ok-eq0-clause-fault
 returns-in-Ok-eq0-clause-fault g c =
     let count = rw c.in-Ok-eq0.field-0-test at c.in-Ok-eq0.ensures.count in
     let same : c.fill.new.self.bytes ≡ c.lines.buffer.bytes = brought_none c.lines.buffer.bytes c.fill.new.self.bytes (g.S.Told.told c.lines.source) (g.S.Told.told c.fill.new.source) c.in-Ok-eq0.ensures.bytes (omega (arith, count)) in
-    let P : List ℕ → Type 0 = λ b. IsFaultOf (ended_by b) b in
+    let P : List ℕ → Type 0 = λ b. IsMessageFault (ended_by b) b in
     rw c.ended.ensures (subst P (sym same) (ended_fault c.lines.buffer.bytes c.lines.invariant.headless c.lines.invariant.short))
 
 pub returns-in-Ok-eq0-clause-cause : goal.returns-in-Ok-eq0-clause-cause

@@ -11,7 +11,7 @@ use Rattle.ss_tree.proofs.Valid.{In, entry_in, in_entry, node_found, node_at}
 use Rattle.ss_tree.proofs.Settled.{kid_ids_are}
 use Rattle.ss_tree.proofs.EachMet.{each_met}
 use Rattle.ss_dupe.specs.declared.plain.Seat.{Seat}
-use Rattle.ss_dupe.specs.declared.plain.Plain.{Plain}
+use Rattle.ss_dupe.specs.declared.plain.PlainTree.{PlainTree}
 use Rattle.ss_dupe.specs.Looks.{Id, Look, look, is_in}
 use Rattle.ss_dupe.specs.Plains.{AreIds, look_of, placed_at}
 use Rattle.ss_dupe.specs.Reading.{id_at, ids_at, name_at}
@@ -77,12 +77,12 @@ or_true true = refl
 or_true false = refl
 
 -- what the nodes so far have given
-pub record SoFar (es : List Entry) (nodes : List ℕ) (p : Plain) : Type 0 where
+pub record SoFar (es : List Entry) (nodes : List ℕ) (p : PlainTree) : Type 0 where
   pub sound : (x : Id) (n : Placed) → look_of p x ≡ Some n → look (tree es) x ≡ Some n
   pub met : (k : ℕ) → In k nodes → is_in (look_of p) (id_at es k) ≡ true
   pub ids : AreIds p
 
-pub none_yet : (es : List Entry) (p : Plain) → ((x : Id) → look_of p x ≡ None) → p.ids.items ≡ [] → SoFar es [] p
+pub none_yet : (es : List Entry) (p : PlainTree) → ((x : Id) → look_of p x ≡ None) → p.ids.items ≡ [] → SoFar es [] p
 unfolding In
 none_yet es p empty none = record {
   sound = λ x n e. let no : look_of p x ≡ None = empty x in cc;
@@ -90,7 +90,7 @@ none_yet es p empty none = record {
   ids = λ x. ap (has x) none ∙ has-nil x ∙ sym (in-of_none (look_of p) x (empty x));
 }
 
-pub one_more : (es : List Entry) → IsTree es → (nodes : List ℕ) (k : ℕ) (p q : Plain) (seat : Seat) → SoFar es nodes p → option_map (placed es) (entry k es) ≡ Some (placed_at seat) →
+pub one_more : (es : List Entry) → IsTree es → (nodes : List ℕ) (k : ℕ) (p q : PlainTree) (seat : Seat) → SoFar es nodes p → option_map (placed es) (entry k es) ≡ Some (placed_at seat) →
     ((x : Id) → look_of q x ≡ cond (bytes_eq seat.id x) (Some (placed_at seat)) (look_of p x)) → (AreIds p → AreIds q) → SoFar es (nodes ++ k ∷ []) q
 unfolding In
 one_more es t nodes k p q seat s at is ids = record { sound = sound; met = met; ids = ids s.ids }
@@ -124,7 +124,7 @@ one_more es t nodes k p q seat s at is ids = record { sound = sound; met = met; 
 
 -- ---- all nodes
 
-pub all_read : (es : List Entry) → IsTree es → (nodes : List ℕ) → ((k : ℕ) → is_live k es ≡ true → In k nodes) → (p : Plain) → SoFar es nodes p → (x : Id) → look_of p x ≡ look (tree es) x
+pub all_read : (es : List Entry) → IsTree es → (nodes : List ℕ) → ((k : ℕ) → is_live k es ≡ true → In k nodes) → (p : PlainTree) → SoFar es nodes p → (x : Id) → look_of p x ≡ look (tree es) x
 all_read es t nodes each p s x = cases (look_of p x) refl (look (tree es) x) refl
   where
     cases : (o : Option Placed) → look_of p x ≡ o → (r : Option Placed) → look (tree es) x ≡ r → look_of p x ≡ look (tree es) x
@@ -136,12 +136,12 @@ all_read es t nodes each p s x = cases (look_of p x) refl (look (tree es) x) ref
         let there = in_entry es e t.nodes f.1 in
         no_way (is_in (look_of p) x) (ap (is_in (look_of p)) (sym (id_at-entry es e.node e there ∙ f.2)) ∙ s.met e.node (each e.node (ap is_some there))) (in-of_none (look_of p) x h)
 
-pub one_more_at : (es : List Entry) → IsTree es → (nodes : List ℕ) (i k : ℕ) (p q : Plain) (seat : Seat) → i < length nodes → k ≡ get_or nodes i k → SoFar es (take i nodes) p → option_map (placed es) (entry k es) ≡ Some (placed_at seat) →
+pub one_more_at : (es : List Entry) → IsTree es → (nodes : List ℕ) (i k : ℕ) (p q : PlainTree) (seat : Seat) → i < length nodes → k ≡ get_or nodes i k → SoFar es (take i nodes) p → option_map (placed es) (entry k es) ≡ Some (placed_at seat) →
     ((x : Id) → look_of q x ≡ cond (bytes_eq seat.id x) (Some (placed_at seat)) (look_of p x)) → (AreIds p → AreIds q) → SoFar es (take (i + 1) nodes) q
 one_more_at es t nodes i k p q seat lt is s at put ids =
     subst (λ ks. SoFar es ks q) (sym (take_more nodes i k lt ∙ ap (λ j. take i nodes ++ j ∷ []) (sym is))) (one_more es t (take i nodes) k p q seat s at put ids)
 
-pub read_out : (es : List Entry) → IsTree es → (nodes : List ℕ) → ((k : ℕ) → times k nodes ≡ cond (is_live k es) 1 0) → (p : Plain) (i : ℕ) → length nodes ≤ i → SoFar es (take i nodes) p → (x : Id) → look_of p x ≡ look (tree es) x
+pub read_out : (es : List Entry) → IsTree es → (nodes : List ℕ) → ((k : ℕ) → times k nodes ≡ cond (is_live k es) 1 0) → (p : PlainTree) (i : ℕ) → length nodes ≤ i → SoFar es (take i nodes) p → (x : Id) → look_of p x ≡ look (tree es) x
 read_out es t nodes once p i le s = all_read es t nodes (each_met es nodes once) p (subst (λ ks. SoFar es ks p) (take_all i nodes le) s)
 
 -- ---- one item

@@ -5,7 +5,7 @@ use Rattle.std.specs.HashSet.{contains_by}
 use Rattle.ss_record.specs.Ids.{has}
 use Rattle.ss_tree.specs.Trees.{Placed}
 use Rattle.ss_dupe.specs.declared.plain.Seat.{Seat}
-use Rattle.ss_dupe.specs.declared.plain.Plain.{Plain}
+use Rattle.ss_dupe.specs.declared.plain.PlainTree.{PlainTree}
 use Rattle.ss_dupe.specs.declared.plains.Plains.{Plains}
 use Rattle.ss_dupe.specs.Looks.{Id, Look, is_in}
 use Rattle.ss_dupe.specs.Sides.{Sides}
@@ -14,11 +14,11 @@ use Rattle.ss_dupe.specs.Sides.{Sides}
 abbrev pub placed_at : Seat → Placed
 placed_at s = record { id = s.id; kind = s.item.now.kind; content = s.item.now.content; parent = s.parent; children = s.children.items; time = s.time }
 
-abbrev pub look_of : Plain → Look
+abbrev pub look_of : PlainTree → Look
 look_of p x = option_map placed_at (get bytes_eq p.seats x)
 
 -- the ids that are listed are those of the tree
-abbrev pub AreIds : Plain → Type 0
+abbrev pub AreIds : PlainTree → Type 0
 AreIds p = (x : Id) → has x p.ids.items ≡ is_in (look_of p) x
 
 abbrev pub view : Plains → Sides

@@ -12,7 +12,7 @@ mod rounds;
 mod sides;
 
 pub use laws::{keys_tell_kinds_and_members, no_id_is_in_two_pairs, renamed_trees_are_valid};
-pub use plain::{Plain, Seat};
+pub use plain::{PlainTree, Seat};
 pub use plains::Plains;
 pub use rounds::{pair_dupes, pair_read};
 pub use sides::Side;

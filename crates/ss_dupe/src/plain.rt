@@ -25,7 +25,7 @@ pub struct Seat<'a> {
 
 /// A tree that was read out: each item in its place by its id, and the ids.
 #[derive(Drop)]
-pub struct Plain<'a> {
+pub struct PlainTree<'a> {
     pub seats: HashMap<Id, Seat<'a>>,
     pub ids: Vec<Id>,
 }
@@ -69,15 +69,15 @@ fn seat_of<'a>(alloc: Global, source: &'a Tree, node: Node) -> Result<Seat<'a>, 
     })
 }
 
-impl<'a> Plain<'a> {
+impl<'a> PlainTree<'a> {
     /// Reads a tree out, in one pass over its nodes.
-    pub fn read(alloc: Global, source: &'a Tree) -> Result<Plain<'a>, AllocError>
+    pub fn read(alloc: Global, source: &'a Tree) -> Result<PlainTree<'a>, AllocError>
         ensures same { IfOk result (λ p. (x : Text) → look_of p x ≡ look (tree source.now) x) }
         ensures ids { IfOk result AreIds }
         ensures valid { OnOk result (IsValidTree (tree source.now)) }
     {
         let nodes = source.walk(alloc)?;
-        let mut plain = Plain::empty(alloc);
+        let mut plain = PlainTree::empty(alloc);
         for node in &nodes {
             plain.put(alloc, seat_of(alloc, source, *node)?)?;
         }
@@ -85,11 +85,11 @@ impl<'a> Plain<'a> {
     }
 
     /// A tree of no items.
-    pub fn empty(alloc: Global) -> Plain<'a>
+    pub fn empty(alloc: Global) -> PlainTree<'a>
         ensures none { (x : Text) → look_of result x ≡ None }
         ensures ids { result.ids.items ≡ [] }
     {
-        Plain {
+        PlainTree {
             seats: HashMap::new(alloc),
             ids: Vec::new(alloc),
         }

@@ -10,7 +10,7 @@ ghost use Rattle.ss_dupe.specs.Sides.{asked, is_new, tree_of, deleted_on, other}
 ghost use Rattle.ss_dupe.specs.Plains.{AreIds, look_of, view};
 ghost use Rattle.ss_dupe.specs.Shapes.{AreShaped};
 
-use crate::plain::Plain;
+use crate::plain::PlainTree;
 use crate::sides::Side;
 use ss_text::{Id, Ids};
 use ss_tree::Sides;
@@ -20,9 +20,9 @@ use std::collections::HashSet;
 /// The sides of a merge, read out.
 #[derive(Drop)]
 pub struct Plains<'a> {
-    pub mirror: Plain<'a>,
-    pub local: Plain<'a>,
-    pub remote: Plain<'a>,
+    pub mirror: PlainTree<'a>,
+    pub local: PlainTree<'a>,
+    pub remote: PlainTree<'a>,
     pub local_dead: HashSet<Id>,
     pub remote_dead: HashSet<Id>,
 }
@@ -50,16 +50,16 @@ impl<'a> Plains<'a> {
         ensures shaped { IfOk result (λ p. AreShaped (view p)) }
     {
         Ok(Plains {
-            mirror: Plain::read(alloc, sides.mirror)?,
-            local: Plain::read(alloc, sides.local)?,
-            remote: Plain::read(alloc, sides.remote)?,
+            mirror: PlainTree::read(alloc, sides.mirror)?,
+            local: PlainTree::read(alloc, sides.local)?,
+            remote: PlainTree::read(alloc, sides.remote)?,
             local_dead: set_of(alloc, sides.local_dead)?,
             remote_dead: set_of(alloc, sides.remote_dead)?,
         })
     }
 
     /// A side's tree.
-    pub fn of(&self, side: Side) -> &Plain<'a>
+    pub fn of(&self, side: Side) -> &PlainTree<'a>
         ensures { look_of result.now ≡ tree_of (view self.now) side }
     {
         match side {

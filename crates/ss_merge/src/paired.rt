@@ -12,7 +12,7 @@ ghost use Rattle.ss_dupe.specs.Shapes.{AreShaped};
 ghost use Rattle.ss_dupe.specs.Sides.{asked};
 ghost use Rattle.ss_merge.specs.Links.{AreNames, IsRenamed, TakesIn, by_map, look_by};
 
-use ss_dupe::{Plain, Plains, Seat, pair_read};
+use ss_dupe::{PlainTree, Plains, Seat, pair_read};
 use ss_text::Id;
 use ss_tree::Sides;
 use std::alloc::{AllocError, Global};
@@ -131,17 +131,17 @@ fn rename_seats<'a>(
 fn rename<'a>(
     alloc: Global,
     names: &HashMap<Id, Id>,
-    plain: Plain<'a>,
-) -> Result<Plain<'a>, AllocError>
+    plain: PlainTree<'a>,
+) -> Result<PlainTree<'a>, AllocError>
     requires ids { AreIds plain }
     requires names { AreNames (look_of plain) (by_map (get bytes_eq names.now)) }
     ensures looks { IfOk result (λ named. IsRenamed (look_of plain.entry) (by_map (get bytes_eq names.now)) (look_of named)) }
     ensures ids { IfOk result AreIds }
 {
-    let Plain { seats, ids } = plain;
+    let PlainTree { seats, ids } = plain;
     let seats = rename_seats(alloc, names, seats, &ids)?;
     let ids = names_of_all(alloc, names, ids)?;
-    Ok(Plain { seats, ids })
+    Ok(PlainTree { seats, ids })
 }
 
 /// The sides of a merge, read out, in which the local items of the duplicate pairs have the remote ids, and these pairs.

@@ -27,7 +27,7 @@ use Rattle.ss_route.specs.declared.routed.Local.{Local}
 use Rattle.ss_route.specs.declared.routed.Routed.{Routed}
 use Rattle.ss_route.specs.declared.routed.Routed.TheVariants.{Ask}
 use Rattle.ss_route.specs.Asking.{method_in, asked_in, name_in, id_in}
-use Rattle.ss_route.specs.Bodies.{lines_in, fields_in, records_in, within_limits}
+use Rattle.ss_route.specs.Bodies.{is_in_lines, fields_in, records_in, within_limits}
 use Rattle.ss_route.specs.Conditions.{condition_in}
 use Rattle.ss_route.specs.Fields.{wants_lines}
 use Rattle.ss_route.specs.Posts.{mode_in, names_batch, announced_in}
@@ -143,10 +143,10 @@ unfolding post_request Within
 post_fit collection cond m request e =
     let with : Mode → Records → Result Request Local = λ mode records. Ok (Post collection records mode cond) in
     let mode = came (mode_in (query_of m.target))
-    (λ mode. announced_in (names_batch (query_of m.target)) m.fields >>= (λ announced. lines_in true m.fields >>= (λ lines. records_in lines m.body >>= with mode))) request e in
+    (λ mode. announced_in (names_batch (query_of m.target)) m.fields >>= (λ announced. is_in_lines true m.fields >>= (λ lines. records_in lines m.body >>= with mode))) request e in
     let announced = came (announced_in (names_batch (query_of m.target)) m.fields)
-    (λ announced. lines_in true m.fields >>= (λ lines. records_in lines m.body >>= with mode.value)) request mode.then in
-    let lines = came (lines_in true m.fields) (λ lines. records_in lines m.body >>= with mode.value) request announced.then in
+    (λ announced. is_in_lines true m.fields >>= (λ lines. records_in lines m.body >>= with mode.value)) request mode.then in
+    let lines = came (is_in_lines true m.fields) (λ lines. records_in lines m.body >>= with mode.value) request announced.then in
     let records = came (records_in lines.value m.body) (with mode.value) request lines.then in
     is_fit _ (Post collection records.value mode.value cond) request refl records.then (records_fit lines.value m.body records.value records.was)
 
@@ -163,7 +163,7 @@ delete_fit collection cond m request e =
 put_fit : (collection id : List ℕ) (cond : Cond) (m : Message) (request : Request) → put_request collection id cond m ≡ Ok request → IsFitRequest request
 unfolding put_request
 put_fit collection id cond m request e =
-    let lines = came (lines_in false m.fields) (λ lines. fields_in m.body >>= (λ fields. Ok (Put collection id fields cond))) request e in
+    let lines = came (is_in_lines false m.fields) (λ lines. fields_in m.body >>= (λ fields. Ok (Put collection id fields cond))) request e in
     let fields = came (fields_in m.body) (λ fields. Ok (Put collection id fields cond)) request lines.then in
     is_fit _ (Put collection id fields.value cond) request refl fields.then tt
 

@@ -41,7 +41,7 @@ use Rattle.ss_route.specs.declared.routed.Routed.TheVariants.{Ask}
 use Rattle.ss_route.specs.declared.targets.Named.{Named}
 use Rattle.ss_route.specs.declared.targets.Place.TheVariants.{About, Collection}
 use Rattle.ss_route.specs.Asking.{method_in, asked_in, name_in}
-use Rattle.ss_route.specs.Bodies.{lines_in, lines_of_type, records_in, within_limits}
+use Rattle.ss_route.specs.Bodies.{is_in_lines, lines_of_type, records_in, within_limits}
 use Rattle.ss_route.specs.Conditions.{condition_in, time_in}
 use Rattle.ss_route.specs.Fields.{wants_lines, without_parameters}
 use Rattle.ss_route.specs.Posts.{token, batch_of, mode_of, mode_in, batch_in, continues, names_batch, announced_in}
@@ -338,8 +338,8 @@ unfolding announced_in
 nothing_announced true host time body = refl
 nothing_announced false host time body = refl
 
-json_again : (host : List ℕ) (time : ℕ) (body : List ℕ) → lines_in true (request_fields host (IfUnmodified time) (Some body)) ≡ Ok false
-unfolding lines_in lines_of_type without_parameters trim_ows
+json_again : (host : List ℕ) (time : ℕ) (body : List ℕ) → is_in_lines true (request_fields host (IfUnmodified time) (Some body)) ≡ Ok false
+unfolding is_in_lines lines_of_type without_parameters trim_ows
 json_again host time body = refl
 
 -- what holds of each element holds of the first and of the others
@@ -384,16 +384,16 @@ mode_target uid records (Append batch) c = refl
 mode_target uid records (Commit batch) c = refl
 
 posted_again : (m : Message) (records : Records) (mode : Mode) (cond : Cond)
-    → mode_in (query_of m.target) ≡ Ok mode → announced_in (names_batch (query_of m.target)) m.fields ≡ Ok tt → lines_in true m.fields ≡ Ok false
+    → mode_in (query_of m.target) ≡ Ok mode → announced_in (names_batch (query_of m.target)) m.fields ≡ Ok tt → is_in_lines true m.fields ≡ Ok false
     → records_in false m.body ≡ Ok records → post_request (codes "bookmarks") cond m ≡ Ok (Post (codes "bookmarks") records mode cond)
 unfolding post_request
 posted_again m records mode cond a b c d =
     let with : Mode → Records → Result Request Local = λ mode records. Ok (Post (codes "bookmarks") records mode cond) in
     let y = Post (codes "bookmarks") records mode cond in
     on (mode_in (query_of m.target)) mode
-    (λ mode. announced_in (names_batch (query_of m.target)) m.fields >>= (λ announced. lines_in true m.fields >>= (λ lines. records_in lines m.body >>= with mode))) y a
-    (on (announced_in (names_batch (query_of m.target)) m.fields) tt (λ announced. lines_in true m.fields >>= (λ lines. records_in lines m.body >>= with mode)) y b
-    (on (lines_in true m.fields) false (λ lines. records_in lines m.body >>= with mode) y c (on (records_in false m.body) records (with mode) y d refl)))
+    (λ mode. announced_in (names_batch (query_of m.target)) m.fields >>= (λ announced. is_in_lines true m.fields >>= (λ lines. records_in lines m.body >>= with mode))) y a
+    (on (announced_in (names_batch (query_of m.target)) m.fields) tt (λ announced. is_in_lines true m.fields >>= (λ lines. records_in lines m.body >>= with mode)) y b
+    (on (is_in_lines true m.fields) false (λ lines. records_in lines m.body >>= with mode) y c (on (records_in false m.body) records (with mode) y d refl)))
 
 upload : (uid time : ℕ) (host : List ℕ) (parts : List Part) (mode : Mode) → 1 ≤ uid → uid ≤ 4294967295 → time ≤ last_stamp → IsReadableBatch mode
     → AllByRecursion IsPart parts → length parts + 0 ≤ most_post_records → part_bytes parts ≤ most_post_bytes

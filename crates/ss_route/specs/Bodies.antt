@@ -31,8 +31,8 @@ lines_of_field posts None = Some false
 lines_of_field posts (Some value) = lines_of_type posts (without_parameters value)
 
 -- whether a body is one object a line: it must have no coding, and a type that is read
-unfoldable pub lines_in : Bool → List (List ℕ × List ℕ) → Result Bool Local
-lines_in posts fields =
+unfoldable pub is_in_lines : Bool → List (List ℕ × List ℕ) → Result Bool Local
+is_in_lines posts fields =
     if is_coded fields then Err (said 415 words.Type)
     else ok_or (lines_of_field posts (first_named (codes "Content-Type") fields)) (said 415 words.Type)
 

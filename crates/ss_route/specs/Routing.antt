@@ -19,7 +19,7 @@ use Rattle.ss_route.specs.declared.routed.Local.{Local as Told}
 use Rattle.ss_route.specs.declared.routed.Routed.{Routed}
 use Rattle.ss_route.specs.declared.routed.Routed.TheVariants.{Ask, Local, Memory}
 use Rattle.ss_route.specs.Asking.{method_in, asked_in, name_in, id_in}
-use Rattle.ss_route.specs.Bodies.{lines_in, fields_in, records_in}
+use Rattle.ss_route.specs.Bodies.{is_in_lines, fields_in, records_in}
 use Rattle.ss_route.specs.Conditions.{condition_in}
 use Rattle.ss_route.specs.Fields.{wants_lines}
 use Rattle.ss_route.specs.Posts.{mode_in, names_batch, announced_in}
@@ -43,7 +43,7 @@ unfoldable pub post_request : List ℕ → Cond → Message → Result Request T
 post_request collection cond m = do
   mode ← mode_in (query_of m.target)
   announced ← announced_in (names_batch (query_of m.target)) m.fields
-  lines ← lines_in true m.fields
+  lines ← is_in_lines true m.fields
   records ← records_in lines m.body
   Ok (Post collection records mode cond)
 
@@ -60,7 +60,7 @@ delete_request collection cond m = do
 -- a PUT
 unfoldable pub put_request : List ℕ → List ℕ → Cond → Message → Result Request Told
 put_request collection id cond m = do
-  lines ← lines_in false m.fields
+  lines ← is_in_lines false m.fields
   fields ← fields_in m.body
   Ok (Put collection id fields cond)
 

@@ -4,7 +4,7 @@ ghost use Rattle.std.specs.Prelude.{◌≡◌, option_map, nat_le};
 ghost use Rattle.std.specs.Str.{str_eq_ignore_ascii_case};
 ghost use Rattle.ss_bso.specs.Limits.{part_bytes, payload_size};
 ghost use Rattle.ss_query.specs.Fit.{most_post_bytes};
-ghost use Rattle.ss_route.specs.Bodies.{is_coded, lines_of_type, lines_of_field, lines_in, fields_in, within_limits, records_in};
+ghost use Rattle.ss_route.specs.Bodies.{is_coded, lines_of_type, lines_of_field, is_in_lines, fields_in, within_limits, records_in};
 ghost use Rattle.ss_route.specs.Refusals.{Settles, reason_refusal, fields_refusal, body_refusal};
 
 use crate::cuts::is_same;
@@ -57,9 +57,9 @@ fn lines_of_field(posts: bool, value: Option<&[u8]>) -> Option<bool>
 }
 
 /// Whether a body is one object a line.
-#[tactic(auto, unfolding(crate::specs::Bodies::lines_in))]
-pub fn lines_in(posts: bool, fields: &FieldLines) -> Result<bool, Stop>
-    ensures { Settles result (lines_in posts fields.now) }
+#[tactic(auto, unfolding(crate::specs::Bodies::is_in_lines))]
+pub fn is_in_lines(posts: bool, fields: &FieldLines) -> Result<bool, Stop>
+    ensures { Settles result (is_in_lines posts fields.now) }
 {
     if is_coded(fields) {
         return Err(Stop::Refused(said(415, Said::Type)));

@@ -7,7 +7,7 @@ ghost use Rattle.ss_route.specs.Targets.{query_of};
 ghost use Rattle.ss_route.specs.Routing.{list_request, post_request, delete_request, put_request, collection_request, item_request, request_in, asking, routed, IsRouted, AsksFit};
 
 use crate::asked::{Asked, CollectionAct, ItemAct, asked_in, id_in, name_in};
-use crate::bodies::{fields_in, lines_in, records_in};
+use crate::bodies::{fields_in, is_in_lines, records_in};
 use crate::conditions::condition_in;
 use crate::fields::wants_lines;
 use crate::methods::{Method, method_in};
@@ -59,7 +59,7 @@ fn post_request(
     let query = query_of(message.target.as_slice());
     let mode = mode_in(alloc, query)?;
     announced_in(names_batch(alloc, query)?, &message.fields)?;
-    let lines = lines_in(true, &message.fields)?;
+    let lines = is_in_lines(true, &message.fields)?;
     let records = records_in(alloc, lines, message.body.as_slice())?;
     Ok(Request::Post {
         collection,
@@ -118,7 +118,7 @@ fn put_request(
 ) -> Result<Request, Stop>
     ensures { Settles result (put_request collection id cond message.now) }
 {
-    lines_in(false, &message.fields)?;
+    is_in_lines(false, &message.fields)?;
     let fields = fields_in(alloc, message.body.as_slice())?;
     Ok(Request::Put {
         collection,

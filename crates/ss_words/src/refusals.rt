@@ -57,7 +57,7 @@ pub enum Cause {
 pub struct Refusal<'a> {
     pub cause: Cause,
 
-    /// None where a word is missing.
+    /// None where a word is missing, an account is named twice, or there are more than eight.
     pub word: Option<&'a str>,
 }
 

@@ -3,7 +3,7 @@ use Rattle.std.specs.HashMap.{get}
 use Rattle.ss_record.specs.Ids.{has}
 use Rattle.ss_dupe.specs.Plains.{look_of, placed_at}
 use Rattle.ss_dupe.proofs.ReadOut.{look_put, ids_pushed, ids_kept, in_some}
-use Rattle.ss_dupe.proofs.plain.Plain.put.Goals as goal
+use Rattle.ss_dupe.proofs.plain.PlainTree.put.Goals as goal
 
 pub returns-in_ok-push-clause-ids : goal.returns-in_ok-push-clause-ids
 returns-in_ok-push-clause-ids c = λ are x.

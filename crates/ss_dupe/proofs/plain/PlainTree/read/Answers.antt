@@ -1,7 +1,7 @@
 use Rattle.std.proofs.Common.{◌<◌, ◌≤◌, ◌∙◌, ap, length, arith}
 use Rattle.ss_list.specs.Chain.{times}
 use Rattle.ss_dupe.proofs.ReadOut.{none_yet, one_more_at, read_out}
-use Rattle.ss_dupe.proofs.plain.Plain.read.Goals as goal
+use Rattle.ss_dupe.proofs.plain.PlainTree.read.Goals as goal
 
 pub loop-node-init : goal.loop-node-init
 loop-node-init c = none_yet c.args.source.now c.empty-plain.result c.empty-plain.ensures.none c.empty-plain.ensures.ids

@@ -1,6 +1,6 @@
 //! Cases of rows as they are held, as a program: standard input has them, a line each, and standard output what comes
-//! of each. A chain is put under calls and a shelf under queries, against plain lists. The program has no contract: its
-//! stored run is the test.
+//! of each. A chain is put under calls and a shelf under queries, against plain lists. It promises but that few links
+//! lead to few rows; its stored run is the test.
 #![tactic(auto)]
 
 ghost use Rattle.std.specs.Prelude.{◌≡◌, ◌<◌};

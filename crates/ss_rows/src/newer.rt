@@ -59,7 +59,7 @@ fn since(alloc: Global, newer: Stamp) -> anyhow::Result<Query>
     Ok(query)
 }
 
-/// What is newer than a time, where there are at most three rows of any collection: then at most three links are
+/// What is newer than a time, where at most three rows of any collection are newer: then at most three links are
 /// followed.
 fn few_newer<L: Ledger>(
     alloc: Global,

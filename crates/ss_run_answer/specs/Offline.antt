@@ -1,4 +1,4 @@
--- What a run of a command that waits for nobody does.
+-- What a run of the command that answers messages does.
 use Rattle.std.specs.Prelude.{◌≡◌, ℕ, List, Option, IfSome}
 use Rattle.ss_outside.specs.Told.{Meanings}
 use Rattle.ss_run_answer.specs.declared.answer.Ending.{Ending}
@@ -12,7 +12,7 @@ pub record IsUntouched (input input' output output' : Meanings) (coming coming' 
   pub unasked : coming' ≡ coming
 
 -- Where the words ask to answer for an account, it is answered, and the status is that of the run's end; with a first reading of
--- the clock the one that is handed in isn't read. Where they ask nothing that is there, the status is 1, and nothing is read or
+-- the clock the one that is handed in isn't read. Where they ask something else or nothing, the status is 1, and nothing is read or
 -- written. The same with 8, where no memory was found for the words.
 pub data Runs {C : Type 0} (words : List (List ℕ)) (status : ℕ) (input input' output output' : Meanings) (coming coming' : Option (List ℕ)) (clock clock' : C) : Type 0 where
   answers : (uid : ℕ) (at : Option ℕ) (ending : Ending) → AsksAnswer words uid at → status ≡ status_of ending

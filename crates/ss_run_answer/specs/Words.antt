@@ -1,4 +1,4 @@
--- What the words of a command that waits for nobody ask, and the statuses.
+-- What the words of the command that answers messages ask, and the statuses.
 use Rattle.std.specs.Prelude.{ℕ, List, Option}
 use Rattle.ss_words.specs.Commands.{Asks}
 use Rattle.ss_words.specs.declared.commands.Command.TheVariants.{Answer}

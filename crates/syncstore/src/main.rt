@@ -19,7 +19,7 @@ use ss_words::Name;
 use std::env;
 use std::process::ExitCode;
 
-/// Runs a command that waits for nobody over the standard streams and the clock of the system, and answers its status.
+/// Answers messages over the standard streams by the clock of the system, and gives the status.
 fn run_here(system: &HostRuntime, words: &[String]) -> u8 {
     let mut input = StdSource::new(system.stdin());
     let mut output = StdSink::new(system.stdout());

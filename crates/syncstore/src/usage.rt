@@ -92,7 +92,7 @@ example: syncstore rehearse 6000 1
 const SYNC: &str = "\
 usage: syncstore sync URL FILE [--newer]
 
-Syncs the device in FILE with an account of a server: fetches, merges, uploads what changed as one batch, and saves the device. It
+Syncs the device in FILE with an account of a server: fetches, merges, uploads what changed all at once, and saves the device. It
 prints one line.
 
   URL        http://HOST[:PORT]/1.5/UID, without a query; the port is 80 where none is given

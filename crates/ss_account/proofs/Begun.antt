@@ -13,10 +13,9 @@ use Rattle.ss_bso.specs.Validity.{IsValid, IsValidBatch}
 use Rattle.ss_batch.specs.Stage.{append_fault, appended, begun, has_number, more, numbered, reach, shortened}
 use Rattle.ss_account.specs.Steps.{stage_of, with_stage}
 use Rattle.ss_bso.proofs.Lists.{Each-imp, Each-from_All}
-use Rattle.ss_bso.specs.Lists.{Each}
-
-same_number : (n : ℕ) → (n == n) ≡ true
-same_number n = grind (arith, nat_tests)
+use Rattle.ss_text.proofs.Basics.{own_number}
+use Rattle.ss_laws.proofs.Valid.{number-grown}
+use Rattle.ss_index.proofs.Shelves.{filter-every}
 
 other_number : (m n : ℕ) → m ≤ n → (m == (n + 1)) ≡ false
 other_number m n le = grind (arith, nat_tests)
@@ -25,10 +24,6 @@ find-last : {X : Type 0} (p : X → Bool) (xs : List X) (y : X) → p y ≡ true
 find-last p [] y e = ap (λ v. is_some (cond v (Some y) (find p []))) e
 find-last {X} p (x ∷ xs) y e = elim (p x) as (λ v. is_some (cond v (Some x) (find p (xs ++ y ∷ []))) ≡ true) [ true ↦ refl | false ↦ find-last p xs y e ]
 
-filter-all : {X : Type 0} (p : X → Bool) (xs : List X) → Each (λ (x : X). p x ≡ true) xs → filter p xs ≡ xs
-filter-all p [] e = refl
-filter-all p (x ∷ xs) e = ap (λ v. cond v (x ∷ filter p xs) (filter p xs)) e.0 ∙ ap (λ rest. x ∷ rest) (filter-all p xs e.1)
-
 -- an account with a batch begun
 abbrev pub with_begun : Plain → List ℕ → List Part → Plain
 with_begun account collection parts = with_stage account (begun (stage_of account) account.moment collection parts)
@@ -36,7 +31,7 @@ with_begun account collection parts = with_stage account (begun (stage_of accoun
 pub begun-live : (account left : Plain) (collection : List ℕ) (parts : List Part) → left ≡ with_begun account collection parts → IsSome (numbered left.counter left.batches)
 begun-live account left collection parts e =
     let new : Staged = record { number = account.counter + 1; collection = collection; begun = account.moment; parts = parts } in
-    subst (λ (a : Plain). IsSome (numbered a.counter a.batches)) (sym e) (find-last (has_number (account.counter + 1)) account.batches new (same_number (account.counter + 1)))
+    subst (λ (a : Plain). IsSome (numbered a.counter a.batches)) (sym e) (find-last (has_number (account.counter + 1)) account.batches new (own_number (account.counter + 1)))
 
 -- the last begin taken back leaves the account as it was
 pub begun-back : (account left back : Plain) (collection : List ℕ) (parts : List Part) → IsValid account → left ≡ with_begun account collection parts
@@ -45,19 +40,17 @@ begun-back account left back collection parts valid e b =
     let new : Staged = record { number = account.counter + 1; collection = collection; begun = account.moment; parts = parts } in
     let keep : Staged → Bool = λ batch. not (batch.number == (account.counter + 1)) in
     let old : filter keep account.batches ≡ account.batches =
-    filter-all keep account.batches (Each-imp (IsValidBatch account) (λ (batch : Staged). keep batch ≡ true) (λ batch h. ap not (other_number batch.number account.counter h.counted)) account.batches
+    filter-every keep account.batches (Each-imp (IsValidBatch account) (λ (batch : Staged). keep batch ≡ true) (λ batch h. ap not (other_number batch.number account.counter h.counted)) account.batches
     (Each-from_All (IsValidBatch account) account.batches valid.batches)) in
     let batches : batches_without (account.counter + 1) (account.batches ++ new ∷ []) ≡ account.batches =
     filter-append keep account.batches (new ∷ [])
-    ∙ ap (λ (v : Bool). filter keep account.batches ++ cond (not v) (new ∷ []) []) (same_number (account.counter + 1))
+    ∙ ap (λ (v : Bool). filter keep account.batches ++ cond (not v) (new ∷ []) []) (own_number (account.counter + 1))
     ∙ append-nil (filter keep account.batches) ∙ old in
     let counter : account.counter + 1 - 1 ≡ account.counter = omega arith in
     b ∙ ap (λ (a : Plain). with_stage a (record { counter = a.counter - 1; batches = batches_without a.counter a.batches })) e
     ∙ (λ i. record account { counter = counter i; batches = batches i })
 
 -- an append, and what takes it back
-named-grown : (number : ℕ) (parts : List Part) (batch : Staged) → (grown number parts batch).number ≡ batch.number
-named-grown number parts batch = elim (batch.number == number) as (λ v. (cond v (record batch { parts = batch.parts ++ parts }) batch).number ≡ batch.number) [ true ↦ refl | false ↦ refl ]
 
 long-grown : (number : ℕ) (parts : List Part) (batch : Staged) → (batch.number == number) ≡ true → length parts ≤ length (grown number parts batch).parts
 long-grown number parts batch e =
@@ -71,7 +64,7 @@ long-appended number parts [] h = cc
 long-appended number parts (batch ∷ batches) h = by (batch.number == number) refl (λ rest. long-appended number parts batches rest)
   where
     test : (grown number parts batch).number == number ≡ (batch.number == number)
-    test = ap (λ n. n == number) (named-grown number parts batch)
+    test = ap (λ n. n == number) (number-grown number parts batch)
 
     by : (v : Bool) → (batch.number == number) ≡ v → (IsSome (numbered number batches) → IsSomeAnd (numbered number (map (grown number parts) batches)) (λ staged. length parts ≤ length staged.parts))
         → IsSomeAnd (numbered number (map (grown number parts) (batch ∷ batches))) (λ staged. length parts ≤ length staged.parts)

@@ -14,44 +14,26 @@ use Rattle.ss_bso.specs.Changes.{batch_grown, batches_changed, begun_by, ends}
 use Rattle.ss_bso.specs.Lists.{Each, Pairs}
 use Rattle.ss_bso.proofs.Lists.{Each-and, Each-imp, Each-from_All, All-from_Each}
 use Rattle.ss_bso.proofs.Reordering.{reordered-filter, Each-reordered}
-use Rattle.ss_bso.proofs.Texts.{not_true}
 use Rattle.ss_account.specs.Keeping.{has_ended}
 use Rattle.ss_writes.specs.Pending.{numbers_of}
-use Rattle.ss_writes.proofs.Changing.{filter-true, filter-both}
+use Rattle.ss_writes.proofs.Changing.{filter-true, filter-both, not_either}
+use Rattle.std.proofs.lemmas.Bool.{not-true, ne_eqb}
+use Rattle.ss_text.proofs.Basics.{own_number}
+use Rattle.ss_index.proofs.Shelves.{filter-same}
+use Rattle.ss_index.proofs.Rising.{filter-each}
 
 abbrev pub OtherNumber : Staged → Staged → Type 0
 OtherNumber batch other = batch.number ≢ other.number
 
 -- numbers
-same_number : (m n : ℕ) → (m == n) ≡ true → m ≡ n
-same_number m n = grind (arith, nat_tests)
-
-own_number : (n : ℕ) → (n == n) ≡ true
-own_number n = grind (arith, nat_tests)
-
-pub number-turned : (m n : ℕ) → (m == n) ≡ (n == m)
-number-turned m n = grind (arith, nat_tests)
-
-pub other_number : (m n : ℕ) → m ≢ n → (m == n) ≡ false
-other_number m n h = elim (m == n) as (λ v. (m == n) ≡ v → v ≡ false) [ true ↦ (λ t. absurd (h (same_number m n t))) | false ↦ (λ _. refl) ] refl
 
 -- filters
-pub filter-agree_each : {X : Type 0} (p q : X → Bool) (xs : List X) → Each (λ (x : X). p x ≡ q x) xs → filter p xs ≡ filter q xs
-filter-agree_each p q [] e = refl
-filter-agree_each p q (x ∷ xs) e = λ i. cond (e.0 i) (x ∷ filter-agree_each p q xs e.1 i) (filter-agree_each p q xs e.1 i)
 
 each-all : {X : Type 0} (P : X → Type 0) → ((x : X) → P x) → (xs : List X) → Each P xs
 each-all P h [] = tt
 each-all P h (x ∷ xs) = (h x, each-all P h xs)
 
 -- what each element has that a filter keeps
-each-unfilter : {X : Type 0} (P : X → Type 0) (keep : X → Bool) (xs : List X) → Each P (filter keep xs) → Each (λ (x : X). keep x ≡ true → P x) xs
-each-unfilter P keep [] e = tt
-each-unfilter {X} P keep (x ∷ xs) e =
-    elim (keep x) as (λ v. Each P (cond v (x ∷ filter keep xs) (filter keep xs)) → (v ≡ true → P x) × Each (λ (y : X). keep y ≡ true → P y) xs) [
-      | true ↦ (λ h. ((λ _. h.0), each-unfilter P keep xs h.1))
-      | false ↦ (λ h. ((λ no. cc), each-unfilter P keep xs h))
-    ] e
 
 any-append : {X : Type 0} (p : X → Bool) (xs ys : List X) → list_any p (xs ++ ys) ≡ (list_any p xs || list_any p ys)
 any-append p [] ys = refl
@@ -63,10 +45,6 @@ any-append p (x ∷ xs) ys = ap (λ v. p x || v) (any-append p xs ys) ∙ groupe
 
 ended-append : (ended more : List ℕ) (batch : Staged) → has_ended (ended ++ more) batch ≡ (has_ended ended batch || has_ended more batch)
 ended-append ended more batch = any-append (λ number. number == batch.number) ended more
-
-not_either : (a b : Bool) → (not a && not b) ≡ not (a || b)
-not_either true b = refl
-not_either false b = refl
 
 not-not : (b : Bool) → not (not b) ≡ b
 not-not true = refl
@@ -84,7 +62,7 @@ not-named : (batch : Staged) (p : Staged → Bool) (others : List Staged) → Ea
 not-named batch p [] e = refl
 not-named batch p (other ∷ others) e =
     elim (p other) as (λ v. has_ended (numbers_of (cond v (other ∷ filter p others) (filter p others))) batch ≡ false) [
-      | true ↦ ap (λ v. v || has_ended (numbers_of (filter p others)) batch) (other_number other.number batch.number (λ same. e.0 (sym same))) ∙ not-named batch p others e.1
+      | true ↦ ap (λ v. v || has_ended (numbers_of (filter p others)) batch) (ne_eqb other.number batch.number (λ same. e.0 (sym same))) ∙ not-named batch p others e.1
       | false ↦ not-named batch p others e.1
     ]
 
@@ -98,14 +76,14 @@ each-named p (first ∷ batches) distinct = (
   Each-imp (λ (batch : Staged). (has_ended (numbers_of (filter p batches)) batch ≡ p batch) × OtherNumber first batch) (λ (batch : Staged). has_ended (numbers_of (filter p (first ∷ batches))) batch ≡ p batch)
       (λ batch h.
       elim (p first) as (λ v. has_ended (numbers_of (cond v (first ∷ filter p batches) (filter p batches))) batch ≡ p batch) [
-        | true ↦ ap (λ v. v || has_ended (numbers_of (filter p batches)) batch) (other_number first.number batch.number h.1) ∙ h.0
+        | true ↦ ap (λ v. v || has_ended (numbers_of (filter p batches)) batch) (ne_eqb first.number batch.number h.1) ∙ h.0
         | false ↦ h.0
       ]) batches (Each-and (λ (batch : Staged). has_ended (numbers_of (filter p batches)) batch ≡ p batch) (OtherNumber first) batches (each-named p batches distinct.1) distinct.0),
 )
 
 pub filter-named : (p : Staged → Bool) (batches : List Staged) → Pairs OtherNumber batches → filter (λ batch. not (has_ended (numbers_of (filter p batches)) batch)) batches ≡ filter (λ batch. not (p batch)) batches
 filter-named p batches distinct =
-    filter-agree_each (λ batch. not (has_ended (numbers_of (filter p batches)) batch)) (λ batch. not (p batch)) batches
+    filter-same (λ batch. not (has_ended (numbers_of (filter p batches)) batch)) (λ batch. not (p batch)) batches
     (Each-imp (λ (batch : Staged). has_ended (numbers_of (filter p batches)) batch ≡ p batch) (λ (batch : Staged). not (has_ended (numbers_of (filter p batches)) batch) ≡ not (p batch)) (λ batch e. ap not e) batches (each-named p batches distinct))
 
 pub filter-all_gone : {X : Type 0} (xs : List X) → filter (λ x. false) xs ≡ []
@@ -176,7 +154,7 @@ noted-later ended kept batches moment later le distinct n =
     let mine : filter (λ batch. not (has_ended more batch)) batches ≡ filter (is_open later) batches =
     filter-named gone batches distinct ∙ filter_agree (λ batch. not (gone batch)) (is_open later) (λ batch. not-not (is_open later batch)) batches in
     let named : Each (λ (batch : Staged). not (has_ended ended batch) ≡ true → Named batch) kept =
-    each-unfilter Named (λ batch. not (has_ended ended batch)) kept (Each-reordered Named n.left (each-named gone batches distinct)) in
+    filter-each Named (λ batch. not (has_ended ended batch)) kept (Each-reordered Named n.left (each-named gone batches distinct)) in
     let over : Each (λ (batch : Staged). has_ended ended batch ≡ true → is_open moment batch ≡ false) kept = Each-from_All (λ (batch : Staged). has_ended ended batch ≡ true → is_open moment batch ≡ false) kept n.over in
     record {
       left = subst (λ (bs : List Staged). Reordered bs (filter (λ batch. not (has_ended (ended ++ more) batch)) kept)) mine
@@ -193,7 +171,7 @@ noted-later ended kept batches moment later le distinct n =
     by batch true is h e = over-later moment later batch le (h.1 is)
     by batch false is h e =
         let now : has_ended (numbers_of (filter (λ (b : Staged). not (is_open later b)) batches)) batch ≡ true = sym (ap (λ v. v || has_ended (numbers_of (filter (λ (b : Staged). not (is_open later b)) batches)) batch) is) ∙ e in
-        not_true (is_open later batch) (sym (h.0 (ap not is)) ∙ now)
+        not-true (is_open later batch) (sym (h.0 (ap not is)) ∙ now)
 
 -- the open ones are the same from the moment on
 pub noted-open : (ended : List ℕ) (kept batches : List Staged) (moment later : ℕ) → moment ≤ later → Noted ended kept batches moment → Reordered (filter (is_open later) batches) (filter (is_open later) kept)
@@ -207,7 +185,7 @@ noted-open ended kept batches moment later le n =
     same : filter (is_open later) (filter (λ (batch : Staged). not (has_ended ended batch)) kept) ≡ filter (is_open later) kept
     same =
         filter-both (is_open later) (λ batch. not (has_ended ended batch)) kept
-        ∙ filter-agree_each (λ (batch : Staged). not (has_ended ended batch) && is_open later batch) (is_open later) kept
+        ∙ filter-same (λ (batch : Staged). not (has_ended ended batch) && is_open later batch) (is_open later) kept
         (Each-imp (λ (batch : Staged). has_ended ended batch ≡ true → is_open moment batch ≡ false) (λ (batch : Staged). (not (has_ended ended batch) && is_open later batch) ≡ is_open later batch)
         (λ batch h. by batch (has_ended ended batch) refl h) kept (Each-from_All (λ (batch : Staged). has_ended ended batch ≡ true → is_open moment batch ≡ false) kept n.over))
 

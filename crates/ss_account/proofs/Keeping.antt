@@ -32,11 +32,12 @@ use Rattle.ss_writes.specs.declared.pending.Pending.TheVariants.{Put, Cut, DropC
 use Rattle.ss_writes.specs.Pending.{IsReady, IsPutReady, append_changes, applied, batch_changes, batches_left, begin_changes, changes_to, ended_by, numbers_of}
 use Rattle.ss_bso.proofs.Lists.{Each-imp, Each-from_All, Pairs-from_AllPairs}
 use Rattle.ss_bso.proofs.Reordering.{reordered-filter, reordered-append_right, reordered-map, reordered-refl, reordered-sym}
-use Rattle.ss_bso.proofs.Texts.{bytes_eq-same}
 use Rattle.ss_bso.specs.Lists.{Each, Apart}
 use Rattle.ss_laws.proofs.Written.{IsItem}
-use Rattle.ss_account.proofs.Ending.{Noted, OtherNumber, batches-ended, batches-one, filter-all_gone, filter-ended, filter-named, noted-later, noted-none, noted-open, number-turned}
-use Rattle.ss_writes.proofs.Changing.{filter-true, filter-absorb, filter-none, bytes_eq-sym, or_false, is_covered, puts_are, covered_is, drops_are, no_times}
+use Rattle.ss_account.proofs.Ending.{Noted, OtherNumber, batches-ended, batches-one, filter-all_gone, filter-ended, filter-named, noted-later, noted-none, noted-open}
+use Rattle.ss_writes.proofs.Changing.{filter-true, filter-absorb, is_covered, puts_are, covered_is, drops_are, no_times}
+use Rattle.ss_text.proofs.Basics.{or_false, or_true, bytes_eq-sym, bytes_eq-same, number_turned}
+use Rattle.ss_index.proofs.Shelves.{filter-none}
 
 -- what is alive later is alive earlier
 alive_before : (earlier later : ℕ) (expires : Option ℕ) → earlier ≤ later → option_map_or (λ expiry. nat_lt later expiry) expires true ≡ true → option_map_or (λ expiry. nat_lt earlier expiry) expires true ≡ true
@@ -123,10 +124,6 @@ named-dropped P name (entry ∷ times) h =
       | false ↦ (λ g. named-dropped P name times g)
     ] h
 
-or_true : (b : Bool) → (b || true) ≡ true
-or_true true = refl
-or_true false = refl
-
 each-dropped : (times : List (List ℕ × ℕ)) → Each (λ (entry : List ℕ × ℕ). list_any (drops entry.0) (map (λ (e : List ℕ × ℕ). DropName e.0) times) ≡ true) times
 each-dropped [] = tt
 each-dropped (entry ∷ times) = (
@@ -145,7 +142,7 @@ rows-swept ended kept account swept h =
 left-applied : (account : Plain) (pending : Pending) → IsValid account → filter (λ batch. not (has_ended (ended_by pending account.batches) batch)) account.batches ≡ batches_left pending account.batches
 left-applied account (Put collection targets made None) valid = filter-true account.batches
 left-applied account (Put collection targets made (Some number)) valid =
-    filter_agree (λ (batch : Staged). not ((number == batch.number) || false)) (λ (batch : Staged). not (batch.number == number)) (λ batch. ap not (or_false (number == batch.number) ∙ number-turned number batch.number)) account.batches
+    filter_agree (λ (batch : Staged). not ((number == batch.number) || false)) (λ (batch : Staged). not (batch.number == number)) (λ batch. ap not (or_false (number == batch.number) ∙ number_turned number batch.number)) account.batches
 left-applied account (Cut collection targets) valid = filter-true account.batches
 left-applied account (DropCollection collection) valid =
     filter-named (λ batch. bytes_eq batch.collection collection) account.batches (Pairs-from_AllPairs OtherNumber account.batches valid.numbers)
@@ -306,7 +303,7 @@ batches-finished : (ended : List ℕ) (kept : Kept) (account : Plain) (number : 
 batches-finished ended kept account number h =
     let one : map EndBatch ended ++ EndBatch number ∷ [] ≡ map EndBatch (ended ++ number ∷ []) = sym (map-append EndBatch ended (number ∷ [])) in
     let mine : filter (λ (batch : Staged). not ((number == batch.number) || false)) account.batches ≡ batches_without number account.batches =
-    filter_agree (λ (batch : Staged). not ((number == batch.number) || false)) (λ (batch : Staged). not (batch.number == number)) (λ batch. ap not (or_false (number == batch.number) ∙ number-turned number batch.number)) account.batches in
+    filter_agree (λ (batch : Staged). not ((number == batch.number) || false)) (λ (batch : Staged). not (batch.number == number)) (λ batch. ap not (or_false (number == batch.number) ∙ number_turned number batch.number)) account.batches in
     subst (λ (bs : List Staged). Reordered (batches_without number account.batches) bs)
     (filter-ended ended (number ∷ []) kept.batches ∙ sym (ap (batches_changed kept.batches) one ∙ batches-ended kept.batches (ended ++ number ∷ [])))
     (subst (λ (bs : List Staged). Reordered bs (filter (λ (batch : Staged). not ((number == batch.number) || false)) (filter (λ batch. not (has_ended ended batch)) kept.batches))) mine

@@ -5,6 +5,7 @@ pub mod Ending
 pub mod Keeping
 pub mod Opened
 pub mod Ready
+pub mod Rising
 pub mod Shelving
 pub mod Sorted
 pub mod Sound

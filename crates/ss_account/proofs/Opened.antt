@@ -1,11 +1,11 @@
 -- What is known where no collection and no row is bad, and where the first one is.
-use Rattle.std.specs.Prelude.{◌≡◌, ◌≢◌, ℕ, ◌+◌, ◌≤◌, ◌<◌, ◌==◌, max, filter, Bool, true, false, not, ◌&&◌, ◌||◌, cond, nat_le, nat_lt, List, [], ◌∷◌, ◌++◌, length, take, drop, get_or, find, bytes_eq, is_none, Option, Some, None, IfSome, IsSomeAnd, All, AllPairs, option_map, refl}
+use Rattle.std.specs.Prelude.{◌≡◌, ℕ, ◌+◌, ◌≤◌, ◌<◌, ◌==◌, max, filter, Bool, true, false, not, ◌&&◌, ◌||◌, cond, nat_le, nat_lt, List, [], ◌∷◌, ◌++◌, length, take, drop, get_or, find, bytes_eq, is_none, Option, Some, None, IfSome, IsSomeAnd, All, AllPairs, option_map, refl}
 use Rattle.std.specs.List.{list_any}
 use Rattle.std.specs.Option.{option_map_or}
 use Rattle.std.proofs.Common.{sym, ap, subst, ◌∙◌, arith, add-one, drop-cons}
 use Rattle.std.proofs.lemmas.Bool.Decides.{nat_tests}
 use Rattle.std.proofs.lemmas.List.Sums.{sum_by-append}
-use Rattle.std.proofs.lemmas.List.{append_assoc, length-append, length-take-le, take-append-drop, take_more}
+use Rattle.std.proofs.lemmas.List.{append_assoc, length-append, length-take-le, take-append-drop}
 use Rattle.ss_text.specs.Time.{after, last_stamp}
 use Rattle.ss_bso.specs.declared.rows.Row.{Row}
 use Rattle.ss_bso.specs.declared.account.Plain.{Plain}
@@ -21,22 +21,15 @@ use Rattle.ss_account.specs.Keeping.{IsHeldBy}
 use Rattle.ss_account.specs.Opening.{IsGood, first_bad, is_astray, is_bad_batch, is_bad_collection, is_bad_row}
 use Rattle.ss_writes.specs.Parts.{or_else}
 use Rattle.ss_bso.proofs.Lists.{Each-and, Each-imp, Each-from_All, Pairs-from_AllPairs, All-from_Each, AllPairs-from_Pairs}
-use Rattle.ss_bso.proofs.SameRows.{clash}
-use Rattle.ss_bso.proofs.Texts.{both_left, both_right, bytes_eq-flip, not_false}
 use Rattle.ss_bso.specs.Lists.{Each, Pairs, Apart}
 use Rattle.ss_laws.proofs.Written.{IsItem}
 use Rattle.ss_query.proofs.Orders.{NamedApart}
-use Rattle.ss_account.proofs.Ending.{OtherNumber, open_now, other_number}
-use Rattle.ss_writes.proofs.Changing.{bytes_eq-sym, filter-absorb}
-use Rattle.ss_laws.proofs.SameValid.{apart_flip, valid-same}
-
-or_left : (p q : Bool) → (p || q) ≡ false → p ≡ false
-or_left true q e = e
-or_left false q e = refl
-
-or_right : (p q : Bool) → (p || q) ≡ false → q ≡ false
-or_right true q e = cc
-or_right false q e = e
+use Rattle.ss_account.proofs.Ending.{OtherNumber, open_now}
+use Rattle.ss_writes.proofs.Changing.{filter-absorb}
+use Rattle.ss_laws.proofs.SameValid.{valid-same}
+use Rattle.ss_text.proofs.Basics.{both_left, both_right, neither_left, neither_right, bytes_eq-sym, bytes_eq-flip, take_push}
+use Rattle.std.proofs.lemmas.Bool.{not-false, eqb-false, ltb-false, ne_eqb, le-ltb}
+use Rattle.ss_bso.proofs.Places.{apart_flip}
 
 none-map : (o : Option ℕ) → option_map (λ n. n + 1) o ≡ None → o ≡ None
 none-map None e = refl
@@ -44,7 +37,7 @@ none-map (Some n) e = cc
 
 each-none : {X : Type 0} (p : X → Bool) (xs : List X) → list_any p xs ≡ false → Each (λ (x : X). p x ≡ false) xs
 each-none p [] e = tt
-each-none p (x ∷ xs) e = (or_left (p x) (list_any p xs) e, each-none p xs (or_right (p x) (list_any p xs) e))
+each-none p (x ∷ xs) e = (neither_left (p x) (list_any p xs) e, each-none p xs (neither_right (p x) (list_any p xs) e))
 
 -- where none is bad: the first isn't, and none is behind it
 record NoneBad {X : Type 0} (b : List X → X → Bool) (x : X) (xs : List X) : Type 0 where
@@ -99,9 +92,6 @@ whole-good {X} b M none h (x ∷ xs) e =
 
 below : (n : ℕ) → nat_le most_rows_and_collections n ≡ false → n + 1 ≤ most_rows_and_collections
 below n e = grind (arith, nat_tests)
-
-not_later : (store time : ℕ) → nat_lt store time ≡ false → time ≤ store
-not_later store time e = grind (arith, nat_tests)
 
 not-astray : (modified : ℕ) (o : Option ℕ) → not (option_map_or (λ time. nat_le modified time) o false) ≡ false → IsSomeAnd o (λ time. modified ≤ time)
 not-astray modified None e = cc
@@ -184,16 +174,13 @@ record IsFine (counter : ℕ) (batch : Staged) : Type 0 where
 
 fine : (counter : ℕ) (batch : Staged) → ((batch.number == 0 || nat_lt counter batch.number) || not (fit batch.parts)) ≡ false → IsFine counter batch
 fine counter batch e =
-    let number : (batch.number == 0 || nat_lt counter batch.number) ≡ false = or_left (batch.number == 0 || nat_lt counter batch.number) (not (fit batch.parts)) e in
-    let given : (batch.number == 0) ≡ false = or_left (batch.number == 0) (nat_lt counter batch.number) number in
-    let counted : nat_lt counter batch.number ≡ false = or_right (batch.number == 0) (nat_lt counter batch.number) number in
-    let whole : fit batch.parts ≡ true = not_false (fit batch.parts) (or_right (batch.number == 0 || nat_lt counter batch.number) (not (fit batch.parts)) e) in
+    let number : (batch.number == 0 || nat_lt counter batch.number) ≡ false = neither_left (batch.number == 0 || nat_lt counter batch.number) (not (fit batch.parts)) e in
+    let given : (batch.number == 0) ≡ false = neither_left (batch.number == 0) (nat_lt counter batch.number) number in
+    let counted : nat_lt counter batch.number ≡ false = neither_right (batch.number == 0) (nat_lt counter batch.number) number in
+    let whole : fit batch.parts ≡ true = not-false (fit batch.parts) (neither_right (batch.number == 0 || nat_lt counter batch.number) (not (fit batch.parts)) e) in
     let records : nat_le (length batch.parts) most_batch_records ≡ true = both_left (nat_le (length batch.parts) most_batch_records) (nat_le (part_bytes batch.parts) most_batch_bytes) whole in
     let bytes : nat_le (part_bytes batch.parts) most_batch_bytes ≡ true = both_right (nat_le (length batch.parts) most_batch_records) (nat_le (part_bytes batch.parts) most_batch_bytes) whole in
     record { given = grind (arith, nat_tests); counted = grind (arith, nat_tests); records = grind (arith, nat_tests); bytes = grind (arith, nat_tests) }
-
-not_same : (m n : ℕ) → (m == n) ≡ false → m ≢ n
-not_same m n e = λ same. let no : (m == n) ≡ true = grind (arith, nat_tests) in clash (m == n) no e
 
 few-more : (before : List Staged) (batch : Staged) → nat_le most_live_batches (length before) ≡ false → length (before ++ batch ∷ []) ≤ most_live_batches
 few-more before batch e =
@@ -206,22 +193,22 @@ pub few-good : (kept : Kept) → IsGood kept → length kept.batches ≤ most_li
 few-good kept good =
     whole-good (is_bad_batch kept.counter) (λ (all : List Staged). length all ≤ most_live_batches) (omega arith)
     (λ before batch e. few-more before batch
-    (or_left (nat_le most_live_batches (length before)) (list_any (λ (other : Staged). other.number == batch.number) before)
-    (or_left (nat_le most_live_batches (length before) || list_any (λ (other : Staged). other.number == batch.number) before) ((batch.number == 0 || nat_lt kept.counter batch.number) || not (fit batch.parts)) e))) kept.batches good.batches
+    (neither_left (nat_le most_live_batches (length before)) (list_any (λ (other : Staged). other.number == batch.number) before)
+    (neither_left (nat_le most_live_batches (length before) || list_any (λ (other : Staged). other.number == batch.number) before) ((batch.number == 0 || nat_lt kept.counter batch.number) || not (fit batch.parts)) e))) kept.batches good.batches
 
 pub numbers-good : (kept : Kept) → IsGood kept → AllPairs OtherNumber kept.batches
 numbers-good kept good =
     AllPairs-from_Pairs OtherNumber kept.batches (pairs-good (is_bad_batch kept.counter) OtherNumber
-    (λ before batch e. Each-imp (λ (other : Staged). (other.number == batch.number) ≡ false) (λ (other : Staged). OtherNumber other batch) (λ other f. not_same other.number batch.number f) before
+    (λ before batch e. Each-imp (λ (other : Staged). (other.number == batch.number) ≡ false) (λ (other : Staged). OtherNumber other batch) (λ other f. eqb-false other.number batch.number f) before
     (each-none (λ (other : Staged). other.number == batch.number) before
-    (or_right (nat_le most_live_batches (length before)) (list_any (λ (other : Staged). other.number == batch.number) before)
-    (or_left (nat_le most_live_batches (length before) || list_any (λ (other : Staged). other.number == batch.number) before) ((batch.number == 0 || nat_lt kept.counter batch.number) || not (fit batch.parts)) e)))) kept.batches good.batches)
+    (neither_right (nat_le most_live_batches (length before)) (list_any (λ (other : Staged). other.number == batch.number) before)
+    (neither_left (nat_le most_live_batches (length before) || list_any (λ (other : Staged). other.number == batch.number) before) ((batch.number == 0 || nat_lt kept.counter batch.number) || not (fit batch.parts)) e)))) kept.batches good.batches)
 
 each-fine : (kept : Kept) → IsGood kept → Each (IsFine kept.counter) kept.batches
 each-fine kept good =
     each-good (is_bad_batch kept.counter) (IsFine kept.counter)
     (λ before batch e. fine kept.counter batch
-    (or_right (nat_le most_live_batches (length before) || list_any (λ (other : Staged). other.number == batch.number) before) ((batch.number == 0 || nat_lt kept.counter batch.number) || not (fit batch.parts)) e)) kept.batches good.batches
+    (neither_right (nat_le most_live_batches (length before) || list_any (λ (other : Staged). other.number == batch.number) before) ((batch.number == 0 || nat_lt kept.counter batch.number) || not (fit batch.parts)) e)) kept.batches good.batches
 
 pub given-good : (kept : Kept) → IsGood kept → All (λ batch. (1 ≤ batch.number) × (batch.number ≤ kept.counter)) kept.batches
 given-good kept good =
@@ -236,17 +223,17 @@ valid-plain_of kept last good =
     let few : length kept.collections ≤ most_rows_and_collections =
     whole-good names (λ (times : List (List ℕ × ℕ)). length times ≤ most_rows_and_collections) (omega arith)
     (λ before entry e.
-    let room = below (length before) (or_right (nat_lt kept.store entry.1) (nat_le most_rows_and_collections (length before)) (or_right (named before entry) (nat_lt kept.store entry.1 || nat_le most_rows_and_collections (length before)) e)) in
+    let room = below (length before) (neither_right (nat_lt kept.store entry.1) (nat_le most_rows_and_collections (length before)) (neither_right (named before entry) (nat_lt kept.store entry.1 || nat_le most_rows_and_collections (length before)) e)) in
     omega (arith, length-append before (entry ∷ []))) kept.collections good.collections in
     let full : (before : List Row) (row : Row) → rows before row ≡ false → is_too_much (before ++ row ∷ []) (length kept.collections) ≡ false =
-    λ before row e. or_right (is_astray kept.collections row) (is_too_much (before ++ row ∷ []) (length kept.collections)) (or_right (list_any (is_at row.collection row.id) before) (is_astray kept.collections row || is_too_much (before ++ row ∷ []) (length kept.collections)) e) in
+    λ before row e. neither_right (is_astray kept.collections row) (is_too_much (before ++ row ∷ []) (length kept.collections)) (neither_right (list_any (is_at row.collection row.id) before) (is_astray kept.collections row || is_too_much (before ++ row ∷ []) (length kept.collections)) e) in
     record {
       places = AllPairs-from_Pairs Apart kept.rows (pairs-good rows Apart
           (λ before row e. Each-imp (λ (other : Row). is_at row.collection row.id other ≡ false) (λ (other : Row). Apart other row) (λ other f. apart_flip row other f) before
-          (each-none (is_at row.collection row.id) before (or_left (list_any (is_at row.collection row.id) before) (is_astray kept.collections row || is_too_much (before ++ row ∷ []) (length kept.collections)) e))) kept.rows good.rows);
+          (each-none (is_at row.collection row.id) before (neither_left (list_any (is_at row.collection row.id) before) (is_astray kept.collections row || is_too_much (before ++ row ∷ []) (length kept.collections)) e))) kept.rows good.rows);
       names = AllPairs-from_Pairs NamedApart kept.collections (pairs-good names NamedApart
           (λ before entry e. Each-imp (λ (other : List ℕ × ℕ). bytes_eq other.0 entry.0 ≡ false) (λ (other : List ℕ × ℕ). NamedApart other entry) (λ other f. bytes_eq-flip other.0 entry.0 f) before
-          (each-none (λ (other : List ℕ × ℕ). bytes_eq other.0 entry.0) before (or_left (named before entry) (nat_lt kept.store entry.1 || nat_le most_rows_and_collections (length before)) e))) kept.collections good.collections);
+          (each-none (λ (other : List ℕ × ℕ). bytes_eq other.0 entry.0) before (neither_left (named before entry) (nat_lt kept.store entry.1 || nat_le most_rows_and_collections (length before)) e))) kept.collections good.collections);
       limits = record {
         within = within-both kept.rows (length kept.collections)
             (whole-good rows (λ (all : List Row). row_bytes all ≤ most_payload_bytes) (omega arith)
@@ -256,9 +243,9 @@ valid-plain_of kept last good =
       };
       items = All-from_Each (IsItem kept.collections) kept.rows (each-good rows (IsItem kept.collections)
           (λ before row e. not-astray row.modified (time_of row.collection kept.collections)
-          (or_left (is_astray kept.collections row) (is_too_much (before ++ row ∷ []) (length kept.collections)) (or_right (list_any (is_at row.collection row.id) before) (is_astray kept.collections row || is_too_much (before ++ row ∷ []) (length kept.collections)) e))) kept.rows good.rows);
+          (neither_left (is_astray kept.collections row) (is_too_much (before ++ row ∷ []) (length kept.collections)) (neither_right (list_any (is_at row.collection row.id) before) (is_astray kept.collections row || is_too_much (before ++ row ∷ []) (length kept.collections)) e))) kept.rows good.rows);
       times = All-from_Each (λ (entry : List ℕ × ℕ). entry.1 ≤ kept.store) kept.collections (each-good names (λ (entry : List ℕ × ℕ). entry.1 ≤ kept.store)
-          (λ before entry e. not_later kept.store entry.1 (or_left (nat_lt kept.store entry.1) (nat_le most_rows_and_collections (length before)) (or_right (named before entry) (nat_lt kept.store entry.1 || nat_le most_rows_and_collections (length before)) e))) kept.collections good.collections);
+          (λ before entry e. ltb-false kept.store entry.1 (neither_left (nat_lt kept.store entry.1) (nat_le most_rows_and_collections (length before)) (neither_right (named before entry) (nat_lt kept.store entry.1 || nat_le most_rows_and_collections (length before)) e))) kept.collections good.collections);
       store = latest-above kept.store kept.batches;
       moment = last;
       few = few-good kept good;
@@ -302,9 +289,6 @@ astray-not modified (Some time) h = let le : modified ≤ time = h in grind (ari
 
 few_before : (number : ℕ) → number + 1 ≤ most_rows_and_collections → nat_le most_rows_and_collections number ≡ false
 few_before number le = grind (arith, nat_tests)
-
-no_later : (store time : ℕ) → time ≤ store → nat_lt store time ≡ false
-no_later store time le = grind (arith, nat_tests)
 
 -- and a batch that is fine by itself isn't bad by itself
 and_fine : (counter : ℕ) (batch : Staged) → IsFine counter batch → ((batch.number == 0 || nat_lt counter batch.number) || not (fit batch.parts)) ≡ false
@@ -352,7 +336,7 @@ good-kept kept account rows_are times_are batches_are store_is counter_is valid 
         none-any (λ (other : List ℕ × ℕ). bytes_eq other.0 entry.0) before (Each-imp (λ (other : List ℕ × ℕ). NamedApart other entry) (λ (other : List ℕ × ℕ). bytes_eq other.0 entry.0 ≡ false)
         (λ other f. bytes_eq-flip entry.0 other.0 f) before (pairs-at NamedApart before entry later (subst (λ ts. Pairs NamedApart ts) e names))) in
         let early : nat_lt kept.store entry.1 ≡ false =
-        no_later kept.store entry.1 (each-at (λ (one : List ℕ × ℕ). one.1 ≤ kept.store) before entry later (subst (λ ts. Each (λ (one : List ℕ × ℕ). one.1 ≤ kept.store) ts) e times)) in
+        le-ltb kept.store entry.1 (each-at (λ (one : List ℕ × ℕ). one.1 ≤ kept.store) before entry later (subst (λ ts. Each (λ (one : List ℕ × ℕ). one.1 ≤ kept.store) ts) e times)) in
         let long : length kept.collections ≡ length before + length (entry ∷ later) = ap length e ∙ length-append before (entry ∷ later) in
         let few : nat_le most_rows_and_collections (length before) ≡ false = few_before (length before) (omega (arith, long, number)) in
         λ i. alone i || (early i || few i)
@@ -378,7 +362,7 @@ good-kept kept account rows_are times_are batches_are store_is counter_is valid 
     good-batch kept numbers few batches before batch later e =
         let alone : list_any (λ (other : Staged). other.number == batch.number) before ≡ false =
         none-any (λ (other : Staged). other.number == batch.number) before (Each-imp (λ (other : Staged). OtherNumber other batch) (λ (other : Staged). (other.number == batch.number) ≡ false)
-        (λ other f. other_number other.number batch.number f) before (pairs-at OtherNumber before batch later (subst (λ bs. Pairs OtherNumber bs) e numbers))) in
+        (λ other f. ne_eqb other.number batch.number f) before (pairs-at OtherNumber before batch later (subst (λ bs. Pairs OtherNumber bs) e numbers))) in
         let long : length kept.batches ≡ length before + length (batch ∷ later) = ap length e ∙ length-append before (batch ∷ later) in
         let short : nat_le most_live_batches (length before) ≡ false = let lt : length before < most_live_batches = omega (arith, long, few) in grind (arith, nat_tests) in
         let mine : ((batch.number == 0 || nat_lt kept.counter batch.number) || not (fit batch.parts)) ≡ false = and_fine kept.counter batch (each-at (IsFine kept.counter) before batch later (subst (λ bs. Each (IsFine kept.counter) bs) e batches)) in
@@ -422,11 +406,9 @@ around xs k x lt item =
     sym (take-append-drop k xs) ∙ ap (λ rest. take k xs ++ rest) (drop-cons xs k x lt ∙ (λ i. sym item i ∷ drop (sym (add-one k) i) xs))
 
 -- one element more
-pub one-more : {X : Type 0} (xs : List X) (k : ℕ) (x : X) → k < length xs → x ≡ get_or xs k x → take (k + 1) xs ≡ take k xs ++ x ∷ []
-one-more xs k x lt item = take_more xs k x lt ∙ ap (λ last. take k xs ++ last ∷ []) (sym item)
 
 pub none-at : {X : Type 0} (b : List X → X → Bool) (xs : List X) (k : ℕ) (x : X) → k < length xs → x ≡ get_or xs k x → first_bad b (take k xs) ≡ None → b (take k xs) x ≡ false → first_bad b (take (k + 1) xs) ≡ None
-none-at b xs k x lt item none fine = ap (first_bad b) (one-more xs k x lt item) ∙ none-more b (take k xs) x none fine
+none-at b xs k x lt item none fine = ap (first_bad b) (take_push xs k x lt item) ∙ none-more b (take k xs) x none fine
 
 pub bad-at : {X : Type 0} (b : List X → X → Bool) (xs : List X) (k n : ℕ) (x : X) → k < length xs → x ≡ get_or xs k x → first_bad b (take k xs) ≡ None → b (take k xs) x ≡ true → n ≡ k + 1 → first_bad b xs ≡ Some n
 bad-at {X} b xs k n x lt item none bad is =
@@ -467,7 +449,7 @@ pub places-more : (rows : List Row) (k : ℕ) (row : Row) (collection id : List 
     → new ≡ list_any (λ (r : Row). bytes_eq collection r.collection && bytes_eq id r.id) (take (k + 1) rows)
 places-more rows k row collection id old new lt item before e =
     e ∙ ap (λ v. (bytes_eq collection row.collection && bytes_eq id row.id) || v) before
-    ∙ sym (ap (list_any (λ (r : Row). bytes_eq collection r.collection && bytes_eq id r.id)) (one-more rows k row lt item) ∙ any-last (λ (r : Row). bytes_eq collection r.collection && bytes_eq id r.id) (take k rows) row)
+    ∙ sym (ap (list_any (λ (r : Row). bytes_eq collection r.collection && bytes_eq id r.id)) (take_push rows k row lt item) ∙ any-last (λ (r : Row). bytes_eq collection r.collection && bytes_eq id r.id) (take k rows) row)
 
 -- whether the row at a place is bad, by the places of those before it
 pub row_bad : (collections : List (List ℕ × ℕ)) (rows : List Row) (k : ℕ) (row : Row) (found first bad : Bool) (time : Option ℕ) (number : ℕ) → number ≡ length collections → k < length rows → row ≡ get_or rows k row
@@ -476,7 +458,7 @@ pub row_bad : (collections : List (List ℕ × ℕ)) (rows : List Row) (k : ℕ)
 row_bad collections rows k row found first bad time number counted lt item named at is e =
     let doubled : not first ≡ list_any (is_at row.collection row.id) (take k rows) = ap not named ∙ not-not found ∙ at ∙ place-turned row.collection row.id (take k rows) in
     let astray : not (option_map_or (λ t. nat_le row.modified t) time false) ≡ is_astray collections row = ap (λ (o : Option ℕ). not (option_map_or (λ t. nat_le row.modified t) o false)) is in
-    e ∙ (λ i. doubled i || (astray i || is_too_much (one-more rows k row lt item i) (counted i)))
+    e ∙ (λ i. doubled i || (astray i || is_too_much (take_push rows k row lt item i) (counted i)))
   where
     not-not : (b : Bool) → not (not b) ≡ b
     not-not true = refl

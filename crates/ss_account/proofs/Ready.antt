@@ -1,5 +1,5 @@
 -- What a write of parts makes ready.
-use Rattle.std.specs.Prelude.{◌≡◌, ℕ, ◌+◌, ◌≤◌, length, Bool, true, false, ◌&&◌, ◌||◌, cond, List, [], ◌∷◌, filter_map, map, bytes_eq, IsFalse, IsSome, IsSomeAnd, IfSome, Option, Some, None, refl}
+use Rattle.std.specs.Prelude.{◌≡◌, ℕ, ◌+◌, ◌≤◌, length, true, false, ◌&&◌, ◌||◌, cond, List, [], ◌∷◌, filter_map, map, bytes_eq, IsFalse, IsSome, IsSomeAnd, IfSome, Option, Some, None, refl}
 use Rattle.std.specs.List.{cons_option}
 use Rattle.std.proofs.Common.{sym, ap, subst, ◌∙◌, arith}
 use Rattle.std.proofs.lemmas.List.{length-append}
@@ -15,11 +15,11 @@ use Rattle.ss_query.specs.Effect.{is_over}
 use Rattle.ss_writes.specs.Pending.{IsPutReady}
 use Rattle.ss_bso.proofs.Full.{within-number}
 use Rattle.ss_bso.proofs.Lists.{Each-imp, Each-filter_map, Pairs-filter_map, All-from_Each, AllPairs-from_Pairs, Each-any}
-use Rattle.ss_bso.proofs.Texts.{bytes_eq-same}
 use Rattle.ss_bso.specs.Lists.{Each, Apart}
 use Rattle.ss_laws.proofs.Times.{once_by-distinct}
-use Rattle.ss_laws.proofs.Written.{made, made_named, and_false}
+use Rattle.ss_laws.proofs.Written.{made, made_named}
 use Rattle.ss_laws.proofs.Reading.{among-once}
+use Rattle.ss_text.proofs.Basics.{and_false, or_true, bytes_eq-same}
 
 abbrev AtTime : ℕ → Row → Type 0
 AtTime time row = row.modified ≡ time
@@ -36,10 +36,6 @@ put_all-named collection id (part ∷ parts) time old e =
       | true ↦ (λ _. put_all-some collection (parts_of id parts) time (put old collection part time) refl)
       | false ↦ (λ h. put_all-named collection id parts time old h)
     ] e
-
-or_true : (b : Bool) → (b || true) ≡ true
-or_true true = refl
-or_true false = refl
 
 each-among : (ids : List (List ℕ)) → Each (λ (id : List ℕ). is_among ids id ≡ true) ids
 each-among [] = tt

@@ -26,8 +26,9 @@ use Rattle.ss_writes.specs.declared.pending.Pending.{Pending}
 use Rattle.ss_writes.specs.Pending.{Settles, Tells, applied}
 use Rattle.ss_index.specs.Numbers.{capped}
 use Rattle.ss_account.specs.Steps.{counted, late_refusal, number_of, plain_reply}
-use Rattle.ss_bso.proofs.Lists.{length-filter_le, sum_by-filter_le}
+use Rattle.ss_bso.proofs.Lists.{sum_by-filter_le}
 use Rattle.ss_laws.proofs.CommitLaw.{over_test}
+use Rattle.ss_text.proofs.Basics.{length-filter_le}
 
 -- a write that is ready, with what is told of it
 pub tells-from : (account after : Plain) (time : ℕ) (body : Body) (found : Option Pending) → Settles account time after found → Tells account time after body (option_map (λ pending. (pending, body)) found)

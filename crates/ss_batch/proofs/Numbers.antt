@@ -10,7 +10,7 @@ use Rattle.ss_batch.specs.Stage.{AreNumbered, IsGiven, IsOther, StageView, has_n
 use Rattle.ss_bso.specs.Batches.{batches_without}
 use Rattle.ss_bso.specs.Lists.{Each, Pairs}
 use Rattle.ss_bso.proofs.Lists.{Each-and, Each-append, Each-filter, Each-find, Each-imp, Each-map, Each-passes, Pairs-append, Pairs-filter, Pairs-map, find-passes}
-use Rattle.ss_bso.proofs.Texts.{not_true}
+use Rattle.std.proofs.lemmas.Bool.{not-true, eqb-true, ltb-false, ltb-true}
 
 -- the first that passes stands at this place
 abbrev pub IsAt : {X : Type 0} → (X → Bool) → List X → ℕ → Type 0
@@ -26,17 +26,11 @@ first-at p (x ∷ xs) (suc i) e lt =
     elim (p x) as (λ v. cond (not v) (1 + position_or_len p xs) 0 ≡ suc i → (v ≡ false) × IsAt p xs i)
     [ true ↦ (λ h. absurd (omega (arith, h))) | false ↦ (λ h. (refl, first-at p xs i (omega (arith, h)) (omega (arith, lt)))) ] e
 
-within_test : (m n : ℕ) → nat_lt m n ≡ true → m < n
-within_test m n = grind (arith, nat_tests)
-
-beyond_test : (m n : ℕ) → nat_lt m n ≡ false → n ≤ m
-beyond_test m n = grind (arith, nat_tests)
-
 pub placed : {X : Type 0} (p : X → Bool) (xs : List X) (i : ℕ) → position p xs ≡ Some i → IsAt p xs i
 placed p xs i e =
     let n : ℕ = position_or_len p xs in
     elim (nat_lt n (length xs)) as (λ v. nat_lt n (length xs) ≡ v → cond v (Some n) None ≡ Some i → IsAt p xs i) [
-      | true ↦ (λ t h. let same : n ≡ i = cc in first-at p xs i same (subst (λ m. m < length xs) same (within_test n (length xs) t)))
+      | true ↦ (λ t h. let same : n ≡ i = cc in first-at p xs i same (subst (λ m. m < length xs) same (ltb-true n (length xs) t)))
       | false ↦ (λ t h. cc)
     ] refl e
 
@@ -51,7 +45,7 @@ unplaced p xs e =
     let n : ℕ = position_or_len p xs in
     elim (nat_lt n (length xs)) as (λ v. nat_lt n (length xs) ≡ v → cond v (Some n) None ≡ None → find p xs ≡ None) [
       | true ↦ (λ t h. cc)
-      | false ↦ (λ t h. none-found p xs (beyond_test n (length xs) t))
+      | false ↦ (λ t h. none-found p xs (ltb-false n (length xs) t))
     ] refl e
 
 pub at-within : {X : Type 0} (p : X → Bool) (xs : List X) (i : ℕ) → IsAt p xs i → i < length xs
@@ -65,12 +59,10 @@ found-at p (x ∷ xs) zero d h = ap (λ v. cond v (Some x) (find p xs)) h
 found-at p (x ∷ xs) (suc i) d h = ap (λ v. cond v (Some x) (find p xs)) h.0 ∙ found-at p xs i d h.1
 
 -- numbers that were given out, no two of them one
-same_number : (m n : ℕ) → (m == n) ≡ true → m ≡ n
-same_number m n = grind (arith, nat_tests)
 
 other_number : (m n : ℕ) → m ≢ n → (n == m) ≡ false
 other_number m n other =
-    elim (n == m) as (λ v. (n == m) ≡ v → v ≡ false) [ true ↦ (λ e. absurd (other (sym (same_number n m e)))) | false ↦ (λ e. refl) ] refl
+    elim (n == m) as (λ v. (n == m) ≡ v → v ≡ false) [ true ↦ (λ e. absurd (other (sym (eqb-true n m e)))) | false ↦ (λ e. refl) ] refl
 
 less_number : (n counter : ℕ) → (n == counter) ≡ false → n ≤ counter → n ≤ counter - 1
 less_number n counter e le = grind (arith, nat_tests)
@@ -122,7 +114,7 @@ remove-apart : (number : ℕ) (batches : List Staged) (i : ℕ) → Pairs IsOthe
 remove-apart number [] i r h = absurd h
 remove-apart number (batch ∷ batches) zero r h =
     sym (ap (λ v. cond (not v) (batch ∷ batches_without number batches) (batches_without number batches)) h
-    ∙ without-others number batches (renumbered batch.number number batches (same_number batch.number number h) r.0))
+    ∙ without-others number batches (renumbered batch.number number batches (eqb-true batch.number number h) r.0))
 remove-apart number (batch ∷ batches) (suc i) r h =
     ap (λ rest. batch ∷ rest) (remove-apart number batches i r.1 h.1)
     ∙ sym (ap (λ v. cond (not v) (batch ∷ batches_without number batches) (batches_without number batches)) h.0)
@@ -136,7 +128,7 @@ set-apart number change [] i d new r h e = absurd h
 set-apart number change (batch ∷ batches) zero d new r h e =
     ap (λ first. first ∷ batches) e
     ∙ sym (ap (λ v. cond v (record batch { parts = change batch.parts }) batch ∷ with_parts number change batches) h
-    ∙ ap (λ rest. record batch { parts = change batch.parts } ∷ rest) (with_parts-others number change batches (renumbered batch.number number batches (same_number batch.number number h) r.0)))
+    ∙ ap (λ rest. record batch { parts = change batch.parts } ∷ rest) (with_parts-others number change batches (renumbered batch.number number batches (eqb-true batch.number number h) r.0)))
 set-apart number change (batch ∷ batches) (suc i) d new r h e =
     ap (λ rest. batch ∷ rest) (set-apart number change batches i d new r.1 h.1 e)
     ∙ sym (ap (λ v. cond v (record batch { parts = change batch.parts }) batch ∷ with_parts number change batches) h.0)
@@ -154,7 +146,7 @@ above-found number counter batches r h = by (numbered number batches) refl h
     by (Some batch) e some =
         let given : IsGiven counter batch = Each-find (IsGiven counter) (has_number number) batches batch e r.given in
         let above : 1 ≤ batch.number = given.0 in
-        let same : batch.number ≡ number = same_number batch.number number (find-passes (has_number number) batches batch e) in
+        let same : batch.number ≡ number = eqb-true batch.number number (find-passes (has_number number) batches batch e) in
         omega (arith, above, same)
 
 -- without the last number the numbers are at most the one before it
@@ -164,7 +156,7 @@ numbered-fewer counter batches r =
     record {
       given =
           Each-imp (λ (batch : Staged). IsGiven counter batch × (others batch ≡ true)) (IsGiven (counter - 1))
-          (λ batch both. let given : IsGiven counter batch = both.0 in (given.0, less_number batch.number counter (not_true (batch.number == counter) both.1) given.1)) (filter others batches)
+          (λ batch both. let given : IsGiven counter batch = both.0 in (given.0, less_number batch.number counter (not-true (batch.number == counter) both.1) given.1)) (filter others batches)
           (Each-and (IsGiven counter) (λ (batch : Staged). others batch ≡ true) (filter others batches) (Each-filter (IsGiven counter) others batches r.given) (Each-passes others batches));
       apart = Pairs-filter IsOther others batches r.apart;
     }

@@ -1,6 +1,6 @@
 -- A journal without entries, and one with one more entry: it is legal, its last reply is that of the entry, and it leaves the account
 -- that the entry leaves.
-use Rattle.std.specs.Prelude.{◌≡◌, true, false, IfSome, ℕ, zero, suc, ◌+◌, ◌-◌, ◌<◌, ◌≤◌, ◌==◌, Bool, ◌||◌, if◌then◌else◌, List, [], ◌∷◌, ◌++◌, length, map, fold, take, slice_get, slice_index, cond, All, Option, Some, None, option_map, refl}
+use Rattle.std.specs.Prelude.{◌≡◌, true, false, IfSome, ℕ, zero, suc, ◌+◌, ◌-◌, ◌<◌, ◌≤◌, ◌==◌, Bool, if◌then◌else◌, List, [], ◌∷◌, ◌++◌, length, map, fold, take, slice_get, slice_index, cond, All, Option, Some, None, option_map, refl}
 use Rattle.std.specs.List.Sorted.{IsStrictlyIncreasing}
 use Rattle.std.proofs.Common.{subst, sym, ap, ◌∙◌, arith, get_or}
 use mathlib.Core.Logic.{dite}
@@ -29,6 +29,7 @@ use Rattle.ss_outside.specs.Causes.{Rose}
 use Rattle.ss_desk.specs.declared.journaled.Full.{Full}
 use Rattle.ss_booked.specs.Sizes.{request_bytes, journal_bytes, full_of}
 use Rattle.ss_booked.specs.Sound.{IsSound, RoseBy, is_keeper, keeper_marks}
+use Rattle.ss_text.proofs.Basics.{neither_left}
 
 get-seam : (xs : List ℕ) (n : ℕ) → get_or (xs ++ n ∷ []) (length xs) 0 ≡ n
 get-seam [] n = refl
@@ -138,14 +139,10 @@ test-none : {X : Type 0} (b : Bool) (x : X) → (if b then Some x else None) ≡
 test-none true x e = absurd (let no : Some x ≡ None = e in cc)
 test-none false x e = refl
 
-first-false : (a b : Bool) → (a || b) ≡ false → a ≡ false
-first-false true b e = e
-first-false false b e = refl
-
 -- a journal that isn't full has room
 pub room-left : (journal : Journal) → full_of journal ≡ None → length journal.entries ≤ journal.most → length journal.entries < journal.most
 room-left journal none within =
-    let other : (length journal.entries == journal.most) ≡ false = first-false _ _ (test-none _ _ none) in
+    let other : (length journal.entries == journal.most) ≡ false = neither_left _ _ (test-none _ _ none) in
     grind (arith, other, within)
 
 pub legal-begun : (account opening : Plain) (journal : Journal) (most : ℕ) → journal ≡ begun opening most → IsValid account → SameAccount account opening → IsLegal journal

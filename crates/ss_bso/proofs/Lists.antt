@@ -1,9 +1,9 @@
 -- Facts on each element and each pair of a list, by recursion on the list.
-use Rattle.std.specs.Prelude.{◌≡◌, ℕ, suc, ◌≤◌, Bool, true, false, not, cond, List, [], ◌∷◌, ◌++◌, length, sum_by, Option, Some, None, find, filter, filter_map, map, refl, All, AllPairs}
+use Rattle.std.specs.Prelude.{◌≡◌, ℕ, suc, ◌≤◌, Bool, true, false, not, cond, List, [], ◌∷◌, ◌++◌, sum_by, Option, Some, None, find, filter, filter_map, map, refl, All, AllPairs}
 use Rattle.std.specs.List.{cons_option}
 use Rattle.std.proofs.Common.{subst, sym, ap, ◌∙◌, arith}
 use Rattle.std.proofs.lemmas.List.Elements.{All-nil, All-cons}
-use Rattle.std.proofs.lemmas.List.Filters.{length-filter_both, sum_by-filter_both}
+use Rattle.std.proofs.lemmas.List.Filters.{sum_by-filter_both}
 use Rattle.std.proofs.lemmas.List.Kept.{AllPairs-cons}
 pub use Rattle.ss_bso.specs.Lists.{Each, Pairs}
 
@@ -81,9 +81,6 @@ Pairs-append R (x ∷ xs) ys e f g = (Each-append (R x) xs ys e.0 g.0, Pairs-app
 pub Pairs-map : {X Y : Type 0} (R : X → X → Type 0) (S : Y → Y → Type 0) (f : X → Y) → ((x y : X) → R x y → S (f x) (f y)) → (xs : List X) → Pairs R xs → Pairs S (map f xs)
 Pairs-map R S f h [] e = tt
 Pairs-map R S f h (x ∷ xs) e = (Each-map (R x) (S (f x)) f (λ y r. h x y r) xs e.0, Pairs-map R S f h xs e.1)
-
-pub length-filter_le : {X : Type 0} (p : X → Bool) (xs : List X) → length (filter p xs) ≤ length xs
-length-filter_le p xs = omega (arith, length-filter_both p (λ x. not (p x)) (λ _. refl) xs)
 
 pub sum_by-filter_le : {X : Type 0} (p : X → Bool) (f : X → ℕ) (xs : List X) → sum_by f (filter p xs) ≤ sum_by f xs
 sum_by-filter_le p f xs = omega (arith, sum_by-filter_both p (λ x. not (p x)) (λ _. refl) f xs)

@@ -6,11 +6,12 @@ use Rattle.ss_bso.specs.declared.rows.Row.{Row}
 use Rattle.ss_bso.specs.Account.{is_at, row_at}
 use Rattle.ss_bso.specs.Lists.{Apart}
 use Rattle.ss_bso.proofs.Lists.{Each, Each-any, Each-imp, Pairs, Pairs-filter, Pairs-imp, find-filter}
-use Rattle.ss_bso.proofs.Texts.{same_text, bytes_eq-same, not_false, both, both_left, both_right}
 use Rattle.ss_bso.proofs.Reordering.{reordered-refl, reordered-sym, NotBoth, find-reordered}
+use Rattle.ss_text.proofs.Basics.{both_left, both_right, same_text, bytes_eq-same}
+use Rattle.std.proofs.lemmas.Bool.{and_from, not-false}
 
 at_itself : (row : Row) → is_at row.collection row.id row ≡ true
-at_itself row = both (bytes_eq row.collection row.collection) (bytes_eq row.id row.id) (bytes_eq-same row.collection row.collection refl) (bytes_eq-same row.id row.id refl)
+at_itself row = and_from (bytes_eq row.collection row.collection) (bytes_eq row.id row.id) (bytes_eq-same row.collection row.collection refl) (bytes_eq-same row.id row.id refl)
 
 -- what stands at no place of a list is left by no filter
 pub filter-all : {X : Type 0} (p : X → Bool) (xs : List X) → Each (λ (x : X). p x ≡ false) xs → filter (λ x. not (p x)) xs ≡ xs
@@ -55,13 +56,13 @@ at_other : (collection id : List ℕ) (row other : Row) → is_at collection id 
 at_other collection id row other e f =
     elim (is_at collection id other) as (λ v. is_at collection id other ≡ v → v ≡ false) [
       | true ↦ (λ t.
-          let here : is_at row.collection row.id other ≡ true = not_false (is_at row.collection row.id other) f in
+          let here : is_at row.collection row.id other ≡ true = not-false (is_at row.collection row.id other) f in
           sym (flip_at row other here) ∙ at_same collection id other row t ∙ e)
       | false ↦ (λ t. refl)
     ] refl
   where
     flip_at : (row other : Row) → is_at row.collection row.id other ≡ true → is_at other.collection other.id row ≡ true
-    flip_at row other t = both (bytes_eq row.collection other.collection) (bytes_eq row.id other.id)
+    flip_at row other t = and_from (bytes_eq row.collection other.collection) (bytes_eq row.id other.id)
         (bytes_eq-same row.collection other.collection (sym (same_text other.collection row.collection (both_left (bytes_eq other.collection row.collection) (bytes_eq other.id row.id) t))))
         (bytes_eq-same row.id other.id (sym (same_text other.id row.id (both_right (bytes_eq other.collection row.collection) (bytes_eq other.id row.id) t))))
 
@@ -108,5 +109,5 @@ row-same collection id rows others r places =
     (λ row other apart e f.
     let first : other.collection ≡ row.collection = same_text other.collection collection (both_left (bytes_eq other.collection collection) (bytes_eq other.id id) f) ∙ sym (same_text row.collection collection (both_left (bytes_eq row.collection collection) (bytes_eq row.id id) e)) in
     let second : other.id ≡ row.id = same_text other.id id (both_right (bytes_eq other.collection collection) (bytes_eq other.id id) f) ∙ sym (same_text row.id id (both_right (bytes_eq row.collection collection) (bytes_eq row.id id) e)) in
-    clash (is_at row.collection row.id other) (both (bytes_eq other.collection row.collection) (bytes_eq other.id row.id) (bytes_eq-same other.collection row.collection first) (bytes_eq-same other.id row.id second)) apart)
+    clash (is_at row.collection row.id other) (and_from (bytes_eq other.collection row.collection) (bytes_eq other.id row.id) (bytes_eq-same other.collection row.collection first) (bytes_eq-same other.id row.id second)) apart)
     rows places)

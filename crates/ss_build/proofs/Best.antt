@@ -10,16 +10,12 @@ use Rattle.ss_build.specs.Built.{beats, best, claim, ids}
 use Rattle.ss_build.specs.declared.claims.Claim.{Claim}
 use Rattle.ss_record.specs.Ids.{Apart, before, by_id, has}
 use Rattle.ss_text.specs.Texts.{placed}
-use Rattle.ss_record.proofs.IdLists.{same_id, bytes_eq-same, has-head, has-tail, Apart-head, Apart-tail, Apart-cons}
+use Rattle.ss_record.proofs.IdLists.{has-head, has-tail, Apart-head, Apart-tail, Apart-cons}
 use Rattle.ss_build.proofs.Items.{In, claim_in}
+use Rattle.ss_text.proofs.Basics.{same_text, bytes_eq-same, is_less}
 
 cmp : List ℕ → List ℕ → Ordering
 cmp = slice_cmp nat_cmp
-
-is_less : (o : Ordering) → is_lt o ≡ true → o ≡ Less
-is_less Less e = refl
-is_less Equal e = absurd (false≢true e)
-is_less Greater e = absurd (false≢true e)
 
 before_less : (x y : List ℕ) → before x y ≡ true → slice_cmp nat_cmp x y ≡ Less
 unfolding before
@@ -43,7 +39,7 @@ before_total x y ne = go (slice_cmp nat_cmp x y) refl
   where
     go : (o : Ordering) → slice_cmp nat_cmp x y ≡ o → (before x y ≡ true) ⊎ (before y x ≡ true)
     go Less e = inl (less_before x y e)
-    go Equal e = absurd (ne (same_id x y (sym (is_eq-slice_cmp x y) ∙ ap is_eq e)))
+    go Equal e = absurd (ne (same_text x y (sym (is_eq-slice_cmp x y) ∙ ap is_eq e)))
     go Greater e = inr (less_before y x (nat_list_cmp_total.antisymm y x ∙ ap ordering_reverse e))
 
 -- ---- who beats whom
@@ -172,7 +168,7 @@ best_is f fs a =
     only b g i j free e = go (bytes_eq g.item.id b.item.id) refl
       where
         go : (x : Bool) → bytes_eq g.item.id b.item.id ≡ x → g ≡ b
-        go true q = same_claim (f ∷ fs) g b a j i (same_id g.item.id b.item.id q)
+        go true q = same_claim (f ∷ fs) g b a j i (same_text g.item.id b.item.id q)
         go false q = lost (beats_total g b (λ h. false≢true (sym q ∙ bytes_eq-same g.item.id b.item.id h)))
           where
             lost : Beats g b ⊎ Beats b g → g ≡ b
@@ -194,7 +190,7 @@ not_before_trans : (x y z : List ℕ) → before y x ≡ false → before z y �
 not_before_trans x y z e f = false_from_ne_true (before z x) (λ h. go (bytes_eq x y) refl h)
   where
     go : (b : Bool) → bytes_eq x y ≡ b → before z x ≡ true → ⊥
-    go true q h = false≢true (sym f ∙ (ap (before z) (sym (same_id x y q)) ∙ h))
+    go true q h = false≢true (sym f ∙ (ap (before z) (sym (same_text x y q)) ∙ h))
     go false q h = pick (before_total x y (λ s. false≢true (sym q ∙ bytes_eq-same x y s)))
       where
         pick : (before x y ≡ true) ⊎ (before y x ≡ true) → ⊥

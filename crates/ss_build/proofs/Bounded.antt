@@ -7,11 +7,12 @@ use Rattle.ss_build.specs.declared.claims.Claim.{Claim}
 use Rattle.ss_record.specs.Ids.{has, places, roots}
 use Rattle.ss_record.specs.Kinds.{is_folder}
 use Rattle.ss_tree.specs.Trees.{steps}
-use Rattle.ss_record.proofs.IdLists.{same_id, has-nil, has-cons, has-head, has-tail}
+use Rattle.ss_record.proofs.IdLists.{has-nil, has-cons, has-head, has-tail}
 use Rattle.ss_build.proofs.Items.{In, In_has, AreClaims, places_no_root}
 use Rattle.ss_build.proofs.Walks.{top_or_circle}
 use Rattle.ss_build.proofs.Valid.{proposed_cases, proposed_none, length-ids}
 use Rattle.ss_build.proofs.Stand.{steps_after, walk_steps, circle_top}
+use Rattle.ss_text.proofs.Basics.{same_text}
 
 pub any_found : (p : List ℕ → Bool) (xs : List (List ℕ)) → list_any p xs ≡ true → (x : List ℕ) × (has x xs ≡ true) × (p x ≡ true)
 any_found p [] h = absurd (false≢true h)
@@ -34,7 +35,7 @@ walk_steps_below f zero x z h = absurd (false≢true (sym (has-nil z) ∙ h))
 walk_steps_below f (suc n) x z h = go (bytes_eq z x) refl (sym (has-cons z x (walk f n (f x))) ∙ h) (walk_steps_below f n (f x) z)
   where
     go : (b : Bool) → bytes_eq z x ≡ b → (b || has z (walk f n (f x))) ≡ true → (has z (walk f n (f x)) ≡ true → (k : ℕ) × (k < n) × (steps f k (f x) ≡ z)) → (k : ℕ) × (k < suc n) × (steps f k x ≡ z)
-    go true q k ih = (zero, omega arith, sym (same_id z x q))
+    go true q k ih = (zero, omega arith, sym (same_text z x q))
     go false q k ih = let r = ih k in (suc r.0, (let lt : r.0 < n = r.1 in omega arith), r.2)
 
 -- where x comes back, it is some steps away from each id on its walk

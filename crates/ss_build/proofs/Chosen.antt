@@ -1,17 +1,18 @@
 -- Proposed parents by their places.
 use Rattle.std.proofs.Common.{◌≡◌, ◌≢◌, ℕ, suc, ◌+◌, ◌<◌, ◌≤◌, ◌==◌, ◌⊎◌, inl, inr, List, [], ◌∷◌, ◌++◌, length, map, take, get_or, set, Bool, true, false, not, cond, ◌&&◌, ◌||◌, nat_eq, nat_lt, refl, sym, ap, ap₂, ◌∙◌, subst, arith, eq-eqb, lt-ltb, find, bytes_eq, filter, Option, Some, None, unwrap_or, option_map, option_and_then}
 use Rattle.std.specs.List.{list_all, list_any}
-use Rattle.std.proofs.lemmas.Bool.{false≢true, ltb-true, cases_lt, cases_eq, ne_eqb, and_parts, false_from_ne_true}
+use Rattle.std.proofs.lemmas.Bool.{false≢true, cases_lt, cases_eq, ne_eqb, and_parts, and_from, le-ltb}
 use Rattle.std.proofs.lemmas.List.{get_or_read, take_all, take_more, get_or-set_same, get_or-set_other, ext_get_or, get_or-map, length-map}
 use Rattle.ss_record.specs.Ids.{Apart, has, places, roots, unfiled}
 use Rattle.ss_record.specs.Kinds.{is_folder}
-use Rattle.ss_record.proofs.IdLists.{same_id, bytes_eq-same, bytes_eq-apart, Apart-head, Apart-tail}
+use Rattle.ss_record.proofs.IdLists.{bytes_eq-apart, Apart-head, Apart-tail}
 use Rattle.ss_build.specs.declared.claims.Claim.{Claim}
 use Rattle.ss_build.specs.Built.{beats, best, claim, empty_root, ids, kept_if, lists, named, or_else, proposal, proposed}
 use Rattle.ss_build.specs.Places.{AreItems, at, chosen, kept_at, next_of, place, seat}
 use Rattle.ss_build.proofs.Items.{In, find_in, In_has, In-filter, claim_in}
 use Rattle.ss_build.proofs.Valid.{length-ids, proposed_claim, proposed_root}
 use Rattle.ss_build.proofs.Seats.{place_lt, place_at, place_none, at_place, has_from_place, any_place, id_at, at_in}
+use Rattle.ss_text.proofs.Basics.{same_text, bytes_eq-same}
 
 -- ---- the item at the place of an id
 
@@ -49,17 +50,14 @@ find_some p (f ∷ fs) e i h = go (p f) refl i (λ j. find_some p fs e j h)
 named_test : List ℕ → Claim → Bool
 named_test p f = is_folder f.item.kind && bytes_eq p f.item.id
 
-and_both : (a b : Bool) → a ≡ true → b ≡ true → (a && b) ≡ true
-and_both a b p q = ap₂ (λ x y. x && y) p q
-
 named_found : (es : List Claim) (p : List ℕ) → Apart (ids es) → place p (ids es) < length es → is_folder (at es (place p (ids es))).item.kind ≡ true → find (named_test p) es ≡ Some (at es (place p (ids es)))
 unfolding named_test
 named_found es p a l k =
     let f : Claim = at es (place p (ids es)) in
     let i : In f es = at_in es (place p (ids es)) l in
-    let found = find_some (λ f. is_folder f.item.kind && bytes_eq p f.item.id) es f i (and_both (is_folder f.item.kind) (bytes_eq p f.item.id) k (bytes_eq-same p f.item.id (sym (claim_at_place es p l)))) in
+    let found = find_some (λ f. is_folder f.item.kind && bytes_eq p f.item.id) es f i (and_from (is_folder f.item.kind) (bytes_eq p f.item.id) k (bytes_eq-same p f.item.id (sym (claim_at_place es p l)))) in
     let r = find_in (λ f. is_folder f.item.kind && bytes_eq p f.item.id) es found.0 found.1 in
-    found.1 ∙ ap Some (sym (at_own es found.0 a r.0) ∙ ap (λ w. at es (place w (ids es))) (sym (same_id p found.0.item.id (and_parts (is_folder found.0.item.kind) (bytes_eq p found.0.item.id) r.1).1)))
+    found.1 ∙ ap Some (sym (at_own es found.0 a r.0) ∙ ap (λ w. at es (place w (ids es))) (sym (same_text p found.0.item.id (and_parts (is_folder found.0.item.kind) (bytes_eq p found.0.item.id) r.1).1)))
 
 named_not : (es : List Claim) (p : List ℕ) → Apart (ids es) → (place p (ids es) < length es → is_folder (at es (place p (ids es))).item.kind ≡ false) → find (named_test p) es ≡ None
 unfolding named_test
@@ -70,7 +68,7 @@ named_not es p a h = go (find (λ f. is_folder f.item.kind && bytes_eq p f.item.
     go (Some g) q =
         let r = find_in (λ f. is_folder f.item.kind && bytes_eq p f.item.id) es g q in
         let parts = and_parts (is_folder g.item.kind) (bytes_eq p g.item.id) r.1 in
-        let same : p ≡ g.item.id = same_id p g.item.id parts.1 in
+        let same : p ≡ g.item.id = same_text p g.item.id parts.1 in
         let here : at es (place p (ids es)) ≡ g = ap (λ w. at es (place w (ids es))) same ∙ at_own es g a r.0 in
         let l : place p (ids es) < length es = subst (λ w. place w (ids es) < length es) (sym same) (place_in es g r.0) in
         absurd (false≢true (sym (h l) ∙ (ap (λ f. is_folder f.item.kind) here ∙ parts.0)))
@@ -139,15 +137,12 @@ mark_more old kept new claimed folder s i was l h e = ap (λ w. get_or w i false
         stays true = get_or-set_other kept s i true false ne
         stays false = refl
 
-pub le-false : (x y : ℕ) → y ≤ x → nat_lt x y ≡ false
-le-false x y h = false_from_ne_true (nat_lt x y) (λ t. let c : x < y = ltb-true x y t in absurd (omega arith))
-
 bigger : (x y : ℕ) → x ≢ y → nat_lt x y ≡ nat_lt x (y + 1)
 bigger x y ne = pick (cases_lt x y)
   where
     pick : (x < y) ⊎ (y ≤ x) → nat_lt x y ≡ nat_lt x (y + 1)
     pick (inl q) = lt-ltb x y q ∙ sym (lt-ltb x (y + 1) (omega arith))
-    pick (inr q) = le-false x y q ∙ sym (le-false x (y + 1) (let n : x ≢ y = ne in omega arith))
+    pick (inr q) = le-ltb x y q ∙ sym (le-ltb x (y + 1) (let n : x ≢ y = ne in omega arith))
 
 -- a folder has marked the items that name it and that it lists
 pub folder_marked : (es : List Claim) (claimed : List ℕ) (folder i : ℕ) (old new : Bool) → Apart (ids es) → i < length es → folder < length es
@@ -181,7 +176,7 @@ folder_marked es claimed folder i old new a l m k w e =
 
     go : (get_or claimed i 0 ≡ folder) ⊎ (get_or claimed i 0 ≢ folder) → ((nat_lt (get_or claimed i 0) folder && K) || ((get_or claimed i 0 == folder) && L)) ≡ (nat_lt (get_or claimed i 0) (folder + 1) && K)
     go (inl q) =
-        let z : nat_lt (get_or claimed i 0) folder ≡ false = le-false (get_or claimed i 0) folder (omega arith) in
+        let z : nat_lt (get_or claimed i 0) folder ≡ false = le-ltb (get_or claimed i 0) folder (omega arith) in
         ap₂ (λ x y. (x && K) || (y && L)) z (eq-eqb (get_or claimed i 0) folder q) ∙ (told (named es (at es i)) refl q ∙ sym (ap (λ b. b && K) (lt-ltb (get_or claimed i 0) (folder + 1) (omega arith))))
     go (inr ne) = ap (λ b. (nat_lt (get_or claimed i 0) folder && K) || (b && L)) (ne_eqb (get_or claimed i 0) folder ne) ∙ (or_false (nat_lt (get_or claimed i 0) folder && K) ∙ ap (λ b. b && K) (bigger (get_or claimed i 0) folder ne))
 
@@ -248,14 +243,14 @@ first_there : (es : List Claim) (p : Claim → Bool) (N B : Option Claim) → ((
     ≡ chosen false (unwrap_or (option_map p N) false) (seat es N) (seat es B) (place unfiled (ids es)) (length es)
 unfolding or_else kept_if seat
 first_there es p None None n b =
-    sym (ap₂ (λ x y. cond x (length es) (cond y (length es) (place unfiled (ids es)))) (le-false (length es) (length es) (omega arith)) (le-false (length es) (length es) (omega arith)))
+    sym (ap₂ (λ x y. cond x (length es) (cond y (length es) (place unfiled (ids es)))) (le-ltb (length es) (length es) (omega arith)) (le-ltb (length es) (length es) (omega arith)))
 first_there es p None (Some g) n b = sym (ap (λ x. cond x (place g.item.id (ids es)) (cond (nat_lt (length es) (length es)) (length es) (place unfiled (ids es)))) (lt-ltb _ _ (place_in es g (b g refl))))
 first_there es p (Some f) None n b = go (p f)
   where
     go : (c : Bool) → place (unwrap_or (option_map (λ f. f.item.id) (or_else (cond c (Some f) None) (Some f))) unfiled) (ids es) ≡ cond c (place f.item.id (ids es)) (cond (nat_lt (length es) (length es)) (length es) (cond (nat_lt (place f.item.id (ids es)) (length es)) (place f.item.id (ids es)) (place unfiled (ids es))))
     go true = refl
     go false =
-        sym (ap₂ (λ x y. cond x (length es) (cond y (place f.item.id (ids es)) (place unfiled (ids es)))) (le-false (length es) (length es) (omega arith)) (lt-ltb _ _ (place_in es f (n f refl))))
+        sym (ap₂ (λ x y. cond x (length es) (cond y (place f.item.id (ids es)) (place unfiled (ids es)))) (le-ltb (length es) (length es) (omega arith)) (lt-ltb _ _ (place_in es f (n f refl))))
 first_there es p (Some f) (Some g) n b = go (p f)
   where
     go : (c : Bool) → place (unwrap_or (option_map (λ f. f.item.id) (or_else (cond c (Some f) None) (Some g))) unfiled) (ids es) ≡ cond c (place f.item.id (ids es)) (cond (nat_lt (place g.item.id (ids es)) (length es)) (place g.item.id (ids es)) (cond (nat_lt (place f.item.id (ids es)) (length es)) (place f.item.id (ids es)) (place unfiled (ids es))))

@@ -7,7 +7,8 @@ use Rattle.ss_build.specs.Built.{beats, best, claim, ids, kept_if, lists, named,
 use Rattle.ss_build.specs.declared.claims.Claim.{Claim}
 use Rattle.ss_record.specs.Ids.{Apart, has, places, roots, unfiled}
 use Rattle.ss_record.specs.Kinds.{is_folder}
-use Rattle.ss_record.proofs.IdLists.{same_id, bytes_eq-refl, bytes_eq-apart, has-nil, has-cons, has-head, has-tail, Apart-head, Apart-tail}
+use Rattle.ss_record.proofs.IdLists.{bytes_eq-refl, bytes_eq-apart, has-nil, has-cons, has-head, has-tail, Apart-head, Apart-tail}
+use Rattle.ss_text.proofs.Basics.{same_text}
 
 -- ---- elements of any list
 
@@ -53,7 +54,7 @@ claim_in (f ∷ fs) e a (inr i) = ap (λ b. cond b (Some f) (claim e.item.id fs)
 
 pub claim_found : (es : List Claim) (x : List ℕ) (e : Claim) → claim x es ≡ Some e → In e es × (e.item.id ≡ x)
 unfolding claim
-claim_found es x e q = let r = find_in (λ f. bytes_eq x f.item.id) es e q in (r.0, sym (same_id x e.item.id r.1))
+claim_found es x e q = let r = find_in (λ f. bytes_eq x f.item.id) es e q in (r.0, sym (same_text x e.item.id r.1))
 
 pub claim_has : (es : List Claim) (x : List ℕ) (e : Claim) → claim x es ≡ Some e → has x (ids es) ≡ true
 claim_has es x e q = let r = claim_found es x e q in ap (λ y. has y (ids es)) (sym r.1) ∙ In_has es e r.0

@@ -2,12 +2,13 @@
 use Rattle.std.proofs.Common.{◌≡◌, ◌≢◌, ℕ, List, [], ◌∷◌, map, Bool, true, false, cond, ◌||◌, inl, inr, refl, sym, ap, ◌∙◌, find, bytes_eq, Some, None}
 use Rattle.std.proofs.lemmas.Bool.{or_parts, false≢true}
 use Rattle.ss_record.specs.Ids.{Apart, has}
-use Rattle.ss_record.proofs.IdLists.{same_id, bytes_eq-refl, bytes_eq-apart, has-nil, has-cons, has-head, has-tail, Apart-head, Apart-tail}
+use Rattle.ss_record.proofs.IdLists.{bytes_eq-refl, bytes_eq-apart, has-nil, has-cons, has-head, has-tail, Apart-head, Apart-tail}
 use Rattle.ss_build.proofs.Items.{In, find_in}
+use Rattle.ss_text.proofs.Basics.{same_text}
 
 module _ {X : Type 0} (key : X → List ℕ) where
   pub key_found : (xs : List X) (x : List ℕ) (y : X) → find (λ z. bytes_eq x (key z)) xs ≡ Some y → In y xs × (key y ≡ x)
-  key_found xs x y q = let r = find_in (λ z. bytes_eq x (key z)) xs y q in (r.0, sym (same_id x (key y) r.1))
+  key_found xs x y q = let r = find_in (λ z. bytes_eq x (key z)) xs y q in (r.0, sym (same_text x (key y) r.1))
 
   pub key_in : (xs : List X) (y : X) → In y xs → has (key y) (map key xs) ≡ true
   unfolding In

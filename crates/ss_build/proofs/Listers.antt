@@ -1,7 +1,7 @@
 -- The best of the folders that list an item, by their places.
 use Rattle.std.proofs.Common.{◌≡◌, ◌≢◌, ℕ, zero, suc, ◌+◌, ◌<◌, ◌≤◌, ◌⊎◌, inl, inr, List, [], ◌∷◌, ◌++◌, length, map, take, get_or, set, Bool, true, false, not, cond, ◌&&◌, ◌||◌, nat_eq, nat_lt, refl, sym, ap, ap₂, ◌∙◌, subst, arith, eq-eqb, lt-ltb, filter, bytes_eq, drop, Option, Some, None}
 use Rattle.std.specs.List.{list_all, list_any, best_of}
-use Rattle.std.proofs.lemmas.Bool.{cases_eq, ne_eqb, or_parts}
+use Rattle.std.proofs.lemmas.Bool.{cases_eq, ne_eqb, or_parts, le-ltb}
 use Rattle.std.proofs.lemmas.List.{append-nil, get_or_read, take_all, take-append-drop, take_more, get_or-set_same, get_or-set_other, ext_get_or, get_or-map, length-map}
 use Rattle.std.proofs.lemmas.List.Elements.{filter-append}
 use Rattle.ss_record.specs.Ids.{Apart, has, places}
@@ -12,14 +12,15 @@ use Rattle.ss_build.specs.Built.{beats, best, empty_root, ids, lists}
 use Rattle.ss_build.specs.Places.{at, better, place, seat}
 use Rattle.ss_build.proofs.Items.{In, find_in, In-filter}
 use Rattle.ss_build.proofs.Best.{best_is}
-use Rattle.ss_build.proofs.Seats.{ids_append, Apart-left}
-use Rattle.ss_build.proofs.Chosen.{at_own, lists_at, place_own, place_in, le-false}
+use Rattle.ss_build.proofs.Seats.{Apart-left}
+use Rattle.ss_build.proofs.Chosen.{at_own, lists_at, place_own, place_in}
+use Rattle.ss_build.proofs.OfRows.{ids-append}
 
 -- ---- one place
 
 pub better_none : (es : List Claim) (old folder : ℕ) → length es ≤ old → folder ≡ better es old folder
 unfolding better
-better_none es old folder h = sym (ap (λ b. cond (b && not (beats (at es folder) (at es old))) old folder) (le-false old (length es) h))
+better_none es old folder h = sym (ap (λ b. cond (b && not (beats (at es folder) (at es old))) old folder) (le-ltb old (length es) h))
 
 better_at : (es : List Claim) (old folder : ℕ) (f g : Claim) → old < length es → folder < length es → f ≡ get_or es folder f → g ≡ get_or es old g → better es old folder ≡ cond (not (beats f g)) old folder
 unfolding better
@@ -90,7 +91,7 @@ best_push : (fs : List Claim) (f : Claim) → Apart (ids (fs ++ f ∷ [])) → b
 unfolding over best
 best_push [] f a = best_is f [] a
 best_push (g ∷ gs) f a =
-    best_is g (gs ++ f ∷ []) a ∙ ap Some (best_of_push g f gs ∙ ap (over f) (sym (best_is g gs (Apart-left (ids (g ∷ gs)) (ids (f ∷ [])) (subst Apart (ids_append (g ∷ gs) (f ∷ [])) a)))))
+    best_is g (gs ++ f ∷ []) a ∙ ap Some (best_of_push g f gs ∙ ap (over f) (sym (best_is g gs (Apart-left (ids (g ∷ gs)) (ids (f ∷ [])) (subst Apart (ids-append (g ∷ gs) (f ∷ [])) a)))))
 
 Apart-ids-filter : (p : Claim → Bool) (es : List Claim) → Apart (ids es) → Apart (ids (filter p es))
 unfolding ids
@@ -110,7 +111,7 @@ Apart-ids-filter p (e ∷ es) a = go (p e) (Apart-ids-filter p es (Apart-tail e.
     go false ih = ih
 
 Apart-ids-take : (n : ℕ) (es : List Claim) → Apart (ids es) → Apart (ids (take n es))
-Apart-ids-take n es a = Apart-left (ids (take n es)) (ids (drop n es)) (subst Apart (ap ids (sym (take-append-drop n es)) ∙ ids_append (take n es) (drop n es)) a)
+Apart-ids-take n es a = Apart-left (ids (take n es)) (ids (drop n es)) (subst Apart (ap ids (sym (take-append-drop n es)) ∙ ids-append (take n es) (drop n es)) a)
 
 In-take : {X : Type 0} (n : ℕ) (xs : List X) (x : X) → In x (take n xs) → In x xs
 unfolding In
@@ -124,7 +125,7 @@ seat_over : (es fs : List Claim) (folder : ℕ) → Apart (ids es) → folder < 
     → better es (seat es o) folder ≡ seat es (Some (over (at es folder) o))
 unfolding better seat over best
 seat_over es fs folder a l sub None q =
-    ap (λ b. cond (b && not (beats (at es folder) (at es (length es)))) (length es) folder) (le-false (length es) (length es) (omega arith)) ∙ sym (place_own es folder a l)
+    ap (λ b. cond (b && not (beats (at es folder) (at es (length es)))) (length es) folder) (le-ltb (length es) (length es) (omega arith)) ∙ sym (place_own es folder a l)
 seat_over es fs folder a l sub (Some b) q =
     let i : In b es = sub b (find_in (λ f. list_all (λ g. not (beats g f)) fs) fs b q).0 in
     ap₂ (λ x y. cond (x && not (beats (at es folder) y)) (place b.item.id (ids es)) folder) (lt-ltb _ _ (place_in es b i)) (at_own es b a i)

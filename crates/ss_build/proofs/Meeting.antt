@@ -4,8 +4,9 @@ use Rattle.std.specs.List.{list_any}
 use Rattle.std.proofs.lemmas.Bool.{false≢true}
 use Rattle.std.proofs.lemmas.List.{take_more, take_all}
 use Rattle.ss_record.specs.Ids.{Apart, has, places}
-use Rattle.ss_record.proofs.IdLists.{has-nil, Apart-nil, Apart-cons, Apart-append, same_id}
+use Rattle.ss_record.proofs.IdLists.{has-nil, Apart-nil, Apart-cons, Apart-append}
 use Rattle.ss_build.proofs.Taking.{not_in_front}
+use Rattle.ss_text.proofs.Basics.{same_text}
 
 pub record Met (xs keys : List (List ℕ)) (i : ℕ) : Type 0 where
   pub keys_are : keys ≡ take i xs
@@ -39,7 +40,7 @@ met_more xs keys new i x b l e w t n m = record {
     clash z h = go (bytes_eq z x) refl
       where
         go : (c : Bool) → bytes_eq z x ≡ c → (c || false) ≡ false
-        go true q = absurd (false≢true (sym fresh ∙ (ap (λ y. list_any (bytes_eq y) keys) (sym (same_id z x q)) ∙ h)))
+        go true q = absurd (false≢true (sym fresh ∙ (ap (λ y. list_any (bytes_eq y) keys) (sym (same_text z x q)) ∙ h)))
         go false q = refl
 
 pub met_twice : (xs keys : List (List ℕ)) (i : ℕ) (x : List ℕ) (b : Bool) → i < length xs → x ≡ get_or xs i places → b ≡ not (list_any (bytes_eq x) keys) → b ≡ false → Met xs keys i → (false ≡ true) ↔ Apart xs

@@ -1,7 +1,7 @@
 -- The claims of rows with distinct ids, and so the built tree.
 use Rattle.std.proofs.Common.{◌≡◌, ◌≢◌, ℕ, List, [], ◌∷◌, ◌++◌, map, Bool, true, false, not, ◌&&◌, ◌||◌, ◌⊎◌, inl, inr, refl, sym, ap, ap₂, ◌∙◌, subst, filter, filter_map, bytes_eq, Option, Some, None}
 use Rattle.std.specs.List.{cons_option}
-use Rattle.std.proofs.lemmas.Bool.{false≢true}
+use Rattle.std.proofs.lemmas.Bool.{false≢true, false_from_ne_true}
 use Rattle.ss_build.specs.Built.{built, claims, empty_root, ids, with_roots}
 use Rattle.ss_build.specs.Rows.{Row, claim_at, claim_of}
 use Rattle.ss_build.specs.declared.claims.Claim.{Claim}
@@ -10,10 +10,11 @@ use Rattle.ss_record.specs.Kinds.{is_folder}
 use Rattle.ss_record.specs.declared.readings.Reading.{Reading}
 use Rattle.ss_record.specs.declared.readings.Reading.TheVariants.{Item, Skipped, Tombstone}
 use Rattle.ss_tree.specs.Trees.{IsValidTree}
-use Rattle.ss_record.proofs.IdLists.{same_id, has-nil, has-cons, has-head, has-tail, has-filter, has-append, Apart-nil, Apart-cons, Apart-head, Apart-tail, Apart-filter, Apart-append}
+use Rattle.ss_record.proofs.IdLists.{has-nil, has-cons, has-head, has-tail, has-filter, has-append, Apart-nil, Apart-cons, Apart-head, Apart-tail, Apart-filter, Apart-append}
 use Rattle.ss_build.proofs.Items.{In, AreClaims, places_no_root, Apart-roots}
 use Rattle.ss_build.proofs.Valid.{tree_of_valid}
 use Rattle.ss_record.proofs.OfId.{IsRead}
+use Rattle.ss_text.proofs.Basics.{same_text}
 
 -- rows with distinct ids, each as its payload reads
 pub record AreRows (rows : List Row) : Type 0 where
@@ -76,7 +77,7 @@ has_ids [] x h = absurd (false≢true (sym (has-nil x) ∙ h))
 has_ids (e ∷ es) x h = go (bytes_eq x e.item.id) refl (sym (has-cons x e.item.id (ids es)) ∙ h) (has_ids es x)
   where
     go : (b : Bool) → bytes_eq x e.item.id ≡ b → (b || has x (ids es)) ≡ true → (has x (ids es) ≡ true → (f : Claim) × In f es × (f.item.id ≡ x)) → (f : Claim) × ((f ≡ e) ⊎ In f es) × (f.item.id ≡ x)
-    go true q k ih = (e, inl refl, sym (same_id x e.item.id q))
+    go true q k ih = (e, inl refl, sym (same_text x e.item.id q))
     go false q k ih = let f = ih k in (f.0, inr f.1, f.2)
 
 reads_row : (rows : List Row) → AreRows rows → (x : List ℕ) → has x (ids (filter_map claim_of rows)) ≡ true → (r : Row) × In r rows × (e : Claim) × IsOf r e × (r.id ≡ x)
@@ -86,10 +87,6 @@ reads_row rows a x h =
     let of : IsOf r.0 e.0 = of_row r.0 e.0 (a.reads r.0 r.1) r.2 in
     (r.0, r.1, e.0, of, sym of.id ∙ e.2)
 
-pub none_true : (b : Bool) → (b ≡ true → ⊥) → b ≡ false
-none_true true h = absurd (h refl)
-none_true false h = refl
-
 pub reads_apart : (rows : List Row) → AreRows rows → Apart (ids (filter_map claim_of rows))
 unfolding ids In
 reads_apart [] a = Apart-nil
@@ -97,7 +94,7 @@ reads_apart (r ∷ rows) a =
     by_claim (λ es. Apart (ids es)) r rows (λ q. reads_apart rows (AreRows-tail r rows a)) (λ e q. Apart-cons e.item.id (ids (filter_map claim_of rows)) (apart e q) (reads_apart rows (AreRows-tail r rows a)))
   where
     apart : (e : Claim) → claim_of r ≡ Some e → has e.item.id (ids (filter_map claim_of rows)) ≡ false
-    apart e q = none_true _ (λ h.
+    apart e q = false_from_ne_true _ (λ h.
         let s = reads_row rows (AreRows-tail r rows a) e.item.id h in
         let of : IsOf r e = of_row r e (a.reads r (inl refl)) q in
         false≢true (sym (Apart-head r.id (map (λ v. v.id) rows) a.apart) ∙ (ap (λ w. has w (map (λ v. v.id) rows)) (sym of.id ∙ sym s.4) ∙ row_has rows s.0 s.1)))
@@ -120,7 +117,7 @@ empty_folder [] e i = absurd i
 empty_folder (r ∷ rs) e (inl q) = ap (λ w. is_folder w.item.kind) q
 empty_folder (r ∷ rs) e (inr i) = empty_folder rs e i
 
-ids-append : (es fs : List Claim) → ids (es ++ fs) ≡ ids es ++ ids fs
+pub ids-append : (es fs : List Claim) → ids (es ++ fs) ≡ ids es ++ ids fs
 unfolding ids
 ids-append [] fs = refl
 ids-append (e ∷ es) fs = ap (λ xs. e.item.id ∷ xs) (ids-append es fs)
@@ -158,7 +155,7 @@ claims_are rows a = record {
   apart = subst Apart (sym (ids-with_roots reads))
       (Apart-append (ids reads) (missing reads) (reads_apart rows a) (Apart-filter (λ r. not (has r (ids reads))) roots Apart-roots)
       (λ x h. has-missing reads x ∙ (ap (λ b. has x roots && not b) h ∙ no (has x roots))));
-  no_places = has-with_roots reads places ∙ ap₂ (λ p q. p || q) (none_true (has places (ids reads)) (λ h. let s = reads_row rows a places h in s.3.no_places s.4)) places_no_root;
+  no_places = has-with_roots reads places ∙ ap₂ (λ p q. p || q) (false_from_ne_true (has places (ids reads)) (λ h. let s = reads_row rows a places h in s.3.no_places s.4)) places_no_root;
   roots_in = λ r h. has-with_roots reads r ∙ (ap (λ b. has r (ids reads) || b) h ∙ yes (has r (ids reads)));
   root_folder = λ e i h. at e h (In-append reads (map empty_root (missing reads)) e (subst (In e) (with_roots_parts reads) i));
 }

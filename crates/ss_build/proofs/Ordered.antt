@@ -6,7 +6,7 @@ use Rattle.std.proofs.lemmas.List.{append-nil}
 use Rattle.std.proofs.lemmas.List.Elements.{filter-append}
 use Rattle.ss_record.specs.Ids.{Apart, by_id, firsts, has, places, roots}
 use Rattle.ss_record.specs.Kinds.{is_folder}
-use Rattle.ss_record.proofs.IdLists.{same_id, bytes_eq-same, bytes_eq-apart, has-head, has-tail, has-append, has-filter, has-by_id, Apart-nil, Apart-head, Apart-tail, Apart-append, Apart-filter, Apart-firsts, Apart-by_id}
+use Rattle.ss_record.proofs.IdLists.{bytes_eq-apart, has-head, has-tail, has-append, has-filter, has-by_id, Apart-nil, Apart-head, Apart-tail, Apart-append, Apart-filter, Apart-firsts, Apart-by_id}
 use Rattle.ss_build.specs.declared.claims.Claim.{Claim}
 use Rattle.ss_build.specs.Built.{built_children, built_parent, ids, is_child}
 use Rattle.ss_build.specs.Places.{AreItems, front, in_order, listed, rest}
@@ -15,18 +15,12 @@ use Rattle.ss_build.proofs.Best.{filter-by_id}
 use Rattle.ss_build.proofs.Valid.{parent_root, parent_cases}
 use Rattle.ss_build.proofs.Uppers.{claims_from}
 use Rattle.ss_build.proofs.Taking.{has-listed, listed_under}
+use Rattle.ss_text.proofs.Basics.{same_text, bytes_eq-same}
+use Rattle.ss_build.proofs.Stand.{filter_none, filter_all}
 
 -- the parent of x is y
 abbrev under : List Claim → List ℕ → List ℕ → Bool
 under es y x = bytes_eq (built_parent es x) y
-
-filter_none : (p : List ℕ → Bool) (xs : List (List ℕ)) → ((x : List ℕ) → has x xs ≡ true → p x ≡ false) → filter p xs ≡ []
-filter_none p [] h = refl
-filter_none p (x ∷ xs) h = ap (λ b. cond b (x ∷ filter p xs) (filter p xs)) (h x (has-head x xs)) ∙ filter_none p xs (λ z k. h z (has-tail z x xs k))
-
-filter_all : (p : List ℕ → Bool) (xs : List (List ℕ)) → ((x : List ℕ) → has x xs ≡ true → p x ≡ true) → filter p xs ≡ xs
-filter_all p [] h = refl
-filter_all p (x ∷ xs) h = ap (λ b. cond b (x ∷ filter p xs) (filter p xs)) (h x (has-head x xs)) ∙ ap (λ w. x ∷ w) (filter_all p xs (λ z k. h z (has-tail z x xs k)))
 
 pub filter_alike : (p q : List ℕ → Bool) (xs : List (List ℕ)) → ((x : List ℕ) → has x xs ≡ true → p x ≡ q x) → filter p xs ≡ filter q xs
 filter_alike p q [] h = refl
@@ -55,7 +49,7 @@ unfolding is_child
 listed_of es f x h =
     let p = and_parts (has x f.children) (is_child es f.item.id x) (sym (has-listed es f x) ∙ h) in
     let q = and_parts (has x (ids es)) (bytes_eq (built_parent es x) f.item.id) p.1 in
-    (p.0, q.0, same_id (built_parent es x) f.item.id q.1)
+    (p.0, q.0, same_text (built_parent es x) f.item.id q.1)
 
 -- of all that is listed, what stands under an item is what it lists
 listed_part_of : (es gs : List Claim) (f : Claim) → Apart (ids gs) → In f gs → filter (under es f.item.id) (flat_map (listed es) gs) ≡ listed es f
@@ -147,7 +141,7 @@ under_item es f a i =
     alike x h = go (bytes_eq (built_parent es x) f.item.id) refl
       where
         go : (b : Bool) → bytes_eq (built_parent es x) f.item.id ≡ b → (b && not (has x (front es))) ≡ ((has x (ids es) && b) && not (has x (listed es f)))
-        go true q = ap not (front_has es f x a i (same_id (built_parent es x) f.item.id q)) ∙ sym (ap (λ b. (b && true) && not (has x (listed es f))) h)
+        go true q = ap not (front_has es f x a i (same_text (built_parent es x) f.item.id q)) ∙ sym (ap (λ b. (b && true) && not (has x (listed es f))) h)
         go false q = sym (ap (λ b. (b && false) && not (has x (listed es f))) h)
 
 -- those under `places` are the roots
@@ -169,7 +163,7 @@ under_places es a =
 
         go : (b : Bool) → bytes_eq (built_parent es x) places ≡ b → (b && not (has x (front es))) ≡ false
         go true q =
-            let r : has x roots ≡ true = rooted (parent_cases es (claims_from es a) x h) (same_id (built_parent es x) places q) in
+            let r : has x roots ≡ true = rooted (parent_cases es (claims_from es a) x h) (same_text (built_parent es x) places q) in
             ap not (ap (has x) (front_parts es) ∙ (has-append x roots (flat_map (listed es) es) ∙ ap (λ b. b || has x (flat_map (listed es) es)) r))
         go false q = refl
 

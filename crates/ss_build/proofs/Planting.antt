@@ -1,12 +1,12 @@
 -- The entries of the items in order are a tree: the built one.
 use Rattle.std.proofs.Common.{◌≡◌, ◌≢◌, ℕ, zero, suc, ◌+◌, ◌<◌, ◌≤◌, ◌==◌, ◌⊎◌, inl, inr, List, [], ◌∷◌, length, map, get_or, Bool, true, false, cond, ◌||◌, nat_eq, refl, sym, ap, ap₂, ◌∙◌, subst, arith, eq-eqb, lt-ltb, filter, find, bytes_eq, Option, Some, None, is_some, option_map, option_and_then, unwrap_or}
 use Rattle.std.specs.List.{list_any}
-use Rattle.std.proofs.lemmas.Bool.{cases_eq, ne_eqb, eqb-true, false≢true}
+use Rattle.std.proofs.lemmas.Bool.{cases_eq, ne_eqb, eqb-true, false≢true, le-ltb}
 use Rattle.std.proofs.lemmas.List.{get_or-map, length-map}
 use Rattle.std.proofs.lemmas.Map.Steps.{le-length_from_below}
 use Rattle.ss_record.specs.Ids.{Apart, has, places, roots}
 use Rattle.ss_record.specs.Kinds.{is_folder}
-use Rattle.ss_record.proofs.IdLists.{same_id, bytes_eq-same, bytes_eq-apart, has-nil, has-cons, has-head, has-tail, Apart-cons, Apart-head, Apart-tail}
+use Rattle.ss_record.proofs.IdLists.{bytes_eq-apart, has-nil, has-cons, has-head, has-tail, Apart-cons, Apart-head, Apart-tail}
 use Rattle.ss_tree.specs.declared.entries.Entry.{Entry}
 use Rattle.ss_tree.specs.Entries.{IsTree, NodesApart, above, entry, entry_ids, is_live, kid_ids, placed, stands_under, top_entry, tree, up}
 use Rattle.ss_tree.specs.Trees.{IsSame, Placed, Reaches, node, parent_in, places_node, steps}
@@ -17,9 +17,10 @@ use Rattle.ss_build.specs.Planted.{entries, node_at, planted}
 use Rattle.ss_build.proofs.Items.{In, In_has, claim_found, has_claim, claim_none}
 use Rattle.ss_build.proofs.Valid.{length-ids, node_tree, node_places, parent_cases, parent_in_claim, up_ends}
 use Rattle.ss_build.proofs.Seats.{place_lt, place_at, place_none, at_place, has_at, place_same, id_at, at_in}
-use Rattle.ss_build.proofs.Chosen.{at_own, place_own, place_in, le-false}
+use Rattle.ss_build.proofs.Chosen.{at_own, place_own, place_in}
 use Rattle.ss_build.proofs.Uppers.{claims_from}
 use Rattle.ss_build.proofs.Ordered.{filter_alike, under_item, under_places, has-in_order, Apart-in_order}
+use Rattle.ss_text.proofs.Basics.{same_text, bytes_eq-same}
 
 -- ---- entries by their nodes
 
@@ -92,7 +93,7 @@ module _ (es : List Claim) (a : AreItems es) (parents order : List ℕ) (up_is :
       go true q e ih =
           let l : j < length es = b 0 (omega arith) in
           let s : length (ids es) ≡ length es = len in
-          ap (λ c. c || list_any (nat_eq (place x (ids es))) js) (eq-eqb (place x (ids es)) j (ap (λ w. place w (ids es)) (same_id x (get_or (ids es) j places) q) ∙ place_at (ids es) j places a.apart (omega arith)))
+          ap (λ c. c || list_any (nat_eq (place x (ids es))) js) (eq-eqb (place x (ids es)) j (ap (λ w. place w (ids es)) (same_text x (get_or (ids es) j places) q) ∙ place_at (ids es) j places a.apart (omega arith)))
       go false q e ih = later (nat_eq (place x (ids es)) j) (ih e)
         where
           later : {c : Bool} (b : Bool) → c ≡ true → (b || c) ≡ true
@@ -178,7 +179,7 @@ module _ (es : List Claim) (a : AreItems es) (parents order : List ℕ) (up_is :
   number_places y q =
       let p : place y (ids es) ≡ length (ids es) = ap (λ w. place w (ids es)) q ∙ place_none places (ids es) a.no_places in
       let s : length (ids es) ≡ length es = len in
-      ap (λ b. cond b (place y (ids es) + 1) 0) (le-false (place y (ids es)) (length es) (omega arith))
+      ap (λ b. cond b (place y (ids es) + 1) 0) (le-ltb (place y (ids es)) (length es) (omega arith))
 
   below_top : (x : List ℕ) → has x (ids es) ≡ true → (0 == node_at (length es) (place (built_parent es x) (ids es))) ≡ bytes_eq (built_parent es x) places
   below_top x h = go (known x h)
@@ -260,7 +261,7 @@ module _ (es : List Claim) (a : AreItems es) (parents order : List ℕ) (up_is :
       go true q ih =
           ap (λ c. cond c (Some (placed (entries es parents order) (planted es parents i))) (find (λ n. bytes_eq x n.id) (map (placed (entries es parents order)) (map (planted es parents) xs)))) q
           ∙ (ap Some (placed_item i l)
-          ∙ (ap (λ k. Some (node_of es (at es k))) (sym (ap (λ w. place w (ids es)) (same_id x (at es i).item.id q) ∙ place_own es i a.apart l))
+          ∙ (ap (λ k. Some (node_of es (at es k))) (sym (ap (λ w. place w (ids es)) (same_text x (at es i).item.id q) ∙ place_own es i a.apart l))
           ∙ ap (λ c. cond (c || has x (names (ids es) xs)) (Some (node_of es (at es (place x (ids es))))) None) (sym q)))
       go false q ih =
           ap (λ c. cond c (Some (placed (entries es parents order) (planted es parents i))) (find (λ n. bytes_eq x n.id) (map (placed (entries es parents order)) (map (planted es parents) xs)))) q
@@ -285,7 +286,7 @@ module _ (es : List Claim) (a : AreItems es) (parents order : List ℕ) (up_is :
       go true q =
           ap (λ n. find (λ m. bytes_eq x m.id) (n ∷ map (placed (entries es parents order)) (map (planted es parents) order))) placed_top
           ∙ (ap (λ b. cond b (Some places_node) (find (λ m. bytes_eq x m.id) (map (placed (entries es parents order)) (map (planted es parents) order)))) q
-          ∙ sym (ap (λ w. find (λ m. bytes_eq w m.id) (tree_of es)) (same_id x places q) ∙ node_places es))
+          ∙ sym (ap (λ w. find (λ m. bytes_eq w m.id) (tree_of es)) (same_text x places q) ∙ node_places es))
       go false q =
           ap (λ n. find (λ m. bytes_eq x m.id) (n ∷ map (placed (entries es parents order)) (map (planted es parents) order))) placed_top
           ∙ (ap (λ b. cond b (Some places_node) (find (λ m. bytes_eq x m.id) (map (placed (entries es parents order)) (map (planted es parents) order)))) q

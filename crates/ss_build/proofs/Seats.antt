@@ -4,11 +4,12 @@ use Rattle.std.specs.List.{position, position_or_len, list_any}
 use Rattle.std.proofs.lemmas.Bool.{false≢true, ltb-false, cases_eq, ne_eqb, or_parts}
 use Rattle.std.proofs.lemmas.List.Recursion.{is_position_or_len}
 use Rattle.ss_record.specs.Ids.{Apart, has, places}
-use Rattle.ss_record.proofs.IdLists.{same_id, bytes_eq-refl, bytes_eq-same, bytes_eq-apart, has-nil, has-cons, has-head, has-tail, has-append, Apart-nil, Apart-cons, Apart-head, Apart-tail}
+use Rattle.ss_record.proofs.IdLists.{bytes_eq-refl, bytes_eq-apart, has-nil, has-cons, has-head, has-tail, has-append, Apart-nil, Apart-cons, Apart-head, Apart-tail}
 use Rattle.ss_build.specs.declared.claims.Claim.{Claim}
 use Rattle.ss_build.specs.Built.{ids}
 use Rattle.ss_build.specs.Places.{at, place}
 use Rattle.ss_build.proofs.Items.{In}
+use Rattle.ss_text.proofs.Basics.{same_text, bytes_eq-same}
 
 -- ---- places
 
@@ -55,7 +56,7 @@ at_place x [] d h = absurd (false≢true (sym (has-nil x) ∙ h))
 at_place x (y ∷ ys) d h = go (bytes_eq x y) refl (sym (has-cons x y ys) ∙ h) (at_place x ys d)
   where
     go : (b : Bool) → bytes_eq x y ≡ b → (b || has x ys) ≡ true → (has x ys ≡ true → get_or ys (place x ys) d ≡ x) → get_or (y ∷ ys) (cond b 0 (suc (place x ys))) d ≡ x
-    go true q e ih = sym (same_id x y q)
+    go true q e ih = sym (same_text x y q)
     go false q e ih = ih e
 
 pub has_at : (xs : List (List ℕ)) (i : ℕ) (d : List ℕ) → i < length xs → has (get_or xs i d) xs ≡ true
@@ -101,11 +102,6 @@ unfolding In
 at_in [] i l = absurd (omega arith)
 at_in (e ∷ es) zero l = inl refl
 at_in (e ∷ es) (suc i) l = inr (at_in es i (omega arith))
-
-pub ids_append : (es fs : List Claim) → ids (es ++ fs) ≡ ids es ++ ids fs
-unfolding ids
-ids_append [] fs = refl
-ids_append (e ∷ es) fs = ap (λ xs. e.item.id ∷ xs) (ids_append es fs)
 
 pub ids_take : (n : ℕ) (es : List Claim) → ids (take n es) ≡ take n (ids es)
 unfolding ids

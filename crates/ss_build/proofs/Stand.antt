@@ -14,22 +14,23 @@ use Rattle.ss_record.specs.declared.kinds.Kind.TheVariants.{Bookmark, Folder, Li
 use Rattle.ss_record.specs.declared.readings.Reading.{Reading}
 use Rattle.ss_record.specs.declared.readings.Reading.TheVariants.{Item, Skipped, Tombstone}
 use Rattle.ss_tree.specs.Trees.{IsUnder, IsValidTree, Placed, empty_tree, node, node_ids, parent_in, places_node, steps}
-use Rattle.ss_record.proofs.IdLists.{same_id, bytes_eq-same, bytes_eq-apart, has-nil, has-cons, has-head, has-tail, Apart-head, Apart-tail}
+use Rattle.ss_record.proofs.IdLists.{bytes_eq-apart, has-nil, has-cons, Apart-head, Apart-tail, has-head, has-tail}
 use Rattle.ss_build.proofs.Items.{In, claim_in, claim_found, claim_has, claim_none, AreClaims, places_no_root}
 use Rattle.ss_build.proofs.Keyed.{key_found, found_key, key_at, has_key, no_key}
-use Rattle.ss_build.proofs.Valid.{proposed_root, proposed_claim, proposed_none, node_tree, node_claim, node_places}
+use Rattle.ss_build.proofs.Valid.{proposed_root, proposed_claim, proposed_none, node_tree, node_claim, node_places, is_roots}
 use Rattle.ss_record.proofs.OfId.{IsRead}
 use Rattle.ss_build.proofs.OfRows.{AreRows, of_row, read_from, has_ids, has-with_roots, claims_are}
+use Rattle.ss_text.proofs.Basics.{some_same, same_text, bytes_eq-same}
 
--- ---- lists that a filter and `firsts` leave as they are
-
-filter_all : (p : List ℕ → Bool) (xs : List (List ℕ)) → ((x : List ℕ) → has x xs ≡ true → p x ≡ true) → filter p xs ≡ xs
+pub filter_all : (p : List ℕ → Bool) (xs : List (List ℕ)) → ((x : List ℕ) → has x xs ≡ true → p x ≡ true) → filter p xs ≡ xs
 filter_all p [] h = refl
-filter_all p (x ∷ xs) h = ap (λ b. cond b (x ∷ filter p xs) (filter p xs)) (h x (has-head x xs)) ∙ ap (λ ys. x ∷ ys) (filter_all p xs (λ z k. h z (has-tail z x xs k)))
+filter_all p (x ∷ xs) h = ap (λ b. cond b (x ∷ filter p xs) (filter p xs)) (h x (has-head x xs)) ∙ ap (λ w. x ∷ w) (filter_all p xs (λ z k. h z (has-tail z x xs k)))
 
-filter_none : (p : List ℕ → Bool) (xs : List (List ℕ)) → ((x : List ℕ) → has x xs ≡ true → p x ≡ false) → filter p xs ≡ []
+pub filter_none : (p : List ℕ → Bool) (xs : List (List ℕ)) → ((x : List ℕ) → has x xs ≡ true → p x ≡ false) → filter p xs ≡ []
 filter_none p [] h = refl
 filter_none p (x ∷ xs) h = ap (λ b. cond b (x ∷ filter p xs) (filter p xs)) (h x (has-head x xs)) ∙ filter_none p xs (λ z k. h z (has-tail z x xs k))
+
+-- ---- lists that a filter and `firsts` leave as they are
 
 firsts_apart : (xs : List (List ℕ)) → Apart xs → firsts xs ≡ xs
 firsts_apart [] a = refl
@@ -57,13 +58,6 @@ has_node t x h = has_key (λ m. m.id) t x h
 pub node_none : (t : List Placed) (x : List ℕ) → has x (node_ids t) ≡ false → node x t ≡ None
 unfolding node node_ids
 node_none t x h = no_key (λ m. m.id) t x h
-
-pub some_same : {X : Type 0} (a b : X) → Some a ≡ Some b → a ≡ b
-some_same a b e = cc
-
-pub is_roots : places_node.children ≡ roots
-unfolding places_node
-is_roots = refl
 
 -- the roots are in a valid tree, under `places`
 pub root_under : (t : List Placed) → IsValidTree t → (r : List ℕ) → has r roots ≡ true → (n : Placed) × (node r t ≡ Some n) × (n.parent ≡ Some places)
@@ -120,7 +114,7 @@ claim_agrees n x time (Item i p cs) h q a =
       record {
         id = h.same i p cs refl ∙ sym q;
         kind = same_kind_is i.kind n.kind third.0;
-        content = same_id i.content n.content third.1;
+        content = same_text i.content n.content third.1;
         parent = second.1;
         listed = same_list_is cs n.children first.1;
       },
@@ -187,7 +181,7 @@ walk_steps f zero x z h = absurd (false≢true (sym (has-nil z) ∙ h))
 walk_steps f (suc n) x z h = go (bytes_eq z x) refl (sym (has-cons z x (walk f n (f x))) ∙ h) (walk_steps f n (f x) z)
   where
     go : (b : Bool) → bytes_eq z x ≡ b → (b || has z (walk f n (f x))) ≡ true → (has z (walk f n (f x)) ≡ true → (k : ℕ) × (steps f k (f x) ≡ z)) → (k : ℕ) × (steps f k x ≡ z)
-    go true q k ih = (zero, sym (same_id z x q))
+    go true q k ih = (zero, sym (same_text z x q))
     go false q k ih = let r = ih k in (suc r.0, r.1)
 
 -- what comes back to itself does not reach the top, unless it is the top
@@ -211,7 +205,7 @@ named_is (g ∷ gs) y f q h = go (bytes_eq y g.item.id) refl q (named_is gs y f)
         → (find (λ w. bytes_eq y w.item.id) gs ≡ Some f → is_folder f.item.kind ≡ true → find (λ w. is_folder w.item.kind && bytes_eq y w.item.id) gs ≡ Some f)
         → cond (is_folder g.item.kind && bytes_eq y g.item.id) (Some g) (find (λ w. is_folder w.item.kind && bytes_eq y w.item.id) gs) ≡ Some f
     go true e k ih =
-        let same : g ≡ f = some_same g f k in
+        let same : g ≡ f = some_same k in
         ap (λ b. cond b (Some g) (find (λ w. is_folder w.item.kind && bytes_eq y w.item.id) gs)) (ap₂ (λ a b. a && b) (ap (λ w. is_folder w.item.kind) same ∙ h) e) ∙ k
     go false e k ih =
         ap (λ b. cond b (Some g) (find (λ w. is_folder w.item.kind && bytes_eq y w.item.id) gs)) (ap (λ b. is_folder g.item.kind && b) e ∙ no (is_folder g.item.kind)) ∙ ih k h
@@ -287,7 +281,7 @@ module _ (t : List Placed) (v : IsValidTree t) (rows : List Row) (a : AreRows ro
           names y None z p = absurd (false≢true (sym r ∙ (ap (λ w. has w roots) (sym (node_id t x n q)) ∙ (sym (ap (same_parent n) z) ∙ w0.parent))))
           names y (Some w) z p =
               let s : unwrap_or (option_map (bytes_eq w) n.parent) false ≡ true = sym (ap (same_parent n) z) ∙ w0.parent in
-              z ∙ ap Some (same_id w y (sym (ap (λ o. unwrap_or (option_map (bytes_eq w) o) false) p) ∙ s))
+              z ∙ ap Some (same_text w y (sym (ap (λ o. unwrap_or (option_map (bytes_eq w) o) false) p) ∙ s))
 
           listed : (g : Claim) (y : List ℕ) (m : Placed) → IsAs m g → n.parent ≡ Some y → node y t ≡ Some m → is_folder g.item.kind ≡ true → lists g e.item.id ≡ true
           listed g y m w p z fold = ap₂ (λ b c. b && c) fold (ap (has e.item.id) w.listed ∙ (ap (λ u. has u m.children) (w0.id ∙ node_id t x n q) ∙ (v.stands y m z x).1 (n, q, p)))
@@ -313,7 +307,7 @@ module _ (t : List Placed) (v : IsValidTree t) (rows : List Row) (a : AreRows ro
   proposed_is x = top_or (bytes_eq x places) refl
     where
       top_or : (b : Bool) → bytes_eq x places ≡ b → proposed (claims rows) x ≡ parent_in t x
-      top_or true q = ap (proposed (claims rows)) (same_id x places q) ∙ (top_up ∙ (sym (parent_in_top t v) ∙ sym (ap (parent_in t) (same_id x places q))))
+      top_or true q = ap (proposed (claims rows)) (same_text x places q) ∙ (top_up ∙ (sym (parent_in_top t v) ∙ sym (ap (parent_in t) (same_text x places q))))
       top_or false q = known (has x (node_ids t)) refl
         where
           ne : x ≢ places
@@ -341,7 +335,7 @@ module _ (t : List Placed) (v : IsValidTree t) (rows : List Row) (a : AreRows ro
   -- children are the children
   top_no_parent : (m : Placed) (x : List ℕ) → node places t ≡ Some m → m.parent ≡ Some x → ⊥
   unfolding places_node
-  top_no_parent m x q p = let same : places_node ≡ m = some_same places_node m (sym v.top_is ∙ q) in no (ap (λ w. w.parent) same ∙ p)
+  top_no_parent m x q p = let same : places_node ≡ m = some_same (sym v.top_is ∙ q) in no (ap (λ w. w.parent) same ∙ p)
     where
       no : None ≡ Some x → ⊥
       no e = cc
@@ -352,7 +346,7 @@ module _ (t : List Placed) (v : IsValidTree t) (rows : List Row) (a : AreRows ro
       let p = and_parts (has c (ids (claims rows))) (bytes_eq (built_parent (claims rows) c) x) k in
       let n = node_of_item c p.0 in
       let f = v.folder c n.0 n.1 (item_places c p.0) in
-      let up : f.0 ≡ x = sym (parent_in_at t c n.0 f.0 n.1 f.1) ∙ (sym (parent_is c n.0 (item_places c p.0) n.1) ∙ same_id (built_parent (claims rows) c) x p.1) in
+      let up : f.0 ≡ x = sym (parent_in_at t c n.0 f.0 n.1 f.1) ∙ (sym (parent_is c n.0 (item_places c p.0) n.1) ∙ same_text (built_parent (claims rows) c) x p.1) in
       (n.0, n.1, f.1 ∙ ap Some up)
 
   child_from : (x c : List ℕ) (n : Placed) → c ≢ places → node c t ≡ Some n → n.parent ≡ Some x → is_child (claims rows) x c ≡ true
@@ -396,7 +390,7 @@ module _ (t : List Placed) (v : IsValidTree t) (rows : List Row) (a : AreRows ro
     where
       top_or : (b : Bool) → bytes_eq x places ≡ b → option_map untimed (node x (tree_of (claims rows))) ≡ option_map untimed (node x t)
       top_or true q =
-          let p : x ≡ places = same_id x places q in
+          let p : x ≡ places = same_text x places q in
           ap (option_map untimed) (ap (λ w. node w (tree_of (claims rows))) p ∙ (node_places (claims rows) ∙ (sym v.top_is ∙ sym (ap (λ w. node w t) p))))
       top_or false q = known (has x (node_ids t)) refl
         where

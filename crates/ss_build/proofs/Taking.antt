@@ -1,20 +1,21 @@
 -- Taking items one by one.
 use Rattle.std.proofs.Common.{◌≡◌, ◌≢◌, ℕ, zero, suc, ◌+◌, ◌-◌, ◌<◌, ◌≤◌, ◌==◌, ◌⊎◌, inl, inr, List, [], ◌∷◌, ◌++◌, length, map, take, get_or, set, Bool, true, false, not, cond, ◌&&◌, ◌||◌, refl, sym, ap, ap₂, ◌∙◌, subst, arith, eq-eqb, lt-ltb, filter, bytes_eq}
 use Rattle.std.specs.List.{flat_map}
-use Rattle.std.proofs.lemmas.Bool.{cases_eq, cases_lt, ne_eqb, or_parts, and_parts, false≢true, false_from_ne_true}
+use Rattle.std.proofs.lemmas.Bool.{cases_eq, cases_lt, ne_eqb, or_parts, and_parts, false≢true, false_from_ne_true, le-ltb}
 use Rattle.std.proofs.lemmas.List.{append-nil, append_assoc, map_push, take_more, take_all, get_or_append_left, get_or_push, get_or-map, length-map, length-append, length_push, get_or_read}
 use Rattle.std.proofs.lemmas.List.Elements.{filter-append}
 use Rattle.ss_record.specs.Ids.{Apart, firsts, has, places, roots}
-use Rattle.ss_record.proofs.IdLists.{same_id, bytes_eq-refl, bytes_eq-same, bytes_eq-apart, bytes_eq-sym, has-nil, has-cons, has-head, has-tail, has-append, has-filter, has-firsts, Apart-head, Apart-tail}
+use Rattle.ss_record.proofs.IdLists.{bytes_eq-refl, bytes_eq-apart, has-nil, has-cons, has-head, has-tail, has-append, has-filter, has-firsts, Apart-head, Apart-tail}
 use Rattle.ss_build.specs.declared.claims.Claim.{Claim}
 use Rattle.ss_build.specs.Built.{built_parent, empty_root, ids, is_child}
 use Rattle.ss_build.specs.Places.{AreItems, IsTaken, at, front, is_next, listed, lists_as_told, names, parents_of, place}
 use Rattle.ss_build.proofs.Items.{In_has}
 use Rattle.ss_build.proofs.Valid.{length-ids, parent_root, is_child_parts}
 use Rattle.ss_build.proofs.Seats.{place_lt, place_at, place_none, at_place, has_at, has_from_place, id_at, at_in, ids_take}
-use Rattle.ss_build.proofs.Chosen.{le-false}
 use Rattle.ss_build.proofs.Uppers.{claims_from}
 use Rattle.std.proofs.Math.Bool.{or-true, or-false}
+use Rattle.ss_text.proofs.Basics.{bytes_eq-sym, bytes_eq-same}
+use Rattle.std.proofs.lemmas.Grind.{flat_map-append}
 
 -- ---- one more place
 
@@ -136,7 +137,7 @@ next_test es parents folder order taken c a e l t = go (has c (ids es)) refl
         let k : length (ids es) ≡ length es = s in
         let m : length parents ≡ length es = n in
         let p : place c (ids es) ≡ length (ids es) = place_none c (ids es) h in
-        ap (λ b. b && ((get_or parents (place c (ids es)) 0 == folder) && not (get_or taken (place c (ids es)) false))) (le-false (place c (ids es)) (length parents) (omega arith))
+        ap (λ b. b && ((get_or parents (place c (ids es)) 0 == folder) && not (get_or taken (place c (ids es)) false))) (le-ltb (place c (ids es)) (length parents) (omega arith))
         ∙ sym (ap (λ b. (b && bytes_eq (built_parent es c) (at es folder).item.id) && not (has c (names (ids es) order))) h)
 
 -- what a folder lists, as far as the loop has come
@@ -179,7 +180,7 @@ child_more es parents folder old order neworder taken newtaken cs j i a e l m q 
         go (inr k) =
             let n : length parents ≡ length es = plen in
             let s : length (ids es) ≡ length es = length-ids es in
-            absurd (false≢true (sym (ap (λ b. b && ((get_or parents i 0 == folder) && not (get_or taken i false))) (le-false i (length parents) (omega arith))) ∙ h))
+            absurd (false≢true (sym (ap (λ b. b && ((get_or parents i 0 == folder) && not (get_or taken i false))) (le-ltb i (length parents) (omega arith))) ∙ h))
           where
             plen : length parents ≡ length es
             plen = parents_length es parents e
@@ -218,10 +219,6 @@ pub item_at : (es : List Claim) (i : ℕ) (e : Claim) → i < length es → e �
 item_at es i e l r = get_or_read es i e l r (empty_root places)
 
 -- ---- the children of the folders, one folder after the other
-
-flat_map-append : {X Y : Type 0} (f : X → List Y) (xs ys : List X) → flat_map f (xs ++ ys) ≡ flat_map f xs ++ flat_map f ys
-flat_map-append f [] ys = refl
-flat_map-append f (x ∷ xs) ys = ap (λ w. f x ++ w) (flat_map-append f xs ys) ∙ sym (append_assoc (f x) (flat_map f xs) (flat_map f ys))
 
 listed_is : (es : List Claim) (f : Claim) → firsts (filter (is_child es f.item.id) f.children) ≡ listed es f
 unfolding listed

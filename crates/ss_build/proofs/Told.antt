@@ -5,7 +5,7 @@ use Rattle.std.proofs.lemmas.Bool.{cases_eq, ne_eqb, eqb-true, and_parts, false�
 use Rattle.std.proofs.lemmas.List.{append-nil, get_or-map, get_or-set_same, get_or-set_other, length-map, ext_get_or}
 use Rattle.std.proofs.lemmas.Slice.Eq.{bytes_eq-Decides, slice_eq-Decides}
 use Rattle.ss_record.specs.Ids.{by_id, firsts, has, places, same_list}
-use Rattle.ss_record.proofs.IdLists.{same_id, has-nil, has-cons, has-head, has-tail, has-append, has-filter, has-by_id}
+use Rattle.ss_record.proofs.IdLists.{has-nil, has-cons, has-head, has-tail, has-append, has-filter, has-by_id}
 use Rattle.ss_build.specs.declared.claims.Claim.{Claim}
 use Rattle.ss_build.specs.Built.{built_children, built_parent, empty_root, ids, is_child}
 use Rattle.ss_build.specs.Places.{AreItems, IsTaken, as_told, at, front, in_order, listed, lists_as_told, names, parents_of, place, rest, untaken}
@@ -16,6 +16,7 @@ use Rattle.ss_build.proofs.Seats.{place_lt, at_place, id_at, at_in}
 use Rattle.ss_build.proofs.Taking.{has-listed, none_taken, place_eq}
 use Rattle.ss_build.proofs.Ordered.{front_has, has-rest, children_parts}
 use Rattle.ss_build.proofs.Stand.{same_list_is}
+use Rattle.ss_text.proofs.Basics.{same_text, length-filter_le}
 
 -- ---- what is left
 
@@ -77,24 +78,16 @@ untell_more old kept new parents s i was l n h e = ap (λ w. get_or w i false) e
 
 -- ---- lists that are whole
 
-le-filter : {X : Type 0} (p : X → Bool) (xs : List X) → length (filter p xs) ≤ length xs
-le-filter p [] = omega arith
-le-filter {X} p (x ∷ xs) = go (p x) (le-filter p xs)
-  where
-    go : (b : Bool) → length (filter p xs) ≤ length xs → length (cond b (x ∷ filter p xs) (filter p xs)) ≤ suc (length xs)
-    go true h = omega arith
-    go false h = omega arith
-
 le-firsts : (xs : List (List ℕ)) → length (firsts xs) ≤ length xs
 le-firsts [] = omega arith
 le-firsts (x ∷ xs) =
     let a : length (firsts xs) ≤ length xs = le-firsts xs in
-    let b : length (filter (λ y. not (bytes_eq y x)) (firsts xs)) ≤ length (firsts xs) = le-filter (λ y. not (bytes_eq y x)) (firsts xs) in
+    let b : length (filter (λ y. not (bytes_eq y x)) (firsts xs)) ≤ length (firsts xs) = length-filter_le (λ y. not (bytes_eq y x)) (firsts xs) in
     omega arith
 
 filter_whole : {X : Type 0} (p : X → Bool) (xs : List X) → length (filter p xs) ≡ length xs → filter p xs ≡ xs
 filter_whole p [] e = refl
-filter_whole {X} p (x ∷ xs) e = go (p x) e (filter_whole p xs) (le-filter p xs)
+filter_whole {X} p (x ∷ xs) e = go (p x) e (filter_whole p xs) (length-filter_le p xs)
   where
     go : (b : Bool) → length (cond b (x ∷ filter p xs) (filter p xs)) ≡ suc (length xs) → (length (filter p xs) ≡ length xs → filter p xs ≡ xs) → length (filter p xs) ≤ length xs → cond b (x ∷ filter p xs) (filter p xs) ≡ x ∷ xs
     go true e ih h = ap (λ w. x ∷ w) (ih (omega arith))
@@ -104,7 +97,7 @@ firsts_whole : (xs : List (List ℕ)) → length (firsts xs) ≡ length xs → f
 firsts_whole [] e = refl
 firsts_whole (x ∷ xs) e =
     let a : length (firsts xs) ≤ length xs = le-firsts xs in
-    let b : length (filter (λ y. not (bytes_eq y x)) (firsts xs)) ≤ length (firsts xs) = le-filter (λ y. not (bytes_eq y x)) (firsts xs) in
+    let b : length (filter (λ y. not (bytes_eq y x)) (firsts xs)) ≤ length (firsts xs) = length-filter_le (λ y. not (bytes_eq y x)) (firsts xs) in
     let s : suc (length (filter (λ y. not (bytes_eq y x)) (firsts xs))) ≡ suc (length xs) = e in
     ap (λ w. x ∷ w) (filter_whole (λ y. not (bytes_eq y x)) (firsts xs) (omega arith) ∙ firsts_whole xs (omega arith))
 
@@ -112,7 +105,7 @@ listed_whole : (es : List Claim) (f : Claim) → length (listed es f) ≡ length
 unfolding listed
 listed_whole es f e =
     let a : length (firsts (filter (is_child es f.item.id) f.children)) ≤ length (filter (is_child es f.item.id) f.children) = le-firsts (filter (is_child es f.item.id) f.children) in
-    let b : length (filter (is_child es f.item.id) f.children) ≤ length f.children = le-filter (is_child es f.item.id) f.children in
+    let b : length (filter (is_child es f.item.id) f.children) ≤ length f.children = length-filter_le (is_child es f.item.id) f.children in
     firsts_whole (filter (is_child es f.item.id) f.children) (omega arith) ∙ filter_whole (is_child es f.item.id) f.children (omega arith)
 
 is_same_list : (xs ys : List (List ℕ)) → xs ≡ ys → same_list xs ys ≡ true
@@ -132,7 +125,7 @@ any_from p (y ∷ ys) x h k = go (bytes_eq x y) refl (sym (has-cons x y ys) ∙ 
     later false e = e
 
     go : (b : Bool) → bytes_eq x y ≡ b → (b || has x ys) ≡ true → (has x ys ≡ true → p x ≡ true → list_any p ys ≡ true) → (p y || list_any p ys) ≡ true
-    go true q e ih = ap (λ b. b || list_any p ys) (ap p (sym (same_id x y q)) ∙ k)
+    go true q e ih = ap (λ b. b || list_any p ys) (ap p (sym (same_text x y q)) ∙ k)
     go false q e ih = later (p y) (ih e k)
 
 -- ---- an item has the children that its record names where it lists as many, and none of them is left
@@ -158,7 +151,7 @@ told_is es f a i = go (list_any (λ x. bytes_eq (built_parent es x) f.item.id) (
     left_out : (x : List ℕ) → has x (rest es) ≡ true → bytes_eq (built_parent es x) f.item.id ≡ true → (has x (ids es) ≡ true) × (has x (listed es f) ≡ false)
     left_out x h q =
         let p = and_parts (has x (ids es)) (not (has x (front es))) (sym (has-rest es x) ∙ h) in
-        (p.0, sym (front_has es f x a i (same_id (built_parent es x) f.item.id q)) ∙ not_true (has x (front es)) p.1)
+        (p.0, sym (front_has es f x a i (same_text (built_parent es x) f.item.id q)) ∙ not_true (has x (front es)) p.1)
       where
         not_true : (b : Bool) → not b ≡ true → b ≡ false
         not_true true e = absurd (false≢true e)
@@ -184,7 +177,7 @@ told_is es f a i = go (list_any (λ x. bytes_eq (built_parent es x) f.item.id) (
             let p = and_parts (has x (ids es)) _ (sym (has-others x) ∙ k) in
             let q = and_parts (has x (ids es) && bytes_eq (built_parent es x) f.item.id) (not (has x (listed es f))) p.1 in
             let u = and_parts (has x (ids es)) (bytes_eq (built_parent es x) f.item.id) q.0 in
-            let in_rest : has x (rest es) ≡ true = has-rest es x ∙ ap₂ (λ b c. b && not c) p.0 (front_has es f x a i (same_id (built_parent es x) f.item.id u.1)) ∙ q.1 in
+            let in_rest : has x (rest es) ≡ true = has-rest es x ∙ ap₂ (λ b c. b && not c) p.0 (front_has es f x a i (same_text (built_parent es x) f.item.id u.1)) ∙ q.1 in
             false≢true (sym h ∙ any_from (λ x. bytes_eq (built_parent es x) f.item.id) (rest es) x in_rest u.1)
 
     same_bools : (b c : Bool) → (b ≡ true → c ≡ true) → (c ≡ true → b ≡ true) → b ≡ c

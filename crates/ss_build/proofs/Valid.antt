@@ -6,9 +6,14 @@ use Rattle.ss_build.specs.declared.claims.Claim.{Claim}
 use Rattle.ss_record.specs.Ids.{Apart, by_id, firsts, has, places, roots, unfiled}
 use Rattle.ss_record.specs.Kinds.{is_folder}
 use Rattle.ss_tree.specs.Trees.{IsUnder, IsValidTree, Placed, Reaches, node, node_ids, parent_in, places_node}
-use Rattle.ss_record.proofs.IdLists.{same_id, bytes_eq-refl, bytes_eq-same, bytes_eq-apart, has-nil, has-cons, has-filter, has-firsts, has-by_id, has-append, Apart-cons, Apart-filter, Apart-firsts, Apart-by_id, Apart-append}
+use Rattle.ss_record.proofs.IdLists.{bytes_eq-refl, bytes_eq-apart, has-nil, has-cons, has-filter, has-firsts, has-by_id, has-append, Apart-cons, Apart-filter, Apart-firsts, Apart-by_id, Apart-append}
 use Rattle.ss_build.proofs.Walks.{Reaches-here, Reaches-step, walk_ends}
 use Rattle.ss_build.proofs.Items.{In, In_has, claim_in, claim_found, claim_has, has_claim, claim_none, AreClaims, places_no_root, unfiled_root, Apart-roots, root-places, proposal_folder}
+use Rattle.ss_text.proofs.Basics.{same_text, bytes_eq-same}
+
+pub is_roots : places_node.children ≡ roots
+unfolding places_node
+is_roots = refl
 
 -- ---- proposed parents, and parents
 
@@ -149,7 +154,7 @@ up_ends es a =
       where
         top_or : (b : Bool) → bytes_eq z places ≡ b → parent_in (tree_of es) z ≡ proposed es z
         top_or true q =
-            let p : z ≡ places = same_id z places q in
+            let p : z ≡ places = same_text z places q in
             ap (parent_in (tree_of es)) p ∙ (parent_in_places es ∙ sym (ap (proposed es) p ∙ proposed_none es places places_no_root a.no_places))
         top_or false q = known (has z (ids es)) refl
           where
@@ -171,7 +176,7 @@ up_ends es a =
     jump z c = top_or (bytes_eq z places) refl
       where
         top_or : (b : Bool) → bytes_eq z places ≡ b → Reaches (parent_in (tree_of es)) places z
-        top_or true q = Reaches-here (parent_in (tree_of es)) places z (same_id z places q)
+        top_or true q = Reaches-here (parent_in (tree_of es)) places z (same_text z places q)
         top_or false q = known (has z (ids es)) refl
           where
             ne : z ≢ places
@@ -240,7 +245,7 @@ Apart-children es f a =
 
 pub is_child_parts : (es : List Claim) (f x : List ℕ) → is_child es f x ≡ true → (has x (ids es) ≡ true) × (built_parent es x ≡ f)
 unfolding is_child
-is_child_parts es f x h = let p = and_parts (has x (ids es)) (bytes_eq (built_parent es x) f) h in (p.0, same_id (built_parent es x) f p.1)
+is_child_parts es f x h = let p = and_parts (has x (ids es)) (bytes_eq (built_parent es x) f) h in (p.0, same_text (built_parent es x) f p.1)
 
 is_child_from : (es : List Claim) (f x : List ℕ) → has x (ids es) ≡ true → built_parent es x ≡ f → is_child es f x ≡ true
 unfolding is_child
@@ -267,7 +272,7 @@ unfolding IsUnder
 under_parts es y x a u = go (bytes_eq x places) refl
   where
     go : (b : Bool) → bytes_eq x places ≡ b → (has x (ids es) ≡ true) × (built_parent es x ≡ y)
-    go true q = absurd (none (ap (λ n. n.parent) (some (sym (node_places es) ∙ (ap (λ w. node w (tree_of es)) (sym (same_id x places q)) ∙ u.1)))) u.2)
+    go true q = absurd (none (ap (λ n. n.parent) (some (sym (node_places es) ∙ (ap (λ w. node w (tree_of es)) (sym (same_text x places q)) ∙ u.1)))) u.2)
       where
         some : Some places_node ≡ Some u.0 → places_node ≡ u.0
         some e = cc
@@ -295,10 +300,6 @@ ids_of_nodes (e ∷ es) fs = ap (λ xs. e.item.id ∷ xs) (ids_of_nodes es fs)
 node_ids_tree : (es : List Claim) → node_ids (tree_of es) ≡ places ∷ ids es
 unfolding node_ids tree_of places_node
 node_ids_tree es = ap (λ xs. places ∷ xs) (ids_of_nodes es es)
-
-top_children : places_node.children ≡ roots
-unfolding places_node
-top_children = refl
 
 top_folder : is_folder places_node.kind ≡ true
 unfolding places_node
@@ -328,7 +329,7 @@ at_places : {A : Type 0} (y : List ℕ) → (y ≡ places → A) → (y ≢ plac
 at_places {A} y f g = go (bytes_eq y places) refl
   where
     go : (b : Bool) → bytes_eq y places ≡ b → A
-    go true q = f (same_id y places q)
+    go true q = f (same_text y places q)
     go false q = g (λ p. false≢true (sym q ∙ bytes_eq-same y places p))
 
 same_top : (es : List Claim) (y : List ℕ) (m : Placed) → y ≡ places → node y (tree_of es) ≡ Some m → m ≡ places_node
@@ -344,7 +345,7 @@ children_are es a y m q x = at_places y root_case item_case
     root_case p = (down, up)
       where
         list : m.children ≡ roots
-        list = ap (λ n. n.children) (same_top es y m p q) ∙ top_children
+        list = ap (λ n. n.children) (same_top es y m p q) ∙ is_roots
 
         down : has x m.children ≡ true → IsUnder (tree_of es) y x
         down h = let r : has x roots ≡ true = sym (ap (has x) list) ∙ h in under_from es y x a (a.roots_in x r) (parent_root es x a r ∙ sym p)
@@ -369,7 +370,7 @@ children_are es a y m q x = at_places y root_case item_case
 
 children_once : (es : List Claim) → AreClaims es → (y : List ℕ) (m : Placed) → node y (tree_of es) ≡ Some m → Apart m.children
 children_once es a y m q = at_places y
-    (λ p. subst Apart (sym (ap (λ n. n.children) (same_top es y m p q) ∙ top_children)) Apart-roots)
+    (λ p. subst Apart (sym (ap (λ n. n.children) (same_top es y m p q) ∙ is_roots)) Apart-roots)
     (λ ne. let e = node_from es y m ne q in subst Apart (sym (ap (λ n. n.children) e.2 ∙ node_children es e.0)) (Apart-children es e.0 a.apart))
 
 under_folder : (es : List Claim) → AreClaims es → (x : List ℕ) (n : Placed) → node x (tree_of es) ≡ Some n → x ≢ places

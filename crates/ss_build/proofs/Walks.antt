@@ -5,7 +5,8 @@ use Rattle.std.proofs.lemmas.Bool.{or_parts, false≢true}
 use Rattle.ss_build.specs.Built.{comes_back, walk}
 use Rattle.ss_record.specs.Ids.{has}
 use Rattle.ss_tree.specs.Trees.{Reaches, steps}
-use Rattle.ss_record.proofs.IdLists.{same_id, has-nil, has-cons, has-head, has-tail, has-filter}
+use Rattle.ss_record.proofs.IdLists.{has-nil, has-cons, has-head, has-tail, has-filter}
+use Rattle.ss_text.proofs.Basics.{same_text}
 
 -- ---- more ids than there are: one stands twice
 
@@ -53,7 +54,7 @@ pigeon (x ∷ xs) ys sub lt = go (has x xs) refl (pigeon xs (without x ys))
         other z hz = pick (bytes_eq x z) refl
           where
             pick : (c : Bool) → bytes_eq x z ≡ c → c ≡ false
-            pick true f = absurd (false≢true (sym e ∙ (ap (λ w. has w xs) (same_id x z f) ∙ hz)))
+            pick true f = absurd (false≢true (sym e ∙ (ap (λ w. has w xs) (same_text x z f) ∙ hz)))
             pick false f = refl
 
 -- ---- walks
@@ -105,7 +106,7 @@ module _ (all : List (List ℕ)) (most : ℕ) (enough : length all ≤ most) (to
       off = (or_parts (bytes_eq top x) _ (sym (has-cons top x (walk Q n (Q x))) ∙ ht)).1
 
       go : (b : Bool) → bytes_eq z x ≡ b → (b || has z (walk Q n (Q x))) ≡ true → (has (Q x) all ≡ true) ⊎ (Q x ≡ top) → (has (Q x) all ≡ true → has top (walk Q n (Q x)) ≡ false → has z (walk Q n (Q x)) ≡ true → has z all ≡ true) → has z all ≡ true
-      go true e h c ih = ap (λ w. has w all) (same_id z x e) ∙ hx
+      go true e h c ih = ap (λ w. has w all) (same_text z x e) ∙ hx
       go false e h (inl c) ih = ih c off h
       go false e h (inr c) ih = absurd (ends n off h)
         where
@@ -144,7 +145,7 @@ module _ (all : List (List ℕ)) (most : ℕ) (enough : length all ≤ most) (to
   past_top (suc n) x h = go (bytes_eq top x) refl (sym (has-cons top x (walk Q n (Q x))) ∙ h) (past_top n (Q x))
     where
       go : (b : Bool) → bytes_eq top x ≡ b → (b || has top (walk Q n (Q x))) ≡ true → (has top (walk Q n (Q x)) ≡ true → Reaches P top (Q x)) → Reaches P top x
-      go true e h2 ih = Reaches-here P top x (sym (same_id top x e))
+      go true e h2 ih = Reaches-here P top x (sym (same_text top x e))
       go false e h2 ih = onward x (λ _. ih h2)
 
   past_circle : (n : ℕ) (x : List ℕ) → list_any (comes_back Q most) (walk Q n x) ≡ true → Reaches P top x

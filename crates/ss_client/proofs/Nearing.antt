@@ -27,6 +27,7 @@ use Rattle.ss_client.specs.Machine.{Next, Stop, onward, posting, fetching, unrea
 use Rattle.ss_client.specs.Sound.{TellsOurs}
 use Rattle.ss_client.specs.Bounds.{once, within_fetch, to_follow, IsBounded, IsNearer}
 use Rattle.ss_client.proofs.Posting.{rest-is}
+use Rattle.ss_text.proofs.Basics.{both_left}
 
 at : (run : Run) (stage : Stage) (next told : Next) → next ≡ told → IsNearer run stage told → IsNearer run stage next
 at run stage next told e h = subst (IsNearer run stage) (sym e) h
@@ -130,10 +131,6 @@ page_near d run stage time pages before rows offset next few later more p = go (
         in_near d run stage time pages (before ++ rows) offset next few later
         (λ s. let few_pages = bad_not pages (are_apart (ids_of (before ++ rows))) (is_some offset) t s in (few_pages, more few_pages)) i
 
-both : (a b : Bool) → (a && b) ≡ true → a ≡ true
-both true b e = refl
-both false b e = cc
-
 open_near : (d : DeviceView) (run : Run) (time : ℕ) (rows : List Sheet) (offset : Option ℕ) (next : Next) → run.limits.max_total_records ≤ MOST_BATCH_RECORDS → OpensWith d run time rows offset next → IsNearer run Opens next
 open_near d run time rows offset next few o = go (run.newer && nat_lt time d.stamp) refl o
   where
@@ -142,7 +139,7 @@ open_near d run time rows offset next few o = go (run.newer && nat_lt time d.sta
     by false n = falls_near run Opens (falls_back run) few n refl
 
     go : (b : Bool) → (run.newer && nat_lt time d.stamp) ≡ b → MatchBool b (next ≡ cond (is_bad 1 rows offset) (unread run) (falls_back run)) (PageOn d run time 1 [] rows offset next) → IsNearer run Opens next
-    go true t e = at run Opens next _ e (by (is_bad 1 rows offset) (both run.newer (nat_lt time d.stamp) t))
+    go true t e = at run Opens next _ e (by (is_bad 1 rows offset) (both_left run.newer (nat_lt time d.stamp) t))
     go false t p = page_near d run Opens time 1 [] rows offset next few (omega arith) (λ h. omega arith) p
 
 list_near : (d : DeviceView) (run : Run) (stage : Stage) (time : ℕ) (rows : List Sheet) (ids : List (List ℕ)) (next : Next) → run.limits.max_total_records ≤ MOST_BATCH_RECORDS → run.newer ≡ true

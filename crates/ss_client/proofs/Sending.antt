@@ -17,6 +17,7 @@ use Rattle.ss_plan.specs.Refusals.{payload_set, payload_bytes, first_over, refus
 use Rattle.ss_route.specs.Sending.{IsUpload, uploads_text}
 use Rattle.ss_sync.specs.Posts.{fits, IsNext}
 use Rattle.ss_client.specs.Sound.{AreOurs}
+use Rattle.std.proofs.lemmas.Bool.{and_parts, leb-true, ltb-false}
 
 -- ---- the parts of a plan
 
@@ -35,9 +36,6 @@ plan_uploads es readings = All-append IsUpload _ _ (puts_uploads _ _) (puts_uplo
 
 -- ---- the payloads of a plan that isn't refused
 
-le_of : (a b : ℕ) → nat_lt a b ≡ false → b ≤ a
-le_of a b e = grind (arith, e)
-
 none_over : (most : ℕ) (parts : List Part) → find (λ p. nat_lt most (payload_bytes p)) parts ≡ None → All (λ p. payload_bytes p ≤ most) parts
 none_over most [] e = λ k d h. absurd (omega arith)
 none_over most (p ∷ parts) e = go (nat_lt most (payload_bytes p)) refl e (none_over most parts)
@@ -45,7 +43,7 @@ none_over most (p ∷ parts) e = go (nat_lt most (payload_bytes p)) refl e (none
     go : (b : Bool) → nat_lt most (payload_bytes p) ≡ b → cond b (Some p) (find (λ q. nat_lt most (payload_bytes q)) parts) ≡ None
         → (find (λ q. nat_lt most (payload_bytes q)) parts ≡ None → All (λ q. payload_bytes q ≤ most) parts) → All (λ q. payload_bytes q ≤ most) (p ∷ parts)
     go true q n ih = cc
-    go false q n ih = All-cons (λ r. payload_bytes r ≤ most) p parts (le_of most (payload_bytes p) q) (ih n)
+    go false q n ih = All-cons (λ r. payload_bytes r ≤ most) p parts (ltb-false most (payload_bytes p) q) (ih n)
 
 first_none : (o : Option Part) (f : Part → PlanFault) (rest : Option PlanFault) → or_else (option_map f o) rest ≡ None → o ≡ None
 first_none None f rest e = refl
@@ -70,19 +68,12 @@ size_is p = go p.fields.payload
 bytes_are : (parts : List Part) → part_bytes parts ≡ sum_by payload_bytes parts
 bytes_are parts = λ i. sum_by (λ p. size_is p i) parts
 
-both : (a b : Bool) → (a && b) ≡ true → (a ≡ true) × (b ≡ true)
-both true b e = (refl, e)
-both false b e = cc
-
-le_is : (a b : ℕ) → nat_le a b ≡ true → a ≤ b
-le_is a b e = grind (arith, e)
-
 fit_within : (limits : Limits) (parts : List Part) → AreOurs limits → fits limits parts ≡ true → (length parts ≤ MOST_POST_RECORDS) × (part_bytes parts ≤ MOST_POST_BYTES)
 unfolding fits
 fit_within limits parts ours e =
-    let h = both (nat_le (length parts) limits.max_post_records) (nat_le (sum_by payload_bytes parts) limits.max_post_bytes && nat_le (length (uploads_text parts)) limits.max_request_bytes) e in
-    let g = both (nat_le (sum_by payload_bytes parts) limits.max_post_bytes) (nat_le (length (uploads_text parts)) limits.max_request_bytes) h.1 in
-    (omega (arith, le_is _ _ h.0, ours.records), omega (arith, le_is _ _ g.0, ours.bytes, bytes_are parts))
+    let h = and_parts (nat_le (length parts) limits.max_post_records) (nat_le (sum_by payload_bytes parts) limits.max_post_bytes && nat_le (length (uploads_text parts)) limits.max_request_bytes) e in
+    let g = and_parts (nat_le (sum_by payload_bytes parts) limits.max_post_bytes) (nat_le (length (uploads_text parts)) limits.max_request_bytes) h.1 in
+    (omega (arith, leb-true _ _ h.0, ours.records), omega (arith, leb-true _ _ g.0, ours.bytes, bytes_are parts))
 
 one_within : (parts : List Part) (n : ℕ) → All (λ p. payload_bytes p ≤ MOST_PAYLOAD) parts → n ≡ 1 → n ≤ length parts → (length (take n parts) ≤ MOST_POST_RECORDS) × (part_bytes (take n parts) ≤ MOST_POST_BYTES)
 one_within [] n small e there = absurd (omega arith)

@@ -60,7 +60,7 @@ bind_good : {A : Type 0} (o : Option A) (f : A → Option Answer) → ((x : A) �
 bind_good None f h = tt
 bind_good (Some x) f h = h x
 
-told_good : (status : ℕ) (failure : Option (List ℕ)) (answer : Answer) → TellsOurs answer → TellsOurs (told status failure answer)
+pub told_good : (status : ℕ) (failure : Option (List ℕ)) (answer : Answer) → TellsOurs answer → TellsOurs (told status failure answer)
 told_good status None answer t = t
 told_good status (Some id) answer t = tt
 

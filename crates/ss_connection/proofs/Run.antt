@@ -19,7 +19,6 @@ use Rattle.ss_http.specs.Faults.{IsMessageFault}
 use Rattle.ss_http.specs.Buffers.{Kept}
 use Rattle.ss_http.specs.Reading.{EndsWith, RisesWith}
 use Rattle.ss_http.proofs.MessageLemmas.{reads_append}
-use Rattle.ss_route.specs.declared.routed.Local.{Local}
 use Rattle.ss_route.specs.Wire.{refusal_of}
 use Rattle.ss_connection.specs.Known.{Known, KnowsMore}
 use Rattle.ss_connection.specs.Sending.{WasSent, WasCut}
@@ -33,6 +32,7 @@ use Rattle.ss_connection.specs.declared.notes.TurnNote.{TurnNote}
 use Rattle.ss_connection.proofs.Later.{each_later}
 use Rattle.ss_connection.proofs.Moving.{moves_none, moves_read, moves_write, took_nothing, still_told}
 use Rattle.ss_connection.proofs.Exchanges.{message_in, note_in, now_in, response_in, got_in, gets_push, read_push, says_push, readings_push, clock_push, split_push, goes_push, sends_push, noted_push}
+use Rattle.ss_route.proofs.Quiet.{quiet}
 
 no_exchange : (x : Exchange) (k : ℕ) → get_elem? {A = Exchange} [] k ≡ some x → ⊥
 no_exchange x k e = maybe.some-ne-none x (sym e)
@@ -183,16 +183,6 @@ module _ (uids : List ℕ) (known known' : ℕ → Known) (more : KnowsMore know
       }
 
 -- a fault that is answered is none of the source
-quiet : (fault : MsgFault) (local : Local) (before now : ℕ) → refusal_of fault ≡ Some local → RisesWith fault before now → now ≡ before
-quiet faults.End local before now answered rises = rises
-quiet faults.Cut local before now answered rises = rises
-quiet faults.BadHead local before now answered rises = rises
-quiet faults.HeadTooLong local before now answered rises = rises
-quiet faults.Coded local before now answered rises = rises
-quiet faults.BadLength local before now answered rises = rises
-quiet (faults.TooLarge n) local before now answered rises = rises
-quiet faults.ReadFault local before now answered rises = cc
-quiet faults.Memory local before now answered rises = rises
 
 -- the next bytes have a fault
 pub record Faults (link link' : Meanings) (kept : Kept) (count : ℕ) (fault : MsgFault) : Type 0 where

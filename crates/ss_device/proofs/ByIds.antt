@@ -1,19 +1,15 @@
 -- What changes of entries are to the tree by ids.
-use Rattle.std.proofs.Common.{◌≡◌, ℕ, ◌==◌, List, [], map, Bool, true, false, cond, refl, sym, ap, ap₂, ◌∙◌, Option, Some, None, option_map, option_and_then, unwrap_or, is_some, bytes_eq}
-use Rattle.std.proofs.lemmas.Bool.{false≢true, eqb-true}
+use Rattle.std.proofs.Common.{◌≡◌, ℕ, ◌==◌, List, [], map, Bool, true, false, cond, refl, sym, ap, ap₂, ◌∙◌, Option, Some, None, option_map, option_and_then, unwrap_or, bytes_eq}
+use Rattle.std.proofs.lemmas.Bool.{eqb-true, eqb-false}
 use Rattle.ss_record.specs.Items.{ItemView}
-use Rattle.ss_record.proofs.IdLists.{bytes_eq-same, bytes_eq-apart}
+use Rattle.ss_record.proofs.IdLists.{bytes_eq-apart}
 use Rattle.ss_tree.specs.declared.entries.Entry.{Entry}
 use Rattle.ss_tree.specs.Trees.{Placed, node}
-use Rattle.ss_tree.specs.Entries.{entry, is_live, kids, kid_ids, placed, tree, revised, IsTree}
-use Rattle.ss_tree.proofs.Changes.{some_same}
-use Rattle.ss_tree.proofs.Edits.{other_number}
+use Rattle.ss_tree.specs.Entries.{entry, kids, kid_ids, placed, tree, revised, IsTree}
 use Rattle.ss_tree.proofs.Valid.{entry_in, in_entry, one_entry, node_found, node_at}
 use Rattle.ss_tree.proofs.Settled.{kid_ids_are}
 use Rattle.ss_device.specs.Edits.{revised_node}
-
-pub none_some : {X : Type 0} {x : X} → None ≡ Some x → ⊥
-none_some f = cc
+use Rattle.ss_text.proofs.Basics.{bytes_eq-same, some_same, none_some}
 
 -- ---- the ids of nodes
 
@@ -29,13 +25,6 @@ idof_some es k y q = go (entry k es) refl q
     go : (o : Option Entry) → entry k es ≡ o → option_map (λ e. e.item.id) o ≡ Some y → (e : Entry) × (entry k es ≡ Some e) × (e.item.id ≡ y)
     go None h r = cc
     go (Some e) h r = (e, h, some_same r)
-
-pub live_some : (es : List Entry) (k : ℕ) → is_live k es ≡ true → (e : Entry) × (entry k es ≡ Some e)
-live_some es k q = go (entry k es) refl q
-  where
-    go : (o : Option Entry) → entry k es ≡ o → is_some o ≡ true → (e : Entry) × (entry k es ≡ Some e)
-    go None h r = absurd (false≢true r)
-    go (Some e) h r = (e, h)
 
 -- ---- items in their places
 
@@ -77,7 +66,7 @@ same_node es t k j e d q r = go (k == j) refl
         let a = entry_in k es e q in
         let b = entry_in j es d r in
         let one : e ≡ d = one_entry es e d t.ids a.0 b.0 is in
-        other_number k j h (sym a.1 ∙ (ap (λ (w : Entry). w.node) one ∙ b.1)))
+        eqb-false k j h (sym a.1 ∙ (ap (λ (w : Entry). w.node) one ∙ b.1)))
 
 -- ---- where ids stay
 

@@ -1,20 +1,18 @@
 -- Items that come, go and move, as the tree by ids sees them.
 use Rattle.std.proofs.Common.{◌≡◌, ℕ, ◌==◌, ◌<◌, List, [], ◌∷◌, ◌++◌, map, not, Bool, true, false, cond, refl, sym, ap, ap₂, ◌∙◌, subst, inl, inr, arith, Option, Some, None, option_map, option_and_then, unwrap_or, bytes_eq}
-use Rattle.std.proofs.lemmas.Bool.{false≢true, eqb-true}
+use Rattle.std.proofs.lemmas.Bool.{false≢true, eqb-true, eqb-false, eq-eqb}
 use Rattle.ss_list.specs.Chain.{times}
 use Rattle.ss_list.proofs.Times.{at_head}
 use Rattle.ss_record.specs.Items.{ItemView}
-use Rattle.ss_record.proofs.IdLists.{same_id, bytes_eq-same}
 use Rattle.ss_tree.specs.declared.entries.Entry.{Entry}
 use Rattle.ss_tree.specs.Trees.{Placed, node}
 use Rattle.ss_tree.specs.Entries.{entry, kids, placed, tree, under, put_before, without_node, top_entry, IsTree}
-use Rattle.ss_tree.proofs.Changes.{some_same}
-use Rattle.ss_tree.proofs.Edits.{same_number, other_number, number_sym}
 use Rattle.ss_tree.proofs.Valid.{In}
 use Rattle.ss_tree.proofs.Kin.{kid_entry, entry_kid}
 use Rattle.ss_tree.proofs.Listed.{nobody}
 use Rattle.ss_device.specs.Edits.{left_node, moved_only, new_node, with_child, without_id}
-use Rattle.ss_device.proofs.ByIds.{none_some, idof, name_at, idof_some, made, placed_is, at_entry, no_entry, by_entry, same_node, mapped}
+use Rattle.ss_device.proofs.ByIds.{idof, name_at, idof_some, made, placed_is, at_entry, no_entry, by_entry, same_node, mapped}
+use Rattle.ss_text.proofs.Basics.{same_text, bytes_eq-same, number_turned, some_same, none_some}
 
 pub times_in : (k : ℕ) (ks : List ℕ) → In k ks → 0 < times k ks
 unfolding In
@@ -35,7 +33,7 @@ above_there es t k p e q par = go (k == 0) refl
         let top : e ≡ top_entry = some_same (sym q ∙ (ap (λ n. entry n es) (eqb-true k 0 h) ∙ t.top)) in
         absurd (none_some (ap (λ (w : Entry). w.parent) (sym top) ∙ par))
     go false h =
-        let r = t.folder k e q (other_number k 0 h) in
+        let r = t.folder k e q (eqb-false k 0 h) in
         let same : r.0 ≡ p = some_same (sym r.1 ∙ par) in
         (r.2, ap (λ n. entry n es) (sym same) ∙ r.3)
 
@@ -195,7 +193,7 @@ module _ (es fs : List Entry) (t : IsTree es) (u : IsTree fs) (k0 : ℕ) (e0 : E
       to : (k : ℕ) (f : Entry) → entry k fs ≡ Some f → f.item.id ≡ y → cond (bytes_eq y e0.item.id) None (option_map left_one (node y (tree es))) ≡ Some (placed fs f)
       to k f r is =
           let here = gone_kept k f r in
-          let other : bytes_eq y e0.item.id ≡ false = ap (λ z. bytes_eq z e0.item.id) (sym is) ∙ (same_node es t k k0 f e0 here.1 q0 ∙ (number_sym k k0 ∙ here.0)) in
+          let other : bytes_eq y e0.item.id ≡ false = ap (λ z. bytes_eq z e0.item.id) (sym is) ∙ (same_node es t k k0 f e0 here.1 q0 ∙ (number_turned k k0 ∙ here.0)) in
           ap (λ b. cond b None (option_map left_one (node y (tree es)))) other
           ∙ (ap (option_map left_one) (ap (λ z. node z (tree es)) (sym is) ∙ at_entry es t k f here.1) ∙ ap Some (sym (gone_each k f r)))
 
@@ -205,7 +203,7 @@ module _ (es fs : List Entry) (t : IsTree es) (u : IsTree fs) (k0 : ℕ) (e0 : E
           go : (b : Bool) → bytes_eq y e0.item.id ≡ b → cond b None (option_map left_one (node y (tree es))) ≡ None
           go true h = refl
           go false h = ap (option_map left_one) (no_entry es t y (λ k e q is.
-              let ne : (k0 == k) ≡ false = number_sym k0 k ∙ (sym (same_node es t k k0 e e0 q q0) ∙ (ap (λ z. bytes_eq z e0.item.id) is ∙ h)) in
+              let ne : (k0 == k) ≡ false = number_turned k0 k ∙ (sym (same_node es t k k0 e e0 q q0) ∙ (ap (λ z. bytes_eq z e0.item.id) is ∙ h)) in
               none k e (entries k ∙ (ap (λ b. cond b None (entry k es)) ne ∙ q)) is))
 
 -- ---- an item comes
@@ -231,7 +229,7 @@ module _ (es fs : List Entry) (t : IsTree es) (u : IsTree fs) (m : ℕ) (i : Ite
   old_id k e q = ap (option_map (λ (w : Entry). w.item.id)) (old_entry k e q ∙ sym q)
 
   new_name : name_at fs m ≡ i.id
-  new_name = ap (λ o. unwrap_or (option_map (λ (w : Entry). w.item.id) o) []) (entries m ∙ ap (λ b. cond b (Some (record { node = m; parent = Some p; item = i; time = time })) (entry m es)) (same_number m m refl))
+  new_name = ap (λ o. unwrap_or (option_map (λ (w : Entry). w.item.id) o) []) (entries m ∙ ap (λ b. cond b (Some (record { node = m; parent = Some p; item = i; time = time })) (entry m es)) (eq-eqb m m refl))
 
   grown_names : (ks : List ℕ) → ((k : ℕ) → In k ks → (e : Entry) × (entry k es ≡ Some e)) → map (name_at fs) ks ≡ map (name_at es) ks
   grown_names ks h = names_same (name_at fs) (name_at es) ks (λ k j. let e = h k j in ap (λ o. unwrap_or o []) (old_id k e.0 e.1))
@@ -270,9 +268,9 @@ module _ (es fs : List Entry) (t : IsTree es) (u : IsTree fs) (m : ℕ) (i : Ite
 
   new_each : (f : Entry) → entry m fs ≡ Some f → placed fs f ≡ new_node time d.item.id i
   new_each f r =
-      let is : f ≡ record { node = m; parent = Some p; item = i; time = time } = some_same (sym r ∙ (entries m ∙ ap (λ b. cond b (Some (record { node = m; parent = Some p; item = i; time = time })) (entry m es)) (same_number m m refl))) in
+      let is : f ≡ record { node = m; parent = Some p; item = i; time = time } = some_same (sym r ∙ (entries m ∙ ap (λ b. cond b (Some (record { node = m; parent = Some p; item = i; time = time })) (entry m es)) (eq-eqb m m refl))) in
       let parent : idof fs p ≡ Some d.item.id = old_id p d qd ∙ ap (option_map (λ (w : Entry). w.item.id)) qd in
-      let row : kids m fs ≡ [] = rows m ∙ (ap (λ b. cond b (put_before None m (kids m es)) (kids m es)) (number_sym m p ∙ there_other p d qd) ∙ none_under es t m fresh) in
+      let row : kids m fs ≡ [] = rows m ∙ (ap (λ b. cond b (put_before None m (kids m es)) (kids m es)) (number_turned m p ∙ there_other p d qd) ∙ none_under es t m fresh) in
       placed_is fs u m f r
       ∙ (ap (λ (w : Entry). made w.item (option_and_then (idof fs) w.parent) (map (name_at fs) (kids m fs)) w.time) is
       ∙ ap₂ (λ x ks. made i x (map (name_at fs) ks) time) parent row)
@@ -298,6 +296,6 @@ module _ (es fs : List Entry) (t : IsTree es) (u : IsTree fs) (m : ℕ) (i : Ite
         where
           go : (b : Bool) → bytes_eq y i.id ≡ b → cond b (Some (new_node time d.item.id i)) (option_map grown_node (node y (tree es))) ≡ None
           go true h =
-              let f = idof_some fs m i.id (ap (option_map (λ (w : Entry). w.item.id)) (entries m ∙ ap (λ b. cond b (Some (record { node = m; parent = Some p; item = i; time = time })) (entry m es)) (same_number m m refl))) in
-              absurd (none m f.0 f.1 (f.2 ∙ sym (same_id y i.id h)))
+              let f = idof_some fs m i.id (ap (option_map (λ (w : Entry). w.item.id)) (entries m ∙ ap (λ b. cond b (Some (record { node = m; parent = Some p; item = i; time = time })) (entry m es)) (eq-eqb m m refl))) in
+              absurd (none m f.0 f.1 (f.2 ∙ sym (same_text y i.id h)))
           go false h = ap (option_map grown_node) (no_entry es t y (λ k e q is. none k e (old_entry k e q) is))

@@ -2,12 +2,12 @@
 use Rattle.std.proofs.Common.{◌≡◌, ℕ, List, [], ◌∷◌, ◌++◌, map, filter, not, Bool, true, false, cond, ◌||◌, refl, sym, ap, subst, ◌∙◌, Option, Some, None, option_map, option_and_then, unwrap_or, find, is_some, bytes_eq}
 use Rattle.std.proofs.lemmas.Bool.{false≢true}
 use Rattle.ss_record.specs.Ids.{has, places}
-use Rattle.ss_record.proofs.IdLists.{same_id, bytes_eq-same, has-cons}
+use Rattle.ss_record.proofs.IdLists.{has-cons}
 use Rattle.ss_record.specs.Items.{ItemView}
 use Rattle.ss_tree.specs.Trees.{Placed, IsSame, IsUnder, IsValidTree, node, node_ids, parent_in}
-use Rattle.ss_tree.proofs.Changes.{some_same}
 use Rattle.ss_device.proofs.Known.{has_is_node}
 use Rattle.ss_device.specs.Edits.{deleted, is_within, item_of, left_node, without_child, added, renamed, moved, moved_node, moved_only, new_node, with_child, with_last, with_title, titled, revised_node, stamped, without_id}
+use Rattle.ss_text.proofs.Basics.{same_text, bytes_eq-same, some_same}
 
 -- the item of an id has it
 pub node_id : (y : List ℕ) (t : List Placed) (n : Placed) → node y t ≡ Some n → n.id ≡ y
@@ -16,7 +16,7 @@ node_id y [] n q = cc
 node_id y (m ∷ t) n q = go (bytes_eq y m.id) refl q (node_id y t n)
   where
     go : (b : Bool) → bytes_eq y m.id ≡ b → cond b (Some m) (find (λ k. bytes_eq y k.id) t) ≡ Some n → (find (λ k. bytes_eq y k.id) t ≡ Some n → n.id ≡ y) → n.id ≡ y
-    go true h r ih = ap (λ (k : Placed). k.id) (sym (some_same r)) ∙ sym (same_id y m.id h)
+    go true h r ih = ap (λ (k : Placed). k.id) (sym (some_same r)) ∙ sym (same_text y m.id h)
     go false h r ih = ih r
 
 -- a change of items that leaves ids
@@ -49,7 +49,7 @@ restamped t x content time h y = same_change (λ n. cond (bytes_eq n.id x) (revi
         go : (b : Bool) → bytes_eq n.id x ≡ b → cond b (revised_node content time n) n ≡ record { id = n.id; kind = n.kind; content = n.content; parent = n.parent; children = n.children; time = cond b time n.time }
         go false w = refl
         go true w =
-            let here : node x t ≡ Some n = ap (λ z. node z t) (sym (same_id n.id x w) ∙ node_id y t n q) ∙ q in
+            let here : node x t ≡ Some n = ap (λ z. node z t) (sym (same_text n.id x w) ∙ node_id y t n q) ∙ q in
             ap (λ z. record { id = n.id; kind = n.kind; content = z; parent = n.parent; children = n.children; time = time }) (sym (h n here))
 
 -- ---- what holds of an item after a change
@@ -127,7 +127,7 @@ rename_same old new time x title content told nodes y =
         pick : (b : Bool) → bytes_eq n.id x ≡ b → cond b (revised_node content time n) n ≡ cond b (with_title time title n) n
         pick false h = refl
         pick true h =
-            let here : node x old ≡ Some n = ap (λ z. node z old) (sym (same_id n.id x h) ∙ node_id y old n q) ∙ q in
+            let here : node x old ≡ Some n = ap (λ z. node z old) (sym (same_text n.id x h) ∙ node_id y old n q) ∙ q in
             ap (λ z. revised_node z time n) (sym (told n here))
 
 pub move_same : (old one two three last : List Placed) (time : ℕ) (x from parent : List ℕ) → from ≡ parent_in old x
@@ -211,12 +211,12 @@ node_filter q y (m ∷ t) = go (q m.id) refl (bytes_eq y m.id) refl (node_filter
 
     go : (a : Bool) → q m.id ≡ a → (b : Bool) → bytes_eq y m.id ≡ b → find (λ k. bytes_eq y k.id) (filter (λ n. q n.id) t) ≡ cond (q y) (find (λ k. bytes_eq y k.id) t) None
         → find (λ k. bytes_eq y k.id) (cond a (m ∷ filter (λ n. q n.id) t) (filter (λ n. q n.id) t)) ≡ cond (q y) (cond b (Some m) (find (λ k. bytes_eq y k.id) t)) None
-    go true h true k ih = ap (λ b. cond b (Some m) (find (λ w. bytes_eq y w.id) (filter (λ n. q n.id) t))) k ∙ sym (ap (λ b. cond b (Some m) None) (ap q (same_id y m.id k) ∙ h))
+    go true h true k ih = ap (λ b. cond b (Some m) (find (λ w. bytes_eq y w.id) (filter (λ n. q n.id) t))) k ∙ sym (ap (λ b. cond b (Some m) None) (ap q (same_text y m.id k) ∙ h))
     go true h false k ih = ap (λ b. cond b (Some m) (find (λ w. bytes_eq y w.id) (filter (λ n. q n.id) t))) k ∙ ih
     go false h true k ih = ih ∙ (ap (λ b. cond b (find (λ w. bytes_eq y w.id) t) None) out ∙ sym (ap (λ b. cond b (Some m) None) out))
       where
         out : q y ≡ false
-        out = ap q (same_id y m.id k) ∙ h
+        out = ap q (same_text y m.id k) ∙ h
     go false h false k ih = ih
 
 abbrev left_or : ℕ → List ℕ → List ℕ → Placed → Placed

@@ -7,7 +7,7 @@ use Rattle.ss_text.specs.Texts.{text_cmp}
 use Rattle.ss_record.specs.declared.readings.Sheet.{Sheet}
 use Rattle.ss_record.specs.Ids.{has}
 use Rattle.ss_record.specs.Items.{ItemView}
-use Rattle.ss_record.proofs.IdLists.{bytes_eq-sym, has-nil, has-cons}
+use Rattle.ss_record.proofs.IdLists.{has-nil, has-cons}
 use Rattle.ss_tree.specs.declared.entries.Entry.{Entry}
 use Rattle.ss_tree.specs.Trees.{Placed, IsSame, node, node_ids, parent_in}
 use Rattle.ss_tree.specs.Entries.{tree}
@@ -15,6 +15,7 @@ use Rattle.ss_device.specs.Device.{AreById, Dead, DeviceView, IsDevice, dead_at,
 use Rattle.ss_device.specs.Edits.{IsEdited, deleted, is_within, added, renamed, moved, moved_node, with_last, with_title}
 use Rattle.ss_device.proofs.Composed.{deleted_ids, node_map}
 use Rattle.ss_device.proofs.Known.{has_is_node, same_ids}
+use Rattle.ss_text.proofs.Basics.{bytes_eq-sym}
 
 pub has_dead : (x : List ℕ) (dead : Dead) → has x (dead_ids dead) ≡ is_some (dead_at x dead)
 has_dead x [] = has-nil x

@@ -1,5 +1,5 @@
 -- What is written of a device has its form.
-use Rattle.std.proofs.Common.{◌≡◌, ◌≢◌, ◌⊎◌, ℕ, ◌+◌, ◌<◌, ◌≤◌, List, [], ◌∷◌, ◌++◌, length, take, get_or, append-nil, append_assoc, true, sym, ap, subst, inl, inr, ◌∙◌, Option, Some, None, option_map, option_and_then, unwrap_or}
+use Rattle.std.proofs.Common.{◌≡◌, ◌≢◌, ℕ, ◌+◌, ◌<◌, ◌≤◌, List, [], ◌∷◌, ◌++◌, length, take, get_or, append-nil, append_assoc, true, sym, ap, subst, ◌∙◌, Option, Some, None, option_map, option_and_then, unwrap_or}
 use Rattle.std.specs.Str.{IsUtf8}
 use Rattle.std.proofs.lemmas.Grind.{flat_map-append}
 use Rattle.std.proofs.lemmas.List.{take_more}
@@ -9,17 +9,18 @@ use Rattle.ss_record.specs.Items.{ItemView, is_fit}
 use Rattle.ss_record.specs.Records.{record_of}
 use Rattle.ss_tree.specs.declared.entries.Entry.{Entry}
 use Rattle.ss_tree.specs.Entries.{above, entry, is_live, kid_ids, placed, IsTree}
-use Rattle.ss_tree.proofs.Changes.{some_same}
-use Rattle.ss_tree.proofs.Valid.{In, entry_in}
+use Rattle.ss_tree.proofs.Valid.{entry_in}
 use Rattle.ss_device.specs.Forms.{IsItem}
 use Rattle.ss_device.specs.Writing.{node_line, node_lines, record_at}
-use Rattle.ss_device.proofs.ByIds.{idof, live_some, none_some}
+use Rattle.ss_device.proofs.ByIds.{idof}
+use Rattle.ss_tree.proofs.Looked.{live_entry}
+use Rattle.ss_text.proofs.Basics.{some_same, none_some}
 
 -- only the top has nothing above it
 pub some_above : (es : List Entry) → IsTree es → (k : ℕ) → is_live k es ≡ true → above es k ≡ None → k ≢ 0 → ⊥
 unfolding above
 some_above es t k live none ne =
-    let e = live_some es k live in
+    let e = live_entry es k live in
     let f = t.folder k e.0 e.1 ne in
     none_some (sym none ∙ (ap (option_and_then (λ (d : Entry). d.parent)) e.1 ∙ f.1))
 
@@ -50,15 +51,6 @@ item_formed es k p time i f text up item at folder is id fit small utf8 e ne h =
     }
 
 -- one of the first ones is one of those before, or the last
-pub in_next : (ks : List ℕ) (i k j : ℕ) → i < length ks → k ≡ get_or ks i k → In j (take (i + 1) ks) → In j (take i ks) ⊎ (j ≡ k)
-unfolding In
-in_next ks i k j lt is h = elim (split (take i ks) (get_or ks i k) (subst (In j) (take_more ks i k lt) h)) [ inl a ↦ inl a | inr b ↦ inr (b ∙ sym is) ]
-  where
-    split : (xs : List ℕ) (y : ℕ) → In j (xs ++ y ∷ []) → In j xs ⊎ (j ≡ y)
-    split [] y (inl e) = inr e
-    split [] y (inr e) = absurd e
-    split (x ∷ xs) y (inl e) = inl (inl e)
-    split (x ∷ xs) y (inr e) = elim (split xs y e) [ inl a ↦ inl (inr a) | inr b ↦ inr b ]
 
 -- a line more, or none
 pub line_next : (es : List Entry) (nodes : List ℕ) (i k : ℕ) (start old new : List ℕ) → i < length nodes → k ≡ get_or nodes i k → old ≡ start ++ node_lines es (take i nodes) → new ≡ old ++ node_line es k

@@ -3,7 +3,7 @@ use Rattle.std.proofs.Common.{◌≡◌, ◌≢◌, ◌⊎◌, ℕ, zero, suc, �
 use Rattle.std.specs.Cmp.{both_ways, nat_eq_equiv}
 use Rattle.std.specs.List.{flat_map, IsDistinct}
 use Rattle.std.specs.Set.{is_member}
-use Rattle.std.proofs.lemmas.Bool.{false≢true, eqb-true, cases_lt}
+use Rattle.std.proofs.lemmas.Bool.{false≢true, eqb-true, cases_lt, or_cases, eqb-false, eq-eqb}
 use Rattle.std.proofs.lemmas.Map.Made.{length-le_from_is_member}
 use Rattle.ss_record.specs.Items.{ItemView}
 use Rattle.ss_list.specs.Chain.{times}
@@ -12,23 +12,17 @@ use Rattle.ss_tree.specs.declared.entries.Entry.{Entry}
 use Rattle.ss_tree.specs.Trees.{node, steps}
 use Rattle.ss_tree.specs.Entries.{above, ancestor, entry, is_below, is_live, kids, node_of, placed, preorder, stands_under, top_entry, tree, up, IsBelow, IsTree}
 use Rattle.ss_tree.specs.Entries as entries
-use Rattle.ss_tree.proofs.Changes.{some_same, up_of}
-use Rattle.ss_tree.proofs.Edits.{same_number, other_number}
-use Rattle.ss_tree.proofs.Kin.{under_from}
+use Rattle.ss_tree.proofs.Changes.{up_of}
 use Rattle.ss_tree.proofs.EachMet.{each_met}
 use Rattle.ss_tree.proofs.Once.{once_each}
-use Rattle.ss_tree.proofs.Valid.{In}
+use Rattle.ss_tree.proofs.Valid.{In, under_from}
 use Rattle.ss_tree.proofs.Ways.{walk, length-walk, member_walk, all_apart, distinct_walk, live_member, length-nodes, stays, steps_add, first_zero, below_is, up_some}
 use Rattle.ss_tree.proofs.Changes.{live_steps}
 use Rattle.ss_device.specs.Edits.{is_fixed, is_within}
 use Rattle.ss_device.specs.Removal.{CanGo, among}
-use Rattle.ss_device.proofs.ByIds.{none_some}
 use Rattle.ss_device.proofs.Changes.{kid_there, times_in}
 use Rattle.ss_device.proofs.Refused.{fixed_is, there, within_node}
-
-pub or_true : (a b : Bool) → (a || b) ≡ true → (a ≡ true) ⊎ (b ≡ true)
-or_true true b h = inl refl
-or_true false b h = inr h
+use Rattle.ss_text.proofs.Basics.{some_same, none_some}
 
 -- ---- membership
 
@@ -75,7 +69,7 @@ among_in k (j ∷ js) h = go (k == j) refl h (among_in k js)
 pub in_among : (k : ℕ) (ks : List ℕ) → In k ks → among k ks ≡ true
 unfolding In
 in_among k [] i = absurd i
-in_among k (j ∷ js) (inl q) = ap (λ b. b || among k js) (same_number k j q)
+in_among k (j ∷ js) (inl q) = ap (λ b. b || among k js) (eq-eqb k j q)
 in_among k (j ∷ js) (inr i) = go (k == j) (in_among k js i)
   where
     go : (b : Bool) → among k js ≡ true → (b || among k js) ≡ true
@@ -134,7 +128,7 @@ module _ (es : List Entry) (t : IsTree es) where
       fresh true w = let r = member_walk (up es) m k 0 w in absurd (first r.0 r.1 r.2)
 
       each : (z : ℕ) → is_member nat_eq (0 ∷ walk (up es) m k) z ≡ true → is_member nat_eq (map (λ d. d.node) es) z ≡ true
-      each z h = elim (or_true (nat_eq z 0) (is_member nat_eq (walk (up es) m k) z) h) [
+      each z h = elim (or_cases (nat_eq z 0) (is_member nat_eq (walk (up es) m k) z) h) [
         | inl a ↦ live_member z es (ap (λ n. is_some (entry n es)) (eqb-true z 0 a) ∙ ap is_some t.top)
         | inr b ↦ let w = member_walk (up es) m k z b in live_member z es (ap (λ i. is_some (entry i es)) (sym w.2) ∙ live_steps es t w.0 k (ap is_some q))
       ]
@@ -230,13 +224,13 @@ module _ (es : List Entry) (t : IsTree es) (x : List ℕ) (top : ℕ) (at : node
 
   inside_loose : (k : ℕ) → inside k ≡ true → entries.is_fixed k es ≡ false
   unfolding entries.is_fixed above
-  inside_loose k h = elim (or_true (top == k) (is_below es top k) h) [
+  inside_loose k h = elim (or_cases (top == k) (is_below es top k) h) [
     | inl a ↦ ap (λ n. entries.is_fixed n es) (sym (eqb-true top k a)) ∙ top_loose
     | inr b ↦ go (entries.is_fixed k es) refl ((below_is es t top k).0 b)
   ]
     where
       not_under : (n : ℕ) → ancestor es n k ≡ Some top → above es k ≡ Some 0 → ⊥
-      not_under zero q r = false≢true (sym top_inner ∙ same_number top 0 (some_same (sym q ∙ r)))
+      not_under zero q r = false≢true (sym top_inner ∙ eq-eqb top 0 (some_same (sym q ∙ r)))
       not_under (suc n) q r = top_alone n top (sym (ap (option_and_then (ancestor es n)) r) ∙ q)
 
       under_root : (o : Option Entry) → entry k es ≡ o → unwrap_or (option_map (stands_under 0) o) false ≡ true → above es k ≡ Some 0
@@ -245,7 +239,7 @@ module _ (es : List Entry) (t : IsTree es) (x : List ℕ) (top : ℕ) (at : node
 
       go : (b : Bool) → entries.is_fixed k es ≡ b → IsBelow es top k → b ≡ false
       go false q r = refl
-      go true q r = absurd (elim (or_true (k == 0) (unwrap_or (option_map (stands_under 0) (entry k es)) false) q) [
+      go true q r = absurd (elim (or_cases (k == 0) (unwrap_or (option_map (stands_under 0) (entry k es)) false) q) [
         | inl a ↦ top_alone r.0 top (ap (ancestor es r.0) (sym (eqb-true k 0 a)) ∙ r.1)
         | inr b ↦ not_under r.0 r.1 (under_root (entry k es) refl b)
       ])
@@ -313,7 +307,7 @@ no_cycle es t k e q inner c loop =
     elim (cases_lt f.0 (suc c)) [
       | inl a ↦
           let split : f.0 + (suc c - f.0) ≡ suc c = omega arith in
-          other_number k 0 inner (sym loop ∙ (ap (λ m. steps (up es) m k) (sym split) ∙ (steps_add (up es) f.0 (suc c - f.0) k ∙ (ap (steps (up es) (suc c - f.0)) f.1 ∙ stays es t (suc c - f.0)))))
+          eqb-false k 0 inner (sym loop ∙ (ap (λ m. steps (up es) m k) (sym split) ∙ (steps_add (up es) f.0 (suc c - f.0) k ∙ (ap (steps (up es) (suc c - f.0)) f.1 ∙ stays es t (suc c - f.0)))))
       | inr b ↦
           let split : suc c + (f.0 - suc c) ≡ f.0 = omega arith in
           f.2 (f.0 - suc c) (omega arith) (ap (steps (up es) (f.0 - suc c)) (sym loop) ∙ (sym (steps_add (up es) (suc c) (f.0 - suc c) k) ∙ (ap (λ m. steps (up es) m k) split ∙ f.1)))
@@ -328,7 +322,7 @@ folder_outside es t x k at inner p f up_is q = within_node es t x k at inner p f
 
     go : (b : Bool) → ((k == p) || is_below es k p) ≡ b → b ≡ false
     go false h = refl
-    go true h = absurd (elim (or_true (k == p) (is_below es k p) h) [
+    go true h = absurd (elim (or_cases (k == p) (is_below es k p) h) [
       | inl a ↦ no_cycle es t k e.0 e.1 inner 0 (ancestor_steps es 0 k k (up_is ∙ ap Some (sym (eqb-true k p a))))
       | inr b ↦ let below = (below_is es t k p).0 b in no_cycle es t k e.0 e.1 inner (suc below.0) (ancestor_steps es (suc below.0) k k (ap (option_and_then (ancestor es below.0)) up_is ∙ below.1))
     ])

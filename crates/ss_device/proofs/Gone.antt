@@ -1,27 +1,27 @@
 -- What is left of a tree when an item has gone with all below it.
 use Rattle.std.proofs.Common.{◌≡◌, ◌⊎◌, ℕ, zero, suc, ◌+◌, ◌<◌, ◌==◌, List, [], ◌∷◌, ◌++◌, map, filter, not, length, get_or, take, Bool, true, false, cond, ◌||◌, refl, sym, ap, ap₂, ◌∙◌, inl, inr, arith, Option, Some, None, option_map, option_and_then, unwrap_or, is_some, bytes_eq}
 use Rattle.std.specs.Cmp.{both_ways}
-use Rattle.std.proofs.lemmas.Bool.{false≢true}
+use Rattle.std.proofs.lemmas.Bool.{false≢true, eq-eqb}
 use Rattle.std.proofs.lemmas.List.{take_more}
 use Rattle.ss_record.specs.Ids.{has, places}
 use Rattle.ss_record.specs.Items.{ItemView}
-use Rattle.ss_record.proofs.IdLists.{same_id, bytes_eq-same, has-nil, has-cons}
+use Rattle.ss_record.proofs.IdLists.{has-nil, has-cons}
 use Rattle.ss_tree.specs.declared.entries.Entry.{Entry}
 use Rattle.ss_tree.specs.declared.faults.RemoveFault.TheVariants.{Root as Fixed, NotEmpty}
 use Rattle.ss_tree.specs.Trees.{Placed, node, parent_in}
 use Rattle.ss_tree.specs.Entries.{above, ancestor, entry, first_of, is_below, is_fixed as is_fixed_node, is_live, kids, node_of, placed, remove_fault, stands_under, tree, without_node, IsTree}
-use Rattle.ss_tree.proofs.Edits.{number_sym, same_number}
 use Rattle.ss_tree.proofs.EachMet.{in_times}
 use Rattle.ss_tree.proofs.Kin.{entry_kid}
-use Rattle.ss_tree.proofs.Changes.{some_same}
 use Rattle.ss_tree.proofs.Valid.{In, node_found, in_entry}
 use Rattle.ss_tree.proofs.Ways.{below_is}
 use Rattle.ss_device.specs.Edits.{is_fixed, is_met, is_within, left_node, without_id}
 use Rattle.ss_device.specs.Removal.{CanGo, among}
-use Rattle.ss_device.proofs.ByIds.{none_some, idof, name_at, made, placed_is, at_entry, no_entry, by_entry, live_some}
+use Rattle.ss_device.proofs.ByIds.{idof, name_at, made, placed_is, at_entry, no_entry, by_entry}
 use Rattle.ss_device.proofs.Changes.{above_there, kid_there, names_same, names_without, names-append}
 use Rattle.ss_device.proofs.Going.{among_in, closed, filter_in, in_among, kid_above, top_inner}
 use Rattle.ss_device.proofs.Refused.{there, top_misses, within_node}
+use Rattle.ss_tree.proofs.Looked.{live_entry}
+use Rattle.ss_text.proofs.Basics.{same_text, bytes_eq-same, number_turned, some_same, none_some}
 
 -- ---- lists
 
@@ -48,7 +48,7 @@ has_names f [] y h = absurd (false≢true (sym (has-nil y) ∙ h))
 has_names f (k ∷ ks) y h = go (bytes_eq y (f k)) refl (sym (has-cons y (f k) (map f ks)) ∙ h) (has_names f ks y)
   where
     go : (b : Bool) → bytes_eq y (f k) ≡ b → (b || has y (map f ks)) ≡ true → (has y (map f ks) ≡ true → (j : ℕ) × In j ks × (f j ≡ y)) → (j : ℕ) × ((j ≡ k) ⊎ In j ks) × (f j ≡ y)
-    go true q r ih = (k, inl refl, sym (same_id y (f k) q))
+    go true q r ih = (k, inl refl, sym (same_text y (f k) q))
     go false q r ih = let g = ih r in (g.0, inr g.1, g.2)
 
 names_has : (f : ℕ → List ℕ) (ks : List ℕ) (k : ℕ) → In k ks → has (f k) (map f ks) ≡ true
@@ -76,7 +76,7 @@ filter_twice k gone [] = refl
 filter_twice k gone (j ∷ js) =
     let rest : List ℕ = filter (λ i. not (among i gone)) js in
     first (among j gone) rest
-    ∙ (ap (λ b. cond (not (among j gone)) (cond (not b) (j ∷ without_node k rest) (without_node k rest)) (without_node k rest)) (number_sym k j)
+    ∙ (ap (λ b. cond (not (among j gone)) (cond (not b) (j ∷ without_node k rest) (without_node k rest)) (without_node k rest)) (number_turned k j)
     ∙ (second (among j gone) (j == k) (without_node k rest) ∙ ap (λ xs. cond (not ((j == k) || among j gone)) (j ∷ xs) xs) (filter_twice k gone js)))
   where
     first : (a : Bool) (xs : List ℕ) → without_node k (cond (not a) (j ∷ xs) xs) ≡ cond (not a) (cond (not (k == j)) (j ∷ without_node k xs) (without_node k xs)) (without_node k xs)
@@ -106,7 +106,7 @@ module _ (es : List Entry) (t : IsTree es) (x : List ℕ) (top : ℕ) (at : node
   not_absent y h w = go (bytes_eq y x) refl
     where
       go : (b : Bool) → bytes_eq y x ≡ b → ⊥
-      go true q = none_some (sym h ∙ (ap (λ z. node z (tree es)) (same_id y x q) ∙ (there es t x top at).3))
+      go true q = none_some (sym h ∙ (ap (λ z. node z (tree es)) (same_text y x q) ∙ (there es t x top at).3))
       go false q = false≢true (sym (absent_outside _ y h q) ∙ w)
 
   pub went : (nodes : List ℕ) → CanGo es x nodes → (y : List ℕ) → has y (map (name_at es) nodes) ≡ is_within (tree es) x y
@@ -117,7 +117,7 @@ module _ (es : List Entry) (t : IsTree es) (x : List ℕ) (top : ℕ) (at : node
           let r = has_names (name_at es) nodes y h in
           let k = r.0 in
           let inside : among k nodes ≡ true = in_among k nodes r.1 in
-          let e = live_some es k (can.live k inside) in
+          let e = live_entry es k (can.live k inside) in
           let id : e.0.item.id ≡ y = sym (ap (λ o. unwrap_or (option_map (λ (d : Entry). d.item.id) o) []) e.1) ∙ r.2 in
           ap (is_within (tree es) x) (sym id) ∙ (sym (can.all k e.0 e.1) ∙ inside)
 
@@ -141,7 +141,7 @@ module _ (es : List Entry) (t : IsTree es) (x : List ℕ) (top : ℕ) (at : node
       up_is = kid_above es t x top at loose k j i
 
       k_is : (n : ℕ) → ancestor es n j ≡ Some top → ((top == k) || is_below es top k) ≡ true
-      k_is zero q = ap (λ b. b || is_below es top k) (same_number top k (some_same (sym q ∙ up_is)))
+      k_is zero q = ap (λ b. b || is_below es top k) (eq-eqb top k (some_same (sym q ∙ up_is)))
       k_is (suc n) q = pick (top == k) ((below_is es t top k).1 (n, sym (ap (option_and_then (ancestor es n)) up_is) ∙ q))
         where
           pick : (b : Bool) → is_below es top k ≡ true → (b || is_below es top k) ≡ true
@@ -246,7 +246,7 @@ left_first es = record { entries = λ j. refl; rows = λ j. all_kept (kids j es)
 
 module _ (es : List Entry) (x : List ℕ) (nodes : List ℕ) (can : CanGo es x nodes) (front : List ℕ) (k : ℕ) (gone : List ℕ) (split : nodes ≡ front ++ k ∷ gone) (cur : List Entry) (left : Left es cur gone) where
   in_front : (xs ys : List ℕ) → among k (xs ++ k ∷ ys) ≡ true
-  in_front [] ys = ap (λ b. b || among k ys) (same_number k k refl)
+  in_front [] ys = ap (λ b. b || among k ys) (eq-eqb k k refl)
   in_front (z ∷ xs) ys = go (k == z) (in_front xs ys)
     where
       go : (b : Bool) → among k (xs ++ k ∷ ys) ≡ true → (b || among k (xs ++ k ∷ ys)) ≡ true
@@ -271,7 +271,7 @@ module _ (es : List Entry) (x : List ℕ) (nodes : List ℕ) (can : CanGo es x n
 
   pub left_next : (new : List Entry) → ((j : ℕ) → entry j new ≡ cond (k == j) None (entry j cur)) → ((j : ℕ) → kids j new ≡ without_node k (kids j cur)) → Left es new (k ∷ gone)
   left_next new entries rows = record {
-    entries = λ j. entries j ∙ (ap₂ (λ a o. cond a None o) (number_sym k j) (left.entries j) ∙ merged (j == k) (among j gone) (entry j es));
+    entries = λ j. entries j ∙ (ap₂ (λ a o. cond a None o) (number_turned k j) (left.entries j) ∙ merged (j == k) (among j gone) (entry j es));
     rows = λ j. rows j ∙ (ap (without_node k) (left.rows j) ∙ filter_twice k gone (kids j es));
   }
     where

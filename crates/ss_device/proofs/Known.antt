@@ -1,11 +1,6 @@
 -- Which items a device knows, and ids that stand by id.
-use Rattle.std.proofs.Common.{◌≡◌, ℕ, List, [], ◌∷◌, map, filter_map, Bool, true, false, cond, ◌||◌, refl, sym, ap, ap₂, ◌∙◌, subst, Some, is_some, find, bytes_eq, Less}
+use Rattle.std.proofs.Common.{◌≡◌, ℕ, List, [], ◌∷◌, map, filter_map, Bool, true, false, cond, ◌||◌, refl, sym, ap, ◌∙◌, subst, Some, is_some, find, bytes_eq}
 use Rattle.std.specs.List.Sorted.{IsStrictlySortedBy}
-use Rattle.std.specs.List.{AllByRecursion}
-use Rattle.std.specs.Ordering.{is_eq}
-use Rattle.std.proofs.lemmas.Bool.{false≢true}
-use Rattle.std.proofs.lemmas.Map.Text.{is_eq-slice_cmp}
-use Rattle.ss_text.specs.Texts.{text_cmp}
 use Rattle.ss_record.specs.declared.readings.Sheet.{Sheet}
 use Rattle.ss_record.specs.Ids.{has, Apart, places, roots}
 use Rattle.ss_record.proofs.IdLists.{has-nil, has-cons, Apart-nil, Apart-cons}
@@ -17,19 +12,9 @@ use Rattle.ss_build.specs.Rows.{claim_of, rows_of}
 use Rattle.ss_build.specs.Built.{built, claims, ids, node_of, tree_of}
 use Rattle.ss_build.proofs.OfRows.{has-with_roots}
 use Rattle.ss_device.specs.Device.{AreById, Dead, IsDevice, IsKnown, row_ids}
+use Rattle.ss_record.proofs.Below.{below_out}
 
 -- ---- by id
-
-less_apart : (x y : List ℕ) → text_cmp x y ≡ Less → bytes_eq x y ≡ false
-less_apart x y h = go (bytes_eq x y) refl
-  where
-    go : (b : Bool) → bytes_eq x y ≡ b → bytes_eq x y ≡ false
-    go false q = q
-    go true q = absurd (false≢true (sym (ap is_eq h) ∙ (is_eq-slice_cmp x y ∙ q)))
-
-below_out : (x : List ℕ) (ys : List (List ℕ)) → AllByRecursion (λ y. text_cmp x y ≡ Less) ys → has x ys ≡ false
-below_out x [] h = has-nil x
-below_out x (y ∷ ys) h = has-cons x y ys ∙ ap₂ (λ a b. a || b) (less_apart x y h.0) (below_out x ys h.1)
 
 pub by_id_apart : (xs : List (List ℕ)) → AreById xs → Apart xs
 unfolding AreById IsStrictlySortedBy

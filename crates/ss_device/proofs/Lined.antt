@@ -1,15 +1,15 @@
 -- The line of an item, as it is read out of a tree.
 use Rattle.std.proofs.Common.{◌≡◌, ℕ, ◌==◌, List, [], Bool, true, false, cond, refl, sym, ap, ap₂, ◌∙◌, Option, Some, None, option_map, option_and_then, unwrap_or}
-use Rattle.std.proofs.lemmas.Bool.{eqb-true}
+use Rattle.std.proofs.lemmas.Bool.{eqb-true, eqb-false}
 use Rattle.ss_record.specs.Items.{ItemView}
 use Rattle.ss_record.specs.Records.{record_of}
 use Rattle.ss_tree.specs.declared.entries.Entry.{Entry}
 use Rattle.ss_tree.specs.Entries.{above, entry, is_live, kid_ids, placed, IsTree}
-use Rattle.ss_tree.proofs.Changes.{some_same}
-use Rattle.ss_tree.proofs.Edits.{other_number}
 use Rattle.ss_tree.proofs.Valid.{entry_in}
 use Rattle.ss_device.specs.Writing.{item_line, node_line, record_at}
-use Rattle.ss_device.proofs.ByIds.{idof, live_some, none_some}
+use Rattle.ss_device.proofs.ByIds.{idof}
+use Rattle.ss_tree.proofs.Looked.{live_entry}
+use Rattle.ss_text.proofs.Basics.{some_same, none_some}
 
 -- only the top has nothing above it
 pub no_line : (es : List Entry) → IsTree es → (k : ℕ) → is_live k es ≡ true → above es k ≡ None → node_line es k ≡ []
@@ -19,8 +19,8 @@ no_line es t k live none = go (k == 0) refl
     go : (b : Bool) → (k == 0) ≡ b → cond b [] (unwrap_or (option_map (λ e. item_line e.time (record_at es e)) (entry k es)) []) ≡ []
     go true h = refl
     go false h =
-        let e = live_some es k live in
-        let f = t.folder k e.0 e.1 (other_number k 0 h) in
+        let e = live_entry es k live in
+        let f = t.folder k e.0 e.1 (eqb-false k 0 h) in
         absurd (none_some (sym none ∙ (ap (option_and_then (λ (d : Entry). d.parent)) e.1 ∙ f.1)))
 
 pub line_is : (es : List Entry) → IsTree es → (k p time : ℕ) (i f : ItemView) → above es k ≡ Some p → option_map (λ e. e.item) (entry k es) ≡ Some i → option_map (λ e. e.time) (entry k es) ≡ Some time → option_map (λ e. e.item) (entry p es) ≡ Some f

@@ -1,50 +1,38 @@
 -- Refusals of a tree's calls, by ids.
-use Rattle.std.proofs.Common.{◌≡◌, ℕ, zero, suc, ◌==◌, List, [], ◌∷◌, map, length, not, Bool, true, false, cond, ◌||◌, ◌&&◌, refl, sym, ap, ap₂, ◌∙◌, Option, Some, None, option_map, option_and_then, unwrap_or, is_some, bytes_eq}
+use Rattle.std.proofs.Common.{◌≡◌, ℕ, zero, suc, ◌==◌, List, map, length, not, Bool, true, false, cond, ◌||◌, ◌&&◌, refl, sym, ap, ap₂, ◌∙◌, Option, Some, None, option_map, option_and_then, unwrap_or, is_some, bytes_eq}
 use Rattle.std.specs.Cmp.{both_ways}
 use Rattle.std.proofs.lemmas.Bool.{false≢true}
 use Rattle.std.proofs.lemmas.List.{length-map}
 use Rattle.ss_record.specs.Ids.{has, places, roots}
 use Rattle.ss_record.specs.Items.{ItemView}
 use Rattle.ss_record.specs.Kinds.{is_folder}
-use Rattle.ss_record.proofs.IdLists.{bytes_eq-same, same_id}
 use Rattle.ss_tree.specs.declared.entries.Entry.{Entry}
 use Rattle.ss_tree.specs.declared.faults.TreeFault.TheVariants.{NotFolder as NoFolder, Twice as Doubled, BadPlace}
 use Rattle.ss_tree.specs.declared.faults.MoveFault.TheVariants.{Root as Fixed, NotFolder as MoveNoFolder, Under as Below, BadPlace as MoveBadPlace}
 use Rattle.ss_tree.specs.Trees.{Placed, node, node_ids, parent_in, IsUnder, places_node}
 use Rattle.ss_tree.specs.Entries.{above, entry, entry_ids, is_below, is_place, insert_fault, kids, met, move_fault, node_of, placed, stands_under, takes_children, top_entry, tree, IsTree}
 use Rattle.ss_tree.specs.Entries as entries
-use Rattle.ss_tree.proofs.Changes.{some_same}
-use Rattle.ss_tree.proofs.Edits.{number_sym, entry_has}
+use Rattle.ss_tree.proofs.Edits.{entry_has}
 use Rattle.ss_tree.proofs.Kept.{insert_free}
 use Rattle.ss_tree.proofs.Changed.{has_parent}
 use Rattle.ss_tree.proofs.Ids.{has_node, node_found}
-use Rattle.ss_tree.proofs.Kin.{under_from}
-use Rattle.ss_tree.proofs.Valid.{valid_tree}
+use Rattle.ss_tree.proofs.Valid.{valid_tree, under_from}
 use Rattle.ss_device.specs.declared.faults.EditFault.{EditFault}
 use Rattle.ss_device.specs.declared.faults.EditFault.TheVariants.{NoItem, Root, NotFolder, Under, Twice}
 use Rattle.ss_device.specs.Edits.{add_fault, change_fault, item_of, is_fixed, is_met, is_within, takes_items}
 use Rattle.ss_device.specs.Edits as edits
 use Rattle.ss_device.specs.Refusals.{edit_of_move, edit_of_tree}
-use Rattle.ss_device.proofs.ByIds.{at_entry, idof, idof_some, none_some, placed_is, same_node}
+use Rattle.ss_device.proofs.ByIds.{at_entry, idof, idof_some, placed_is, same_node}
 use Rattle.ss_device.proofs.Changes.{above_there}
 use Rattle.ss_device.proofs.Known.{has_is_node}
+use Rattle.ss_text.proofs.Basics.{or_false, or_true, same_text, bytes_eq-same, number_turned, some_same, none_some}
+use Rattle.ss_tree.proofs.Looked.{in_tree}
 
 -- the tree has an item of an id where it has a node of it
-pub in_tree : (es : List Entry) (x : List ℕ) → has x (node_ids (tree es)) ≡ is_some (node_of x es)
-unfolding tree node_ids placed entry_ids
-in_tree es x = ap (has x) (same es) ∙ has_node x es
-  where
-    same : (fs : List Entry) → map (λ n. n.id) (map (placed es) fs) ≡ map (λ e. e.item.id) fs
-    same [] = refl
-    same (f ∷ fs) = ap (λ ys. f.item.id ∷ ys) (same fs)
 
 -- it has an item in its place there too
 pub node_there : (es : List Entry) (x : List ℕ) → is_some (node x (tree es)) ≡ is_some (node_of x es)
 node_there es x = sym (has_is_node x (tree es)) ∙ in_tree es x
-
-pub none_from : {X : Type 0} (o : Option X) → is_some o ≡ false → o ≡ None
-none_from None h = refl
-none_from (Some x) h = absurd (false≢true (sym h))
 
 pub not_there : (es : List Entry) (x : List ℕ) → is_some (node x (tree es)) ≡ true → node_of x es ≡ None → ⊥
 not_there es x h q = false≢true (sym (node_there es x ∙ ap is_some q) ∙ h)
@@ -62,15 +50,7 @@ fresh_id es p b x h k e q = go (bytes_eq e.item.id x) refl
   where
     go : (c : Bool) → bytes_eq e.item.id x ≡ c → c ≡ false
     go false w = refl
-    go true w = absurd (false≢true (sym (insert_free es p b x h).1 ∙ (ap (λ z. has z (entry_ids es)) (sym (same_id e.item.id x w)) ∙ entry_has k es e q)))
-
-or-true : (b : Bool) → (b || true) ≡ true
-or-true true = refl
-or-true false = refl
-
-or-false : (b : Bool) → (b || false) ≡ b
-or-false true = refl
-or-false false = refl
+    go true w = absurd (false≢true (sym (insert_free es p b x h).1 ∙ (ap (λ z. has z (entry_ids es)) (sym (same_text e.item.id x w)) ∙ entry_has k es e q)))
 
 module _ (es : List Entry) (t : IsTree es) (x : List ℕ) (k : ℕ) (at : node_of x es ≡ Some k) where
   found : (e : Entry) × (entry k es ≡ Some e) × (e.item.id ≡ x)
@@ -131,7 +111,7 @@ module _ (es : List Entry) (t : IsTree es) (x : List ℕ) (k : ℕ) (at : node_o
   here : (p : ℕ) (f : Entry) → entry p es ≡ Some f → bytes_eq f.item.id x ≡ (k == p)
   here p f q =
       let e = node_found es t x k at in
-      ap (bytes_eq f.item.id) (sym e.2) ∙ (same_node es t p k f e.0 q e.1 ∙ number_sym p k)
+      ap (bytes_eq f.item.id) (sym e.2) ∙ (same_node es t p k f e.0 q e.1 ∙ number_turned p k)
 
   pub top_misses : (n : ℕ) → is_met (tree es) n x places ≡ false
   top_misses zero = here 0 top_entry t.top ∙ inner
@@ -139,7 +119,7 @@ module _ (es : List Entry) (t : IsTree es) (x : List ℕ) (k : ℕ) (at : node_o
 
   is_met_as : (n p : ℕ) (f : Entry) → entry p es ≡ Some f → is_met (tree es) n x f.item.id ≡ ((k == p) || met es k n (above es p))
   unfolding above
-  is_met_as zero p f q = here p f q ∙ sym (or-false (k == p))
+  is_met_as zero p f q = here p f q ∙ sym (or_false (k == p))
   is_met_as (suc n) p f q =
       ap₂ (λ a b. a || b) (here p f q) (ap (is_met (tree es) n x) (step_in p f q) ∙ (go f.parent refl (λ r g w. is_met_as n r g w) ∙ sym (ap (λ o. met es k (suc n) (option_and_then (λ (e : Entry). e.parent) o)) q)))
     where
@@ -307,7 +287,7 @@ add_apart es y x q = go (bytes_eq y x) refl
   where
     go : (b : Bool) → bytes_eq y x ≡ b → b ≡ false
     go false h = refl
-    go true h = let p = add_parts es y x q in absurd (false≢true (sym p.2 ∙ (ap (λ z. has z (node_ids (tree es))) (sym (same_id y x h)) ∙ p.0)))
+    go true h = let p = add_parts es y x q in absurd (false≢true (sym p.2 ∙ (ap (λ z. has z (node_ids (tree es))) (sym (same_text y x h)) ∙ p.0)))
 
 pub move_takes : (es : List Entry) (x y : List ℕ) → edits.move_fault (tree es) x y ≡ None → takes_items (tree es) y ≡ true
 unfolding edits.move_fault
@@ -347,6 +327,6 @@ module _ (es : List Entry) (t : IsTree es) (x : List ℕ) (k : ℕ) (at : node_o
           not_top : (b : Bool) → (p == 0) ≡ b → b ≡ false
           not_top false w = refl
           not_top true w =
-              let under_top : stands_under 0 e.0 ≡ true = ap (λ o. unwrap_or (option_map (λ n. 0 == n) o) false) parent ∙ (number_sym 0 p ∙ w) in
-              let yes : is_fixed x ≡ true = fixed_is es t x k at ∙ (ap (λ b. (k == 0) || b) (ap (λ o. unwrap_or (option_map (stands_under 0) o) false) e.1 ∙ under_top) ∙ or-true (k == 0)) in
+              let under_top : stands_under 0 e.0 ≡ true = ap (λ o. unwrap_or (option_map (λ n. 0 == n) o) false) parent ∙ (number_turned 0 p ∙ w) in
+              let yes : is_fixed x ≡ true = fixed_is es t x k at ∙ (ap (λ b. (k == 0) || b) (ap (λ o. unwrap_or (option_map (stands_under 0) o) false) e.1 ∙ under_top) ∙ or_true (k == 0)) in
               absurd (false≢true (sym loose ∙ yes))

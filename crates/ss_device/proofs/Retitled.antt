@@ -15,13 +15,13 @@ use Rattle.ss_record.specs.Items.{ItemView, names_of, are_content, has_content, 
 use Rattle.ss_record.specs.Kinds.{is_folder}
 use Rattle.ss_record.specs.Marks.{marked_string, said_text, members_plain, plain_text}
 use Rattle.ss_record.specs.Payloads.{lacks, is_true, payload_members}
-use Rattle.ss_record.proofs.IdLists.{bytes_eq-same}
 use Rattle.ss_record.proofs.Strings.{string_plain}
 use Rattle.ss_record.proofs.Sorted.{Sorted-put, Sorted-read}
 use Rattle.ss_record.proofs.Exact.{float_members, payload_parts}
 use Rattle.ss_record.proofs.Fit.{fit_members}
 use Rattle.ss_record.proofs.Unmarked.{plain-put, depth-put, payload_back}
 use Rattle.ss_device.specs.Edits.{titled}
+use Rattle.ss_text.proofs.Basics.{bytes_eq-same}
 
 lacks-put : (names : List (List ℕ)) (k : List ℕ) (d : Data) (ms : Members) → has k names ≡ false → lacks names ms ≡ true → lacks names (put k d ms) ≡ true
 lacks-put names k d no_members h l = ap (λ b. not b && true) h

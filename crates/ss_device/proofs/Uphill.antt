@@ -1,26 +1,25 @@
 -- Steps up, by ids and by nodes.
 use Rattle.std.proofs.Common.{◌≡◌, ◌↔◌, ℕ, zero, suc, ◌==◌, List, [], Bool, true, false, ◌||◌, inl, inr, refl, sym, ap, ◌∙◌, Option, Some, None, option_map, option_and_then, unwrap_or, is_some, bytes_eq}
-use Rattle.std.proofs.lemmas.Bool.{false≢true, eqb-true}
+use Rattle.std.proofs.lemmas.Bool.{false≢true, eqb-true, or_cases, eq-eqb}
 use Rattle.ss_record.specs.Ids.{has, places}
-use Rattle.ss_record.proofs.IdLists.{bytes_eq-same, same_id}
 use Rattle.ss_tree.specs.declared.entries.Entry.{Entry}
 use Rattle.ss_tree.specs.Trees.{Placed, node_ids, parent_in, steps}
 use Rattle.ss_tree.specs.Entries.{above, ancestor, entry, is_below, node_of, top_entry, tree, up, IsBelow, IsTree}
 use Rattle.ss_tree.proofs.Changes.{live_steps}
-use Rattle.ss_tree.proofs.Edits.{same_number}
 use Rattle.ss_tree.proofs.Ways.{below_is, stays}
 use Rattle.ss_device.specs.Edits.{is_met, is_within}
-use Rattle.ss_device.proofs.ByIds.{live_some, name_at, idof, same_node}
+use Rattle.ss_device.proofs.ByIds.{name_at, idof, same_node}
 use Rattle.ss_device.proofs.Changes.{above_there}
-use Rattle.ss_device.proofs.Going.{or_true}
 use Rattle.ss_device.proofs.Known.{has_is_node}
 use Rattle.ss_device.proofs.Refused.{at_there, step_in, there, top_is, within_node}
+use Rattle.ss_tree.proofs.Looked.{live_entry}
+use Rattle.ss_text.proofs.Basics.{same_text, bytes_eq-same}
 
 met_steps : (t : List Placed) (n : ℕ) (x y : List ℕ) → is_met t n x y ≡ true → (k : ℕ) × (steps (parent_in t) k y ≡ x)
 unfolding steps
-met_steps t zero x y h = (0, same_id y x h)
-met_steps t (suc n) x y h = elim (or_true (bytes_eq y x) (is_met t n x (parent_in t y)) h) [
-  | inl a ↦ (0, same_id y x a)
+met_steps t zero x y h = (0, same_text y x h)
+met_steps t (suc n) x y h = elim (or_cases (bytes_eq y x) (is_met t n x (parent_in t y)) h) [
+  | inl a ↦ (0, same_text y x a)
   | inr b ↦ let r = met_steps t n x (parent_in t y) b in (suc r.0, r.1)
 ]
 
@@ -29,12 +28,12 @@ unfolding steps up
 steps_below es t zero p j h inner = go (above es p) refl h
   where
     go : (o : Option ℕ) → above es p ≡ o → unwrap_or o 0 ≡ j → IsBelow es j p
-    go None q r = absurd (false≢true (sym inner ∙ same_number j 0 (sym r)))
+    go None q r = absurd (false≢true (sym inner ∙ eq-eqb j 0 (sym r)))
     go (Some r) q w = (0, q ∙ ap Some w)
 steps_below es t (suc n) p j h inner = go (above es p) refl h (λ r w. steps_below es t n r j w inner)
   where
     go : (o : Option ℕ) → above es p ≡ o → steps (up es) (suc n) (unwrap_or o 0) ≡ j → ((r : ℕ) → steps (up es) (suc n) r ≡ j → IsBelow es j r) → IsBelow es j p
-    go None q r ih = absurd (false≢true (sym inner ∙ same_number j 0 (sym r ∙ stays es t (suc n))))
+    go None q r ih = absurd (false≢true (sym inner ∙ eq-eqb j 0 (sym r ∙ stays es t (suc n))))
     go (Some r) q w ih = let b = ih r w in (suc b.0, ap (option_and_then (ancestor es b.0)) q ∙ b.1)
 
 module _ (es : List Entry) (t : IsTree es) where
@@ -62,7 +61,7 @@ module _ (es : List Entry) (t : IsTree es) where
     steps_within p f q k h =
         let d = there es t x kx at in
         let live = live_steps es t k p (ap is_some q) in
-        let e = live_some es (steps (up es) k p) live in
+        let e = live_entry es (steps (up es) k p) live in
         let name : e.0.item.id ≡ d.0.item.id = sym (name_is (steps (up es) k p) e.0 e.1) ∙ (sym (names_up k p f q) ∙ (h ∙ sym d.2)) in
         let node_is : steps (up es) k p ≡ kx = eqb-true (steps (up es) k p) kx (sym (same_node es t (steps (up es) k p) kx e.0 d.0 e.1 d.1) ∙ bytes_eq-same e.0.item.id d.0.item.id name) in
         within_node es t x kx at inner p f q ∙ cases k node_is
@@ -72,7 +71,7 @@ module _ (es : List Entry) (t : IsTree es) where
         some_below false w = w
 
         cases : (k : ℕ) → steps (up es) k p ≡ kx → ((kx == p) || is_below es kx p) ≡ true
-        cases zero w = ap (λ b. b || is_below es kx p) (same_number kx p (sym w))
+        cases zero w = ap (λ b. b || is_below es kx p) (eq-eqb kx p (sym w))
         cases (suc n) w = some_below (kx == p) ((below_is es t kx p).1 (steps_below es t n p kx w inner))
 
 pub within_steps : (es : List Entry) → IsTree es → (x y : List ℕ) → has x (node_ids (tree es)) ≡ true → bytes_eq x places ≡ false → has y (node_ids (tree es)) ≡ true

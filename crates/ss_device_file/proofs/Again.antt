@@ -1,24 +1,22 @@
 -- What is written for a device is a file of it.
-use Rattle.std.proofs.Common.{◌≡◌, ℕ, ◌/◌, ◌%◌, ◌≤◌, ◌==◌, ◌&&◌, ◌||◌, not, leb, nat_lt, Bool, true, false, cond, List, [], ◌∷◌, ◌++◌, length, map, filter_map, find, codes, decimal, append_assoc, append-nil, refl, sym, ap, ap₂, subst, ◌∙◌, arith, Option, Some, None, option_map, unwrap_or, Less, inl, inr}
+use Rattle.std.proofs.Common.{◌≡◌, ℕ, ◌≤◌, ◌==◌, ◌&&◌, ◌||◌, not, nat_lt, Bool, true, false, cond, List, [], ◌∷◌, ◌++◌, length, map, filter_map, find, codes, decimal, append_assoc, append-nil, refl, sym, ap, ap₂, subst, ◌∙◌, arith, Option, Some, None, option_map, unwrap_or, Less, inl, inr}
 use Rattle.std.specs.List.{AllByRecursion, cons_option, flat_map, list_all}
 use Rattle.std.specs.List.Sorted.{IsStrictlySortedBy}
-use Rattle.std.specs.Char.{is_ascii_digit}
 use Rattle.std.specs.Ordering.{is_lt}
 use Rattle.std.specs.Str.{IsUtf8}
-use Rattle.std.proofs.lemmas.Bool.{and_parts, eqb-true, leb-true, ltb-true}
+use Rattle.std.proofs.lemmas.Bool.{eqb-true, ltb-true, eq-eqb}
 use Rattle.std.proofs.lemmas.Fmt.{IsAscii-decimal}
 use Rattle.std.proofs.lemmas.Grind.{flat_map-append}
 use Rattle.std.proofs.lemmas.Str.{IsUtf8-append, IsUtf8-from_ascii}
 use Rattle.json.proofs.Printed.Utf8.{IsUtf8-quoted}
 use Rattle.ss_text.specs.Texts.{text_cmp}
-use Rattle.ss_text.specs.Time.{last_stamp, stamp_text, two_digits}
+use Rattle.ss_text.specs.Time.{last_stamp, stamp_text}
 use Rattle.ss_text.proofs.NameLemmas.{IsAscii-from_list_all, IsUtf8-from_id}
 use Rattle.ss_record.specs.declared.readings.Sheet.{Sheet}
 use Rattle.ss_record.specs.Ids.{before, has}
 use Rattle.ss_tree.specs.declared.entries.Entry.{Entry}
 use Rattle.ss_tree.specs.Trees.{node, node_ids}
 use Rattle.ss_tree.specs.Entries.{IsTree, entry, preorder, tree}
-use Rattle.ss_tree.proofs.Edits.{same_number}
 use Rattle.ss_tree.proofs.Valid.{In}
 use Rattle.ss_build.specs.Rows.{rows_of}
 use Rattle.ss_build.specs.Built.{built}
@@ -33,11 +31,11 @@ use Rattle.ss_device_file.specs.declared.lines.Line.TheVariants.{Head, Synced, R
 use Rattle.ss_device_file.specs.Lines.{AreLines, ComeAfter, IsItemLine, IsLine, follows, is_end, is_ended, last_of, line_text, may_come, record_in, suits, text_of}
 use Rattle.ss_device_file.specs.Places.{IsWhole, tree_of}
 use Rattle.ss_device_file.specs.Files.{IsFileOf, death_in, deaths_in, is_lost, item_in, items_in, lost_in, mirror_in, row_in, rows_in, synced_in}
-use Rattle.ss_device_file.proofs.Numbers.{two_are_digits}
 use Rattle.ss_device_file.proofs.Ordered.{Chain, last_is}
 use Rattle.ss_device_file.proofs.Preorder.{all_placed, inner, inner_below, inner_live, node_item, node_items, order_is}
 use Rattle.ss_device_file.proofs.Standing.{item_formed, line_is, record_formed, record_same, same_items, there}
 use Rattle.ss_device_file.proofs.Unique.{Each}
+use Rattle.ss_text.proofs.StampTexts.{stamp_is_utf8}
 
 -- ---- the lines of a device
 
@@ -173,23 +171,14 @@ come_from front (l ∷ ls) c e = (
 small_ascii : (xs : List ℕ) → list_all (λ b. nat_lt b 128) xs ≡ true → IsUtf8 xs
 small_ascii xs h = IsUtf8-from_ascii xs (IsAscii-from_list_all (λ b. nat_lt b 128) (λ b q. ltb-true b 128 q) xs h)
 
-digits_utf8 : (xs : List ℕ) → list_all is_ascii_digit xs ≡ true → IsUtf8 xs
-digits_utf8 xs h = IsUtf8-from_ascii xs (IsAscii-from_list_all is_ascii_digit (λ b q. let high = leb-true b 57 (and_parts (leb 48 b) (leb b 57) q).1 in omega arith) xs h)
-
 decimal_utf8 : (n : ℕ) → n ≤ last_stamp → IsUtf8 (decimal n)
 decimal_utf8 n h = IsUtf8-from_ascii (decimal n) (IsAscii-decimal n (omega arith))
-
-stamp_utf8 : (n : ℕ) → n ≤ last_stamp → IsUtf8 (stamp_text n)
-unfolding stamp_text
-stamp_utf8 n h =
-    IsUtf8-append (decimal (n / 100)) (0x2e ∷ two_digits (n % 100)) (decimal_utf8 (n / 100) (omega arith))
-    (IsUtf8-append (0x2e ∷ []) (two_digits (n % 100)) (small_ascii (0x2e ∷ []) refl) (digits_utf8 (two_digits (n % 100)) (two_are_digits (n % 100) (omega arith))))
 
 synced_line : (n : ℕ) → n ≤ last_stamp → IsLine (Synced n)
 unfolding stamp_line
 synced_line n h = record {
   form = h;
-  utf8 = IsUtf8-append (codes "[\"stamp\",\"" ++ stamp_text n) (codes "\"]\n") (IsUtf8-append (codes "[\"stamp\",\"") (stamp_text n) (small_ascii (codes "[\"stamp\",\"") refl) (stamp_utf8 n h)) (small_ascii (codes "\"]\n") refl);
+  utf8 = IsUtf8-append (codes "[\"stamp\",\"" ++ stamp_text n) (codes "\"]\n") (IsUtf8-append (codes "[\"stamp\",\"") (stamp_text n) (small_ascii (codes "[\"stamp\",\"") refl) (stamp_is_utf8 n h)) (small_ascii (codes "\"]\n") refl);
 }
 
 row_line_formed : (r : Sheet) → IsRow r → IsLine (Row r)
@@ -198,7 +187,7 @@ row_line_formed r h = record {
   form = (h.id, h.time);
   utf8 =
       IsUtf8-append _ (codes "]\n")
-      (IsUtf8-append _ _ (IsUtf8-append _ (codes ",") (IsUtf8-append _ _ (IsUtf8-append _ (codes "\",") (IsUtf8-append (codes "[\"row\",\"") (stamp_text r.modified) (small_ascii (codes "[\"row\",\"") refl) (stamp_utf8 r.modified h.time)) (small_ascii (codes "\",") refl)) (IsUtf8-quoted r.id (IsUtf8-from_id r.id h.id))) (small_ascii (codes ",") refl)) (IsUtf8-quoted r.payload h.payload))
+      (IsUtf8-append _ _ (IsUtf8-append _ (codes ",") (IsUtf8-append _ _ (IsUtf8-append _ (codes "\",") (IsUtf8-append (codes "[\"row\",\"") (stamp_text r.modified) (small_ascii (codes "[\"row\",\"") refl) (stamp_is_utf8 r.modified h.time)) (small_ascii (codes "\",") refl)) (IsUtf8-quoted r.id (IsUtf8-from_id r.id h.id))) (small_ascii (codes ",") refl)) (IsUtf8-quoted r.payload h.payload))
       (small_ascii (codes "]\n") refl);
 }
 
@@ -283,7 +272,7 @@ module _ (d : DeviceView) where
 
   pub synced_is : synced_in (lines_of d) ≡ d.stamp
   unfolding synced_in mirror_in
-  synced_is = ap (λ b. cond b d.stamp 0) (same_number (length (rows_in (lines_of d))) (length (rows_in (lines_of d))) refl)
+  synced_is = ap (λ b. cond b d.stamp 0) (eq-eqb (length (rows_in (lines_of d))) (length (rows_in (lines_of d))) refl)
 
   ended : is_ended (lines_of d) ≡ true
   ended =

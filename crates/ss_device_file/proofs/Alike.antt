@@ -6,11 +6,9 @@ use Rattle.std.proofs.lemmas.Grind.{flat_map-append}
 use Rattle.ss_record.specs.declared.readings.Sheet.{Sheet}
 use Rattle.ss_record.specs.Ids.{places, roots}
 use Rattle.ss_record.specs.Items.{empty_folder}
-use Rattle.ss_record.proofs.IdLists.{same_id}
 use Rattle.ss_tree.specs.declared.entries.Entry.{Entry}
 use Rattle.ss_tree.specs.Trees.{IsSame, Placed, empty_tree, node, places_node}
 use Rattle.ss_tree.specs.Entries.{IsTree, tree}
-use Rattle.ss_tree.proofs.Changes.{some_same}
 use Rattle.ss_tree.proofs.Valid.{In}
 use Rattle.ss_device.specs.Device.{Dead, DeviceView, IsNew, IsSameDevice}
 use Rattle.ss_device.specs.Forms.{IsFormed}
@@ -26,6 +24,7 @@ use Rattle.ss_device_file.proofs.Again.{dead_of, device_text_is, items_of}
 use Rattle.ss_device_file.proofs.Preorder.{Goes, goes_all, inner, inner_below, inner_live, node_id_is, node_item, node_items}
 use Rattle.ss_device_file.proofs.Sound.{AllLines}
 use Rattle.ss_device_file.proofs.Standing.{placed_same, there}
+use Rattle.ss_text.proofs.Basics.{same_text, some_same}
 
 -- ---- lines that go through the same seats and are items of the same tree
 
@@ -42,8 +41,8 @@ lines_same seats [] (j ∷ js) t u same g h a b = absurd (false≢true (ap (λ s
 lines_same seats (i ∷ is) [] t u same g h a b = absurd (false≢true (ap (λ ss. is_next ss i) (sym h) ∙ g.0))
 lines_same [] (i ∷ is) (j ∷ js) t u same g h a b = absurd (false≢true g.0)
 lines_same (s ∷ seats) (i ∷ is) (j ∷ js) t u same g h a b =
-    let p = same_id s.0 i.item.id (and_parts (bytes_eq s.0 i.item.id) (bytes_eq s.1 i.parent) g.0).0 in
-    let q = same_id s.0 j.item.id (and_parts (bytes_eq s.0 j.item.id) (bytes_eq s.1 j.parent) h.0).0 in
+    let p = same_text s.0 i.item.id (and_parts (bytes_eq s.0 i.item.id) (bytes_eq s.1 i.parent) g.0).0 in
+    let q = same_text s.0 j.item.id (and_parts (bytes_eq s.0 j.item.id) (bytes_eq s.1 j.parent) h.0).0 in
     let place : placed_of i ≡ placed_of j = some_same (sym a.0 ∙ (same i.item.id ∙ (ap (λ x. node x u) (sym p ∙ q) ∙ b.0))) in
     let one : i ≡ j = ap line_back place in
     ap₂ (λ x xs. x ∷ xs) one (lines_same (seats_behind (s ∷ seats) i) is js t u same g.1 (subst (λ x. Goes (seats_behind (s ∷ seats) x) js []) (sym one) h.1) a.1 b.1)

@@ -1,20 +1,11 @@
 -- Lines apart by kind.
-use Rattle.std.proofs.Common.{◌≡◌, ℕ, List, [], ◌∷◌, ◌++◌, length, filter_map, Option, Some, None, append_assoc, append-nil, refl, sym, ap, subst, ◌∙◌, Less}
-use Rattle.std.specs.Option.{option_to_list}
-use Rattle.std.specs.List.{AllByRecursion, cons_option}
-use Rattle.std.proofs.lemmas.List.Elements.{filter_map-append}
+use Rattle.std.proofs.Common.{◌≡◌, ℕ, List, [], ◌∷◌, ◌++◌, length, append_assoc, append-nil, refl, sym, ap, subst, ◌∙◌, Less}
+use Rattle.std.specs.List.{AllByRecursion}
 use Rattle.std.specs.List.Sorted.{IsStrictlySortedBy}
 use Rattle.std.specs.Ordering.{match_ordering}
 use Rattle.std.specs.BTreeMap.{insert_entry}
 use Rattle.ss_text.specs.Texts.{text_cmp}
 use Rattle.ss_device.specs.Device.{AreById, Dead, dead_ids}
-
-one_more : {B : Type 0} (o : Option B) → cons_option o [] ≡ option_to_list o
-one_more None = refl
-one_more (Some y) = refl
-
-pub filter_map_more : {A B : Type 0} (f : A → Option B) (xs : List A) (x : A) → filter_map f (xs ++ x ∷ []) ≡ filter_map f xs ++ option_to_list (f x)
-filter_map_more f xs x = filter_map-append f xs (x ∷ []) ∙ ap (λ t. filter_map f xs ++ t) (one_more (f x))
 
 pub none_left : {A : Type 0} (done rest all : List A) → done ++ rest ≡ all → length rest ≡ 0 → done ≡ all
 none_left done [] all is l = sym (append-nil done) ∙ is

@@ -23,8 +23,9 @@ use Rattle.ss_device_file.specs.declared.lines.Line.{Line}
 use Rattle.ss_device_file.specs.declared.lines.Line.TheVariants.{Head, Synced, Row, Item, Dead, End}
 use Rattle.ss_device_file.specs.Lines.{HasForm, line_text, record_in}
 use Rattle.ss_device_file.specs.Values.{is_item, parts_of}
-use Rattle.ss_device_file.proofs.Breaks.{NoLine, digits_noline, noline_append, noline_by, quoted_noline, unmarked_noline, value_noline}
+use Rattle.ss_device_file.proofs.Breaks.{unmarked_noline}
 use Rattle.ss_device_file.proofs.Written.{json_line}
+use Rattle.ss_record.proofs.OneLine.{NoLine, noline_by, noline_append, digits_noline, quoted_noline, value_noline, comma_noline}
 
 -- ---- lists of texts and numbers
 
@@ -36,10 +37,6 @@ AreFlat (item _ ps) = ⊥
 
 number_noline : (n : ℕ) → n ≤ last_stamp → NoLine (decimal n)
 number_noline n h = digits_noline (decimal n) (decimal_is_IsNumeral n (omega arith)).0.1
-
-comma_noline : (later : Bool) → NoLine (comma_if later)
-comma_noline true = noline_by (44 ∷ []) refl
-comma_noline false = tt
 
 flat_noline : (later : Bool) (ps : Items) → AreFlat ps → NoLine (items_text later ps)
 flat_noline later no_items h = noline_by (93 ∷ []) refl

@@ -8,6 +8,7 @@ use Rattle.ss_device_file.specs.declared.faults.LinesFault.TheVariants.{Refused,
 use Rattle.ss_device_file.specs.Lines.{AreLines, ComeAfter, IsLine, is_ended, line_text, may_come, text_of}
 use Rattle.ss_device_file.specs.Files.{IsNextLine, IsStoppedBy, IsStopped}
 use Rattle.ss_device_file.proofs.Bodies.{goes_on, has_break}
+use Rattle.ss_text.proofs.Basics.{some_same, none_some}
 
 come_more : (front ls : List Line) (l : Line) → ComeAfter front ls → may_come (front ++ ls) l ≡ true → IsLine l → ComeAfter front (ls ++ l ∷ [])
 come_more front [] l h m k = (ap (λ f. may_come f l) (sym (append-nil front)) ∙ m, k, tt)
@@ -26,12 +27,6 @@ text_more [] l = append-nil (line_text l)
 text_more (x ∷ ls) l = ap (λ t. line_text x ++ t) (text_more ls l) ∙ sym (append_assoc (line_text x) (text_of ls) (line_text l))
 
 -- ---- the next line
-
-some_same : {X : Type 0} {x y : X} → Some x ≡ Some y → x ≡ y
-some_same e = cc
-
-none_some : {X : Type 0} {x : X} → None ≡ Some x → ⊥
-none_some e = cc
 
 pub cut_short : (lines : List Line) (rest : List ℕ) → None ≡ position (λ b. b == 10) rest → (n : ℕ) → n ≡ length lines + 1 → IsStoppedBy lines rest (Cut n)
 cut_short lines rest at n number =

@@ -1,5 +1,5 @@
 -- Of the answers to a text at most one is possible.
-use Rattle.std.proofs.Common.{◌≡◌, ◌≢◌, ◌⊎◌, ℕ, ◌+◌, true, false, List, [], ◌∷◌, ◌++◌, length, Some, None, append_assoc, append-nil, refl, sym, ap, subst, ◌∙◌, inl, inr}
+use Rattle.std.proofs.Common.{◌≡◌, ◌≢◌, ◌⊎◌, ℕ, ◌+◌, true, false, List, [], ◌∷◌, ◌++◌, length, append_assoc, append-nil, refl, sym, ap, subst, ◌∙◌, inl, inr}
 use Rattle.std.proofs.lemmas.Bool.{false≢true}
 use Rattle.ss_tree.specs.Entries.{tree}
 use Rattle.ss_device.specs.Device.{DeviceView, IsSameDevice}
@@ -11,6 +11,7 @@ use Rattle.ss_device_file.specs.Lines.{is_ended, text_of}
 use Rattle.ss_device_file.specs.Places.{ArePlaced, IsAstray, IsShort, PlacedAfter, has_place, seats_left}
 use Rattle.ss_device_file.specs.Files.{AreAll, IsBadLine, IsFileOf, IsRefused, IsTold, IsUnseated, items_in}
 use Rattle.ss_device_file.proofs.Unique.{GoesOn, each_line, meet, no_further, no_more}
+use Rattle.ss_text.proofs.Basics.{some_same, none_some}
 
 -- ---- the lines of a whole text
 
@@ -97,12 +98,6 @@ none_short is x none s = some_none (sym none ∙ s.left)
     some_none e = cc
 
 -- ---- why items make no device
-
-none_some : {X : Type 0} {x : X} → None ≡ Some x → ⊥
-none_some e = cc
-
-some_same : {X : Type 0} {x y : X} → Some x ≡ Some y → x ≡ y
-some_same e = cc
 
 one_unseated : (ls : List Line) (x y : List ℕ) → IsUnseated ls x → IsUnseated ls y → x ≡ y
 one_unseated ls x y (inl a) (inl b) = one_astray (items_in ls) x y a b

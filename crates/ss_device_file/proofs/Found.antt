@@ -6,7 +6,7 @@ use Rattle.std.proofs.lemmas.Bool.{false≢true}
 use Rattle.ss_text.specs.Texts.{text_cmp}
 use Rattle.ss_record.specs.declared.readings.Sheet.{Sheet}
 use Rattle.ss_record.specs.Ids.{has, places, roots}
-use Rattle.ss_record.proofs.IdLists.{has-cons, has-nil, has-tail, same_id}
+use Rattle.ss_record.proofs.IdLists.{has-cons, has-nil, has-tail}
 use Rattle.ss_tree.specs.declared.entries.Entry.{Entry}
 use Rattle.ss_tree.specs.Entries.{entry_ids, node_of, placed, tree}
 use Rattle.ss_tree.specs.Trees.{IsSame, Placed, node_ids}
@@ -24,6 +24,7 @@ use Rattle.ss_device.proofs.Deaths.{as_lookup, has_dead}
 use Rattle.ss_device.proofs.Known.{built_ids, same_ids}
 use Rattle.ss_device_file.specs.Files.{is_lost}
 use Rattle.ss_device_file.specs.Joining.{HasRoots, lost_of}
+use Rattle.ss_text.proofs.Basics.{same_text}
 
 tree_ids : (all es : List Entry) → map (λ (n : Placed). n.id) (map (placed all) es) ≡ map (λ (e : Entry). e.item.id) es
 unfolding placed
@@ -51,7 +52,7 @@ find_none p (y ∷ ys) x e h = go (p y) (bytes_eq x y) refl refl e (sym (has-con
   where
     go : (b c : Bool) → p y ≡ b → bytes_eq x y ≡ c → cond b (Some y) (find p ys) ≡ None → (c || has x ys) ≡ true → (find p ys ≡ None → has x ys ≡ true → p x ≡ false) → p x ≡ false
     go true c q r f k ih = cc
-    go false true q r f k ih = ap p (same_id x y r) ∙ q
+    go false true q r f k ih = ap p (same_text x y r) ∙ q
     go false false q r f k ih = ih f k
 
 -- a claim is of a row
@@ -91,7 +92,7 @@ known_is mirror es dead roots_in none x h =
         kept false e = absurd (false≢true (sym e))
 
     by_kind : (a b c : Bool) → bytes_eq x places ≡ a → has x (ids (filter_map claim_of (rows_of mirror))) ≡ b → has x roots ≡ c → (a || (b || c)) ≡ true → (has x (node_ids (tree es)) || has x (dead_ids dead)) ≡ true
-    by_kind true b c p q r e = first (has x (dead_ids dead)) (ap (λ y. has y (node_ids (tree es))) (same_id x places p) ∙ roots_in.top)
+    by_kind true b c p q r e = first (has x (dead_ids dead)) (ap (λ y. has y (node_ids (tree es))) (same_text x places p) ∙ roots_in.top)
     by_kind false true c p q r e = by_row (claims_rows mirror x q)
     by_kind false false true p q r e = first (has x (dead_ids dead)) (roots_in.all x r)
     by_kind false false false p q r e = absurd (false≢true e)

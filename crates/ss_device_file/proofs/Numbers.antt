@@ -1,38 +1,18 @@
 -- Numbers and times as text are read back.
-use Rattle.std.proofs.Common.{◌≡◌, ℕ, ◌+◌, ◌-◌, ◌*◌, ◌/◌, ◌%◌, ◌^◌, ◌<◌, ◌≤◌, List, [], ◌∷◌, ◌++◌, length, Bool, true, false, ◌&&◌, ◌==◌, cond, leb, Option, Some, None, decimal, refl, sym, ap, ap₂, ◌∙◌, arith, lit<, le-leb, ne_eqb}
+use Rattle.std.proofs.Common.{◌≡◌, ℕ, ◌+◌, ◌-◌, ◌*◌, ◌^◌, ◌<◌, ◌≤◌, List, [], ◌∷◌, length, Bool, true, false, ◌&&◌, cond, leb, Option, Some, None, decimal, refl, sym, ap, ◌∙◌, arith, lit<, le-leb}
 use Rattle.std.proofs.lemmas.Bool.{and_parts, leb-true}
 use Rattle.std.proofs.lemmas.Fmt.{decimal_is_IsNumeral, decimal_nonempty, length-decimal-le}
-use Rattle.std.proofs.lemmas.Str.Parse.{digit_from_value}
 use Rattle.std.specs.Option.{SomeIff}
 use Rattle.std.specs.List.{list_all}
-use Rattle.std.specs.Char.{is_ascii_digit, digit_value}
-use Rattle.std.specs.Str.Parse.{digits_value, AllDigits}
+use Rattle.std.specs.Char.{is_ascii_digit}
+use Rattle.std.specs.Str.Parse.{digits_value}
 use Rattle.std.proofs.lemmas.List.{take_all}
 use Rattle.std.proofs.Math.Nat.{pow-le-pow_right}
 use Rattle.ss_text.proofs.Digits.{whole_small}
 use Rattle.ss_text.specs.Numbers.{number_of}
-use Rattle.ss_text.specs.Time.{stamp_text, two_digits, split_point, hundredths, with_fraction, stamp_of, last_stamp}
-
-digit_passes : (c : ℕ) → digit_value c < 10 → is_ascii_digit c ≡ true
-digit_passes c h = let r = digit_from_value c h in ap₂ (λ a b. a && b) (le-leb 48 c r.0) (le-leb c 57 r.1)
-
-all_digits : (ds : List ℕ) → AllDigits 10 ds → list_all is_ascii_digit ds ≡ true
-all_digits [] h = refl
-all_digits (d ∷ ds) h = ap₂ (λ a b. a && b) (digit_passes d h.0) (all_digits ds h.1)
-
-pub decimal_digits : (n : ℕ) → n < 2 ^ 64 → list_all is_ascii_digit (decimal n) ≡ true
-decimal_digits n h = all_digits (decimal n) (decimal_is_IsNumeral n h).0.1
-
-pub two_are_digits : (n : ℕ) → n < 100 → list_all is_ascii_digit (two_digits n) ≡ true
-two_are_digits n few =
-    let tens : n / 10 < 10 = omega arith in
-    let ones : n % 10 < 10 = omega arith in
-    let first : is_ascii_digit (48 + n / 10) ≡ true = ap₂ (λ a b. a && b) (le-leb 48 (48 + n / 10) (omega arith)) (le-leb (48 + n / 10) 57 (omega arith)) in
-    let second : is_ascii_digit (48 + n % 10) ≡ true = ap₂ (λ a b. a && b) (le-leb 48 (48 + n % 10) (omega arith)) (le-leb (48 + n % 10) 57 (omega arith)) in
-    ap₂ (λ a b. a && (b && true)) first second
-
-all_three : {A : Type 0} (a b c : Bool) (o : Option A) → a ≡ true → b ≡ true → c ≡ true → cond (a && b && c) o None ≡ o
-all_three a b c o p q r = ap₂ (λ x y. cond (x && y && c) o None) p q ∙ ap (λ z. cond z o None) r
+use Rattle.ss_text.specs.Time.{split_point, hundredths, with_fraction, stamp_of, last_stamp}
+use Rattle.ss_text.proofs.StampTexts.{decimal_digits, all_three}
+use Rattle.ss_text.proofs.Basics.{some_same, none_some}
 
 -- a time in hundredths is read back
 pub time_again : (n : ℕ) → n ≤ last_stamp → number_of 12 (decimal n) ≡ Some n
@@ -43,29 +23,7 @@ time_again n h =
     all_three _ _ _ (Some (digits_value 10 (decimal n))) (le-leb 1 _ (decimal_nonempty n few)) (le-leb _ 12 (length-decimal-le 12 n (lit< tt) small few)) (decimal_digits n few)
     ∙ ap Some (decimal_is_IsNumeral n few).1
 
-split_there : (ds rest : List ℕ) → list_all is_ascii_digit ds ≡ true → split_point (ds ++ 46 ∷ rest) ≡ (ds, Some rest)
-split_there [] rest h = refl
-split_there (d ∷ ds) rest h =
-    let parts = and_parts (is_ascii_digit d) (list_all is_ascii_digit ds) h in
-    let low = leb-true 48 d (and_parts (leb 48 d) (leb d 57) parts.0).0 in
-    let other : (d == 46) ≡ false = ne_eqb d 46 (λ e. omega arith) in
-    ap₂ (λ t p. cond t ([], Some (ds ++ 46 ∷ rest)) (d ∷ p.0, p.1)) other (split_there ds rest parts.1)
-
 -- a time as text is read back
-pub stamp_again : (s : ℕ) → s ≤ last_stamp → stamp_of (stamp_text s) ≡ Some s
-unfolding stamp_of stamp_text
-stamp_again s h =
-    let few : s / 100 < 10 ^ 10 = omega arith in
-    let wide : s / 100 < 2 ^ 64 = omega arith in
-    let seconds = decimal (s / 100) in
-    let last = s % 100 in
-    let sum : 100 * (s / 100) + (10 * ((48 + last / 10) - 48) + ((48 + last % 10) - 48)) ≡ s = omega arith in
-    ap (λ p. cond (leb 1 (length p.0) && leb (length p.0) 10 && list_all is_ascii_digit p.0) (with_fraction (digits_value 10 p.0) p.1) None)
-    (split_there seconds (two_digits last) (decimal_digits (s / 100) wide))
-    ∙ all_three _ _ _ (with_fraction (digits_value 10 seconds) (Some (two_digits last)))
-    (le-leb 1 _ (decimal_nonempty (s / 100) wide)) (le-leb _ 10 (length-decimal-le 10 (s / 100) (lit< tt) few wide)) (decimal_digits (s / 100) wide)
-    ∙ ap (λ b. cond b (Some (100 * digits_value 10 seconds + hundredths (two_digits last))) None) (two_are_digits last (omega arith))
-    ∙ ap Some (ap (λ v. 100 * v + hundredths (two_digits last)) (decimal_is_IsNumeral (s / 100) wide).1 ∙ sum)
 
 fraction_small : (ds : List ℕ) → list_all is_ascii_digit ds ≡ true → hundredths ds < 100
 fraction_small [] h = lit< tt
@@ -107,15 +65,9 @@ stamp_small text t = go (leb 1 (length front)) (leb (length front) 10) (list_all
     go true false c q r h = cc
     go false b c q r h = cc
 
-some_one : {X : Type 0} {x y : X} → Some x ≡ Some y → x ≡ y
-some_one e = cc
-
-none_one : {X : Type 0} {x : X} → None ≡ Some x → ⊥
-none_one e = cc
-
 pub time_is : (r : Option ℕ) (n t : ℕ) (ds : List ℕ) → SomeIff r (n ≤ last_stamp) n → Some n ≡ number_of 12 ds → t ≤ last_stamp → decimal t ≡ ds → r ≡ Some t
-time_is None n t ds s e h is = let same : n ≡ t = some_one (e ∙ (ap (number_of 12) (sym is) ∙ time_again t h)) in absurd (s (omega arith))
-time_is (Some m) n t ds s e h is = let same : n ≡ t = some_one (e ∙ (ap (number_of 12) (sym is) ∙ time_again t h)) in ap Some (s.1 ∙ same)
+time_is None n t ds s e h is = let same : n ≡ t = some_same (e ∙ (ap (number_of 12) (sym is) ∙ time_again t h)) in absurd (s (omega arith))
+time_is (Some m) n t ds s e h is = let same : n ≡ t = some_same (e ∙ (ap (number_of 12) (sym is) ∙ time_again t h)) in ap Some (s.1 ∙ same)
 
 pub no_time : (t : ℕ) (ds : List ℕ) → None ≡ number_of 12 ds → t ≤ last_stamp → decimal t ≡ ds → ⊥
-no_time t ds e h is = none_one (e ∙ (ap (number_of 12) (sym is) ∙ time_again t h))
+no_time t ds e h is = none_some (e ∙ (ap (number_of 12) (sym is) ∙ time_again t h))

@@ -5,10 +5,9 @@ use Rattle.std.specs.List.{list_any}
 use Rattle.std.proofs.lemmas.Bool.{false≢true}
 use Rattle.std.proofs.lemmas.List.{take_more, take_all}
 use Rattle.ss_record.specs.declared.kinds.Kind.{Kind}
-use Rattle.ss_record.specs.declared.kinds.Kind.TheVariants.{Bookmark, Query, Folder, Livemark, Separator}
+use Rattle.ss_record.specs.declared.kinds.Kind.TheVariants.{Folder}
 use Rattle.ss_record.specs.Ids.{has, places, roots}
-use Rattle.ss_record.specs.Kinds.{is_folder}
-use Rattle.ss_record.proofs.IdLists.{bytes_eq-refl, bytes_eq-sym, has-cons, has-tail, same_id}
+use Rattle.ss_record.proofs.IdLists.{bytes_eq-refl, has-cons, has-tail}
 use Rattle.ss_record.proofs.OfId.{reading_is_read}
 use Rattle.ss_tree.specs.Trees.{IsSame, Placed, empty_node, empty_tree, node, places_node}
 use Rattle.ss_device.specs.Edits.{new_node, revised_node, with_child}
@@ -18,18 +17,13 @@ use Rattle.ss_device_file.specs.Lines.{IsItemLine, record_in}
 use Rattle.ss_device_file.specs.Places.{AreItemLines, ArePlaced, IsWhole, PlacedAfter, has_place, item_ids, placed_of, seats_left, tree_of}
 use Rattle.ss_device_file.proofs.Recorded.{record_back}
 use Rattle.ss_device_file.proofs.Sound.{IsHere, IsSound, come_more, is_here, kids_told, known_parent, knows, line_more, line_there, no_line, root_only, seated, unknown_come, sound_more, sound_none, unknown_new}
+use Rattle.ss_record.proofs.Fit.{folder_kind}
+use Rattle.ss_text.proofs.Basics.{bytes_eq-sym, same_text}
 
 -- ---- a root is a folder
 
-is_folder_kind : (k : Kind) → is_folder k ≡ true → k ≡ Folder
-is_folder_kind Bookmark h = absurd (false≢true h)
-is_folder_kind Query h = absurd (false≢true h)
-is_folder_kind Folder h = refl
-is_folder_kind Livemark h = absurd (false≢true h)
-is_folder_kind Separator h = absurd (false≢true h)
-
 root_kind : (i : ItemLine) → IsItemLine i → has i.item.id roots ≡ true → i.item.kind ≡ Folder
-root_kind i h r = is_folder_kind i.item.kind ((reading_is_read i.item.id (record_in i)).folder i.item (Some i.parent) i.children (record_back i h) r)
+root_kind i h r = folder_kind i.item.kind ((reading_is_read i.item.id (record_in i)).folder i.item (Some i.parent) i.children (record_back i h) r)
 
 -- ---- one more item
 
@@ -37,7 +31,7 @@ apart_from : (is : List ItemLine) (x p : List ℕ) → knows is x ≡ false → 
 apart_from is x p u k = go (bytes_eq x p) refl
   where
     go : (b : Bool) → bytes_eq x p ≡ b → b ≡ false
-    go true q = absurd (false≢true (sym u ∙ (ap (knows is) (same_id x p q) ∙ k)))
+    go true q = absurd (false≢true (sym u ∙ (ap (knows is) (same_text x p q) ∙ k)))
     go false q = refl
 
 -- nothing has come under the new one
@@ -52,7 +46,7 @@ line_id [] y j e = cc
 line_id (i ∷ is) y j e = go (bytes_eq y i.item.id) refl e (line_id is y j)
   where
     go : (b : Bool) → bytes_eq y i.item.id ≡ b → cond b (Some i) (find (λ (h : ItemLine). bytes_eq y h.item.id) is) ≡ Some j → (find (λ (h : ItemLine). bytes_eq y h.item.id) is ≡ Some j → j.item.id ≡ y) → j.item.id ≡ y
-    go true q f ih = let same : i ≡ j = cc in ap (λ (h : ItemLine). h.item.id) (sym same) ∙ sym (same_id y i.item.id q)
+    go true q f ih = let same : i ≡ j = cc in ap (λ (h : ItemLine). h.item.id) (sym same) ∙ sym (same_text y i.item.id q)
     go false q f ih = ih f
 
 none_none : {X : Type 0} (o : Option X) → option_or o None ≡ o
@@ -104,7 +98,7 @@ module _ (is : List ItemLine) (i : ItemLine) (s : IsSound is) (here : IsHere is 
   fresh_line = no_line is i.item.id here.fresh
 
   new_line : (y : List ℕ) → bytes_eq y i.item.id ≡ true → line_of y (is ++ i ∷ []) ≡ Some i
-  new_line y e = line_more is i y ∙ ap₂ (λ a b. option_or a (cond b (Some i) None)) (ap (λ x. line_of x is) (same_id y i.item.id e) ∙ fresh_line) e
+  new_line y e = line_more is i y ∙ ap₂ (λ a b. option_or a (cond b (Some i) None)) (ap (λ x. line_of x is) (same_text y i.item.id e) ∙ fresh_line) e
 
   old_line : (y : List ℕ) → bytes_eq y i.item.id ≡ false → line_of y (is ++ i ∷ []) ≡ line_of y is
   old_line y e = line_more is i y ∙ (ap (λ b. option_or (line_of y is) (cond b (Some i) None)) e ∙ none_none (line_of y is))
@@ -113,17 +107,17 @@ module _ (is : List ItemLine) (i : ItemLine) (s : IsSound is) (here : IsHere is 
   unfolding grown
   root_there p =
       ap₂ (λ b o. cond b (Some places_node) (as_come is i.item.id o)) form.inner fresh_line
-      ∙ ap (λ b. cond b (Some (empty_node i.item.id)) None) (root_only is i s here (same_id i.parent places p))
+      ∙ ap (λ b. cond b (Some (empty_node i.item.id)) None) (root_only is i s here (same_text i.parent places p))
 
   pub root_folder : bytes_eq i.parent places ≡ true → i.item.kind ≡ Folder
-  root_folder p = root_kind i form (root_only is i s here (same_id i.parent places p))
+  root_folder p = root_kind i form (root_only is i s here (same_text i.parent places p))
 
   -- the new root
   new_root : (p : bytes_eq i.parent places ≡ true) → after_root i (Some (empty_node i.item.id)) ≡ Some (partly (is ++ i ∷ []) i)
   new_root p =
       ap (λ c. Some (cond c (revised_node i.item.content i.time (empty_node i.item.id)) (empty_node i.item.id))) (bytes_eq-refl i.item.id)
       ∙ ap₂ (λ (k : Kind) (q : List ℕ × List (List ℕ)). Some (record { id = i.item.id; kind = k; content = i.item.content; parent = Some q.0; children = q.1; time = i.time })) (sym (root_folder p))
-      (ap₂ (λ a b. (a, b)) (sym (same_id i.parent places p)) (sym (new_come is i s here form)))
+      (ap₂ (λ a b. (a, b)) (sym (same_text i.parent places p)) (sym (new_come is i s here form)))
 
   new_other : Some (new_node i.time i.parent i.item) ≡ Some (partly (is ++ i ∷ []) i)
   new_other = ap (λ cs. Some (record { id = i.item.id; kind = i.item.kind; content = i.item.content; parent = Some i.parent; children = cs; time = i.time })) (sym (new_come is i s here form))
@@ -141,16 +135,16 @@ module _ (is : List ItemLine) (i : ItemLine) (s : IsSound is) (here : IsHere is 
         where
           at_id : (e : Bool) → bytes_eq y i.item.id ≡ e → after_root i (as_come is y (line_of y is)) ≡ as_come (is ++ i ∷ []) y (line_of y (is ++ i ∷ []))
           at_id true e =
-              let same : y ≡ i.item.id = same_id y i.item.id e in
+              let same : y ≡ i.item.id = same_text y i.item.id e in
               ap (λ o. after_root i (as_come is y o)) (ap (λ x. line_of x is) same ∙ fresh_line)
               ∙ (ap (λ x. after_root i (not_come x)) same
-              ∙ (ap (λ b. after_root i (cond b (Some (empty_node i.item.id)) None)) (root_only is i s here (same_id i.parent places p))
+              ∙ (ap (λ b. after_root i (cond b (Some (empty_node i.item.id)) None)) (root_only is i s here (same_text i.parent places p))
               ∙ (new_root p ∙ sym (ap (as_come (is ++ i ∷ []) y) (new_line y e)))))
-          at_id false e = old_root is i y e t (same_id i.parent places p) (line_of y is) (λ j q. line_id is y j q) ∙ sym (ap (as_come (is ++ i ∷ []) y) (old_line y e))
+          at_id false e = old_root is i y e t (same_text i.parent places p) (line_of y is) (λ j q. line_id is y j q) ∙ sym (ap (as_come (is ++ i ∷ []) y) (old_line y e))
 
       for_other : bytes_eq i.parent places ≡ false → (t : Bool) → bytes_eq y places ≡ t → after_other i y (cond t (Some places_node) (as_come is y (line_of y is))) ≡ cond t (Some places_node) (as_come (is ++ i ∷ []) y (line_of y (is ++ i ∷ [])))
       for_other p true t =
-          ap (λ b. cond b (Some (new_node i.time i.parent i.item)) (option_map (λ n. cond (bytes_eq n.id i.parent) (with_child i.item.id n) n) (Some places_node))) (ap (λ x. bytes_eq x i.item.id) (same_id y places t) ∙ top_apart t)
+          ap (λ b. cond b (Some (new_node i.time i.parent i.item)) (option_map (λ n. cond (bytes_eq n.id i.parent) (with_child i.item.id n) n) (Some places_node))) (ap (λ x. bytes_eq x i.item.id) (same_text y places t) ∙ top_apart t)
           ∙ ap (λ c. Some (cond c (with_child i.item.id places_node) places_node)) (sym (bytes_eq-sym i.parent places) ∙ p)
       for_other p false t = at_id (bytes_eq y i.item.id) refl
         where
@@ -192,7 +186,7 @@ find_empty y (r ∷ rs) = go (bytes_eq y r) refl (find_empty y rs)
   where
     go : (b : Bool) → bytes_eq y r ≡ b → find (λ (n : Placed). bytes_eq y n.id) (map empty_node rs) ≡ cond (list_any (bytes_eq y) rs) (Some (empty_node y)) None
         → cond b (Some (empty_node r)) (find (λ (n : Placed). bytes_eq y n.id) (map empty_node rs)) ≡ cond (b || list_any (bytes_eq y) rs) (Some (empty_node y)) None
-    go true e ih = ap (λ x. Some (empty_node x)) (sym (same_id y r e))
+    go true e ih = ap (λ x. Some (empty_node x)) (sym (same_text y r e))
     go false e ih = ih
 
 pub grown_none : (items : List ItemLine) (t : List Placed) → IsSame t empty_tree → IsGrown items 0 t

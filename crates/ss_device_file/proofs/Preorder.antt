@@ -4,7 +4,7 @@ use Rattle.std.specs.List.{flat_map}
 use Rattle.std.proofs.lemmas.Bool.{false≢true, eqb-true}
 use Rattle.std.proofs.lemmas.List.{map-append}
 use Rattle.ss_record.specs.Ids.{has, places, roots}
-use Rattle.ss_record.proofs.IdLists.{bytes_eq-refl, bytes_eq-same}
+use Rattle.ss_record.proofs.IdLists.{bytes_eq-refl}
 use Rattle.ss_list.specs.Chain.{times}
 use Rattle.ss_list.proofs.Times.{times-here, times-append, below-head}
 use Rattle.ss_tree.specs.declared.entries.Entry.{Entry}
@@ -15,12 +15,14 @@ use Rattle.ss_tree.proofs.Kept.{preorder_more}
 use Rattle.ss_tree.proofs.Once.{once_each}
 use Rattle.ss_tree.proofs.Settled.{kid_ids_are}
 use Rattle.ss_tree.proofs.Valid.{In}
-use Rattle.ss_device.proofs.ByIds.{idof, live_some, name_at, placed_is, same_node}
+use Rattle.ss_device.proofs.ByIds.{idof, name_at, placed_is, same_node}
 use Rattle.ss_device.proofs.Changes.{kid_there, times_in}
 use Rattle.ss_device.proofs.Going.{Full, full_top}
 use Rattle.ss_device_file.specs.declared.lines.ItemLine.{ItemLine}
 use Rattle.ss_device_file.specs.Places.{ArePlaced, IsWhole, PlacedAfter, Seat, has_place, is_next, item_ids, root_seats, seats_behind, seats_left}
 use Rattle.ss_device_file.proofs.Walked.{left_more}
+use Rattle.ss_tree.proofs.Looked.{live_entry}
+use Rattle.ss_text.proofs.Basics.{bytes_eq-same}
 
 -- ---- the line of a node's item
 
@@ -168,8 +170,8 @@ module _ (es : List Entry) (t : IsTree es) where
   -- two nodes below the top have one id where they are one
   pub one_node : (k j : ℕ) → In k (inner es) → In j (inner es) → bytes_eq (node_item es k).item.id (node_item es j).item.id ≡ true → k ≡ j
   one_node k j a b e =
-      let d = live_some es k (inner_live k a) in
-      let f = live_some es j (inner_live j b) in
+      let d = live_entry es k (inner_live k a) in
+      let f = live_entry es j (inner_live j b) in
       eqb-true k j (sym (same_node es t k j d.0 f.0 d.1 f.1) ∙ (ap₂ bytes_eq (sym (node_id_is es k d.0 d.1)) (sym (node_id_is es j f.0 f.1)) ∙ e))
 
   has_node : (x : List ℕ) (ks : List ℕ) → has x (item_ids (node_items es ks)) ≡ true → (k : ℕ) × In k ks × (bytes_eq x (node_item es k).item.id ≡ true)

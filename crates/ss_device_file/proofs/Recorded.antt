@@ -10,7 +10,6 @@ use Rattle.std.specs.Char.{is_ascii_digit}
 use Rattle.ss_device.specs.Writing.{item_line}
 use Rattle.ss_device_file.specs.declared.cuts.ItemCut.{ItemCut}
 use Rattle.ss_device_file.specs.Cuts.{NoComma, digits_and_record, item_front, item_pieces}
-use Rattle.ss_device_file.proofs.Numbers.{decimal_digits}
 use Rattle.ss_record.specs.declared.kinds.Kind.{Kind}
 use Rattle.ss_record.specs.declared.readings.Reading.{Reading}
 use Rattle.ss_record.specs.declared.readings.Reading.TheVariants.{Item, Tombstone, Skipped}
@@ -21,18 +20,16 @@ use Rattle.ss_record.specs.Marks.{string_of, plain_text}
 use Rattle.ss_record.specs.Payloads.{is_string, is_true, without}
 use Rattle.ss_record.specs.Records.{parentid_of, children_of, item_of, members_reading, reading}
 use Rattle.ss_record.proofs.Exact.{payload_parts, item_parts, members_parts, reading_parts}
-use Rattle.ss_record.proofs.Fit.{fit_reads_back, read_is_content}
-use Rattle.ss_record.proofs.IdLists.{same_id, bytes_eq-same}
-use Rattle.ss_record.proofs.OfId.{and_then_some, reading_is_read}
+use Rattle.ss_record.proofs.Fit.{fit_reads_back, read_is_content, differ}
+use Rattle.ss_record.proofs.OfId.{reading_is_read}
 use Rattle.ss_device_file.specs.declared.lines.ItemLine.{ItemLine}
 use Rattle.ss_device_file.specs.Lines.{IsItemLine, record_in}
 use Rattle.ss_device_file.specs.Records.{all_ids, id_told, in_place, item_from, item_line_of, read_item, record_id, record_parts}
 use Rattle.ss_device_file.specs.Values.{id_of}
+use Rattle.ss_text.proofs.Basics.{same_text, and_then_some, map_some}
+use Rattle.ss_text.proofs.StampTexts.{decimal_digits}
 
 -- ---- reading says the item, its parent and its children
-
-differ : (x y : List ℕ) → bytes_eq x y ≡ false → x ≢ y
-differ x y h e = false≢true (sym h ∙ bytes_eq-same x y e)
 
 pub record_back : (i : ItemLine) → IsItemLine i → reading i.item.id (record_in i) ≡ Item i.item (Some i.parent) i.children
 unfolding record_in
@@ -74,7 +71,7 @@ string_is id (Some d) h = go (string_of d) h
   where
     go : (o : Option (List ℕ)) → unwrap_or (option_map (bytes_eq id) o) false ≡ true → o ≡ Some id
     go None q = absurd (false≢true q)
-    go (Some s) q = ap Some (sym (same_id id s q))
+    go (Some s) q = ap Some (sym (same_text id s q))
 
 id_there : (id : List ℕ) (ms : Members) (i : ItemView) (p : Option (List ℕ)) (cs : List (List ℕ)) → members_reading id ms ≡ Item i p cs → is_string id (get_member (codes "id") ms) ≡ true
 unfolding members_reading
@@ -108,10 +105,6 @@ id_form x y = go (is_id x) refl
     go true q e = let same : x ≡ y = cc in subst (λ z. is_id z ≡ true) same q
     go false q e = cc
 
-map_some : {A B : Type 0} (f : A → B) (o : Option A) (b : B) → option_map f o ≡ Some b → (a : A) × (o ≡ Some a) × (f a ≡ b)
-map_some f None b h = cc
-map_some f (Some a) b h = (a, refl, cc)
-
 pub ids_form : (xs ys : List (List ℕ)) → all_ids xs ≡ Some ys → list_all is_id ys ≡ true
 ids_form [] ys h = let same : [] ≡ ys = cc in subst (λ zs. list_all is_id zs ≡ true) same refl
 ids_form (x ∷ xs) ys h =
@@ -130,9 +123,6 @@ pub record IsReadSo (time : ℕ) (text : List ℕ) (i : ItemLine) : Type 0 where
   pub children : list_all is_id i.children ≡ true
   pub leaf : is_folder i.item.kind ≡ false → i.children ≡ []
   pub read : (p : Option (List ℕ)) × (cs : List (List ℕ)) × (reading i.item.id text ≡ Item i.item p cs)
-
-none_some : {X : Type 0} {x : X} → None ≡ Some x → ⊥
-none_some e = cc
 
 nil_ids : (xs ys : List (List ℕ)) → all_ids xs ≡ Some ys → xs ≡ [] → ys ≡ []
 nil_ids xs ys e z = let r : all_ids [] ≡ Some ys = ap all_ids (sym z) ∙ e in cc

@@ -5,6 +5,7 @@ use Rattle.std.proofs.lemmas.Bool.{false≢true}
 use Rattle.std.proofs.Math.Seq.{take-append_seam, drop-append-add, drop-append_seam}
 use Rattle.std.proofs.lemmas.List.{take_rest}
 use Rattle.ss_device_file.specs.Cuts.{NoComma, item_front, item_pieces, begins_as_item}
+use Rattle.ss_text.proofs.Basics.{some_same}
 
 before_comma : (digits rest : List ℕ) → NoComma digits → prefix_len (λ b. not (b == 44)) (digits ++ 44 ∷ rest) ≡ length digits
 before_comma [] rest h = refl
@@ -60,9 +61,6 @@ pub begins_so : (xs : List ℕ) → begins_as_item (item_front ++ xs) ≡ true
 unfolding item_front
 begins_so xs = refl
 
-some_at : {X : Type 0} {x y : X} → Some x ≡ Some y → x ≡ y
-some_at e = cc
-
 -- what stands behind the comma
 abbrev pub behind : ℕ → List ℕ → List ℕ
 behind k inner = take (length inner - (k + 1)) (drop (k + 1) inner)
@@ -75,7 +73,7 @@ pub record IsSliced (digits text inner : List ℕ) (k : ℕ) : Type 0 where
 pub sliced : (digits text inner : List ℕ) (k : ℕ) → NoComma digits → digits ++ 44 ∷ [] ++ text ++ 93 ∷ 10 ∷ [] ≡ inner → Some k ≡ position (λ b. b == 44) inner → IsSliced digits text inner k
 sliced digits text inner k h is at =
     let c = cut_is digits text inner h is in
-    let same : k ≡ length digits = some_at (at ∙ c.at) in
+    let same : k ≡ length digits = some_same (at ∙ c.at) in
     subst (IsSliced digits text inner) (sym same) (here c)
   where
     here : IsCutOf digits text inner → IsSliced digits text inner (length digits)

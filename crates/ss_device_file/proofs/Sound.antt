@@ -7,12 +7,14 @@ use Rattle.std.proofs.lemmas.List.{map-append}
 use Rattle.std.proofs.lemmas.List.Elements.{filter-append}
 use Rattle.std.proofs.lemmas.List.Folds.{find-append}
 use Rattle.ss_record.specs.Ids.{has, places, roots}
-use Rattle.ss_record.proofs.IdLists.{bytes_eq-refl, has-append, has-cons, has-head, has-nil, has-tail, same_id}
+use Rattle.ss_record.proofs.IdLists.{bytes_eq-refl, has-append, has-cons, has-head, has-nil, has-tail}
 use Rattle.ss_device_file.specs.declared.lines.ItemLine.{ItemLine}
 use Rattle.ss_device_file.specs.Growing.{come_under, line_of}
 use Rattle.ss_device_file.specs.Lines.{IsItemLine}
 use Rattle.ss_device_file.specs.Places.{Seat, child_seats, has_place, is_next, item_ids, root_seats, seats_behind, seats_left}
 use Rattle.ss_device_file.proofs.Walked.{ids_more, left_more}
+use Rattle.ss_record.proofs.Fit.{differ}
+use Rattle.ss_text.proofs.Basics.{same_text, is_none}
 
 -- `places`, or an item that has come
 abbrev pub knows : List ItemLine → List ℕ → Bool
@@ -85,12 +87,8 @@ line_there (i ∷ is) y = go (bytes_eq y i.item.id) (line_there is y)
     go true ih = refl
     go false ih = ih
 
-no_some : {X : Type 0} (o : Option X) → is_some o ≡ false → o ≡ None
-no_some None e = refl
-no_some (Some x) e = absurd (false≢true (sym e))
-
 pub no_line : (is : List ItemLine) (y : List ℕ) → has y (item_ids is) ≡ false → line_of y is ≡ None
-no_line is y h = no_some (line_of y is) (line_there is y ∙ h)
+no_line is y h = is_none (line_of y is) (line_there is y ∙ h)
 
 pub knows_more : (is : List ItemLine) (i : ItemLine) (y : List ℕ) → knows (is ++ i ∷ []) y ≡ (knows is y || bytes_eq y i.item.id)
 knows_more is i y =
@@ -126,7 +124,7 @@ is_here is i h =
     go [] e n f = absurd (false≢true n)
     go (s ∷ ss) e n f =
         let q = and_parts (bytes_eq s.0 i.item.id) (bytes_eq s.1 i.parent) n in
-        record { others = ss; seats_are = e ∙ ap (λ t. t ∷ ss) (ap₂ (λ a b. (a, b)) (same_id s.0 i.item.id q.0) (same_id s.1 i.parent q.1)); fresh = f }
+        record { others = ss; seats_are = e ∙ ap (λ t. t ∷ ss) (ap₂ (λ a b. (a, b)) (same_text s.0 i.item.id q.0) (same_text s.1 i.parent q.1)); fresh = f }
 
 -- ---- nothing stands under what is not known
 
@@ -137,7 +135,7 @@ unknown_come is y (j ∷ js) u a = go (bytes_eq y j.parent) refl (unknown_come i
   where
     go : (b : Bool) → bytes_eq y j.parent ≡ b → map (λ (h : ItemLine). h.item.id) (filter (λ (h : ItemLine). bytes_eq y h.parent) js) ≡ []
         → map (λ (h : ItemLine). h.item.id) (cond b (j ∷ filter (λ (h : ItemLine). bytes_eq y h.parent) js) (filter (λ (h : ItemLine). bytes_eq y h.parent) js)) ≡ []
-    go true e ih = absurd (false≢true (sym u ∙ (ap (knows is) (same_id y j.parent e) ∙ a.0)))
+    go true e ih = absurd (false≢true (sym u ∙ (ap (knows is) (same_text y j.parent e) ∙ a.0)))
     go false e ih = ih
 
 unknown_seats : (is : List ItemLine) (y : List ℕ) (ss : List Seat) → knows is y ≡ false → AllSeats (IsGoodSeat is) ss → seated y ss ≡ []
@@ -145,7 +143,7 @@ unknown_seats is y [] u a = refl
 unknown_seats is y (s ∷ ss) u a = go (bytes_eq y s.1) refl (unknown_seats is y ss u a.1)
   where
     go : (b : Bool) → bytes_eq y s.1 ≡ b → seated y ss ≡ [] → map (λ (t : Seat). t.0) (cond b (s ∷ filter (λ (t : Seat). bytes_eq y t.1) ss) (filter (λ (t : Seat). bytes_eq y t.1) ss)) ≡ []
-    go true e ih = absurd (false≢true (sym u ∙ (ap (knows is) (same_id y s.1 e) ∙ a.0.known)))
+    go true e ih = absurd (false≢true (sym u ∙ (ap (knows is) (same_text y s.1 e) ∙ a.0.known)))
     go false e ih = ih
 
 -- ---- from the first item on
@@ -179,12 +177,9 @@ lines_still : (is js : List ItemLine) (i : ItemLine) → AllLines (λ j. knows i
 lines_still is [] i a p = (knows_still is i i.parent p, tt)
 lines_still is (j ∷ js) i a p = (knows_still is i j.parent a.0, lines_still is js i a.1 p)
 
-pub other_id : (x y : List ℕ) → bytes_eq x y ≡ false → x ≢ y
-other_id x y h e = false≢true (sym h ∙ (ap (bytes_eq x) (sym e) ∙ bytes_eq-refl x))
-
 child_good : (is : List ItemLine) (i : ItemLine) (xs : List (List ℕ)) → bytes_eq i.item.id places ≡ false → AllSeats (IsGoodSeat (is ++ i ∷ [])) (map (λ x. (x, i.item.id)) xs)
 child_good is i [] h = tt
-child_good is i (x ∷ xs) h = (record { root = λ e. absurd (other_id i.item.id places h e); known = knows_more is i i.item.id ∙ (ap (λ b. knows is i.item.id || b) (bytes_eq-refl i.item.id) ∙ or_last (knows is i.item.id)) }, child_good is i xs h)
+child_good is i (x ∷ xs) h = (record { root = λ e. absurd (differ i.item.id places h e); known = knows_more is i i.item.id ∙ (ap (λ b. knows is i.item.id || b) (bytes_eq-refl i.item.id) ∙ or_last (knows is i.item.id)) }, child_good is i xs h)
   where
     or_last : (b : Bool) → (b || true) ≡ true
     or_last true = refl
@@ -204,7 +199,7 @@ new_kids : (is : List ItemLine) (i : ItemLine) → IsSound is → (here : IsHere
     → come_under (is ++ i ∷ []) y ++ seated y (child_seats i ++ here.others) ≡ kids_told (is ++ i ∷ []) y
 unfolding kids_told
 new_kids is i s here form y e =
-    let same : y ≡ i.item.id = same_id y i.item.id e in
+    let same : y ≡ i.item.id = same_text y i.item.id e in
     let u : knows is y ≡ false = ap (knows is) same ∙ unknown_new is i here form in
     let rest : AllSeats (IsGoodSeat is) here.others = (subst (AllSeats (IsGoodSeat is)) here.seats_are s.seats).1 in
     let inner : bytes_eq y places ≡ false = ap (λ x. bytes_eq x places) same ∙ form.inner in
@@ -218,7 +213,7 @@ new_kids is i s here form y e =
     unknown_apart js x p u k = go (bytes_eq x p) refl
       where
         go : (b : Bool) → bytes_eq x p ≡ b → b ≡ false
-        go true q = absurd (false≢true (sym u ∙ (ap (knows js) (same_id x p q) ∙ k)))
+        go true q = absurd (false≢true (sym u ∙ (ap (knows js) (same_text x p q) ∙ k)))
         go false q = refl
 
 -- an older one has one child more, or none

@@ -1,5 +1,5 @@
 -- The stack of the ids that are to come.
-use Rattle.std.proofs.Common.{◌≡◌, ℕ, suc, ◌+◌, ◌-◌, ◌<◌, ◌≤◌, ◌&&◌, Bool, true, false, not, List, [], ◌∷◌, ◌++◌, length, drop, get_or, map, bytes_eq, refl, sym, ap, ap₂, ◌∙◌, arith}
+use Rattle.std.proofs.Common.{◌≡◌, ℕ, suc, ◌+◌, ◌-◌, ◌<◌, ◌≤◌, ◌&&◌, Bool, true, not, List, [], ◌∷◌, ◌++◌, length, drop, get_or, map, bytes_eq, sym, ap, ap₂, ◌∙◌, arith}
 use Rattle.std.proofs.lemmas.List.{reverse-append}
 use Rattle.std.proofs.Math.ListN.{drop_of_length-le}
 use Rattle.std.proofs.Math.Seq.{drop-cons}
@@ -34,13 +34,6 @@ pub all_on : (parent : List ℕ) (children : List (List ℕ)) (k : ℕ) (ws : Li
 all_on parent children k ws before le is =
     let none : length children - k ≡ 0 = omega arith in
     is ∙ ap (λ j. seats_from parent (drop j children) ++ before) none
-
-not_false : (b : Bool) → false ≡ not b → b ≡ true
-not_false true e = refl
-not_false false e = cc
-
-pub equal_so : (r b : Bool) → r ≡ not b → r ≡ false → b ≡ true
-equal_so r b e f = not_false b (sym f ∙ e)
 
 pub comes_if : (old rest : List Waiting) (w : Waiting) (i : ItemLine) (met : List (List ℕ)) (x : List ℕ) (new : Bool) → old ≡ rest ++ w ∷ [] → bytes_eq w.id i.item.id ≡ true → bytes_eq w.parent i.parent ≡ true
     → x ≡ i.item.id → new ≡ not (list_any (bytes_eq x) met) → new ≡ comes_next (seats_on old) met i

@@ -2,26 +2,26 @@
 use Rattle.std.proofs.Common.{◌≡◌, ◌≢◌, ℕ, ◌==◌, Bool, true, false, cond, List, [], ◌∷◌, map, find, bytes_eq, refl, sym, ap, ap₂, subst, ◌∙◌, ◌&&◌, inl, inr, Option, Some, None, option_map, option_and_then, unwrap_or, is_some}
 use Rattle.std.specs.List.{list_all}
 use Rattle.std.specs.Str.{IsUtf8}
-use Rattle.std.proofs.lemmas.Bool.{false≢true, eqb-true}
+use Rattle.std.proofs.lemmas.Bool.{false≢true, eqb-true, eqb-false}
 use Rattle.ss_text.specs.Names.{is_id}
 use Rattle.ss_record.specs.Ids.{places}
 use Rattle.ss_record.specs.Kinds.{is_folder}
 use Rattle.ss_record.specs.Records.{record_of}
-use Rattle.ss_record.proofs.IdLists.{bytes_eq-apart, bytes_eq-same, bytes_eq-sym}
+use Rattle.ss_record.proofs.IdLists.{bytes_eq-apart}
 use Rattle.ss_tree.specs.declared.entries.Entry.{Entry}
 use Rattle.ss_tree.specs.Trees.{IsSame, Placed, node, places_node}
 use Rattle.ss_tree.specs.Entries.{IsTree, entry, is_live, kids, placed, top_entry, tree}
-use Rattle.ss_tree.proofs.Changes.{some_same}
-use Rattle.ss_tree.proofs.Edits.{other_number}
 use Rattle.ss_tree.proofs.Valid.{In, valid_tree}
 use Rattle.ss_device.specs.Forms.{AreItems}
 use Rattle.ss_device.specs.Writing.{record_at}
-use Rattle.ss_device.proofs.ByIds.{at_entry, by_entry, idof, live_some, name_at, none_some, placed_is, same_node}
+use Rattle.ss_device.proofs.ByIds.{at_entry, by_entry, idof, name_at, placed_is, same_node}
 use Rattle.ss_device.proofs.Changes.{kid_there}
 use Rattle.ss_device_file.specs.declared.lines.ItemLine.{ItemLine}
 use Rattle.ss_device_file.specs.Lines.{IsItemLine, record_in}
 use Rattle.ss_device_file.specs.Places.{placed_of, tree_of}
 use Rattle.ss_device_file.proofs.Preorder.{inner, inner_all, inner_below, inner_live, line_under, name_is, node_id_is, node_item, node_item_is, node_items, one_node}
+use Rattle.ss_tree.proofs.Looked.{live_entry}
+use Rattle.ss_text.proofs.Basics.{bytes_eq-sym, bytes_eq-same, some_same, none_some}
 
 places_id : is_id places ≡ true
 unfolding places
@@ -39,7 +39,7 @@ pub record IsThere (es : List Entry) (k : ℕ) : Type 0 where
 
 pub there : (es : List Entry) → IsTree es → (k : ℕ) → k ≢ 0 → is_live k es ≡ true → IsThere es k
 there es t k ne live =
-    let e = live_some es k live in
+    let e = live_entry es k live in
     let f = t.folder k e.0 e.1 ne in
     record { item = e.0; at = e.1; up = f.0; up_is = f.1; folder = f.2; above = f.3 }
 
@@ -113,7 +113,7 @@ module _ (es : List Entry) (t : IsTree es) where
               let id : x ≡ places = sym is ∙ ap (λ (d : Entry). d.item.id) top in
               told true (bytes_eq-same x places id) ∙ ap Some (sym (ap (placed es) top ∙ top_placed))
           go false h =
-              let ne = other_number k 0 h in
+              let ne = eqb-false k 0 h in
               let live : is_live k es ≡ true = ap is_some q in
               let m = there es t k ne live in
               let one : m.item ≡ e = some_same (sym m.at ∙ q) in
@@ -126,7 +126,7 @@ module _ (es : List Entry) (t : IsTree es) where
       from : ((k : ℕ) (e : Entry) → entry k es ≡ Some e → e.item.id ≡ x → ⊥) → node x (tree_of (node_items es (inner es))) ≡ None
       from none =
           told false (bytes_eq-apart x places (λ is. none 0 top_entry t.top (sym is)))
-          ∙ find_no es x (inner es) (λ j a. let e = live_some es j (inner_live es t j a) in bytes_eq-apart x (node_item es j).item.id (λ is. none j e.0 e.1 (sym (node_id_is es j e.0 e.1) ∙ sym is)))
+          ∙ find_no es x (inner es) (λ j a. let e = live_entry es j (inner_live es t j a) in bytes_eq-apart x (node_item es j).item.id (λ is. none j e.0 e.1 (sym (node_id_is es j e.0 e.1) ∙ sym is)))
 
   -- ---- the items in form
 
@@ -148,7 +148,7 @@ module _ (es : List Entry) (t : IsTree es) where
       where
         go : (b : Bool) → (p == 0) ≡ b → is_id f.item.id ≡ true
         go true h = let top : f ≡ top_entry = some_same (sym q ∙ (ap (λ n. entry n es) (eqb-true p 0 h) ∙ t.top)) in ap (λ (d : Entry). is_id d.item.id) top ∙ places_id
-        go false h = (formed p f (other_number p 0 h) q).id
+        go false h = (formed p f (eqb-false p 0 h) q).id
 
     leaf_alone : (k : ℕ) (e : Entry) → entry k es ≡ Some e → is_folder e.item.kind ≡ false → kids k es ≡ []
     unfolding In

@@ -1,10 +1,7 @@
 -- Which lines begin as an item's does, and that the record in one is a text.
-use Rattle.std.proofs.Common.{◌≡◌, ◌≢◌, ℕ, suc, ◌+◌, ◌<◌, Bool, true, false, List, [], ◌∷◌, ◌++◌, length, get_or, Option, Some, option_map, codes, decimal, append_assoc, refl, sym, ap, ap₂, subst, ◌∙◌, arith, lit<, length-append}
+use Rattle.std.proofs.Common.{◌≡◌, ◌≢◌, ℕ, ◌+◌, ◌<◌, Bool, true, false, List, [], ◌∷◌, ◌++◌, length, Option, Some, option_map, codes, decimal, append_assoc, refl, sym, ap, ap₂, subst, ◌∙◌, arith, lit<, length-append}
 use Rattle.std.specs.Str.{IsUtf8}
 use Rattle.std.proofs.lemmas.Bool.{false≢true}
-use Rattle.std.proofs.lemmas.Str.{IsUtf8-take, IsUtf8-drop, IsCharBoundary-before_ascii, IsCharBoundary-after_ascii}
-use Rattle.std.proofs.Math.Seq.{take-append_seam, drop-append-add}
-use Rattle.std.proofs.lemmas.List.{get_or_at}
 use Rattle.serde_json.specs.Data.{array}
 use Rattle.serde_json.specs.Read.{read}
 use Rattle.serde_json.specs.Written.{compact_text}
@@ -17,6 +14,7 @@ use Rattle.ss_device_file.specs.Cuts.{begins_as_item, item_front}
 use Rattle.ss_device_file.specs.Lines.{HasForm, IsItemLine, IsLine, line_text, record_in}
 use Rattle.ss_device_file.specs.Values.{is_item, line_in, parts_of}
 use Rattle.ss_device_file.proofs.Written.{from_parts, json_line, read_line_back}
+use Rattle.ss_text.proofs.Marks.{cut_at_byte}
 
 pub begins_is : (l : Line) → begins_as_item (line_text l) ≡ is_item l
 unfolding item_front device_line stamp_line row_line item_line dead_line end_line
@@ -29,15 +27,6 @@ begins_is (Dead id time) = refl
 begins_is End = refl
 
 -- ---- cutting a text at a byte of ASCII
-
-cut_at_byte : (a b : List ℕ) (x : ℕ) → x < 128 → IsUtf8 (a ++ x ∷ b) → IsUtf8 a × IsUtf8 b
-cut_at_byte a b x small u =
-    let t = a ++ x ∷ b in
-    let long : length t ≡ length a + suc (length b) = length-append a (x ∷ b) in
-    let here : get_or t (length a) 0 ≡ x = get_or_at a x b 0 (length a) refl in
-    let front = IsUtf8-take t (length a) u (IsCharBoundary-before_ascii t (length a) (omega arith) (omega arith)) in
-    let rest = IsUtf8-drop t (length a + 1) u (IsCharBoundary-after_ascii t (length a) u (omega arith) (omega arith)) in
-    (subst IsUtf8 (take-append_seam a (x ∷ b)) front, subst IsUtf8 (drop-append-add a (x ∷ b) 1) rest)
 
 pub record_utf8 : (time : ℕ) (text : List ℕ) → IsUtf8 (item_line time text) → IsUtf8 text
 unfolding item_line

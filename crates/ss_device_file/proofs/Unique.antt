@@ -1,5 +1,5 @@
 -- A text has one reading as lines.
-use Rattle.std.proofs.Common.{◌≡◌, ◌≢◌, ◌⊎◌, ℕ, ◌+◌, ◌≤◌, Bool, true, false, List, [], ◌∷◌, ◌++◌, length, take, drop, codes, decimal, Some, append_assoc, append-nil, refl, sym, ap, ap₂, subst, ◌∙◌, arith, inl, inr}
+use Rattle.std.proofs.Common.{◌≡◌, ◌≢◌, ◌⊎◌, ℕ, ◌+◌, ◌≤◌, Bool, true, false, List, [], ◌∷◌, ◌++◌, length, take, drop, codes, decimal, append_assoc, append-nil, refl, sym, ap, ap₂, subst, ◌∙◌, arith, inl, inr}
 use Rattle.std.proofs.lemmas.Fmt.{decimal_injective}
 use Rattle.std.proofs.lemmas.List.{append_cancel_left, append_cancel_right}
 use Rattle.serde_json.specs.Data.{array}
@@ -14,14 +14,12 @@ use Rattle.ss_device_file.specs.Lines.{AreLines, ComeAfter, IsItemLine, IsLine, 
 use Rattle.ss_device_file.specs.Records.{item_from}
 use Rattle.ss_device_file.specs.Values.{is_item, parts_of}
 use Rattle.ss_device_file.proofs.Bodies.{line_body}
-use Rattle.ss_device_file.proofs.Breaks.{cut}
 use Rattle.ss_device_file.proofs.Recorded.{time_nocomma, written_read}
 use Rattle.ss_device_file.proofs.Sliced.{cut_is}
 use Rattle.ss_device_file.proofs.Tags.{begins_is, of_item, some_length, value_said}
 use Rattle.ss_device_file.proofs.Written.{json_line}
-
-some_same : {X : Type 0} {x y : X} → Some x ≡ Some y → x ≡ y
-some_same e = cc
+use Rattle.ss_record.proofs.OneLine.{cut}
+use Rattle.ss_text.proofs.Basics.{some_same}
 
 -- ---- a line has one text, and a text one line
 

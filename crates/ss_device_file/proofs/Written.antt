@@ -22,7 +22,9 @@ use Rattle.ss_device_file.specs.declared.lines.Line.{Line}
 use Rattle.ss_device_file.specs.declared.lines.Line.TheVariants.{Head, Synced, Row, Item, Dead, End}
 use Rattle.ss_device_file.specs.Lines.{HasForm, line_text}
 use Rattle.ss_device_file.specs.Values.{parts_of, is_item, line_in, line_from, head_from, synced_from, row_from, dead_from, row_with, tagged, id_of, time_of, version_of, text_at, number_at, stamp_at, id_at, time_at}
-use Rattle.ss_device_file.proofs.Numbers.{decimal_digits, stamp_again, stamp_small, two_are_digits}
+use Rattle.ss_device_file.proofs.Numbers.{stamp_small}
+use Rattle.ss_text.proofs.StampTexts.{two_are_digits, decimal_digits, stamp_again}
+use Rattle.ss_text.proofs.Basics.{and_then_some, map_some, some_same}
 
 -- ---- from a line's items
 
@@ -40,14 +42,6 @@ from_parts (Dead id time) h e =
 from_parts End h e = refl
 
 -- ---- what is read has its form
-
-and_then_some : {A B : Type 0} (f : A → Option B) (o : Option A) (b : B) → option_and_then f o ≡ Some b → (a : A) × (o ≡ Some a) × (f a ≡ Some b)
-and_then_some f None b h = cc
-and_then_some f (Some a) b h = (a, refl, h)
-
-map_some : {A B : Type 0} (f : A → B) (o : Option A) (b : B) → option_map f o ≡ Some b → (a : A) × (o ≡ Some a) × (f a ≡ b)
-map_some f None b h = cc
-map_some f (Some a) b h = (a, refl, cc)
 
 has_id_form : (o : Option (List ℕ)) (id : List ℕ) → option_and_then id_of o ≡ Some id → is_id id ≡ true
 has_id_form o id h =
@@ -71,9 +65,6 @@ has_stamp_form : (o : Option (List ℕ)) (time : ℕ) → option_and_then stamp_
 has_stamp_form o time h = let r = and_then_some stamp_of o time h in stamp_small r.0 time r.2
 
 -- ---- a line of this list has its form
-
-some_same : {X : Type 0} {x y : X} → Some x ≡ Some y → x ≡ y
-some_same e = cc
 
 head_form : (ps : Items) (l : Line) → head_from ps ≡ Some l → HasForm l
 unfolding head_from

@@ -1,5 +1,5 @@
 -- Pairs that are added, one after the other.
-use Rattle.std.proofs.Common.{◌≡◌, ◌↔◌, ◌⊎◌, ◌+◌, ◌<◌, ℕ, ◌&&◌, ◌||◌, Bool, true, false, cond, List, [], ◌∷◌, ◌++◌, length, take, get_or, bytes_eq, Some, is_some, refl, sym, ap, subst, ◌∙◌, inl, inr}
+use Rattle.std.proofs.Common.{◌≡◌, ◌↔◌, ◌⊎◌, ◌+◌, ◌<◌, ℕ, ◌&&◌, ◌||◌, true, false, cond, List, [], ◌∷◌, ◌++◌, length, take, get_or, bytes_eq, Some, is_some, refl, sym, ap, subst, ◌∙◌, inl, inr}
 use Rattle.std.proofs.lemmas.List.{take_more}
 use Rattle.std.specs.BTreeMap as tree
 use Rattle.std.specs.BTreeMap.{BTreeMap}
@@ -9,29 +9,16 @@ use Rattle.ss_dupe.specs.Looks.{Id}
 use Rattle.ss_dupe.specs.Sides.{Sides}
 use Rattle.ss_dupe.specs.Pairs.{AreAlike}
 use Rattle.ss_dupe.specs.News.{Adds, has_pair}
-use Rattle.ss_dupe.proofs.Basics.{two_ways, no_way, same-true, same-is, and_both, and_first, and_second}
+use Rattle.ss_dupe.proofs.Basics.{same-true, same-is}
 use Rattle.ss_dupe.proofs.Alike.{pair-end}
-
-or_assoc : (x y z : Bool) → ((x || y) || z) ≡ (x || (y || z))
-or_assoc true y z = refl
-or_assoc false y z = refl
-
-or_left : (x y : Bool) → x ≡ true → (x || y) ≡ true
-or_left true y e = refl
-or_left false y e = cc
-
-or_right : (x y : Bool) → y ≡ true → (x || y) ≡ true
-or_right true y e = refl
-or_right false y e = e
-
-or_cases : (x y : Bool) → (x || y) ≡ true → (x ≡ true) ⊎ (y ≡ true)
-or_cases true y e = inl refl
-or_cases false y e = inr e
+use Rattle.std.proofs.lemmas.Bool.{cases_Bool, or_cases, or_left, and_from, or_right}
+use Rattle.ss_text.proofs.Basics.{both_left, both_right, no_way}
+use Rattle.ss_record.proofs.IdLists.{or-assoc}
 
 pub next_more : (before now later seen : List (Id × Id)) (a b : Id) → ((l r : Id) → has_pair l r now ≡ (has_pair l r before || has_pair l r seen)) → later ≡ now ++ (a, b) ∷ [] →
     (l r : Id) → has_pair l r later ≡ (has_pair l r before || has_pair l r (seen ++ (a, b) ∷ []))
 next_more before now later seen a b is then l r =
-    ap (has_pair l r) then ∙ pair-end l r a b now ∙ ap (λ c. c || (bytes_eq l a && bytes_eq r b)) (is l r) ∙ or_assoc (has_pair l r before) (has_pair l r seen) (bytes_eq l a && bytes_eq r b)
+    ap (has_pair l r) then ∙ pair-end l r a b now ∙ ap (λ c. c || (bytes_eq l a && bytes_eq r b)) (is l r) ∙ or-assoc (has_pair l r before) (has_pair l r seen) (bytes_eq l a && bytes_eq r b)
     ∙ ap (λ c. has_pair l r before || c) (sym (pair-end l r a b seen))
 
 pub nothing_added : (m : BTreeMap Id Id) → Adds m m []
@@ -39,9 +26,9 @@ nothing_added m = record { sound = λ l r e. inl e; kept = λ l e. e; added = λ
 
 pub one_added : (old now later : BTreeMap Id Id) (seen : List (Id × Id)) (a b : Id) → Adds old now seen → tree.Updates text_cmp now later a (Some b) → Adds old later (seen ++ (a, b) ∷ [])
 one_added old now later seen a b d u = record {
-  sound = λ l r e. sound l r e (two_ways (bytes_eq a l));
-  kept = λ l e. kept l (d.kept l e) (two_ways (bytes_eq a l));
-  added = λ l r e. added l r (or_cases (has_pair l r seen) _ (sym (pair-end l r a b seen) ∙ e)) (two_ways (bytes_eq a l));
+  sound = λ l r e. sound l r e (cases_Bool (bytes_eq a l));
+  kept = λ l e. kept l (d.kept l e) (cases_Bool (bytes_eq a l));
+  added = λ l r e. added l r (or_cases (has_pair l r seen) _ (sym (pair-end l r a b seen) ∙ e)) (cases_Bool (bytes_eq a l));
 }
   where
     updated : (l : Id) → tree.get text_cmp later l ≡ cond (bytes_eq a l) (Some b) (tree.get text_cmp now l)
@@ -57,7 +44,7 @@ one_added old now later seen a b d u = record {
     sound l r e (inl h) =
         let found : Some b ≡ Some r = sym (here l h) ∙ e in
         let same : b ≡ r = cc in
-        inr (pair-end l r a b seen ∙ or_right (has_pair l r seen) _ (and_both (bytes_eq l a) _ (same-is l a (sym (same-true a l h))) (same-is r b (sym same))))
+        inr (pair-end l r a b seen ∙ or_right (has_pair l r seen) _ (and_from (bytes_eq l a) _ (same-is l a (sym (same-true a l h))) (same-is r b (sym same))))
     sound l r e (inr h) = elim (d.sound l r (sym (there l h) ∙ e)) [
       | inl f ↦ inl f
       | inr f ↦ inr (pair-end l r a b seen ∙ or_left (has_pair l r seen) _ f)
@@ -70,7 +57,7 @@ one_added old now later seen a b d u = record {
     added : (l r : Id) → (has_pair l r seen ≡ true) ⊎ ((bytes_eq l a && bytes_eq r b) ≡ true) → (bytes_eq a l ≡ true) ⊎ (bytes_eq a l ≡ false) → is_some (tree.get text_cmp later l) ≡ true
     added l r e (inl h) = ap is_some (here l h)
     added l r (inl f) (inr h) = ap is_some (there l h) ∙ d.added l r f
-    added l r (inr f) (inr h) = no_way (bytes_eq a l) (same-is a l (sym (same-true l a (and_first (bytes_eq l a) _ f)))) h
+    added l r (inr f) (inr h) = no_way (bytes_eq a l) (same-is a l (sym (same-true l a (both_left (bytes_eq l a) _ f)))) h
 
 -- first some, then others
 pub added_through : (a b c : BTreeMap Id Id) (xs ys zs : List (Id × Id)) → Adds a b xs → Adds b c ys → ((l r : Id) → has_pair l r zs ≡ (has_pair l r xs || has_pair l r ys)) → Adds a c zs
@@ -100,14 +87,14 @@ round_more s current i a b c now likes later lt is_c ca cb before like then l r 
     there : has_pair l r later ≡ true → (p : Id) × (q : Id) × (has_pair p q (take (i + 1) current) ≡ true) × AreAlike s l r p q
     there h = elim (or_cases (has_pair l r now) (has_pair l r likes) (sym (then l r) ∙ h)) [
       | inl f ↦ let k = (before l r).0 f in (k.0, k.1, grown k.0 k.1 ∙ or_left (has_pair k.0 k.1 (take i current)) _ k.2, k.3)
-      | inr f ↦ (a, b, grown a b ∙ or_right (has_pair a b (take i current)) _ (and_both (bytes_eq a a) _ (same-is a a refl) (same-is b b refl)), (like l r).0 f)
+      | inr f ↦ (a, b, grown a b ∙ or_right (has_pair a b (take i current)) _ (and_from (bytes_eq a a) _ (same-is a a refl) (same-is b b refl)), (like l r).0 f)
     ]
 
     back : (p : Id) × (q : Id) × (has_pair p q (take (i + 1) current) ≡ true) × AreAlike s l r p q → has_pair l r later ≡ true
     back k = then l r ∙ elim (or_cases (has_pair k.0 k.1 (take i current)) _ (sym (grown k.0 k.1) ∙ k.2)) [
       | inl f ↦ or_left (has_pair l r now) (has_pair l r likes) ((before l r).1 (k.0, k.1, f, k.3))
       | inr f ↦
-          let pa = same-true k.0 a (and_first (bytes_eq k.0 a) _ f) in
-          let qb = same-true k.1 b (and_second (bytes_eq k.0 a) _ f) in
+          let pa = same-true k.0 a (both_left (bytes_eq k.0 a) _ f) in
+          let qb = same-true k.1 b (both_right (bytes_eq k.0 a) _ f) in
           or_right (has_pair l r now) (has_pair l r likes) ((like l r).1 (subst (λ z. AreAlike s l r a z) qb (subst (λ z. AreAlike s l r z k.1) pa k.3)))
     ]

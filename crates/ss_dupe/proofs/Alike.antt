@@ -1,8 +1,7 @@
 -- The new children of two items that are alike.
 use Rattle.std.proofs.Common.{◌≡◌, ◌↔◌, ◌⊎◌, ◌&&◌, ◌||◌, Bool, true, false, cond, List, [], ◌∷◌, ◌++◌, map, filter, bytes_eq, Option, Some, None, is_some, refl, sym, ap, ◌∙◌, inl, inr}
-use Rattle.std.proofs.lemmas.Bool.{eqb-true}
+use Rattle.std.proofs.lemmas.Bool.{eqb-true, cases_Bool, and_from, eq-eqb}
 use Rattle.ss_record.specs.Ids.{has, Apart}
-use Rattle.ss_tree.proofs.Edits.{same_number}
 use Rattle.ss_dupe.specs.declared.sides.Side.{Side}
 use Rattle.ss_dupe.specs.declared.sides.Side.TheVariants.{Local, Remote}
 use Rattle.ss_dupe.specs.declared.news.New.{New}
@@ -12,21 +11,22 @@ use Rattle.ss_dupe.specs.Shapes.{AreShaped}
 use Rattle.ss_dupe.specs.Sides.{Sides, tree_of, is_new}
 use Rattle.ss_dupe.specs.Pairs.{AreAlike}
 use Rattle.ss_dupe.specs.News.{new_at, news_of, AreApart, HasNew, same_mark, has_pair}
-use Rattle.ss_dupe.proofs.Basics.{two_ways, no_way, same-is, same-true, and_both, and_first, and_second, has-head, has-tail, has-cases, has-nil, false_from}
+use Rattle.ss_dupe.proofs.Basics.{same-is, same-true, has-head, has-tail, has-cases, has-nil, false_from}
 use Rattle.ss_dupe.proofs.Lists.{has-filter, has-filter_list, has-filter_test, has-append_left, has-append_right, has-append_cases}
 use Rattle.ss_dupe.proofs.Shapes.{apart-from_counts}
 use Rattle.ss_dupe.proofs.OneEach.{parent-lists, one_remote_of}
+use Rattle.ss_text.proofs.Basics.{both_left, both_right, no_way}
 
 -- ---- marks
 
 pub mark-true : (a b : Mark) → same_mark a b ≡ true → a ≡ b
 mark-true a b h =
-    let k = same-true a.key b.key (and_first (bytes_eq a.key b.key) _ h) in
-    let r = eqb-true a.rank b.rank (and_second (bytes_eq a.key b.key) _ h) in
+    let k = same-true a.key b.key (both_left (bytes_eq a.key b.key) _ h) in
+    let r = eqb-true a.rank b.rank (both_right (bytes_eq a.key b.key) _ h) in
     λ i. record { key = k i; rank = r i }
 
 pub mark-is : (a b : Mark) → a ≡ b → same_mark a b ≡ true
-mark-is a b e = and_both (bytes_eq a.key b.key) _ (same-is a.key b.key (ap (λ (m : Mark). m.key) e)) (same_number a.rank b.rank (ap (λ (m : Mark). m.rank) e))
+mark-is a b e = and_from (bytes_eq a.key b.key) _ (same-is a.key b.key (ap (λ (m : Mark). m.key) e)) (eq-eqb a.rank b.rank (ap (λ (m : Mark). m.rank) e))
 
 -- ---- an index of new items
 
@@ -53,7 +53,7 @@ pub nothing_indexed : (index : Mark → Option Id) → ((m : Mark) → index m �
 nothing_indexed index none = record { found = λ m x e. let no : index m ≡ None = none m in cc; all = λ m x h. absurd h }
 
 pub one_indexed : (ns : List New) (n : New) (index after : Mark → Option Id) → Indexed ns index → ((m : Mark) → after m ≡ cond (same_mark n.mark m) (Some n.id) (index m)) → Indexed (ns ++ n ∷ []) after
-one_indexed ns n index after i is = record { found = λ m x e. found m x e (two_ways (same_mark n.mark m)); all = λ m x h. all m x (hasnew-cases m x ns n h) (two_ways (same_mark n.mark m)) }
+one_indexed ns n index after i is = record { found = λ m x e. found m x e (cases_Bool (same_mark n.mark m)); all = λ m x h. all m x (hasnew-cases m x ns n h) (cases_Bool (same_mark n.mark m)) }
   where
     found : (m : Mark) (x : Id) → after m ≡ Some x → (same_mark n.mark m ≡ true) ⊎ (same_mark n.mark m ≡ false) → HasNew m x (ns ++ n ∷ [])
     found m x e (inl hit) =
@@ -91,7 +91,7 @@ nothing_matched index = record { from = λ l r h. cc; to = λ l r m h e. absurd 
 
 pub one_matched : (ns : List New) (n : New) (index : Mark → Option Id) (ps : List (Id × Id)) (r : Id) → index n.mark ≡ Some r → Matched ns index ps → Matched (ns ++ n ∷ []) index (ps ++ (n.id, r) ∷ [])
 one_matched ns n index ps r e m = record {
-  from = λ l q h. from l q (two_ways (has_pair l q ps)) (sym (pair-end l q n.id r ps) ∙ h);
+  from = λ l q h. from l q (cases_Bool (has_pair l q ps)) (sym (pair-end l q n.id r ps) ∙ h);
   to = λ l q k h f. pair-end l q n.id r ps ∙ to l q k (hasnew-cases k l ns n h) f;
 }
   where
@@ -99,8 +99,8 @@ one_matched ns n index ps r e m = record {
     from l q (inl old) h = let f = m.from l q old in (f.0, hasnew-front f.0 l ns n f.1, f.2)
     from l q (inr new) h =
         let both : (bytes_eq l n.id && bytes_eq q r) ≡ true = sym (ap (λ b. b || (bytes_eq l n.id && bytes_eq q r)) new) ∙ h in
-        let one = same-true l n.id (and_first (bytes_eq l n.id) _ both) in
-        let two = same-true q r (and_second (bytes_eq l n.id) _ both) in
+        let one = same-true l n.id (both_left (bytes_eq l n.id) _ both) in
+        let two = same-true q r (both_right (bytes_eq l n.id) _ both) in
         (n.mark, hasnew-end n.mark l ns n refl (sym one), e ∙ ap Some (sym two))
 
     to : (l q : Id) (k : Mark) → HasNew k l ns ⊎ ((n.mark ≡ k) × (n.id ≡ l)) → index k ≡ Some q → (has_pair l q ps || (bytes_eq l n.id && bytes_eq q r)) ≡ true
@@ -108,7 +108,7 @@ one_matched ns n index ps r e m = record {
     to l q k (inr h) f =
         let there : Some r ≡ Some q = sym e ∙ ap index h.0 ∙ f in
         let same : r ≡ q = cc in
-        or_last (has_pair l q ps) (and_both (bytes_eq l n.id) _ (same-is l n.id (sym h.1)) (same-is q r (sym same)))
+        or_last (has_pair l q ps) (and_from (bytes_eq l n.id) _ (same-is l n.id (sym h.1)) (same-is q r (sym same)))
       where
         or_last : (b : Bool) {c : Bool} → c ≡ true → (b || c) ≡ true
         or_last true e = refl
@@ -182,7 +182,7 @@ like_pairs s a p q index ps i m l r = (there, back)
 -- ---- ids that are in both trees
 
 has-end_other : (l y : Id) (ids : List Id) → bytes_eq l y ≡ false → has l ids ≡ has l (ids ++ y ∷ [])
-has-end_other l y ids e = elim (two_ways (has l ids)) [
+has-end_other l y ids e = elim (cases_Bool (has l ids)) [
   | inl k ↦ k ∙ sym (has-append_left l ids (y ∷ []) k)
   | inr k ↦ k ∙ sym (false_from (has l (ids ++ y ∷ [])) (λ m. elim (has-append_cases l ids (y ∷ []) m) [
     | inl a ↦ no_way (has l ids) a k
@@ -193,7 +193,7 @@ has-end_other l y ids e = elim (two_ways (has l ids)) [
 pub shared_more : (s : Sides) (ids : List Id) (y : Id) (ps later : List (Id × Id)) → ((l r : Id) → has_pair l r ps ≡ (bytes_eq l r && (has l ids && is_in s.remote l))) →
     ((is_in s.remote y ≡ true) × (later ≡ ps ++ (y, y) ∷ [])) ⊎ ((is_in s.remote y ≡ false) × (later ≡ ps)) → (l r : Id) → has_pair l r later ≡ (bytes_eq l r && (has l (ids ++ y ∷ []) && is_in s.remote l))
 shared_more s ids y ps later is (inl h) l r =
-    ap (has_pair l r) h.1 ∙ pair-end l r y y ps ∙ ap (λ b. b || (bytes_eq l y && bytes_eq r y)) (is l r) ∙ cases (two_ways (bytes_eq l y)) (two_ways (bytes_eq l r))
+    ap (has_pair l r) h.1 ∙ pair-end l r y y ps ∙ ap (λ b. b || (bytes_eq l y && bytes_eq r y)) (is l r) ∙ cases (cases_Bool (bytes_eq l y)) (cases_Bool (bytes_eq l r))
   where
     and_false : (b : Bool) → (b && false) ≡ false
     and_false true = refl
@@ -214,7 +214,7 @@ shared_more s ids y ps later is (inl h) l r =
         let ry : bytes_eq r y ≡ true = same-is r y (sym (same-true l r f) ∙ ly) in
         ap (λ b. (bytes_eq l r && (has l ids && is_in s.remote l)) || (b && bytes_eq r y)) e ∙ ap (λ b. (bytes_eq l r && (has l ids && is_in s.remote l)) || b) ry
         ∙ or_yes (bytes_eq l r && (has l ids && is_in s.remote l))
-        ∙ sym (and_both (bytes_eq l r) _ f (and_both (has l (ids ++ y ∷ [])) _ (has-append_right l ids (y ∷ []) (has-head l y [] ly)) inside))
+        ∙ sym (and_from (bytes_eq l r) _ f (and_from (has l (ids ++ y ∷ [])) _ (has-append_right l ids (y ∷ []) (has-head l y [] ly)) inside))
       where
         or_yes : (b : Bool) → (b || true) ≡ true
         or_yes true = refl
@@ -223,7 +223,7 @@ shared_more s ids y ps later is (inl h) l r =
         let ry : bytes_eq r y ≡ false = false_from (bytes_eq r y) (λ k. no_way (bytes_eq l r) (same-is l r (same-true l y e ∙ sym (same-true r y k))) f) in
         ap (λ b. (b && (has l ids && is_in s.remote l)) || (bytes_eq l y && bytes_eq r y)) f ∙ ap (λ b. bytes_eq l y && b) ry ∙ and_false (bytes_eq l y)
         ∙ sym (ap (λ b. b && (has l (ids ++ y ∷ []) && is_in s.remote l)) f)
-shared_more s ids y ps later is (inr h) l r = ap (has_pair l r) h.1 ∙ is l r ∙ cases (two_ways (bytes_eq l y))
+shared_more s ids y ps later is (inr h) l r = ap (has_pair l r) h.1 ∙ is l r ∙ cases (cases_Bool (bytes_eq l y))
   where
     and_none : (b : Bool) → (b && false) ≡ false
     and_none true = refl
@@ -242,7 +242,3 @@ no_shared s ps l r e = ap (has_pair l r) e ∙ none (bytes_eq l r)
     none : (b : Bool) → false ≡ (b && false)
     none true = refl
     none false = refl
-
-pub map_same : {X : Type 0} (xs : List X) → map (λ x. x) xs ≡ xs
-map_same [] = refl
-map_same (x ∷ xs) = ap (λ l. x ∷ l) (map_same xs)

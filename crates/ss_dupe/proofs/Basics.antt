@@ -1,21 +1,10 @@
 -- Laws of tests, and of the test of two ids.
-use Rattle.std.proofs.Common.{◌≡◌, ◌⊎◌, Bool, true, false, not, ◌||◌, ◌&&◌, List, [], ◌∷◌, Option, Some, None, bytes_eq, refl, sym, subst, ◌∙◌, inl, inr, true≢false, Decides}
+use Rattle.std.proofs.Common.{◌≡◌, ◌⊎◌, Bool, true, false, ◌||◌, List, [], ◌∷◌, Option, Some, None, bytes_eq, refl, sym, subst, ◌∙◌, inl, inr, true≢false, Decides}
 use Rattle.std.specs.Cmp.Lexicographic.{bytes_decides}
 use Rattle.ss_record.specs.Ids.{has}
 use Rattle.ss_dupe.specs.Looks.{Id}
 use Rattle.ss_dupe.specs.Walks.{passes}
-
-pub two_ways : (b : Bool) → (b ≡ true) ⊎ (b ≡ false)
-two_ways true = inl refl
-two_ways false = inr refl
-
-pub or_first : (a b : Bool) → a ≡ true → (a || b) ≡ true
-or_first true b e = refl
-or_first false b e = absurd (true≢false (sym e))
-
-pub or_second : (a b : Bool) → b ≡ true → (a || b) ≡ true
-or_second true b e = refl
-or_second false b e = e
+use Rattle.std.proofs.lemmas.Bool.{cases_Bool, or_left, or_right}
 
 pub or_rest : (a b : Bool) → (a || b) ≡ true → a ≡ false → b ≡ true
 or_rest true b e f = absurd (true≢false f)
@@ -24,33 +13,6 @@ or_rest false b e f = e
 pub or_more : (a b c : Bool) → (b ≡ true → c ≡ true) → (a || b) ≡ true → (a || c) ≡ true
 or_more true b c f e = refl
 or_more false b c f e = f e
-
-pub or_neither : (a b : Bool) → (a || b) ≡ false → (a ≡ false) × (b ≡ false)
-or_neither true b e = absurd (true≢false e)
-or_neither false b e = (refl, e)
-
-pub and_first : (a b : Bool) → (a && b) ≡ true → a ≡ true
-and_first true b e = refl
-and_first false b e = absurd (true≢false (sym e))
-
-pub and_second : (a b : Bool) → (a && b) ≡ true → b ≡ true
-and_second true b e = e
-and_second false b e = absurd (true≢false (sym e))
-
-pub and_both : (a b : Bool) → a ≡ true → b ≡ true → (a && b) ≡ true
-and_both true b e f = f
-and_both false b e f = absurd (true≢false (sym e))
-
-pub not_true : (a : Bool) → not a ≡ true → a ≡ false
-not_true true e = absurd (true≢false (sym e))
-not_true false e = refl
-
-pub true_not : (a : Bool) → a ≡ false → not a ≡ true
-true_not true e = absurd (true≢false e)
-true_not false e = refl
-
-pub no_way : {A : Type 0} (a : Bool) → a ≡ true → a ≡ false → A
-no_way a e f = absurd (true≢false (sym e ∙ f))
 
 pub false_from : (a : Bool) → ¬ (a ≡ true) → a ≡ false
 false_from true f = absurd (f refl)
@@ -89,15 +51,15 @@ same_turn x y e = same-is y x (sym (same-true x y e))
 
 pub has-head : (x y : Id) (xs : List Id) → x ≡ y → has x (y ∷ xs) ≡ true
 unfolding has
-has-head x y xs e = or_first (bytes_eq x y) _ (same-is x y e)
+has-head x y xs e = or_left (bytes_eq x y) _ (same-is x y e)
 
 pub has-tail : (x y : Id) (xs : List Id) → has x xs ≡ true → has x (y ∷ xs) ≡ true
 unfolding has
-has-tail x y xs e = or_second (bytes_eq x y) _ e
+has-tail x y xs e = or_right (bytes_eq x y) _ e
 
 pub has-cases : (x y : Id) (xs : List Id) → has x (y ∷ xs) ≡ true → (x ≡ y) ⊎ (has x xs ≡ true)
 unfolding has
-has-cases x y xs e = elim (two_ways (bytes_eq x y)) [ inl p ↦ inl (same-true x y p) | inr p ↦ inr (or_rest (bytes_eq x y) _ e p) ]
+has-cases x y xs e = elim (cases_Bool (bytes_eq x y)) [ inl p ↦ inl (same-true x y p) | inr p ↦ inr (or_rest (bytes_eq x y) _ e p) ]
 
 pub has-nil : (x : Id) → has x [] ≡ false
 unfolding has

@@ -2,8 +2,10 @@
 use Rattle.std.proofs.Common.{◌≡◌, ◌⊎◌, ℕ, zero, suc, ◌<◌, ◌≤◌, Bool, true, false, cond, not, List, [], ◌∷◌, length, filter, Option, Some, refl, sym, ap, subst, ◌∙◌, inl, inr, arith, Decides, true≢false}
 use Rattle.std.specs.List.{list_any}
 use Rattle.ss_dupe.specs.Walks.{meets}
-use Rattle.ss_dupe.proofs.Basics.{two_ways, or_first, or_second, or_rest, no_way, some_from_passes}
+use Rattle.ss_dupe.proofs.Basics.{or_rest, some_from_passes}
 use Rattle.ss_dupe.proofs.Walks.{meets_longer, meets_stepped}
+use Rattle.std.proofs.lemmas.Bool.{cases_Bool, or_left, or_right}
+use Rattle.ss_text.proofs.Basics.{no_way}
 
 -- eq tells the elements apart
 module _ {A : Type 0} (eq : A → A → Bool) (tells : (x y : A) → Decides (eq x y) (x ≡ y)) where
@@ -28,7 +30,7 @@ module _ {A : Type 0} (eq : A → A → Bool) (tells : (x y : A) → Decides (eq
 
   pub length-without_lt : (y : A) (xs : List A) → has y xs ≡ true → length (without y xs) < length xs
   length-without_lt y [] h = absurd (true≢false (sym h))
-  length-without_lt y (x ∷ xs) h = cases (two_ways (eq y x)) (λ k. length-without_lt y xs k)
+  length-without_lt y (x ∷ xs) h = cases (cases_Bool (eq y x)) (λ k. length-without_lt y xs k)
     where
       cases : (eq y x ≡ true) ⊎ (eq y x ≡ false) → (has y xs ≡ true → length (without y xs) < length xs) → length (without y (x ∷ xs)) < length (x ∷ xs)
       cases (inl e) more =
@@ -40,13 +42,13 @@ module _ {A : Type 0} (eq : A → A → Bool) (tells : (x y : A) → Decides (eq
 
   pub has-without : (y z : A) (xs : List A) → ¬ (y ≡ z) → has z xs ≡ true → has z (without y xs) ≡ true
   has-without y z [] apart h = h
-  has-without y z (x ∷ xs) apart h = cases (two_ways (eq y x)) (two_ways (eq z x)) (has-without y z xs apart)
+  has-without y z (x ∷ xs) apart h = cases (cases_Bool (eq y x)) (cases_Bool (eq z x)) (has-without y z xs apart)
     where
       cases : (eq y x ≡ true) ⊎ (eq y x ≡ false) → (eq z x ≡ true) ⊎ (eq z x ≡ false) → (has z xs ≡ true → has z (without y xs) ≡ true) → has z (without y (x ∷ xs)) ≡ true
       cases (inl e) (inl p) more = absurd (apart ((tells y x).0 e ∙ sym ((tells z x).0 p)))
       cases (inl e) (inr k) more = subst (λ l. has z l ≡ true) (sym (without-cons true y x xs e)) (more (or_rest (eq z x) _ h k))
-      cases (inr e) (inl p) more = subst (λ l. has z l ≡ true) (sym (without-cons false y x xs e)) (or_first (eq z x) _ p)
-      cases (inr e) (inr k) more = subst (λ l. has z l ≡ true) (sym (without-cons false y x xs e)) (or_second (eq z x) _ (more (or_rest (eq z x) _ h k)))
+      cases (inr e) (inl p) more = subst (λ l. has z l ≡ true) (sym (without-cons false y x xs e)) (or_left (eq z x) _ p)
+      cases (inr e) (inr k) more = subst (λ l. has z l ≡ true) (sym (without-cons false y x xs e)) (or_right (eq z x) _ (more (or_rest (eq z x) _ h k)))
 
   module _ (step : A → Option A) (goal : A → Bool) where
     -- the walk comes to its first goal after n steps
@@ -61,7 +63,7 @@ module _ {A : Type 0} (eq : A → A → Bool) (tells : (x y : A) → Decides (eq
 
     pub takes_from_meets : (n : ℕ) (x : A) → meets step goal n x ≡ true → (k : ℕ) × Takes k x
     takes_from_meets zero x h = (0, h)
-    takes_from_meets (suc n) x h = cases (two_ways (goal x)) (λ p k. takes_from_meets n p k)
+    takes_from_meets (suc n) x h = cases (cases_Bool (goal x)) (λ p k. takes_from_meets n p k)
       where
         cases : (goal x ≡ true) ⊎ (goal x ≡ false) → ((p : A) → meets step goal n p ≡ true → (k : ℕ) × Takes k p) → (k : ℕ) × Takes k x
         cases (inl e) more = (0, e)
@@ -113,7 +115,7 @@ module _ {A : Type 0} (eq : A → A → Bool) (tells : (x y : A) → Decides (eq
 
       -- and the walk from the next element has the bytes_eq end
       pub meets_next : (x y : A) → has x xs ≡ true → goal x ≡ false → step x ≡ Some y → meets step goal (length xs) x ≡ meets step goal (length xs) y
-      meets_next x y h miss e = cases (two_ways (meets step goal (length xs) x)) (two_ways (meets step goal (length xs) y))
+      meets_next x y h miss e = cases (cases_Bool (meets step goal (length xs) x)) (cases_Bool (meets step goal (length xs) y))
         where
           back : meets step goal (length xs) y ≡ true → meets step goal (length xs) x ≡ true
           back k = meets_within (suc (length xs)) x h (meets_stepped step goal (length xs) x y e k)

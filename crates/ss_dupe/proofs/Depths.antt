@@ -13,14 +13,16 @@ use Rattle.ss_dupe.specs.Shapes.{AreShaped}
 use Rattle.ss_dupe.specs.Sides.{Sides}
 use Rattle.ss_dupe.specs.Pairs.{AreAlike, IsPair, Under_same, Under_pair, ArePairs}
 use Rattle.ss_dupe.specs.News.{InRound, is_shared, has_pair, Adds}
-use Rattle.ss_dupe.proofs.Basics.{no_way, same-tells, same-true, same-self, and_both, and_first, false_from}
+use Rattle.ss_dupe.proofs.Basics.{same-tells, same-true, same-self, false_from}
 use Rattle.ss_dupe.proofs.Bounds.{Takes, TakesIn, takes_from_meets, takes_at_most}
 use Rattle.ss_dupe.proofs.Shapes.{is_places-is, top_parent, with_parent-in}
 use Rattle.ss_dupe.proofs.OneEach.{parent-lists, children-inside, one_remote}
+use Rattle.ss_text.proofs.Basics.{both_left, no_way}
+use Rattle.std.proofs.lemmas.Bool.{and_from}
 
 module _ (s : Sides) (a : AreShaped s) where
   shared_is : (p : Id) → is_in s.local p ≡ true → is_in s.remote p ≡ true → is_shared s p p ≡ true
-  shared_is p l r = and_both (bytes_eq p p) _ (same-self p) (and_both (is_in s.local p) _ l r)
+  shared_is p l r = and_from (bytes_eq p p) _ (same-self p) (and_from (is_in s.local p) _ l r)
 
   local_above : (x p : Id) → parent_of s.local x ≡ Some p → is_in s.local p ≡ true
   local_above x p e = children-inside s.local x p (parent-lists s.local a.local x p e)
@@ -38,7 +40,7 @@ module _ (s : Sides) (a : AreShaped s) where
   pub pair_of : (n : ℕ) (l r : Id) → InRound s (suc n) l r → IsPair s l r
   unfolding InRound
   pair_of zero l r (p, q, h, k) =
-      let same : q ≡ p = sym (same-true p q (and_first (bytes_eq p q) _ h)) in
+      let same : q ≡ p = sym (same-true p q (both_left (bytes_eq p q) _ h)) in
       Under_same p (subst (λ z. AreAlike s l r p z) same k)
   pair_of (suc n) l r (p, q, h, k) = Under_pair p q (pair_of n p q h) k
 

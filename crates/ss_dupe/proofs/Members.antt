@@ -9,12 +9,12 @@ use Rattle.serde_json.specs.Data.{Data, Members, no_members, member}
 use Rattle.serde_json.specs.Find.{get_member}
 use Rattle.serde_json.specs.Written.{compact_text, has_float, members_have_float}
 use Rattle.ss_dupe.specs.Keys.{member_line}
-use Rattle.ss_dupe.proofs.Basics.{or_neither}
+use Rattle.std.proofs.lemmas.Bool.{or_parts}
 
 member_whole : (k : List ℕ) (ms : Members) → members_have_float ms ≡ false → (d : Data) → get_member k ms ≡ Some d → has_float d ≡ false
 member_whole k no_members h d e = cc
 member_whole k (member l f ms) h d e =
-    let p = or_neither (has_float f) (members_have_float ms) h in
+    let p = or_parts (has_float f) (members_have_float ms) h in
     cases (slice_cmp nat_cmp k l) e p.0 (member_whole k ms p.1 d)
   where
     cases : (o : Ordering) → match_ordering o (get_member k ms) (Some f) (get_member k ms) ≡ Some d → has_float f ≡ false → (get_member k ms ≡ Some d → has_float d ≡ false) → has_float d ≡ false

@@ -12,9 +12,11 @@ use Rattle.ss_dupe.specs.Keys.{key_of}
 use Rattle.ss_dupe.specs.Sides.{Sides, tree_of, is_new}
 use Rattle.ss_dupe.specs.Pairs.{key_on, new_like, rank}
 use Rattle.ss_dupe.specs.News.{new_at}
-use Rattle.ss_dupe.proofs.Basics.{two_ways, no_way, same-is, same-true, has-head, has-tail, same-apart, and_first}
+use Rattle.ss_dupe.proofs.Basics.{same-is, has-head, has-tail, same-apart}
 use Rattle.ss_dupe.proofs.Shapes.{at-of}
 use Rattle.ss_dupe.proofs.OneEach.{before-hit, before-miss}
+use Rattle.std.proofs.lemmas.Bool.{cases_Bool}
+use Rattle.ss_text.proofs.Basics.{both_left, same_text, no_way}
 
 pub key-is : (s : Sides) (side : Side) (x : Id) (n : Placed) → tree_of s side x ≡ Some n → key_of n.kind n.content ≡ key_on s side x
 key-is s side x n e = ap (λ (m : Placed). key_of m.kind m.content) (sym (at-of (tree_of s side) x n e))
@@ -52,9 +54,6 @@ rank_of : (s : Sides) (side : Side) (parent y : Id) → count_by (new_like s sid
 unfolding rank
 rank_of s side parent y = refl
 
-same_key-of : (x k : List ℕ) → bytes_eq x k ≡ true → x ≡ k
-same_key-of x k e = same-true x k e
-
 -- the new items among those seen, and how often each key was met
 pub record Met (s : Sides) (side : Side) (parent : Id) (seen : List Id) (news : List New) (counts : List ℕ → Option ℕ) : Type 0 where
   pub told : news ≡ map (new_at s side parent) (filter (is_new s side) seen)
@@ -82,7 +81,7 @@ module _ (s : Sides) (side : Side) (parent : Id) (xs : List Id) (i : ℕ) (y : I
         ∙ sym (ap (λ l. map (new_at s side parent) (filter (is_new s side) l)) more
         ∙ ap (map (new_at s side parent)) (filter-end (is_new s side) (take i xs) y ∙ ap (λ b. filter (is_new s side) (take i xs) ++ cond b (y ∷ []) []) new)
         ∙ map-end (new_at s side parent) (filter (is_new s side) (take i xs)) (y ∷ []));
-    counted = λ k. counts_at k (two_ways (bytes_eq n.mark.key k));
+    counted = λ k. counts_at k (cases_Bool (bytes_eq n.mark.key k));
   }
     where
       more : take (i + 1) xs ≡ take i xs ++ y ∷ []
@@ -102,7 +101,7 @@ module _ (s : Sides) (side : Side) (parent : Id) (xs : List Id) (i : ℕ) (y : I
       counts_at : (k : List ℕ) → (bytes_eq n.mark.key k ≡ true) ⊎ (bytes_eq n.mark.key k ≡ false) → unwrap_or (after k) 0 ≡ count_by (new_like s side k) (take (i + 1) xs)
       counts_at k (inl hit) =
           ap (λ o. unwrap_or o 0) (updated k ∙ ap (λ b. cond b (Some (n.mark.rank + 1)) (counts k)) hit)
-          ∙ ap (λ r. r + 1) (rank_is ∙ ap (λ z. unwrap_or (counts z) 0) (same_key-of n.mark.key k hit) ∙ m.counted k)
+          ∙ ap (λ r. r + 1) (rank_is ∙ ap (λ z. unwrap_or (counts z) 0) (same_text n.mark.key k hit) ∙ m.counted k)
           ∙ sym (count_by_more_yes (new_like s side k) xs i y lt (ap (new_like s side k) (sym is_y) ∙ like_is k ∙ hit))
       counts_at k (inr miss) =
           ap (λ o. unwrap_or o 0) (updated k ∙ ap (λ b. cond b (Some (n.mark.rank + 1)) (counts k)) miss) ∙ m.counted k
@@ -122,4 +121,4 @@ module _ (s : Sides) (side : Side) (parent : Id) (xs : List Id) (i : ℕ) (y : I
 
 pub new-inside : (s : Sides) (side : Side) (x : Id) → is_new s side x ≡ true → is_in (tree_of s side) x ≡ true
 unfolding is_new
-new-inside s side x h = and_first (is_in (tree_of s side) x) _ h
+new-inside s side x h = both_left (is_in (tree_of s side) x) _ h

@@ -9,9 +9,11 @@ use Rattle.ss_dupe.specs.declared.sides.Side.TheVariants.{Local, Remote}
 use Rattle.ss_dupe.specs.Looks.{Id, Look, is_in, parent_of, children_of}
 use Rattle.ss_dupe.specs.Sides.{Sides, other, tree_of, is_new}
 use Rattle.ss_dupe.specs.Pairs.{key_on, new_like, rank, AreAlike, IsPair, Under_same, Under_pair}
-use Rattle.ss_dupe.proofs.Basics.{two_ways, no_way, same-self, same-is, same-true, has-cases, has-nil, has-head, has-tail, and_both, and_first, and_second, not_true}
+use Rattle.ss_dupe.proofs.Basics.{same-self, same-is, same-true, has-cases, has-nil}
 use Rattle.ss_dupe.specs.Shapes.{HasShape}
-use Rattle.ss_dupe.proofs.Shapes.{at-of_none, in-of}
+use Rattle.ss_dupe.proofs.Shapes.{at-of_none, in-of, count-none}
+use Rattle.std.proofs.lemmas.Bool.{cases_Bool, and_from, not-true}
+use Rattle.ss_text.proofs.Basics.{both_left, both_right, no_way}
 
 pub before-hit : (x z : Id) (zs : List Id) → bytes_eq x z ≡ true → before_first (bytes_eq x) (z ∷ zs) ≡ []
 before-hit x z zs e = ap (λ b. take (cond (not b) (1 + prefix_len (λ y. not (bytes_eq x y)) zs) 0) (z ∷ zs)) e
@@ -26,7 +28,7 @@ count_test-cons b p y ys e = sum_by-cons (λ z. cond (p z) 1 0) y ys ∙ ap (λ 
 rank_tells : (p : Id → Bool) (x y : Id) (xs : List Id) → has x xs ≡ true → has y xs ≡ true → p x ≡ true → p y ≡ true →
     count_by p (before_first (bytes_eq x) xs) ≡ count_by p (before_first (bytes_eq y) xs) → x ≡ y
 rank_tells p x y [] h k px py e = no_way (has x []) h (has-nil x)
-rank_tells p x y (z ∷ zs) h k px py e = cases (two_ways (bytes_eq x z)) (two_ways (bytes_eq y z)) (λ h k f. rank_tells p x y zs h k px py f)
+rank_tells p x y (z ∷ zs) h k px py e = cases (cases_Bool (bytes_eq x z)) (cases_Bool (bytes_eq y z)) (λ h k f. rank_tells p x y zs h k px py f)
   where
     ranks : (v : Id) → bytes_eq v z ≡ false → count_by p (before_first (bytes_eq v) (z ∷ zs)) ≡ cond (p z) 1 0 + count_by p (before_first (bytes_eq v) zs)
     ranks v miss = ap (count_by p) (before-miss v z zs miss) ∙ count_test-cons _ p z (before_first (bytes_eq v) zs) refl
@@ -51,17 +53,9 @@ rank_tells p x y (z ∷ zs) h k px py e = cases (two_ways (bytes_eq x z)) (two_w
         more (further x a h) (further y b k) (omega arith)
 
 -- what stands once in a list is in it
-count-none : (x : Id) (xs : List Id) → has x xs ≡ false → count_by (bytes_eq x) xs ≡ 0
-count-none x [] h = refl
-count-none x (y ∷ ys) h = cases (two_ways (bytes_eq x y)) (two_ways (has x ys)) (count-none x ys)
-  where
-    cases : (bytes_eq x y ≡ true) ⊎ (bytes_eq x y ≡ false) → (has x ys ≡ true) ⊎ (has x ys ≡ false) → (has x ys ≡ false → count_by (bytes_eq x) ys ≡ 0) → count_by (bytes_eq x) (y ∷ ys) ≡ 0
-    cases (inl e) _ more = no_way (has x (y ∷ ys)) (has-head x y ys (same-true x y e)) h
-    cases (inr e) (inl k) more = no_way (has x (y ∷ ys)) (has-tail x y ys k) h
-    cases (inr e) (inr k) more = count_test-cons false (bytes_eq x) y ys e ∙ ap (λ n. 0 + n) (more k)
 
 pub has_from_once : (x : Id) (xs : List Id) → count_by (bytes_eq x) xs ≡ 1 → has x xs ≡ true
-has_from_once x xs e = elim (two_ways (has x xs)) [
+has_from_once x xs e = elim (cases_Bool (has x xs)) [
   | inl h ↦ h
   | inr h ↦ let none = count-none x xs h in absurd (omega arith)
 ]
@@ -92,7 +86,7 @@ module _ (s : Sides) (vl : HasShape s.local) (vr : HasShape s.remote) where
       r ∙ ap (λ c. count_by (new_like s side c) (before_first (bytes_eq y) (children_of t p))) (sym k) in
       rank_tells (new_like s side of) x y (children_of t p)
       (parent-lists t (valid_side side) x p ex) (parent-lists t (valid_side side) y p ey)
-      (and_both (is_new s side x) _ nx (same-self of)) (and_both (is_new s side y) _ ny (same-is _ _ (sym k))) ranks
+      (and_from (is_new s side x) _ nx (same-self of)) (and_from (is_new s side y) _ ny (same-is _ _ (sym k))) ranks
 
   pub one_remote_of : (l r p q l' r' p' q' : Id) → AreAlike s l r p q → AreAlike s l' r' p' q' → l ≡ l' → p ≡ p' → q ≡ q' → r ≡ r'
   one_remote_of l r p q l' r' p' q' a b el ep eq =
@@ -116,11 +110,11 @@ module _ (s : Sides) (vl : HasShape s.local) (vr : HasShape s.remote) where
 
   pub new-in : (side : Side) (x : Id) → is_new s side x ≡ true → is_in (tree_of s side) x ≡ true
   unfolding is_new
-  new-in side x h = and_first (is_in (tree_of s side) x) _ h
+  new-in side x h = both_left (is_in (tree_of s side) x) _ h
 
   pub new-not_other : (side : Side) (x : Id) → is_new s side x ≡ true → is_in (tree_of s (other side)) x ≡ false
   unfolding is_new
-  new-not_other side x h = not_true (is_in (tree_of s (other side)) x) (and_first (not (is_in (tree_of s (other side)) x)) _ (and_second (not (is_in s.mirror x)) _ (and_second (is_in (tree_of s side) x) _ h)))
+  new-not_other side x h = not-true (is_in (tree_of s (other side)) x) (both_left (not (is_in (tree_of s (other side)) x)) _ (both_right (not (is_in s.mirror x)) _ (both_right (is_in (tree_of s side) x) _ h)))
 
   -- a parent of a remote item is remote, so it is no local item of a pair; and the other way round
   no_pair_local : {p q : Id} (x y : Id) → IsPair s p q → y ≡ p → parent_of s.remote x ≡ Some y → ⊥

@@ -15,9 +15,11 @@ use Rattle.ss_dupe.specs.declared.plain.PlainTree.{PlainTree}
 use Rattle.ss_dupe.specs.Looks.{Id, Look, look, is_in}
 use Rattle.ss_dupe.specs.Plains.{AreIds, look_of, placed_at}
 use Rattle.ss_dupe.specs.Reading.{id_at, ids_at, name_at}
-use Rattle.ss_dupe.proofs.Basics.{two_ways, no_way, same-true, same-is, same_turn, false_from, has-head, has-cases, has-nil}
+use Rattle.ss_dupe.proofs.Basics.{same-true, same-is, same_turn, false_from, has-head, has-cases, has-nil}
 use Rattle.ss_dupe.proofs.Lists.{has-append_left, has-append_right, has-append_cases}
 use Rattle.ss_dupe.proofs.Shapes.{in-of_none}
+use Rattle.ss_text.proofs.Basics.{or_true, no_way}
+use Rattle.std.proofs.lemmas.Bool.{cases_Bool}
 
 pub id_at-entry : (es : List Entry) (k : ℕ) (e : Entry) → entry k es ≡ Some e → id_at es k ≡ e.item.id
 id_at-entry es k e h = ap (λ o. unwrap_or (option_map (λ (d : Entry). d.item.id) o) []) h
@@ -41,11 +43,11 @@ module _ (g h : Look) (key : Id) (n : Placed) (is : (x : Id) → h x ≡ cond (b
       cases false = refl
 
   pub ids_pushed : (xs : List Id) → ((x : Id) → has x xs ≡ is_in g x) → (x : Id) → has x (xs ++ key ∷ []) ≡ is_in h x
-  ids_pushed xs are x = cases (two_ways (bytes_eq key x)) ∙ sym (in_put x)
+  ids_pushed xs are x = cases (cases_Bool (bytes_eq key x)) ∙ sym (in_put x)
     where
       cases : (bytes_eq key x ≡ true) ⊎ (bytes_eq key x ≡ false) → has x (xs ++ key ∷ []) ≡ (bytes_eq key x || is_in g x)
       cases (inl e) = has-append_right x xs (key ∷ []) (has-head x key [] (sym (same-true key x e))) ∙ sym (ap (λ b. b || is_in g x) e)
-      cases (inr e) = elim (two_ways (has x xs)) [
+      cases (inr e) = elim (cases_Bool (has x xs)) [
         | inl k ↦ has-append_left x xs (key ∷ []) k ∙ sym (ap (λ b. b || is_in g x) e ∙ sym (are x) ∙ k)
         | inr k ↦ false_from (has x (xs ++ key ∷ [])) (λ m. elim (has-append_cases x xs (key ∷ []) m) [
           | inl a ↦ no_way (has x xs) a k
@@ -54,7 +56,7 @@ module _ (g h : Look) (key : Id) (n : Placed) (is : (x : Id) → h x ≡ cond (b
       ]
 
   pub ids_kept : (xs : List Id) → is_in g key ≡ true → ((x : Id) → has x xs ≡ is_in g x) → (x : Id) → has x xs ≡ is_in h x
-  ids_kept xs there are x = are x ∙ cases (two_ways (bytes_eq key x)) ∙ sym (in_put x)
+  ids_kept xs there are x = are x ∙ cases (cases_Bool (bytes_eq key x)) ∙ sym (in_put x)
     where
       cases : (bytes_eq key x ≡ true) ⊎ (bytes_eq key x ≡ false) → is_in g x ≡ (bytes_eq key x || is_in g x)
       cases (inl e) = ap (is_in g) (sym (same-true key x e)) ∙ there ∙ sym (ap (λ b. b || is_in g x) e)
@@ -71,10 +73,6 @@ unfolding In
 in_append x [] ys i = inr i
 in_append x (z ∷ zs) ys (inl e) = inl (inl e)
 in_append x (z ∷ zs) ys (inr i) = elim (in_append x zs ys i) [ inl a ↦ inl (inr a) | inr b ↦ inr b ]
-
-or_true : (b : Bool) → (b || true) ≡ true
-or_true true = refl
-or_true false = refl
 
 -- what the nodes so far have given
 pub record SoFar (es : List Entry) (nodes : List ℕ) (p : PlainTree) : Type 0 where
@@ -106,7 +104,7 @@ one_more es t nodes k p q seat s at is ids = record { sound = sound; met = met; 
     id_is = placed_id es own.0 ∙ ap (λ (m : Placed). m.id) own.2
 
     sound : (x : Id) (n : Placed) → look_of q x ≡ Some n → look (tree es) x ≡ Some n
-    sound x n e = elim (two_ways (bytes_eq seat.id x)) [
+    sound x n e = elim (cases_Bool (bytes_eq seat.id x)) [
       | inl hit ↦
           let there : Some (placed_at seat) ≡ Some n = sym (is x ∙ ap (λ b. cond b (Some (placed_at seat)) (look_of p x)) hit) ∙ e in
           ap (look (tree es)) (sym (id_is ∙ same-true seat.id x hit)) ∙ node_at es own.0 t.ids (entry_in k es own.0 own.1).0 ∙ ap Some own.2 ∙ there
@@ -173,7 +171,7 @@ in_some g x h = cases (g x) h
 -- ---- a set of ids
 
 both_ways : (x y : Id) → bytes_eq x y ≡ bytes_eq y x
-both_ways x y = elim (two_ways (bytes_eq x y)) [
+both_ways x y = elim (cases_Bool (bytes_eq x y)) [
   | inl e ↦ e ∙ sym (same_turn x y e)
   | inr e ↦ e ∙ sym (false_from (bytes_eq y x) (λ h. no_way (bytes_eq x y) (same_turn y x h) e))
 ]
@@ -184,9 +182,9 @@ set_more f g ids i y z lt is_y same before after x =
     ∙ sym (ap (has x) (take_more ids i y lt ∙ ap (λ w. take i ids ++ w ∷ []) (sym is_y)))
   where
     ends : (xs : List Id) → cond (bytes_eq y x) true (has x xs) ≡ has x (xs ++ y ∷ [])
-    ends xs = elim (two_ways (bytes_eq y x)) [
+    ends xs = elim (cases_Bool (bytes_eq y x)) [
       | inl e ↦ ap (λ b. cond b true (has x xs)) e ∙ sym (has-append_right x xs (y ∷ []) (has-head x y [] (sym (same-true y x e))))
-      | inr e ↦ ap (λ b. cond b true (has x xs)) e ∙ elim (two_ways (has x xs)) [
+      | inr e ↦ ap (λ b. cond b true (has x xs)) e ∙ elim (cases_Bool (has x xs)) [
         | inl k ↦ k ∙ sym (has-append_left x xs (y ∷ []) k)
         | inr k ↦ k ∙ sym (false_from (has x (xs ++ y ∷ [])) (λ m. elim (has-append_cases x xs (y ∷ []) m) [
           | inl a ↦ no_way (has x xs) a k

@@ -10,20 +10,18 @@ use Rattle.ss_dupe.specs.Walks.{meets, Meets}
 use Rattle.ss_dupe.specs.Sides.{Sides, sides}
 use Rattle.ss_dupe.specs.Pairs.{ArePairs}
 use Rattle.ss_dupe.specs.Renaming.{named, renamed_item, renamed}
-use Rattle.ss_dupe.proofs.Basics.{two_ways, no_way, same-is, same-true, same-apart, has-cases, has-nil, has-head, has-tail, or_first, or_rest, some_from_passes, false_from}
+use Rattle.ss_dupe.proofs.Basics.{same-is, same-true, same-apart, has-cases, has-nil, has-head, has-tail, or_rest, some_from_passes, false_from}
 use Rattle.ss_dupe.proofs.Walks.{meets_stepped}
 use Rattle.ss_dupe.specs.Shapes.{HasShape}
 use Rattle.ss_dupe.proofs.Shapes.{shape, valid-from_shape, at-of, in-of, look-in, with_parent-in, places_is, is_places-is, has-roots}
 use Rattle.ss_dupe.proofs.OneEach.{count_test-cons, parent-lists, children-inside, one_local, pair_local_new, pair_remote_new, new-not_other}
-
-some_of_map : {A B : Type 0} (f : A → B) (o : Option A) (y : B) → option_map f o ≡ Some y → (x : A) × (o ≡ Some x) × (f x ≡ y)
-some_of_map f None y e = cc
-some_of_map f (Some x) y e = (x, refl, cc)
+use Rattle.std.proofs.lemmas.Bool.{cases_Bool, or_left}
+use Rattle.ss_text.proofs.Basics.{no_way, map_some}
 
 pub node_ids-has : (t : List Placed) (x : Id) → is_in (look t) x ≡ has x (node_ids t)
 unfolding is_in node node_ids has
 node_ids-has [] x = refl
-node_ids-has (n ∷ ns) x = cases (two_ways (bytes_eq x n.id)) (node_ids-has ns x)
+node_ids-has (n ∷ ns) x = cases (cases_Bool (bytes_eq x n.id)) (node_ids-has ns x)
   where
     cases : (bytes_eq x n.id ≡ true) ⊎ (bytes_eq x n.id ≡ false) → is_some (find (λ m. bytes_eq x m.id) ns) ≡ has x (map (λ n. n.id) ns) → is_some (find (λ m. bytes_eq x m.id) (n ∷ ns)) ≡ has x (map (λ n. n.id) (n ∷ ns))
     cases (inl h) more = ap (λ b. is_some (cond b (Some n) (find (λ m. bytes_eq x m.id) ns))) h ∙ sym (has-head x n.id (map (λ n. n.id) ns) (same-true x n.id h))
@@ -34,7 +32,7 @@ module _ (name : Id → Id) where
       find (λ m. bytes_eq (name x) m.id) (map (renamed_item name) ns) ≡ option_map (renamed_item name) (find (λ m. bytes_eq x m.id) ns)
   unfolding node_ids
   find-renamed x [] one = refl
-  find-renamed x (n ∷ ns) one = cases (two_ways (bytes_eq x n.id)) (find-renamed x ns (λ y k. one y (has-tail y n.id _ k)))
+  find-renamed x (n ∷ ns) one = cases (cases_Bool (bytes_eq x n.id)) (find-renamed x ns (λ y k. one y (has-tail y n.id _ k)))
     where
       rest : Option Placed
       rest = find (λ m. bytes_eq (name x) m.id) (map (renamed_item name) ns)
@@ -51,7 +49,7 @@ module _ (name : Id → Id) where
 
   count-renamed : (x : Id) (xs : List Id) → ((y : Id) → has y xs ≡ true → name x ≡ name y → x ≡ y) → count_by (bytes_eq (name x)) (map name xs) ≡ count_by (bytes_eq x) xs
   count-renamed x [] one = refl
-  count-renamed x (y ∷ ys) one = cases (two_ways (bytes_eq x y)) (count-renamed x ys (λ z k. one z (has-tail z y ys k)))
+  count-renamed x (y ∷ ys) one = cases (cases_Bool (bytes_eq x y)) (count-renamed x ys (λ z k. one z (has-tail z y ys k)))
     where
       cases : (bytes_eq x y ≡ true) ⊎ (bytes_eq x y ≡ false) → count_by (bytes_eq (name x)) (map name ys) ≡ count_by (bytes_eq x) ys → count_by (bytes_eq (name x)) (map name (y ∷ ys)) ≡ count_by (bytes_eq x) (y ∷ ys)
       cases (inl h) more =
@@ -162,7 +160,7 @@ module _ (t : List Placed) (valid : IsValidTree t) (name : Id → Id) (one : (x 
   once_in q p e =
       let f = from q (with_parent-in r q p e) in
       let x = f.0 in
-      let own = some_of_map name (parent_of g x) p (sym (ap (λ (y : Placed). y.parent) (at-renamed x f.1)) ∙ ap (parent_of r) (sym f.2) ∙ e) in
+      let own = map_some name (parent_of g x) p (sym (ap (λ (y : Placed). y.parent) (at-renamed x f.1)) ∙ ap (parent_of r) (sym f.2) ∙ e) in
       let above = children-inside g x own.0 (parent-lists g v x own.0 own.1) in
       ap (λ z. count_by (bytes_eq z) (children_of r p)) f.2
       ∙ ap (λ z. count_by (bytes_eq (name x)) (children_of r z)) (sym own.2)
@@ -179,10 +177,10 @@ module _ (t : List Placed) (valid : IsValidTree t) (name : Id → Id) (one : (x 
 
   below_in : (n : ℕ) (x : Id) → is_in g x ≡ true → meets (parent_of g) is_places n x ≡ true → meets (parent_of r) is_places n (name x) ≡ true
   below_in zero x h k = ap (λ z. is_places (name z)) (is_places-is x k) ∙ ap is_places places_stays ∙ places_is
-  below_in (suc n) x h k = cases (two_ways (is_places x)) (below_in n)
+  below_in (suc n) x h k = cases (cases_Bool (is_places x)) (below_in n)
     where
       cases : (is_places x ≡ true) ⊎ (is_places x ≡ false) → ((y : Id) → is_in g y ≡ true → meets (parent_of g) is_places n y ≡ true → meets (parent_of r) is_places n (name y) ≡ true) → meets (parent_of r) is_places (suc n) (name x) ≡ true
-      cases (inl top) more = or_first (is_places (name x)) _ (ap (λ z. is_places (name z)) (is_places-is x top) ∙ ap is_places places_stays ∙ places_is)
+      cases (inl top) more = or_left (is_places (name x)) _ (ap (λ z. is_places (name z)) (is_places-is x top) ∙ ap is_places places_stays ∙ places_is)
       cases (inr out) more =
           let next = some_from_passes (meets (parent_of g) is_places n) (parent_of g x) (or_rest (is_places x) _ k out) in
           meets_stepped (parent_of r) is_places n (name x) (name next.0) (parent-renamed x next.0 h next.1) (more next.0 (children-inside g x next.0 (parent-lists g v x next.0 next.1)) next.2)

@@ -1,17 +1,29 @@
 -- What a valid tree gives, by look-ups alone, and back.
-use Rattle.std.proofs.Common.{◌≡◌, ◌≢◌, ◌↔◌, ◌⊎◌, ℕ, zero, suc, true, false, List, [], ◌∷◌, length, count_by, Option, Some, None, is_some, bytes_eq, unwrap_or, option_and_then, refl, sym, ap, subst, ◌∙◌, inl, inr, arith}
-use Rattle.ss_record.specs.declared.kinds.Kind.{Kind}
-use Rattle.ss_record.specs.declared.kinds.Kind.TheVariants.{Bookmark, Query, Folder, Livemark, Separator}
+use Rattle.std.proofs.Common.{◌≡◌, ◌≢◌, ◌↔◌, ◌⊎◌, ℕ, zero, suc, true, false, List, [], ◌∷◌, length, count_by, Option, Some, None, is_some, bytes_eq, unwrap_or, option_and_then, refl, sym, ap, subst, ◌∙◌, inl, inr, arith, ◌+◌}
+use Rattle.ss_record.specs.declared.kinds.Kind.TheVariants.{Folder}
 use Rattle.ss_record.specs.Kinds.{is_folder}
 use Rattle.ss_record.specs.Ids.{has, Apart, places, roots}
 use Rattle.ss_tree.specs.Trees.{Placed, node, node_ids, parent_in, places_node, IsUnder, steps, IsValidTree}
 use Rattle.ss_dupe.specs.Looks.{Id, Look, look, blank, is_in, at, parent_of, children_of, is_places, is_root}
 use Rattle.ss_dupe.specs.Walks.{meets}
 use Rattle.ss_dupe.specs.Shapes.{HasShape}
-use Rattle.ss_dupe.proofs.Basics.{same-tells, two_ways, or_first, or_rest, no_way, some_from_passes, same-true, same-is, same-self, false_from, has-head, has-tail, has-cases, has-nil}
+use Rattle.ss_dupe.proofs.Basics.{same-tells, or_rest, some_from_passes, same-true, same-is, same-self, false_from, has-head, has-tail, has-cases, has-nil}
 use Rattle.ss_dupe.proofs.Walks.{meets_stepped}
 use Rattle.ss_dupe.proofs.Bounds.{meets_within}
 use Rattle.ss_dupe.proofs.Lists.{count-cons}
+use Rattle.std.proofs.lemmas.Bool.{cases_Bool, or_left}
+use Rattle.ss_record.proofs.Fit.{folder_kind}
+use Rattle.ss_text.proofs.Basics.{no_way, is_one}
+
+-- what stands once in a list is in it
+pub count-none : (x : Id) (xs : List Id) → has x xs ≡ false → count_by (bytes_eq x) xs ≡ 0
+count-none x [] h = refl
+count-none x (y ∷ ys) h = cases (cases_Bool (bytes_eq x y)) (cases_Bool (has x ys)) (count-none x ys)
+  where
+    cases : (bytes_eq x y ≡ true) ⊎ (bytes_eq x y ≡ false) → (has x ys ≡ true) ⊎ (has x ys ≡ false) → (has x ys ≡ false → count_by (bytes_eq x) ys ≡ 0) → count_by (bytes_eq x) (y ∷ ys) ≡ 0
+    cases (inl e) _ more = no_way (has x (y ∷ ys)) (has-head x y ys (same-true x y e)) h
+    cases (inr e) (inl k) more = no_way (has x (y ∷ ys)) (has-tail x y ys k) h
+    cases (inr e) (inr k) more = count_test-cons false (bytes_eq x) y ys e ∙ ap (λ n. 0 + n) (more k)
 
 -- ---- look-ups
 
@@ -31,13 +43,9 @@ pub in-of_none : (t : Look) (x : Id) → t x ≡ None → is_in t x ≡ false
 unfolding is_in
 in-of_none t x h = ap is_some h
 
-some_of : {A : Type 0} (o : Option A) → is_some o ≡ true → (x : A) × (o ≡ Some x)
-some_of None e = cc
-some_of (Some x) e = (x, refl)
-
 pub of-in : (t : Look) (x : Id) → is_in t x ≡ true → (n : Placed) × (t x ≡ Some n)
 unfolding is_in
-of-in t x h = some_of (t x) h
+of-in t x h = is_one (t x) h
 
 pub look-in : (t : Look) (x : Id) → is_in t x ≡ true → t x ≡ Some (at t x)
 look-in t x h = let n = of-in t x h in n.1 ∙ ap Some (sym (at-of t x n.0 n.1))
@@ -76,32 +84,16 @@ pub roots-has : (x : Id) → is_root x ≡ true → has x roots ≡ true
 unfolding is_root
 roots-has x h = h
 
-is_Folder : (k : Kind) → is_folder k ≡ true → k ≡ Folder
-is_Folder Folder e = refl
-is_Folder Bookmark e = cc
-is_Folder Query e = cc
-is_Folder Livemark e = cc
-is_Folder Separator e = cc
-
 -- ---- lists in which no id stands twice
-
-count-absent : (x : Id) (xs : List Id) → has x xs ≡ false → count_by (bytes_eq x) xs ≡ 0
-count-absent x [] h = refl
-count-absent x (y ∷ ys) h = cases (two_ways (bytes_eq x y)) (two_ways (has x ys)) (count-absent x ys)
-  where
-    cases : (bytes_eq x y ≡ true) ⊎ (bytes_eq x y ≡ false) → (has x ys ≡ true) ⊎ (has x ys ≡ false) → (has x ys ≡ false → count_by (bytes_eq x) ys ≡ 0) → count_by (bytes_eq x) (y ∷ ys) ≡ 0
-    cases (inl e) _ more = no_way (has x (y ∷ ys)) (has-head x y ys (same-true x y e)) h
-    cases (inr e) (inl k) more = no_way (has x (y ∷ ys)) (has-tail x y ys k) h
-    cases (inr e) (inr k) more = let first = count-cons false x y ys e in let rest = more k in omega arith
 
 pub count-apart : (x : Id) (xs : List Id) → Apart xs → has x xs ≡ true → count_by (bytes_eq x) xs ≡ 1
 unfolding Apart
 count-apart x [] a h = no_way (has x []) h (has-nil x)
-count-apart x (y ∷ ys) a h = cases (two_ways (bytes_eq x y)) (has-cases x y ys h) (count-apart x ys a.1)
+count-apart x (y ∷ ys) a h = cases (cases_Bool (bytes_eq x y)) (has-cases x y ys h) (count-apart x ys a.1)
   where
     cases : (bytes_eq x y ≡ true) ⊎ (bytes_eq x y ≡ false) → (x ≡ y) ⊎ (has x ys ≡ true) → (has x ys ≡ true → count_by (bytes_eq x) ys ≡ 1) → count_by (bytes_eq x) (y ∷ ys) ≡ 1
     cases (inl e) k more =
-        let none = count-absent x ys (subst (λ z. has z ys ≡ false) (sym (same-true x y e)) a.0) in
+        let none = count-none x ys (subst (λ z. has z ys ≡ false) (sym (same-true x y e)) a.0) in
         let first = count-cons true x y ys e in
         omega arith
     cases (inr e) (inl q) more = no_way (bytes_eq x y) (same-is x y q) e
@@ -122,7 +114,7 @@ apart-from_counts (y ∷ ys) h = (alone, apart-from_counts ys rest)
       where
         counted : (x : Id) (xs : List Id) → has x xs ≡ true → (n : ℕ) × (count_by (bytes_eq x) xs ≡ suc n)
         counted x [] k = no_way (has x []) k (has-nil x)
-        counted x (z ∷ zs) k = elim (two_ways (bytes_eq x z)) [
+        counted x (z ∷ zs) k = elim (cases_Bool (bytes_eq x z)) [
           | inl e ↦ (count_by (bytes_eq x) zs, (let first = count-cons true x z zs e in omega arith))
           | inr e ↦ elim (has-cases x z zs k) [
             | inl q ↦ no_way (bytes_eq x z) (same-is x z q) e
@@ -131,7 +123,7 @@ apart-from_counts (y ∷ ys) h = (alone, apart-from_counts ys rest)
         ]
 
     rest : (x : Id) → has x ys ≡ true → count_by (bytes_eq x) ys ≡ 1
-    rest x k = elim (two_ways (bytes_eq x y)) [
+    rest x k = elim (cases_Bool (bytes_eq x y)) [
       | inl e ↦ no_way (has y ys) (subst (λ z. has z ys ≡ true) (same-true x y e) k) alone
       | inr e ↦ let first = count-cons false x y ys e in let whole = h x (has-tail x y ys k) in omega arith
     ]
@@ -168,14 +160,14 @@ module _ (t : List Placed) (v : IsValidTree t) where
   root_fact x r =
       let u = under-of x places ((v.stands places places_node v.top_is x).0 (roots-has x r)) in
       let n = of-in g x u.0 in
-      (u.0, ap (λ (m : Placed). m.kind) (at-of g x n.0 n.1) ∙ is_Folder n.0.kind (v.root_folder x n.0 (roots-has x r) n.1), u.1)
+      (u.0, ap (λ (m : Placed). m.kind) (at-of g x n.0 n.1) ∙ folder_kind n.0.kind (v.root_folder x n.0 (roots-has x r) n.1), u.1)
 
   -- each item but `places` has its parent in the tree
   above : (x : Id) → is_in g x ≡ true → is_places x ≡ false → (p : Id) × (parent_of g x ≡ Some p) × (m : Placed) × (g p ≡ Some m) × (m.kind ≡ Folder)
   above x h out =
       let n = of-in g x h in
       let f = v.folder x n.0 n.1 (λ e. no_way (is_places x) (ap is_places e ∙ places_is) out) in
-      (f.0, ap (λ (m : Placed). m.parent) (at-of g x n.0 n.1) ∙ f.1, f.2, f.3, is_Folder f.2.kind f.4)
+      (f.0, ap (λ (m : Placed). m.parent) (at-of g x n.0 n.1) ∙ f.1, f.2, f.3, folder_kind f.2.kind f.4)
 
   parent_fact : (x : Id) → is_in g x ≡ true → is_places x ≡ false → is_root x ≡ false →
       (p : Id) × (parent_of g x ≡ Some p) × (is_in g p ≡ true) × ((at g p).kind ≡ Folder) × (is_places p ≡ false)
@@ -216,8 +208,8 @@ module _ (t : List Placed) (v : IsValidTree t) where
   walked : (k : ℕ) (x : Id) → is_in g x ≡ true → steps (parent_in t) k x ≡ places → meets (parent_of g) is_places k x ≡ true
   unfolding steps
   walked zero x h e = ap is_places e ∙ places_is
-  walked (suc k) x h e = elim (two_ways (is_places x)) [
-    | inl top ↦ or_first (is_places x) _ top
+  walked (suc k) x h e = elim (cases_Bool (is_places x)) [
+    | inl top ↦ or_left (is_places x) _ top
     | inr out ↦
         let f = above x h out in
         meets_stepped (parent_of g) is_places k x f.0 f.1 (walked k f.0 (in-of g f.0 f.2 f.3) (ap (steps (parent_in t) k) (sym (step-is x f.0 f.1)) ∙ e))
@@ -259,7 +251,7 @@ module _ (t : List Placed) (apart : Apart (node_ids t)) (s : HasShape (look t)) 
   climbs : (k : ℕ) (x : Id) → meets (parent_of h) is_places k x ≡ true → steps (parent_in t) k x ≡ places
   unfolding steps
   climbs zero x m = is_places-is x m
-  climbs (suc k) x m = elim (two_ways (is_places x)) [
+  climbs (suc k) x m = elim (cases_Bool (is_places x)) [
     | inl top ↦ ap (λ z. steps (parent_in t) k (parent_in t z)) (is_places-is x top) ∙ top_stays (suc k)
     | inr out ↦
         let next = some_from_passes (meets (parent_of h) is_places k) (parent_of h x) (or_rest (is_places x) _ m out) in
@@ -282,11 +274,11 @@ module _ (t : List Placed) (apart : Apart (node_ids t)) (s : HasShape (look t)) 
           counted x m.children (ap (λ (n : Placed). count_by (bytes_eq x) n.children) (sym (at-is y m e)) ∙ s.once x y p)
         where
           counted : (x : Id) (xs : List Id) → count_by (bytes_eq x) xs ≡ 1 → has x xs ≡ true
-          counted x xs e = elim (two_ways (has x xs)) [ inl k ↦ k | inr k ↦ let none = count-absent x xs k in absurd (omega arith) ]
+          counted x xs e = elim (cases_Bool (has x xs)) [ inl k ↦ k | inr k ↦ let none = count-none x xs k in absurd (omega arith) ]
 
   folder_fact : (x : Id) (n : Placed) → node x t ≡ Some n → x ≢ places → (y : Id) × (n.parent ≡ Some y) × (m : Placed) × (node y t ≡ Some m) × (is_folder m.kind ≡ true)
   unfolding places_node
-  folder_fact x n e out = elim (two_ways (is_root x)) [
+  folder_fact x n e out = elim (cases_Bool (is_root x)) [
     | inl r ↦
         let f = s.roots_in x r in
         (places, sym (ap (λ (o : Placed). o.parent) (at-is x n e)) ∙ f.2, places_node, s.top, top_folder)
@@ -330,10 +322,10 @@ module _ (t : Look) (v : HasShape t) where
 
   below_root : (n : ℕ) (x : Id) → IsItem t x → meets (parent_of t) is_places n x ≡ true → meets (parent_of t) is_root n x ≡ true
   below_root zero x it h = no_way (is_places x) h it.not_places
-  below_root (suc n) x it h = cases (two_ways (is_root x)) (λ p. below_root n p)
+  below_root (suc n) x it h = cases (cases_Bool (is_root x)) (λ p. below_root n p)
     where
       cases : (is_root x ≡ true) ⊎ (is_root x ≡ false) → ((p : Id) → IsItem t p → meets (parent_of t) is_places n p ≡ true → meets (parent_of t) is_root n p ≡ true) → meets (parent_of t) is_root (suc n) x ≡ true
-      cases (inl e) more = or_first (is_root x) _ e
+      cases (inl e) more = or_left (is_root x) _ e
       cases (inr e) more =
           let next = some_from_passes (meets (parent_of t) is_places n) (parent_of t x) (or_rest (is_places x) _ h it.not_places) in
           meets_stepped (parent_of t) is_root n x next.0 next.1 (more next.0 (item_up x next.0 it e next.1) next.2)
@@ -346,7 +338,7 @@ module _ (t : Look) (v : HasShape t) where
       meets_within bytes_eq same-tells (parent_of t) is_root ids closed b.0 x (all x it.inside) (below_root b.0 x it b.1)
     where
       closed : (y z : Id) → has y ids ≡ true → is_root y ≡ false → parent_of t y ≡ Some z → has z ids ≡ true
-      closed y z k miss e = cases (two_ways (is_places y))
+      closed y z k miss e = cases (cases_Bool (is_places y))
         where
           cases : (is_places y ≡ true) ⊎ (is_places y ≡ false) → has z ids ≡ true
           cases (inl top) =

@@ -1,6 +1,6 @@
 -- A head ends in a line end, so bytes without one make no head whole.
-use Rattle.std.proofs.Common.{◌≡◌, ◌≤◌, ◌<◌, ◌⊎◌, inl, inr, ℕ, ◌+◌, List, [], ◌∷◌, ◌++◌, length, Bool, true, false, ◌||◌, ◌==◌, refl, sym, ◌∙◌, ap, append_assoc, length-append, arith}
-use Rattle.std.proofs.lemmas.Bool.{cases_lt, true≢false, ne_eqb}
+use Rattle.std.proofs.Common.{◌≡◌, ◌≤◌, ◌<◌, ◌⊎◌, inl, inr, ℕ, ◌+◌, List, [], ◌∷◌, ◌++◌, length, true, false, ◌||◌, ◌==◌, refl, sym, ◌∙◌, ap, append_assoc, length-append, arith}
+use Rattle.std.proofs.lemmas.Bool.{cases_lt, true≢false, ne_eqb, or_right}
 use Rattle.std.specs.List.{list_any, flat_map}
 use Rattle.httparse.specs.Grammar.{LineEnd, crlf, lf, print_end, print_blank, print_version, print_field, print_reason, RequestHead, print_request, ResponseHead, print_response, HasNoRequest, HasNoResponse}
 use Rattle.ss_http.specs.Listening.{IsNoLonger}
@@ -15,10 +15,6 @@ front_of (x ∷ a) b (y ∷ c) d within e =
     let rest = front_of a b c d (omega arith) tails in
     let same : a ≡ c ++ rest.0 = rest.1 in
     (rest.0, (let goal : x ∷ a ≡ y ∷ (c ++ rest.0) = cc in goal), rest.2)
-
-or_right : (a b : Bool) → b ≡ true → (a || b) ≡ true
-or_right true b e = refl
-or_right false b e = e
 
 -- a line end behind some bytes
 pub has_line_end : (k rest : List ℕ) → list_any (λ b. b == 10) (k ++ 10 ∷ rest) ≡ true

@@ -22,8 +22,9 @@ use Rattle.ss_http.specs.Responses.{type_of, body_fields, fields, reason_of, hea
 use Rattle.ss_http.specs.Hearing.{Hears, size_of, said, IsBare, IsAllow, IsSound}
 use Rattle.ss_http.proofs.LineLemmas.{lines-append}
 use Rattle.ss_http.proofs.Written.{field_of, lines_print, Fit, fit-append, fit_if, bare_map, are_fields, values_are, none_named, named_here, or_none, none_closing, if_count, if_long, map_long, decimal_long, stamp_long, lines_length}
-use Rattle.ss_http.proofs.Values.{decimal_digits, decimal_is_bare, stamp_is_bare, visible_is_bare, number_again, stamp_again}
+use Rattle.ss_http.proofs.Values.{decimal_is_bare, stamp_is_bare, visible_is_bare, number_again}
 use Rattle.ss_http.specs.declared.limits.TheConstants.{HEAD_ROOM, LENGTH_DIGITS}
+use Rattle.ss_text.proofs.StampTexts.{decimal_digits, stamp_again}
 
 abbrev pub tree_of : ResponseHead → ℕ → grammar.ResponseHead
 tree_of h n = record { blank = []; minor = 1; digits = decimal h.status; reason = Some (reason_of h.status); line_end = crlf; fields = map field_of (fields h n); last = crlf }

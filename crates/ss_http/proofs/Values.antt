@@ -1,29 +1,19 @@
 -- Numbers and stamps as values of fields, and read back.
-use Rattle.std.proofs.Common.{◌≡◌, ℕ, ◌+◌, ◌-◌, ◌*◌, ◌/◌, ◌%◌, ◌^◌, ◌<◌, ◌≤◌, List, [], ◌∷◌, ◌++◌, length, reverse, Bool, true, false, ◌&&◌, ◌||◌, not, ◌==◌, cond, leb, Option, Some, None, decimal, refl, ap, ap₂, ◌∙◌, arith, lit<, le-leb, ne_eqb}
+use Rattle.std.proofs.Common.{◌≡◌, ℕ, ◌+◌, ◌-◌, ◌/◌, ◌%◌, ◌^◌, ◌<◌, ◌≤◌, List, [], ◌∷◌, ◌++◌, reverse, Bool, true, false, ◌&&◌, ◌||◌, not, ◌==◌, cond, leb, Some, decimal, refl, ap, ap₂, ◌∙◌, arith, lit<, le-leb, ne_eqb}
 use Rattle.std.proofs.lemmas.Bool.{and_parts, leb-true}
 use Rattle.std.proofs.lemmas.Fmt.{decimal_is_IsNumeral, decimal_nonempty, length-decimal-le}
-use Rattle.std.proofs.lemmas.Str.Parse.{digit_from_value}
 use Rattle.std.proofs.lemmas.List.Folds.{list_all-append}
 use Rattle.std.proofs.lemmas.List.Sums.{AllPass-from_list_all, list_all-from_AllPass}
 use Rattle.std.specs.List.{list_all}
-use Rattle.std.specs.Char.{is_ascii_digit, digit_value}
-use Rattle.std.specs.Str.Parse.{digits_value, AllDigits}
+use Rattle.std.specs.Char.{is_ascii_digit}
+use Rattle.std.specs.Str.Parse.{digits_value}
 use Rattle.httparse.specs.Grammar.{skip_ows, is_ows, is_value_byte}
 use Rattle.httparse.proofs.TrimLemmas.{trim_ows_space, AllPass-reverse}
 use Rattle.ss_text.specs.Numbers.{number_of}
-use Rattle.ss_text.specs.Time.{stamp_text, two_digits, split_point, hundredths, with_fraction, stamp_of, last_stamp}
+use Rattle.ss_text.specs.Time.{stamp_text, two_digits, last_stamp}
 use Rattle.ss_http.specs.Hearing.{IsBare}
 use Rattle.ss_http.specs.declared.limits.TheConstants.{LENGTH_DIGITS}
-
-digit_passes : (c : ℕ) → digit_value c < 10 → is_ascii_digit c ≡ true
-digit_passes c h = let r = digit_from_value c h in ap₂ (λ a b. a && b) (le-leb 48 c r.0) (le-leb c 57 r.1)
-
-all_digits : (ds : List ℕ) → AllDigits 10 ds → list_all is_ascii_digit ds ≡ true
-all_digits [] h = refl
-all_digits (d ∷ ds) h = ap₂ (λ a b. a && b) (digit_passes d h.0) (all_digits ds h.1)
-
-pub decimal_digits : (n : ℕ) → n < 2 ^ 64 → list_all is_ascii_digit (decimal n) ≡ true
-decimal_digits n h = all_digits (decimal n) (decimal_is_IsNumeral n h).0.1
+use Rattle.ss_text.proofs.StampTexts.{two_are_digits, decimal_digits, all_three}
 
 -- a visible byte
 abbrev pub is_visible : ℕ → Bool
@@ -45,7 +35,7 @@ skipped : (v : List ℕ) → list_all is_visible v ≡ true → skip_ows v ≡ v
 skipped [] h = refl
 skipped (b ∷ bs) h = ap (λ t. cond t (skip_ows bs) (b ∷ bs)) (not_blank b (and_parts (is_visible b) (list_all is_visible bs) h).0)
 
-all_weaker : (p q : ℕ → Bool) → ((b : ℕ) → p b ≡ true → q b ≡ true) → (v : List ℕ) → list_all p v ≡ true → list_all q v ≡ true
+pub all_weaker : (p q : ℕ → Bool) → ((b : ℕ) → p b ≡ true → q b ≡ true) → (v : List ℕ) → list_all p v ≡ true → list_all q v ≡ true
 all_weaker p q f [] h = refl
 all_weaker p q f (b ∷ bs) h = let parts = and_parts (p b) (list_all p bs) h in ap₂ (λ x y. x && y) (f b parts.0) (all_weaker p q f bs parts.1)
 
@@ -68,14 +58,6 @@ digit_is_visible b h =
 pub decimal_is_bare : (n : ℕ) → n < 2 ^ 64 → IsBare (decimal n)
 decimal_is_bare n h = visible_is_bare (decimal n) (all_weaker is_ascii_digit is_visible digit_is_visible (decimal n) (decimal_digits n h))
 
-pub two_are_digits : (n : ℕ) → n < 100 → list_all is_ascii_digit (two_digits n) ≡ true
-two_are_digits n few =
-    let tens : n / 10 < 10 = omega arith in
-    let ones : n % 10 < 10 = omega arith in
-    let first : is_ascii_digit (48 + n / 10) ≡ true = ap₂ (λ a b. a && b) (le-leb 48 (48 + n / 10) (omega arith)) (le-leb (48 + n / 10) 57 (omega arith)) in
-    let second : is_ascii_digit (48 + n % 10) ≡ true = ap₂ (λ a b. a && b) (le-leb 48 (48 + n % 10) (omega arith)) (le-leb (48 + n % 10) 57 (omega arith)) in
-    ap₂ (λ a b. a && (b && true)) first second
-
 pub stamp_is_bare : (s : ℕ) → s ≤ last_stamp → IsBare (stamp_text s)
 unfolding stamp_text
 stamp_is_bare s h =
@@ -83,9 +65,6 @@ stamp_is_bare s h =
     let seconds = all_weaker is_ascii_digit is_visible digit_is_visible (decimal (s / 100)) (decimal_digits (s / 100) few) in
     let rest = all_weaker is_ascii_digit is_visible digit_is_visible (two_digits (s % 100)) (two_are_digits (s % 100) (omega arith)) in
     visible_is_bare (decimal (s / 100) ++ 46 ∷ two_digits (s % 100)) (list_all-append is_visible (decimal (s / 100)) (46 ∷ two_digits (s % 100)) ∙ ap₂ (λ a b. a && b) seconds rest)
-
-all_three : {A : Type 0} (a b c : Bool) (o : Option A) → a ≡ true → b ≡ true → c ≡ true → cond (a && b && c) o None ≡ o
-all_three a b c o p q r = ap₂ (λ x y. cond (x && y && c) o None) p q ∙ ap (λ z. cond z o None) r
 
 -- a number is read back
 pub number_again : (n : ℕ) → n < 10 ^ LENGTH_DIGITS → number_of LENGTH_DIGITS (decimal n) ≡ Some n
@@ -95,26 +74,4 @@ number_again n h =
     all_three _ _ _ (Some (digits_value 10 (decimal n))) (le-leb 1 _ (decimal_nonempty n few)) (le-leb _ LENGTH_DIGITS (length-decimal-le LENGTH_DIGITS n (lit< tt) h few)) (decimal_digits n few)
     ∙ ap Some (decimal_is_IsNumeral n few).1
 
-split_there : (ds rest : List ℕ) → list_all is_ascii_digit ds ≡ true → split_point (ds ++ 46 ∷ rest) ≡ (ds, Some rest)
-split_there [] rest h = refl
-split_there (d ∷ ds) rest h =
-    let parts = and_parts (is_ascii_digit d) (list_all is_ascii_digit ds) h in
-    let low = leb-true 48 d (and_parts (leb 48 d) (leb d 57) parts.0).0 in
-    let other : (d == 46) ≡ false = ne_eqb d 46 (λ e. omega arith) in
-    ap₂ (λ t p. cond t ([], Some (ds ++ 46 ∷ rest)) (d ∷ p.0, p.1)) other (split_there ds rest parts.1)
-
 -- a time is read back
-pub stamp_again : (s : ℕ) → s ≤ last_stamp → stamp_of (stamp_text s) ≡ Some s
-unfolding stamp_of stamp_text
-stamp_again s h =
-    let few : s / 100 < 10 ^ 10 = omega arith in
-    let wide : s / 100 < 2 ^ 64 = omega arith in
-    let seconds = decimal (s / 100) in
-    let last = s % 100 in
-    let sum : 100 * (s / 100) + (10 * ((48 + last / 10) - 48) + ((48 + last % 10) - 48)) ≡ s = omega arith in
-    ap (λ p. cond (leb 1 (length p.0) && leb (length p.0) 10 && list_all is_ascii_digit p.0) (with_fraction (digits_value 10 p.0) p.1) None)
-    (split_there seconds (two_digits last) (decimal_digits (s / 100) wide))
-    ∙ all_three _ _ _ (with_fraction (digits_value 10 seconds) (Some (two_digits last)))
-    (le-leb 1 _ (decimal_nonempty (s / 100) wide)) (le-leb _ 10 (length-decimal-le 10 (s / 100) (lit< tt) few wide)) (decimal_digits (s / 100) wide)
-    ∙ ap (λ b. cond b (Some (100 * digits_value 10 seconds + hundredths (two_digits last))) None) (two_are_digits last (omega arith))
-    ∙ ap Some (ap (λ v. 100 * v + hundredths (two_digits last)) (decimal_is_IsNumeral (s / 100) wide).1 ∙ sum)

@@ -1,7 +1,7 @@
 -- Changes of rows, one after the other.
-use Rattle.std.specs.Prelude.{◌≡◌, ℕ, is_some, zero, suc, take, get_or, IsFalse, ◌+◌, ◌<◌, ◌≤◌, Bool, true, false, not, cond, List, [], ◌∷◌, ◌++◌, length, fold, Option, Some, None, bytes_eq, refl}
+use Rattle.std.specs.Prelude.{◌≡◌, ℕ, zero, suc, take, get_or, IsFalse, ◌+◌, ◌<◌, ◌≤◌, Bool, true, false, not, cond, List, [], ◌∷◌, ◌++◌, length, fold, Some, None, bytes_eq, refl}
 use Rattle.std.proofs.Common.{sym, ap, subst, ◌∙◌, arith, length-append}
-use Rattle.std.proofs.lemmas.List.{take_more, take_all}
+use Rattle.std.proofs.lemmas.List.{take_all}
 use Rattle.std.specs.Map.{lookup, set_value, keys_of}
 use Rattle.std.specs.Option.{option_map_or}
 use Rattle.ss_text.specs.Texts.{Reordered}
@@ -16,10 +16,10 @@ use Rattle.ss_index.specs.Shelved.{rows_in, Named, NamesApart, IsShelf}
 use Rattle.ss_index.specs.declared.ready.ReadyRow.{ReadyRow}
 use Rattle.ss_index.specs.Ready.{change_of, changes_of, spare_of, puts_in, IsLast, InTime, CanChange}
 use Rattle.ss_index.specs.Sweep.{Outlives}
-use Rattle.ss_bso.proofs.Lists.{Each, Each-append, Each-imp, Pairs-append, length-filter_le}
-use Rattle.ss_bso.proofs.Texts.{same_text, bytes_eq-same, bytes_eq-flip}
+use Rattle.ss_bso.proofs.Lists.{Each, Each-append, Each-imp, Pairs-append}
 use Rattle.ss_index.proofs.Shelves.{named-edited, held_named}
 use Rattle.ss_bso.proofs.Reordering.{reordered-sym, reordered-append_right, reordered-filter, length-reordered, Each-reordered}
+use Rattle.ss_text.proofs.Basics.{bytes_eq-flip, same_text, bytes_eq-same, take_push, length-filter_le}
 
 pub row_changed-reordered : (change : RowChange) {rows others : List Row} → Reordered rows others → Reordered (row_changed rows change) (row_changed others change)
 row_changed-reordered (row.Put new) r = reordered-append_right (new ∷ []) (reordered-filter (λ one. not (is_at new.collection new.id one)) r)
@@ -125,13 +125,6 @@ room-kept collection held now drawers after e set more name =
 puts_in-append : (name : List ℕ) (xs ys : List RowChange) → puts_in name (xs ++ ys) ≡ puts_in name xs + puts_in name ys
 puts_in-append name [] ys = omega arith
 puts_in-append name (x ∷ xs) ys = omega (arith, puts_in-append name xs ys, puts_in-cons name x xs, puts_in-cons name x (xs ++ ys))
-
-take_push : {X : Type 0} (xs : List X) (i : ℕ) (x : X) → i < length xs → x ≡ get_or xs i x → take (i + 1) xs ≡ take i xs ++ x ∷ []
-take_push xs i x lt is = take_more xs i x lt ∙ ap (λ one. take i xs ++ one ∷ []) (sym is)
-
-pub none_from_is_some : {X : Type 0} (o : Option X) → is_some o ≡ false → o ≡ None
-none_from_is_some None e = refl
-none_from_is_some (Some x) e = cc
 
 either : (a b : ℕ) (X : Type 0) → 0 < a + b → (0 < a → X) → (0 < b → X) → X
 either zero b X h f g = g (omega arith)

@@ -11,13 +11,13 @@ use Rattle.ss_bso.specs.declared.rows.Row.{Row}
 use Rattle.ss_bso.specs.Lists.{Each}
 use Rattle.ss_bso.specs.Limits.{rows_of}
 use Rattle.ss_bso.proofs.Lists.{Each-and, Each-filter, Each-imp}
-use Rattle.ss_bso.proofs.Texts.{bytes_eq-same}
 use Rattle.ss_query.specs.Told.{by_name}
 use Rattle.ss_index.specs.declared.numbers.Measure.{Measure}
 use Rattle.ss_index.specs.Held.{Held, some_rows}
 use Rattle.ss_index.specs.Numbers.{names_of, per_name, measured, entry_of, entries_of}
 use Rattle.ss_index.specs.Shelved.{rows_in, Named, NamesApart}
 use Rattle.ss_index.proofs.Shelves.{filter-every, filter-none, of_collection, of_another, others_named}
+use Rattle.ss_text.proofs.Basics.{bytes_eq-same}
 
 -- ---- one drawer more
 

@@ -11,11 +11,8 @@ use Rattle.ss_index.specs.Held.{has_id, rows_but_id}
 use Rattle.ss_index.specs.Layout.{NoLater, IsKept}
 use Rattle.ss_bso.specs.Lists.{OtherId}
 use Rattle.ss_bso.proofs.Lists.{Each, Each-append, Each-imp, Pairs, Pairs-filter, Pairs-append}
-use Rattle.ss_bso.proofs.Texts.{same_text, bytes_eq-same, bytes_eq-flip}
 use Rattle.ss_bso.proofs.SameRows.{find-none, filter-all}
-
-some_same : {X : Type 0} (x y : X) → Some x ≡ Some y → x ≡ y
-some_same x y e = cc
+use Rattle.ss_text.proofs.Basics.{some_same, bytes_eq-flip, same_text, bytes_eq-same}
 
 cond_none : {X : Type 0} (b : Bool) (x : X) (rest : Option X) → cond b (Some x) rest ≡ None → rest ≡ None
 cond_none true x rest e = cc
@@ -35,7 +32,7 @@ module _ (at : List ℕ → Option ℕ) where
   elsewhere : (id : List ℕ) (p : ℕ) (node : ℕ × Row) → at id ≡ Some p → at node.1.id ≡ Some node.0 → nat_eq p node.0 ≡ false → has_id id node.1 ≡ false
   elsewhere id p node e c t =
       elim (has_id id node.1) as (λ v. has_id id node.1 ≡ v → v ≡ false) [
-        | true ↦ (λ h. let same : p ≡ node.0 = some_same p node.0 (named id node.1 node.0 (Some p) e h c) in sym (eq-eqb p node.0 same) ∙ t)
+        | true ↦ (λ h. let same : p ≡ node.0 = some_same (named id node.1 node.0 (Some p) e h c) in sym (eq-eqb p node.0 same) ∙ t)
         | false ↦ (λ h. refl)
       ] refl
 
@@ -67,7 +64,7 @@ module _ (at : List ℕ → Option ℕ) where
       let rest : Option Row = find (has_id id) (values_of nodes) in
       elim (nat_eq p node.0) as (λ v. nat_eq p node.0 ≡ v → cond v (Some node.1) (lookup (nat_eq p) nodes) ≡ Some row → cond (has_id id node.1) (Some node.1) rest ≡ Some row) [
         | true ↦ (λ t h.
-            let same : node.1 ≡ row = some_same node.1 row h in
+            let same : node.1 ≡ row = some_same h in
             ap (λ v. cond v (Some node.1) rest) (ap (λ one. has_id id one) same ∙ named_so) ∙ h)
         | false ↦ (λ t h. ap (λ v. cond v (Some node.1) rest) (elsewhere id p node e c.0 t) ∙ found_at id p row e named_so nodes c.1 h)
       ] refl found
@@ -82,8 +79,8 @@ module _ (at : List ℕ → Option ℕ) where
       → lookup (nat_eq p) (cond v nodes (node ∷ remove_entry (nat_eq p) nodes)) ≡ None
       → values_of (cond v nodes (node ∷ remove_entry (nat_eq p) nodes)) ≡ cond (not (has_id id node.1)) (node.1 ∷ rest) rest) [
         | true ↦ (λ t h k.
-            let here : has_id id node.1 ≡ true = ap (λ one. has_id id one) (some_same node.1 row h) ∙ named_so in
-            let none : NoNode (Some p) nodes = λ q s. ap (λ at_q. lookup (nat_eq at_q) nodes) (sym (some_same p q s)) ∙ k in
+            let here : has_id id node.1 ≡ true = ap (λ one. has_id id one) (some_same h) ∙ named_so in
+            let none : NoNode (Some p) nodes = λ q s. ap (λ at_q. lookup (nat_eq at_q) nodes) (sym (some_same s)) ∙ k in
             sym (filter-all (has_id id) (values_of nodes) (none_named id (Some p) e nodes c.1 none))
             ∙ sym (ap (λ v. cond (not v) (node.1 ∷ rest) rest) here))
         | false ↦ (λ t h k.
@@ -110,15 +107,15 @@ module _ (at : List ℕ → Option ℕ) where
 pub front_at : (at : List ℕ → Option ℕ) (nodes : List (ℕ × Row)) (p : ℕ) (row : Row) → Each (λ (node : ℕ × Row). at node.1.id ≡ Some node.0) nodes → Some p ≡ first_of (keys_of nodes) → lookup (nat_eq p) nodes ≡ Some row → at row.id ≡ Some p
 front_at at [] p row c e found = cc
 front_at at (node ∷ nodes) p row c e found =
-    let same : p ≡ node.0 = some_same p node.0 e in
+    let same : p ≡ node.0 = some_same e in
     let here : Some node.1 ≡ Some row = sym (ap (λ v. cond v (Some node.1) (lookup (nat_eq p) nodes)) (eq-eqb p node.0 same)) ∙ found in
-    ap (λ (one : Row). at one.id) (sym (some_same node.1 row here)) ∙ c.0 ∙ ap (λ n. Some n) (sym same)
+    ap (λ (one : Row). at one.id) (sym (some_same here)) ∙ c.0 ∙ ap (λ n. Some n) (sym same)
 
 pub front_rest : (nodes : List (ℕ × Row)) (p : ℕ) (row : Row) → Pairs OtherId (values_of nodes) → Some p ≡ first_of (keys_of nodes) → lookup (nat_eq p) nodes ≡ Some row → rows_but_id row.id (values_of nodes) ≡ drop 1 (values_of nodes)
 front_rest [] p row a e found = cc
 front_rest (node ∷ nodes) p row a e found =
-    let same : p ≡ node.0 = some_same p node.0 e in
-    let here : node.1 ≡ row = some_same node.1 row (sym (ap (λ v. cond v (Some node.1) (lookup (nat_eq p) nodes)) (eq-eqb p node.0 same)) ∙ found) in
+    let same : p ≡ node.0 = some_same e in
+    let here : node.1 ≡ row = some_same (sym (ap (λ v. cond v (Some node.1) (lookup (nat_eq p) nodes)) (eq-eqb p node.0 same)) ∙ found) in
     let rest : List Row = rows_but_id row.id (values_of nodes) in
     let first : has_id row.id node.1 ≡ true = bytes_eq-same node.1.id row.id (ap (λ (one : Row). one.id) here) in
     let others : Each (OtherId row) (values_of nodes) = subst (λ (one : Row). Each (OtherId one) (values_of nodes)) here a.0 in
@@ -136,7 +133,7 @@ size-without p row (node ∷ nodes) found =
     elim (nat_eq p node.0) as (λ v. cond v (Some node.1) (lookup (nat_eq p) nodes) ≡ Some row
     → row_bytes (values_of (cond v nodes (node ∷ remove_entry (nat_eq p) nodes))) + length row.payload ≡ row_bytes (node.1 ∷ values_of nodes)) [
       | true ↦ (λ h.
-          let same : node.1 ≡ row = some_same node.1 row h in
+          let same : node.1 ≡ row = some_same h in
           let sizes : length node.1.payload ≡ length row.payload = ap (λ (one : Row). length one.payload) same in
           omega (arith, sizes, sum_by-cons (λ (one : Row). length one.payload) node.1 (values_of nodes)))
       | false ↦ (λ h.
@@ -210,7 +207,7 @@ module _ {S : Type 0} {places : IndexMap (List ℕ) ℕ S} {chain : Chain Row} {
     taken_kept = record {
       covers = subst (λ left. Each (λ (node : ℕ × Row). get bytes_eq now node.1.id ≡ Some node.0) left) (sym nodes)
           (covers-kept (get bytes_eq places) (get bytes_eq now) id (Some p) e (λ q t. updates q ∙ ap (λ b. cond b None (get bytes_eq places q)) t)
-          (without p chain.nodes) (covers-removed (get bytes_eq places) p chain.nodes kept.covers) (λ q s. ap (λ place. lookup (nat_eq place) (without p chain.nodes)) (sym (some_same p q s)) ∙ gone_there));
+          (without p chain.nodes) (covers-removed (get bytes_eq places) p chain.nodes kept.covers) (λ q s. ap (λ place. lookup (nat_eq place) (without p chain.nodes)) (sym (some_same s)) ∙ gone_there));
       live = live_taken;
       in_time = subst (λ rows. Pairs NoLater rows) (sym taken_rows) (Pairs-filter NoLater (λ one. not (has_id id one)) (values_of chain.nodes) kept.in_time);
       apart = subst (λ rows. Pairs OtherId rows) (sym taken_rows) (Pairs-filter OtherId (λ one. not (has_id id one)) (values_of chain.nodes) kept.apart);
@@ -241,7 +238,7 @@ module _ {S : Type 0} {places : IndexMap (List ℕ) ℕ S} {chain : Chain Row} {
     live_put q r h =
         elim (bytes_eq row.id q) as (λ b. bytes_eq row.id q ≡ b → cond b (Some p) (get bytes_eq places q) ≡ Some r → IsSomeAnd (value_of more r) (λ (one : Row). one.id ≡ q)) [
           | true ↦ (λ t f.
-              let there : value_of more r ≡ Some row = ap (λ place. value_of more place) (sym (some_same p r f)) ∙ here in
+              let there : value_of more r ≡ Some row = ap (λ place. value_of more place) (sym (some_same f)) ∙ here in
               subst (λ o. IsSomeAnd o (λ (one : Row). one.id ≡ q)) (sym there) (same_text row.id q t))
           | false ↦ (λ t f.
               let other : r ≢ p = λ same.

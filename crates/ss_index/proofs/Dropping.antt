@@ -1,9 +1,9 @@
 -- Collections that are dropped.
-use Rattle.std.specs.Prelude.{◌≡◌, ℕ, ◌+◌, ◌-◌, ◌<◌, ◌≤◌, Bool, true, false, not, ◌||◌, cond, List, [], ◌∷◌, ◌++◌, length, take, get_or, fold, filter, filter_map, Option, Some, None, bytes_eq, refl}
+use Rattle.std.specs.Prelude.{◌≡◌, ℕ, ◌+◌, ◌-◌, ◌<◌, ◌≤◌, Bool, true, false, not, ◌||◌, cond, List, [], ◌∷◌, ◌++◌, length, take, get_or, fold, filter, Some, None, bytes_eq, refl}
 use Rattle.std.proofs.Common.{sym, ap, subst, ◌∙◌, arith}
 use Rattle.std.proofs.lemmas.List.{take_more}
 use Rattle.std.proofs.lemmas.List.Elements.{filter-append}
-use Rattle.std.specs.List.{list_any, cons_option}
+use Rattle.std.specs.List.{list_any}
 use Rattle.std.specs.Option.{option_to_list}
 use Rattle.std.specs.Map.{lookup, set_value, keys_of}
 use Rattle.ss_bso.specs.declared.rows.Row.{Row}
@@ -19,10 +19,9 @@ use Rattle.ss_index.specs.Held.{Held, IsSized}
 use Rattle.ss_index.specs.Shelved.{rows_in, rows_without, dropped_name, dropped_names, Named, NamesApart, IsShelf}
 use Rattle.ss_index.specs.Ready.{applied, changes_of, rows_left, IsReady}
 use Rattle.ss_index.specs.Sweep.{Outlives}
-use Rattle.ss_bso.proofs.Lists.{Each, Each-filter, Each-imp, length-filter_le}
-use Rattle.ss_bso.proofs.Texts.{same_text, bytes_eq-same, bytes_eq-flip}
+use Rattle.ss_bso.proofs.Lists.{Each, Each-filter, Each-imp}
 use Rattle.ss_index.proofs.Shelves.{filter-none, filter-every, of_collection, of_another, others_named, names_beside, named-edited, counted, len-adds, bytes-adds, none_named}
-use Rattle.ss_index.proofs.Picks.{bytes_eq-sym}
+use Rattle.ss_text.proofs.Basics.{bytes_eq-sym, length-filter_le, filter_map-push}
 
 pub without_in : (name : List ℕ) (held now : Held) → now.rows ≡ [] → (drawers : List (List ℕ × Held)) → Named drawers → NamesApart (keys_of drawers) → lookup (bytes_eq name) drawers ≡ Some held
     → rows_in (set_value (bytes_eq name) drawers now) ≡ rows_without (rows_in drawers) name
@@ -75,18 +74,6 @@ pub left_more : (names : List (List ℕ)) (i : ℕ) (name : List ℕ) (rows now 
 left_more names i name rows now after lt is so_far this =
     let cut : take (i + 1) names ≡ take i names ++ name ∷ [] = take_more names i name lt ∙ ap (λ one. take i names ++ one ∷ []) (sym is) in
     this ∙ ap (λ l. rows_without l name) so_far ∙ sym (ap (λ l. rows_left l rows) cut ∙ fold-push rows_without rows (take i names) name)
-
-cons_option-append : {X : Type 0} (o : Option X) (xs ys : List X) → cons_option o (xs ++ ys) ≡ cons_option o xs ++ ys
-cons_option-append None xs ys = refl
-cons_option-append (Some x) xs ys = refl
-
-cons_option-nil : {X : Type 0} (o : Option X) → cons_option o [] ≡ option_to_list o
-cons_option-nil None = refl
-cons_option-nil (Some x) = refl
-
-filter_map-push : {X Y : Type 0} (f : X → Option Y) (xs : List X) (x : X) → filter_map f (xs ++ x ∷ []) ≡ filter_map f xs ++ option_to_list (f x)
-filter_map-push f [] x = cons_option-nil (f x)
-filter_map-push f (y ∷ ys) x = ap (λ l. cons_option (f y) l) (filter_map-push f ys x) ∙ cons_option-append (f y) (filter_map f ys) (option_to_list (f x))
 
 pub dropped_more : (changes : List CollectionChange) (i : ℕ) (change : CollectionChange) (now after : List (List ℕ)) → i < length changes → change ≡ get_or changes i change → now ≡ dropped_names (take i changes)
     → after ≡ now ++ option_to_list (dropped_name change) → after ≡ dropped_names (take (i + 1) changes)

@@ -1,5 +1,5 @@
 -- A shelf that is filled with rows in the order of time.
-use Rattle.std.specs.Prelude.{◌≡◌, ℕ, zero, suc, ◌+◌, ◌≤◌, true, false, not, List, [], ◌∷◌, ◌++◌, length, get_or, drop, bytes_eq, IsSortedBy, refl}
+use Rattle.std.specs.Prelude.{◌≡◌, ℕ, zero, suc, ◌+◌, ◌≤◌, true, not, List, [], ◌∷◌, ◌++◌, length, get_or, drop, bytes_eq, IsSortedBy, refl}
 use Rattle.std.proofs.Common.{sym, ap, subst, ◌∙◌, arith, append_assoc, append-nil, length-append}
 use Rattle.std.proofs.lemmas.List.Sorted.{sorted_far, ranks_by}
 use Rattle.std.proofs.Math.Seq.{drop-nil}
@@ -20,9 +20,10 @@ use Rattle.ss_bso.specs.Limits.{rows_of}
 use Rattle.ss_index.specs.Layout.{NoLater}
 use Rattle.ss_bso.specs.Lists.{Apart}
 use Rattle.ss_bso.proofs.Lists.{Each, Each-append, Each-imp, Each-filter, Pairs, Pairs-from_AllPairs}
-use Rattle.ss_bso.proofs.Texts.{same_text, bytes_eq-same, both, both_left, both_right}
 use Rattle.ss_bso.proofs.Reordering.{reordered-refl, reordered-sym, reordered-append_right, Each-reordered, Pairs-reordered, length-reordered}
 use Rattle.ss_index.proofs.Shelves.{filter-every}
+use Rattle.std.proofs.lemmas.Bool.{and_from}
+use Rattle.ss_bso.proofs.Places.{apart_flip}
 
 -- a sorted list is in the order of time
 pub in_time_sorted : (rows : List Row) → IsSortedBy (λ (a b : Row). is_lt (nat_cmp a.modified b.modified)) rows → Pairs NoLater rows
@@ -30,16 +31,7 @@ in_time_sorted rows up =
     let far = sorted_far (λ (a b : Row). is_lt (nat_cmp a.modified b.modified)) (ranks_by nat_cmp_total (λ (row : Row). row.modified)) rows up in
     Pairs-from_AllPairs NoLater rows (λ i j d lt within. ge_from_not_lt (get_or rows j d).modified (get_or rows i d).modified (far i j d (omega arith) within))
 
--- being apart goes both ways
-apart_flip : (x y : Row) → Apart x y → Apart y x
-apart_flip x y e =
-    elim (is_at y.collection y.id x) as (λ v. is_at y.collection y.id x ≡ v → v ≡ false) [
-      | true ↦ (λ t.
-          let first : y.collection ≡ x.collection = sym (same_text x.collection y.collection (both_left (bytes_eq x.collection y.collection) (bytes_eq x.id y.id) t)) in
-          let second : y.id ≡ x.id = sym (same_text x.id y.id (both_right (bytes_eq x.collection y.collection) (bytes_eq x.id y.id) t)) in
-          sym (both (bytes_eq y.collection x.collection) (bytes_eq y.id x.id) (bytes_eq-same y.collection x.collection first) (bytes_eq-same y.id x.id second)) ∙ e)
-      | false ↦ (λ t. refl)
-    ] refl
+-- being apart goes and_from ways
 
 -- how far the filling has come: the rows that are in, and those to come
 pub record Filled (all inside rest : List Row) : Type 0 where

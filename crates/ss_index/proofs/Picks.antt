@@ -12,18 +12,12 @@ use Rattle.ss_query.specs.Answer.{is_asked}
 use Rattle.ss_index.specs.Held.{has_id, picked}
 use Rattle.ss_bso.specs.Lists.{OtherId}
 use Rattle.ss_bso.proofs.Lists.{Each, Each-imp, Pairs}
-use Rattle.ss_bso.proofs.Texts.{same_text, bytes_eq-same, bytes_eq-flip, both}
 use Rattle.ss_bso.proofs.Lists.{Each-any}
 use Rattle.ss_bso.proofs.Reordering.{reordered-refl, reordered-append_right, reordered-filter}
 use Rattle.ss_index.proofs.Shelves.{filter-every, filter-same}
 use Rattle.std.proofs.Math.Bool.{or-false}
-
-pub bytes_eq-sym : (x y : List ℕ) → bytes_eq x y ≡ bytes_eq y x
-bytes_eq-sym x y =
-    elim (bytes_eq x y) as (λ v. bytes_eq x y ≡ v → v ≡ bytes_eq y x) [
-      | true ↦ (λ e. sym (bytes_eq-same y x (sym (same_text x y e))))
-      | false ↦ (λ e. sym (bytes_eq-flip x y e))
-    ] refl
+use Rattle.std.proofs.lemmas.Bool.{and_from}
+use Rattle.ss_text.proofs.Basics.{bytes_eq-sym, same_text}
 
 to_end : {X : Type 0} (x : X) (us : List X) → Reordered (x ∷ us) (us ++ x ∷ [])
 to_end x [] = reordered-refl (x ∷ [])
@@ -140,8 +134,8 @@ asks_all query rows ids newer older = filter-every (is_asked query) rows (each r
         let by_ids : option_map_or (λ (l : List (List ℕ)). is_among l row.id) query.ids true ≡ true = ap (λ o. option_map_or (λ (l : List (List ℕ)). is_among l row.id) o true) ids in
         let by_newer : option_map_or (λ time. nat_lt time row.modified) query.newer true ≡ true = ap (λ o. option_map_or (λ time. nat_lt time row.modified) o true) newer in
         let by_older : option_map_or (λ time. nat_lt row.modified time) query.older true ≡ true = ap (λ o. option_map_or (λ time. nat_lt row.modified time) o true) older in
-        both (option_map_or (λ (l : List (List ℕ)). is_among l row.id) query.ids true && option_map_or (λ time. nat_lt time row.modified) query.newer true) (option_map_or (λ time. nat_lt row.modified time) query.older true)
-        (both (option_map_or (λ (l : List (List ℕ)). is_among l row.id) query.ids true) (option_map_or (λ time. nat_lt time row.modified) query.newer true) by_ids by_newer) by_older
+        and_from (option_map_or (λ (l : List (List ℕ)). is_among l row.id) query.ids true && option_map_or (λ time. nat_lt time row.modified) query.newer true) (option_map_or (λ time. nat_lt row.modified time) query.older true)
+        (and_from (option_map_or (λ (l : List (List ℕ)). is_among l row.id) query.ids true) (option_map_or (λ time. nat_lt time row.modified) query.newer true) by_ids by_newer) by_older
 
     each : (xs : List Row) → Each (λ (row : Row). is_asked query row ≡ true) xs
     each [] = tt

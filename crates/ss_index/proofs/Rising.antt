@@ -1,9 +1,7 @@
 -- Changes whose times rise, after the rows that are there.
 use Rattle.std.specs.Prelude.{◌≡◌, ℕ, ◌+◌, ◌≤◌, ◌<◌, Bool, true, false, not, cond, List, [], ◌∷◌, ◌++◌, length, take, get_or, filter, Some, None, bytes_eq, refl}
 use Rattle.std.proofs.Common.{sym, ap, subst, ◌∙◌, arith, inl, inr}
-use Rattle.std.proofs.lemmas.Bool.Decides.{leb_tells}
 use Rattle.std.proofs.lemmas.List.{take_more}
-use lib.Dec.{leb}
 use Rattle.std.specs.Map.{keys_of, values_of}
 use Rattle.ss_bso.specs.declared.rows.Row.{Row}
 use Rattle.ss_bso.specs.declared.changes.RowChange.{RowChange}
@@ -19,9 +17,6 @@ use Rattle.ss_index.specs.Ready.{IsLast, InTime, NotEarlier, NotLater, rows_left
 use Rattle.ss_index.specs.Shelved.{rows_without}
 use Rattle.ss_index.proofs.Sweeping.{middle_value}
 use Rattle.ss_index.proofs.Walks.{keys-append, last_of-push, empty_or_ends, Each-values, no_later}
-
-pub le_from : (a b : ℕ) → leb a b ≡ true → a ≤ b
-le_from a b t = elim (leb_tells a b) [ inl h ↦ h.1 | inr h ↦ (let clash : true ≡ false = sym t ∙ h.0 in cc) ]
 
 -- no row of a chain is later than its last
 pub all_sooner : {S : Type 0} (rooms : IndexMap (List ℕ) ℕ S) (chain : Chain Row) (bytes : ℕ) (kept : IsKept rooms chain bytes) (here : ℕ) (row : Row) → Some here ≡ last_of (places chain) → value_of chain here ≡ Some row
@@ -43,7 +38,7 @@ all_sooner rooms chain bytes kept here row last v =
     ]
 
 -- a fact on what a filter keeps
-filter-each : {X : Type 0} (P : X → Type 0) (p : X → Bool) (xs : List X) → Each P (filter p xs) → Each (λ (x : X). p x ≡ true → P x) xs
+pub filter-each : {X : Type 0} (P : X → Type 0) (p : X → Bool) (xs : List X) → Each P (filter p xs) → Each (λ (x : X). p x ≡ true → P x) xs
 filter-each P p [] e = tt
 filter-each {X} P p (x ∷ xs) e =
     elim (p x) as (λ v. p x ≡ v → Each P (cond v (x ∷ filter p xs) (filter p xs)) → (p x ≡ true → P x) × Each (λ (y : X). p y ≡ true → P y) xs) [

@@ -13,9 +13,9 @@ use Rattle.ss_bso.specs.Limits.{rows_of, row_bytes}
 use Rattle.ss_index.specs.Held.{Held, has_id, rows_but_id, IsSized}
 use Rattle.ss_index.specs.Shelved.{rows_in, Named, NamesApart, IsShelf}
 use Rattle.ss_bso.proofs.Lists.{Each, Each-append, Each-imp, Each-filter}
-use Rattle.ss_bso.proofs.Texts.{same_text, bytes_eq-same, bytes_eq-flip}
 use Rattle.ss_index.specs.Sweep.{Outlives}
 use Rattle.ss_bso.proofs.Reordering.{Each-reordered, reordered-refl, reordered-sym, reordered-append_left}
+use Rattle.ss_text.proofs.Basics.{bytes_eq-flip, same_text, bytes_eq-same}
 
 -- ---- lists
 

@@ -13,10 +13,10 @@ use Rattle.ss_index.specs.Layout.{IsKept}
 use Rattle.ss_bso.specs.Lists.{OtherId}
 use Rattle.ss_index.specs.Sweep.{Outlives, Swept}
 use Rattle.ss_bso.proofs.Lists.{Each, Each-append, Each-imp, Pairs}
-use Rattle.ss_bso.proofs.Texts.{bytes_eq-same, bytes_eq-flip}
 use Rattle.ss_index.proofs.Drawers.{find_some, live_at, live_id}
 use Rattle.ss_index.proofs.Shelves.{filter-every, weaker_ends}
 use Rattle.ss_index.proofs.Walks.{keys-append, values-append}
+use Rattle.ss_text.proofs.Basics.{bytes_eq-flip, bytes_eq-same}
 
 some_row : (x y : Row) → Some x ≡ Some y → x ≡ y
 some_row x y e = cc

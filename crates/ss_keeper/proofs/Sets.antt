@@ -6,17 +6,10 @@ use Rattle.std.specs.List.{list_any}
 use Rattle.std.specs.List.Sorted.{IsPermutation}
 use Rattle.ss_bso.specs.declared.rows.Row.{Row}
 use Rattle.ss_bso.specs.Account.{is_at}
-use Rattle.ss_bso.proofs.Texts.{same_text, bytes_eq-same, bytes_eq-flip, both_left, both_right}
 use Rattle.ss_keeper.specs.declared.row_edits.Place.{Place}
 use Rattle.std.proofs.Common.{sym, ap, ◌∙◌}
 use Rattle.std.proofs.lemmas.List.Sorted.{list_any-IsPermutation}
-
-pub bytes_eq-turn : (x y : List ℕ) → bytes_eq x y ≡ bytes_eq y x
-bytes_eq-turn x y =
-    elim (bytes_eq x y) as (λ v. bytes_eq x y ≡ v → v ≡ bytes_eq y x) [
-      | true ↦ (λ e. sym (bytes_eq-same y x (sym (same_text x y e))))
-      | false ↦ (λ e. sym (bytes_eq-flip x y e))
-    ] refl
+use Rattle.ss_text.proofs.Basics.{both_left, both_right, was_true, same_text, bytes_eq-same}
 
 -- a test that a key's equals pass finds something where the key is found
 found : {K : Type 0} (eq : K → K → Bool) (p : K → Bool) (k : K) → ((x : K) → eq k x ≡ true → p x ≡ true) → (ks : List K) → list_any (eq k) ks ≡ true → list_any p ks ≡ true
@@ -27,10 +20,6 @@ found eq p k h (x ∷ ks) e =
       | false ↦ (λ _ f. elim (p x) as (λ b. (b || list_any p ks) ≡ true) [ true ↦ refl | false ↦ found eq p k h ks f ])
     ] refl e
 
-not-true : (b : Bool) → false ≡ not b → b ≡ true
-not-true true e = refl
-not-true false e = e
-
 -- what a set answers a test after a key was put into it
 pub any-put : {K : Type 0} (eq : K → K → Bool) (p : K → Bool) (k : K) (old new : List K) (added : Bool) → ((x : K) → p k ≡ true → eq k x ≡ true → p x ≡ true)
     → added ≡ not (list_any (eq k) old) → MatchBool added (IsPermutation (k ∷ old) new) (new ≡ old) → list_any p new ≡ (p k || list_any p old)
@@ -38,7 +27,7 @@ any-put eq p k old new true h e m = sym (list_any-IsPermutation p (k ∷ old) ne
 any-put eq p k old new false h e m =
     ap (list_any p) m
     ∙ elim (p k) as (λ v. p k ≡ v → list_any p old ≡ (v || list_any p old)) [
-      | true ↦ (λ t. found eq p k (λ x f. h x t f) old (not-true (list_any (eq k) old) e))
+      | true ↦ (λ t. found eq p k (λ x f. h x t f) old (was_true (list_any (eq k) old) e))
       | false ↦ (λ t. refl)
     ] refl
 

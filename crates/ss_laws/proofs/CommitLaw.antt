@@ -1,6 +1,6 @@
 -- A commit is answered 200 exactly where nothing stands against it.
-use Rattle.std.specs.Prelude.{◌≡◌, ℕ, ◌<◌, Bool, true, false, not, ◌&&◌, List, Option, Some, None, option_map, is_none, IsSome, nat_le, refl}
-use Rattle.std.proofs.Common.{ap, sym, arith}
+use Rattle.std.specs.Prelude.{◌≡◌, ℕ, ◌<◌, Bool, true, false, ◌&&◌, List, Option, Some, None, option_map, is_none, IsSome, nat_le, refl}
+use Rattle.std.proofs.Common.{ap, arith}
 use Rattle.std.proofs.lemmas.Bool.Decides.{nat_tests}
 use Rattle.ss_text.specs.Time.{last_stamp, stops}
 use Rattle.ss_text.specs.declared.stamps.Cond.{Cond}
@@ -16,6 +16,7 @@ use Rattle.ss_query.specs.Effect.{effect, is_write, is_over}
 use Rattle.ss_query.specs.Api.{refusal, outcome, why_stopped}
 use Rattle.ss_laws.specs.Laws.{MayCommit, CommitLaw}
 use Rattle.ss_laws.proofs.Commit.{passes, passed}
+use Rattle.std.proofs.lemmas.Bool.{not-false, not_from_true}
 
 -- a condition stops where it gives a cause
 free_from : (stop : Option ℕ) → option_map why_stopped stop ≡ None → stop ≡ None
@@ -29,13 +30,6 @@ some_from (Some x) e = search
 none_from : {X : Type 0} (o : Option X) → IsSome o → is_none o ≡ false
 none_from None e = cc
 none_from (Some x) e = refl
-
-pub true_from : (b : Bool) → not b ≡ false → b ≡ true
-true_from true e = refl
-true_from false e = sym e
-
-not_from : (b : Bool) → b ≡ true → not b ≡ false
-not_from b e = ap not e
 
 -- the last two tests
 pub clock_from : (writes : Bool) (store : ℕ) → (writes && nat_le last_stamp store) ≡ false → writes ≡ true → store < last_stamp
@@ -60,7 +54,7 @@ may_commit account collection records number condition e =
     record {
       condition = free_from (stops condition (collection_time account collection)) p.condition;
       live = some_from (batch_of account collection number) p.batch;
-      fits = true_from _ p.full;
+      fits = not-false _ p.full;
       clock = clock_from (is_write account request) account.store p.clock;
       room = over_from (is_write account request) (effect account request) p.over;
     }
@@ -73,7 +67,7 @@ commits_when account collection records number condition may =
       condition = ap (option_map why_stopped) may.condition;
       room = refl;
       batch = none_from (batch_of account collection number) may.live;
-      full = not_from _ may.fits;
+      full = not_from_true _ may.fits;
       clock = clock_test (is_write account request) account.store may.clock;
       over = over_test (is_write account request) (effect account request) may.room;
     })

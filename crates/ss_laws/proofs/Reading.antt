@@ -14,9 +14,10 @@ use Rattle.ss_laws.specs.Laws.{WriteLaw}
 use Rattle.ss_bso.proofs.Lists.{Each-imp, Each-passes, Pairs-from_AllPairs, find-skip, find-filter}
 use Rattle.ss_bso.proofs.Reordering.{reordered-append_right, reordered-filter}
 use Rattle.ss_bso.proofs.SameRows.{same_rows, row-same}
-use Rattle.ss_bso.proofs.Texts.{same_text, bytes_eq-flip, bytes_eq-same, not_true, not_false, both, both_left, both_right}
 use Rattle.ss_bso.specs.Lists.{Pairs, Apart}
-use Rattle.ss_laws.proofs.Written.{IsNamed, made, made_named, and_false, places-written}
+use Rattle.ss_laws.proofs.Written.{IsNamed, made, made_named, places-written}
+use Rattle.ss_text.proofs.Basics.{and_false, or_false, both_left, both_right, neither_left, neither_right, bytes_eq-sym, same_text, bytes_eq-same}
+use Rattle.std.proofs.lemmas.Bool.{and_from, not-false, not-true}
 
 -- an id stands among ids as often once as in all of them
 among-filter : (id x : List ℕ) (ids : List (List ℕ)) → bytes_eq x id ≡ false → is_among (filter (λ y. not (bytes_eq y x)) ids) id ≡ is_among ids id
@@ -35,19 +36,11 @@ among-once id (x ∷ ids) =
       | false ↦ (λ t. among-filter id x (once_by (λ x. x) ids) t ∙ among-once id ids)
     ] refl
 
-either_none : (p q : Bool) → (p || q) ≡ false → q ≡ false
-either_none true q e = cc
-either_none false q e = e
-
-first_none : (p q : Bool) → (p || q) ≡ false → p ≡ false
-first_none true q e = e
-first_none false q e = refl
-
 pub none_named : (id : List ℕ) (parts : List Part) → is_among (map (λ part. part.id) parts) id ≡ false → parts_of id parts ≡ []
 none_named id [] e = refl
 none_named id (part ∷ parts) e =
-    ap (λ v. cond v (part ∷ parts_of id parts) (parts_of id parts)) (first_none (bytes_eq part.id id) (is_among (map (λ part. part.id) parts) id) e)
-    ∙ none_named id parts (either_none (bytes_eq part.id id) (is_among (map (λ part. part.id) parts) id) e)
+    ap (λ v. cond v (part ∷ parts_of id parts) (parts_of id parts)) (neither_left (bytes_eq part.id id) (is_among (map (λ part. part.id) parts) id) e)
+    ∙ none_named id parts (neither_right (bytes_eq part.id id) (is_among (map (λ part. part.id) parts) id) e)
 
 find-append_none : {X : Type 0} (p : X → Bool) (xs ys : List X) → find p ys ≡ None → find p (xs ++ ys) ≡ find p xs
 find-append_none p [] ys e = e
@@ -76,7 +69,7 @@ find-made collection id make named (x ∷ ids) =
     found rest (Some row) e =
         let h = named id row e in
         ap (λ first. row_at collection id (cons_option first (filter_map make ids))) e
-        ∙ ap (λ v. cond v (Some row) (row_at collection id (filter_map make ids))) (both (bytes_eq row.collection collection) (bytes_eq row.id id) (bytes_eq-same row.collection collection h.named) (bytes_eq-same row.id id h.of))
+        ∙ ap (λ v. cond v (Some row) (row_at collection id (filter_map make ids))) (and_from (bytes_eq row.collection collection) (bytes_eq row.id id) (bytes_eq-same row.collection collection h.named) (bytes_eq-same row.id id h.of))
         ∙ sym e
 
     passed : bytes_eq x id ≡ false → (o : Option Row) → make x ≡ o → row_at collection id (cons_option (make x) (filter_map make ids)) ≡ row_at collection id (filter_map make ids)
@@ -93,8 +86,8 @@ kept_apart collection id ids row among kept =
       | true ↦ (λ t.
           let here : bytes_eq row.collection collection ≡ true = both_left (bytes_eq row.collection collection) (bytes_eq row.id id) t in
           let named : row.id ≡ id = same_text row.id id (both_right (bytes_eq row.collection collection) (bytes_eq row.id id) t) in
-          sym (both (bytes_eq row.collection collection) (is_among ids row.id) here (ap (λ name. is_among ids name) named ∙ among))
-          ∙ not_true (bytes_eq row.collection collection && is_among ids row.id) kept)
+          sym (and_from (bytes_eq row.collection collection) (is_among ids row.id) here (ap (λ name. is_among ids name) named ∙ among))
+          ∙ not-true (bytes_eq row.collection collection && is_among ids row.id) kept)
       | false ↦ (λ t. refl)
     ] refl
 
@@ -103,7 +96,7 @@ gone_apart collection id ids row among gone =
     elim (is_at collection id row) as (λ v. is_at collection id row ≡ v → v ≡ false) [
       | true ↦ (λ t.
           let named : row.id ≡ id = same_text row.id id (both_right (bytes_eq row.collection collection) (bytes_eq row.id id) t) in
-          sym (both_right (bytes_eq row.collection collection) (is_among ids row.id) (not_false (bytes_eq row.collection collection && is_among ids row.id) gone)) ∙ ap (λ name. is_among ids name) named ∙ among)
+          sym (both_right (bytes_eq row.collection collection) (is_among ids row.id) (not-false (bytes_eq row.collection collection && is_among ids row.id) gone)) ∙ ap (λ name. is_among ids name) named ∙ among)
       | false ↦ (λ t. refl)
     ] refl
 
@@ -148,7 +141,7 @@ write-elsewhere collection parts time rows other id differ =
     find-append_none (is_at other id) (rows_without collection ids rows) (filter_map (made collection parts time rows) ids)
     (find-made_elsewhere collection other id (made collection parts time rows) differ (made_named collection parts time rows) ids)
     ∙ find-filter (is_at other id) (λ row. not (bytes_eq row.collection collection && is_among ids row.id)) rows
-    (λ row gone. elsewhere_apart collection other id row differ (both_left (bytes_eq row.collection collection) (is_among ids row.id) (not_false (bytes_eq row.collection collection && is_among ids row.id) gone)))
+    (λ row gone. elsewhere_apart collection other id row differ (both_left (bytes_eq row.collection collection) (is_among ids row.id) (not-false (bytes_eq row.collection collection && is_among ids row.id) gone)))
 
 pub write_law : (collection : List ℕ) (parts : List Part) (time : ℕ) (rows : List Row) → WriteLaw collection parts time rows
 write_law collection parts time rows = record { here = write-here collection parts time rows; elsewhere = write-elsewhere collection parts time rows }
@@ -198,16 +191,6 @@ rows_written-reordered collection parts time rows others r places =
     (reordered-append_right (filter_map (made collection parts time rows) (ids_of parts)) (reordered-filter (λ row. not (bytes_eq row.collection collection && is_among (ids_of parts) row.id)) r))
 
 -- one part: the row of its place goes, and the row that it makes comes at the end
-either_false : (p : Bool) → (p || false) ≡ p
-either_false true = refl
-either_false false = refl
-
-bytes_eq-comm : (x y : List ℕ) → bytes_eq x y ≡ bytes_eq y x
-bytes_eq-comm x y =
-    elim (bytes_eq x y) as (λ v. bytes_eq x y ≡ v → v ≡ bytes_eq y x) [
-      | true ↦ (λ t. sym (bytes_eq-same y x (sym (same_text x y t))))
-      | false ↦ (λ t. sym (bytes_eq-flip x y t))
-    ] refl
 
 -- the rows with one in its place
 abbrev pub with_row : Row → List Row → List Row
@@ -215,7 +198,7 @@ with_row row rows = filter (λ other. not (is_at row.collection row.id other)) r
 
 pub rows_written-one : (collection : List ℕ) (part : Part) (time : ℕ) (rows : List Row) → rows_written collection (part ∷ []) time rows ≡ with_row (put (row_at collection part.id rows) collection part time) rows
 rows_written-one collection part time rows =
-    (λ i. filter (λ (row : Row). not (bytes_eq row.collection collection && (either_false (bytes_eq part.id row.id) ∙ bytes_eq-comm part.id row.id) i)) rows
+    (λ i. filter (λ (row : Row). not (bytes_eq row.collection collection && (or_false (bytes_eq part.id row.id) ∙ bytes_eq-sym part.id row.id) i)) rows
     ++ cons_option (put_all collection (cond (bytes_eq-same part.id part.id refl i) (part ∷ []) []) time (row_at collection part.id rows)) [])
 
 -- a loop's step: one more part

@@ -1,8 +1,7 @@
 -- The API over accounts that are the same but for the order of their lists.
 use Rattle.std.specs.Prelude.{◌≡◌, ◌≢◌, ℕ, ◌+◌, max, Bool, true, false, not, ◌&&◌, ◌||◌, cond, nat_le, nat_lt, ◌==◌, List, [], ◌∷◌, ◌++◌, length, map, filter, filter_map, Option, Some, None, is_none, is_some, option_map, unwrap_or, bytes_eq, refl}
 use Rattle.std.specs.Option.{option_map_or}
-use Rattle.std.proofs.Common.{subst, sym, ap, ◌∙◌, arith}
-use Rattle.std.proofs.lemmas.Bool.Decides.{nat_tests}
+use Rattle.std.proofs.Common.{subst, sym, ap, ◌∙◌}
 use Rattle.ss_text.specs.Time.{after, last_stamp, stops}
 use Rattle.ss_text.specs.Texts.{Reordered, nothing}
 use Rattle.ss_text.specs.declared.stamps.Cond.{Cond}
@@ -34,9 +33,10 @@ use Rattle.ss_laws.specs.Laws.{SameOutcome}
 use Rattle.ss_bso.proofs.Lists.{Pairs-filter, Pairs-from_AllPairs}
 use Rattle.ss_bso.proofs.Reordering.{reordered-append_right, reordered-map, reordered-filter, length-reordered, sum_by-reordered, find-reordered}
 use Rattle.ss_bso.proofs.SameRows.{row-same, pairs_not_both, clash}
-use Rattle.ss_bso.proofs.Texts.{same_text, bytes_eq-same, both_left}
 use Rattle.ss_bso.specs.Lists.{Pairs, Apart}
 use Rattle.ss_query.proofs.Orders.{ids_distinct, answer-reordered, NamedApart, by_name-reordered}
+use Rattle.ss_text.proofs.Basics.{both_left, same_text, bytes_eq-same}
+use Rattle.std.proofs.lemmas.Bool.{eqb-true}
 
 abbrev pub OtherNumber : Staged → Staged → Type 0
 OtherNumber batch other = batch.number ≢ other.number
@@ -61,16 +61,13 @@ time-same collection times others r names =
     (λ entry other apart e f. clash (bytes_eq other.0 entry.0) (bytes_eq-same other.0 entry.0 (same_text other.0 collection f ∙ sym (same_text entry.0 collection e))) apart)
     times names))
 
-same_number : (m n : ℕ) → (m == n) ≡ true → m ≡ n
-same_number m n e = grind (arith, nat_tests)
-
 batch-same : (one other : Plain) (collection : List ℕ) (number : ℕ) → SameAccount one other → Keyed one → batch_of one collection number ≡ batch_of other collection number
 batch-same one other collection number s k =
     let p : Staged → Bool = λ batch. batch.number == number && bytes_eq batch.collection collection in
     find-reordered p s.batches (pairs_not_both OtherNumber p
     (λ batch next differ e f.
-    differ (same_number batch.number number (both_left (batch.number == number) (bytes_eq batch.collection collection) e)
-    ∙ sym (same_number next.number number (both_left (next.number == number) (bytes_eq next.collection collection) f))))
+    differ (eqb-true batch.number number (both_left (batch.number == number) (bytes_eq batch.collection collection) e)
+    ∙ sym (eqb-true next.number number (both_left (next.number == number) (bytes_eq next.collection collection) f))))
     one.batches k.numbers)
 
 -- the clock

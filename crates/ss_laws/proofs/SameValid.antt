@@ -1,29 +1,19 @@
 -- Validity does not depend on the order of an account's lists.
-use Rattle.std.specs.Prelude.{◌≡◌, ℕ, ◌+◌, ◌≤◌, true, false, List, length, IsSomeAnd, bytes_eq, refl}
-use Rattle.std.proofs.Common.{subst, sym, ◌∙◌, arith}
+use Rattle.std.specs.Prelude.{◌≡◌, ℕ, ◌+◌, ◌≤◌, List, length, IsSomeAnd}
+use Rattle.std.proofs.Common.{subst, sym, arith}
 use Rattle.ss_bso.specs.declared.rows.Row.{Row}
 use Rattle.ss_bso.specs.declared.account.Plain.{Plain}
-use Rattle.ss_bso.specs.Account.{is_at}
 use Rattle.ss_bso.specs.Limits.{most_payload_bytes, most_rows_and_collections, row_bytes}
 use Rattle.ss_bso.specs.Validity.{IsValid, IsValidBatch, SameAccount}
 use Rattle.ss_bso.proofs.Full.{within-both, within-bytes, within-number}
 use Rattle.ss_bso.proofs.Lists.{Each-imp, Each-from_All, All-from_Each, Pairs-from_AllPairs, AllPairs-from_Pairs}
 use Rattle.ss_bso.proofs.Reordering.{length-reordered, sum_by-reordered, Each-reordered, Pairs-reordered}
-use Rattle.ss_bso.proofs.Texts.{same_text, bytes_eq-same, bytes_eq-flip, both, both_left, both_right}
 use Rattle.ss_bso.specs.Lists.{Each, Pairs, Apart}
 use Rattle.ss_laws.proofs.Written.{IsItem}
 use Rattle.ss_query.proofs.Orders.{NamedApart}
 use Rattle.ss_laws.proofs.SameApi.{time-same, OtherNumber}
-
-pub apart_flip : (row other : Row) → Apart row other → Apart other row
-apart_flip row other e =
-    elim (is_at other.collection other.id row) as (λ v. is_at other.collection other.id row ≡ v → v ≡ false) [
-      | true ↦ (λ t.
-          sym (both (bytes_eq other.collection row.collection) (bytes_eq other.id row.id)
-          (bytes_eq-same other.collection row.collection (sym (same_text row.collection other.collection (both_left (bytes_eq row.collection other.collection) (bytes_eq row.id other.id) t))))
-          (bytes_eq-same other.id row.id (sym (same_text row.id other.id (both_right (bytes_eq row.collection other.collection) (bytes_eq row.id other.id) t))))) ∙ e)
-      | false ↦ (λ t. refl)
-    ] refl
+use Rattle.ss_text.proofs.Basics.{bytes_eq-flip}
+use Rattle.ss_bso.proofs.Places.{apart_flip}
 
 pub valid-same : (account other : Plain) → IsValid account → SameAccount account other → IsValid other
 valid-same account other v s =

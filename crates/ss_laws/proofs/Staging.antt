@@ -27,6 +27,7 @@ use Rattle.ss_query.specs.Flat.{Turn, gathered, staged_by, batch_named, parts_se
 use Rattle.ss_laws.proofs.Commit.{passes}
 use Rattle.ss_bso.proofs.Lists.{Each-filter, Each-map, Each-imp, Each-append, Each-find, find-passes}
 use Rattle.ss_bso.specs.Lists.{Each}
+use Rattle.ss_text.proofs.Basics.{both_left}
 
 -- a batch has what was gathered for it, and its number was given out
 pub record IsGathered (opening : Plain) (past : List Turn) (counter : ℕ) (batch : Staged) : Type 0 where
@@ -134,10 +135,6 @@ pub record IsFound (opening : Plain) (past : List Turn) (counter : ℕ) (number 
   pub are : parts ≡ gathered opening past number
   pub counted : number ≤ counter
 
-and_left : (p q : Bool) → (p && q) ≡ true → p ≡ true
-and_left true q e = refl
-and_left false q e = e
-
 found_at : (opening : Plain) (past : List Turn) (counter : ℕ) (batches : List Staged) (collection : List ℕ) (number : ℕ) (found : Option Staged)
     → find (λ (batch : Staged). batch.number == number && bytes_eq batch.collection collection) batches ≡ found → is_none found ≡ false
     → Gathers opening past counter batches → IsFound opening past counter number (option_map_or (λ (batch : Staged). batch.parts) found [])
@@ -145,7 +142,7 @@ found_at opening past counter batches collection number None e f g = cc
 found_at opening past counter batches collection number (Some batch) e f g =
     let p : Staged → Bool = λ batch. batch.number == number && bytes_eq batch.collection collection in
     let known = Each-find (IsGathered opening past counter) p batches batch e g.staged in
-    let test : (batch.number == number) ≡ true = and_left (batch.number == number) (bytes_eq batch.collection collection) (find-passes p batches batch e) in
+    let test : (batch.number == number) ≡ true = both_left (batch.number == number) (bytes_eq batch.collection collection) (find-passes p batches batch e) in
     let same : batch.number ≡ number = grind (arith, nat_tests) in
     record { are = known.parts ∙ ap (λ n. gathered opening past n) same; counted = omega (arith, known.counted) }
 

@@ -13,6 +13,7 @@ use Rattle.ss_query.specs.Effect.{effect, is_write, is_empty, write_some, stamp_
 use Rattle.ss_query.specs.Told.{ok_status}
 use Rattle.ss_query.specs.Api.{api, refusal, outcome}
 use Rattle.ss_laws.specs.Laws.{Rises, StampLaw, ShowsSame, QuietLaw, is_of_batch}
+use Rattle.std.proofs.lemmas.Bool.{not-false, not-true}
 
 -- a time that is the account's stamp is later than the store's, and not before the moment
 record IsStamp (account : Plain) (left : Plain) : Type 0 where
@@ -22,10 +23,6 @@ record IsStamp (account : Plain) (left : Plain) : Type 0 where
 some_stamp : (account : Plain) (collection : List ℕ) (parts : List Part) → is_empty parts ≡ false → IsStamp account (write_some account collection parts)
 some_stamp account collection [] e = cc
 some_stamp account collection (part ∷ parts) e = record { store = refl; moment = refl }
-
-not_empty : (b : Bool) → not b ≡ true → b ≡ false
-not_empty true e = cc
-not_empty false e = refl
 
 ids_stamp : (b : Bool) (account : Plain) (collection : List ℕ) (ids : List (List ℕ)) → b ≡ true
     → IsStamp account (cond b (stamped account collection (stamp_in account) (rows_without collection ids account.rows)) account)
@@ -37,7 +34,7 @@ effect_stamp account (Info what condition) e = cc
 effect_stamp account (DeleteAll condition) e = record { store = refl; moment = refl }
 effect_stamp account (ListOf collection query condition) e = cc
 effect_stamp account (Post collection records mode condition) e =
-    let put = some_stamp account collection (parts_to_put account collection records.parts mode) (not_empty (is_empty (parts_to_put account collection records.parts mode)) e) in
+    let put = some_stamp account collection (parts_to_put account collection records.parts mode) (not-true (is_empty (parts_to_put account collection records.parts mode)) e) in
     record { store = put.store; moment = put.moment }
 effect_stamp account (DeleteCollection collection condition) e = record { store = refl; moment = refl }
 effect_stamp account (DeleteIds collection ids condition) e = ids_stamp (is_some (time_of collection account.collections)) account collection ids e
@@ -49,10 +46,6 @@ effect_stamp account (Delete collection id condition) e = record { store = refl;
 some_quiet : (account : Plain) (collection : List ℕ) (parts : List Part) → is_empty parts ≡ true → write_some account collection parts ≡ account
 some_quiet account collection [] e = refl
 some_quiet account collection (part ∷ parts) e = cc
-
-empty_from : (b : Bool) → not b ≡ false → b ≡ true
-empty_from true e = refl
-empty_from false e = cc
 
 shows_self : (account : Plain) → ShowsSame account account
 shows_self account = record { rows = refl; collections = refl; store = refl; last_delete = refl; moment = refl }
@@ -70,7 +63,7 @@ effect_shows account (DeleteAll condition) e = cc
 effect_shows account (ListOf collection query condition) e = shows_self account
 effect_shows account (Post collection records mode condition) e =
     let parts = parts_to_put account collection records.parts mode in
-    let left = post_quiet account (write_some account collection parts) 0 (some_quiet account collection parts (empty_from (is_empty parts) e)) in
+    let left = post_quiet account (write_some account collection parts) 0 (some_quiet account collection parts (not-false (is_empty parts) e)) in
     record { rows = left.rows; collections = left.collections; store = left.store; last_delete = left.last_delete; moment = left.moment }
 effect_shows account (DeleteCollection collection condition) e = cc
 effect_shows account (DeleteIds collection ids condition) e =
@@ -88,7 +81,7 @@ effect_same account (DeleteAll condition) e outside = cc
 effect_same account (ListOf collection query condition) e outside = refl
 effect_same account (Post collection records PlainPost condition) e outside =
     ap (λ (left : Plain). let a : Plain = record left { batches = account.batches; counter = account.counter } in a)
-    (some_quiet account collection records.parts (empty_from (is_empty records.parts) e))
+    (some_quiet account collection records.parts (not-false (is_empty records.parts) e))
 effect_same account (Post collection records Begin condition) e outside = cc
 effect_same account (Post collection records (Append number) condition) e outside = cc
 effect_same account (Post collection records (Commit number) condition) e outside = cc

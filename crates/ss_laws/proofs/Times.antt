@@ -4,9 +4,10 @@ use Rattle.std.proofs.Common.{ap, ◌∙◌, arith}
 use Rattle.ss_text.specs.Texts.{once_by}
 use Rattle.ss_bso.specs.Account.{time_of}
 use Rattle.ss_bso.specs.Write.{times_without, times_with}
-use Rattle.ss_bso.proofs.Texts.{same_text, bytes_eq-same, bytes_eq-flip, not_true, not_false}
 use Rattle.ss_bso.proofs.Lists.{Each-imp, Each-passes, Each-find, Pairs-filter, Pairs-append, find-skip, find-last_not, find-filter}
 use Rattle.ss_bso.specs.Lists.{Each, Pairs}
+use Rattle.std.proofs.lemmas.Bool.{not-false, not-true}
+use Rattle.ss_text.proofs.Basics.{bytes_eq-flip, same_text, bytes_eq-same}
 
 -- the time of another collection stays
 pub time_of-without : (times : List (List ℕ × ℕ)) (collection other : List ℕ) → bytes_eq other collection ≡ false → time_of other (times_without collection times) ≡ time_of other times
@@ -14,7 +15,7 @@ time_of-without times collection other e =
     ap (λ found. option_map (λ (entry : List ℕ × ℕ). entry.1) found)
     (find-filter (λ (entry : List ℕ × ℕ). bytes_eq entry.0 other) (λ (entry : List ℕ × ℕ). not (bytes_eq entry.0 collection)) times
     (λ entry h.
-    let same : entry.0 ≡ collection = same_text entry.0 collection (not_false (bytes_eq entry.0 collection) h) in
+    let same : entry.0 ≡ collection = same_text entry.0 collection (not-false (bytes_eq entry.0 collection) h) in
     ap (λ name. bytes_eq name other) same ∙ bytes_eq-flip other collection e))
 
 pub time_of-with_other : (times : List (List ℕ × ℕ)) (collection other : List ℕ) (time : ℕ) → bytes_eq other collection ≡ false → time_of other (times_with collection time times) ≡ time_of other times
@@ -27,7 +28,7 @@ time_of-with_other times collection other time e =
 pub others_named : (times : List (List ℕ × ℕ)) (collection : List ℕ) → Each (λ (entry : List ℕ × ℕ). bytes_eq entry.0 collection ≡ false) (times_without collection times)
 others_named times collection =
     Each-imp (λ (entry : List ℕ × ℕ). not (bytes_eq entry.0 collection) ≡ true) (λ (entry : List ℕ × ℕ). bytes_eq entry.0 collection ≡ false)
-    (λ entry h. not_true (bytes_eq entry.0 collection) h) (times_without collection times) (Each-passes (λ (entry : List ℕ × ℕ). not (bytes_eq entry.0 collection)) times)
+    (λ entry h. not-true (bytes_eq entry.0 collection) h) (times_without collection times) (Each-passes (λ (entry : List ℕ × ℕ). not (bytes_eq entry.0 collection)) times)
 
 pub time_of-with_same : (times : List (List ℕ × ℕ)) (collection : List ℕ) (time : ℕ) → time_of collection (times_with collection time times) ≡ Some time
 time_of-with_same times collection time =
@@ -61,7 +62,7 @@ names_with times collection time e =
 pub once_by-distinct : {X : Type 0} (key : X → List ℕ) (xs : List X) → Pairs (λ (x y : X). IsFalse (bytes_eq (key y) (key x))) (once_by key xs)
 once_by-distinct key [] = tt
 once_by-distinct {X} key (x ∷ xs) = (
-  Each-imp (λ (y : X). not (bytes_eq (key y) (key x)) ≡ true) (λ (y : X). IsFalse (bytes_eq (key y) (key x))) (λ y h. not_true (bytes_eq (key y) (key x)) h)
+  Each-imp (λ (y : X). not (bytes_eq (key y) (key x)) ≡ true) (λ (y : X). IsFalse (bytes_eq (key y) (key x))) (λ y h. not-true (bytes_eq (key y) (key x)) h)
       (filter (λ y. not (bytes_eq (key y) (key x))) (once_by key xs)) (Each-passes (λ y. not (bytes_eq (key y) (key x))) (once_by key xs)),
   Pairs-filter (λ (y z : X). IsFalse (bytes_eq (key z) (key y))) (λ y. not (bytes_eq (key y) (key x))) (once_by key xs) (once_by-distinct key xs),
 )

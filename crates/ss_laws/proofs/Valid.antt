@@ -3,7 +3,7 @@ use Rattle.std.specs.Prelude.{◌≡◌, ◌≢◌, ℕ, ◌<◌, ◌≤◌, ◌
 use Rattle.std.specs.Option.{option_map_or}
 use Rattle.std.proofs.Common.{subst, sym, ap, ◌∙◌, arith}
 use Rattle.std.proofs.lemmas.Bool.Decides.{nat_tests}
-use Rattle.std.proofs.lemmas.Bool.{leb-true}
+use Rattle.std.proofs.lemmas.Bool.{leb-true, not-false, not-true}
 use Rattle.std.proofs.lemmas.List.{length-append, length-map}
 use Rattle.ss_text.specs.Time.{after, last_stamp}
 use Rattle.ss_text.specs.declared.stamps.Cond.{Cond}
@@ -27,12 +27,12 @@ use Rattle.ss_query.specs.Api.{refusal, outcome, api}
 use Rattle.ss_query.specs.Fit.{IsFitRequest}
 use Rattle.ss_laws.proofs.Shown.{Shown, shown}
 use Rattle.ss_laws.proofs.Commit.{Passes, passes}
-use Rattle.ss_laws.proofs.CommitLaw.{clock_from, over_from, true_from}
-use Rattle.ss_bso.proofs.Lists.{Each-imp, Each-and, Each-map, Each-filter, Each-append, Each-passes, Each-find, Each-from_All, All-from_Each, Pairs-filter, Pairs-append, Pairs-map, Pairs-from_AllPairs, AllPairs-from_Pairs, find-passes, length-filter_le, sum_by-filter_le}
-use Rattle.ss_bso.proofs.Texts.{not_true}
+use Rattle.ss_laws.proofs.CommitLaw.{clock_from, over_from}
+use Rattle.ss_bso.proofs.Lists.{Each-imp, Each-and, Each-map, Each-filter, Each-append, Each-passes, Each-find, Each-from_All, All-from_Each, Pairs-filter, Pairs-append, Pairs-map, Pairs-from_AllPairs, AllPairs-from_Pairs, find-passes, sum_by-filter_le}
 use Rattle.ss_bso.specs.Lists.{Each, Pairs, Apart}
 use Rattle.ss_laws.proofs.Times.{names_with, time_of-without}
 use Rattle.ss_laws.proofs.Written.{IsItem, item_kept, items-written, places-written}
+use Rattle.ss_text.proofs.Basics.{both_left, both_right, length-filter_le}
 
 abbrev NamedApart : (List ℕ × ℕ) → (List ℕ × ℕ) → Type 0
 NamedApart entry other = IsFalse (bytes_eq other.0 entry.0)
@@ -148,15 +148,7 @@ only_one q (batch ∷ batches) found number e is p =
       ))
     ] e
 
-both_left : (p q : Bool) → (p && q) ≡ true → p ≡ true
-both_left true q e = refl
-both_left false q e = e
-
-both_right : (p q : Bool) → (p && q) ≡ true → q ≡ true
-both_right true q e = e
-both_right false q e = cc
-
-number-grown : (number : ℕ) (parts : List Part) (batch : Staged) → (grown number parts batch).number ≡ batch.number
+pub number-grown : (number : ℕ) (parts : List Part) (batch : Staged) → (grown number parts batch).number ≡ batch.number
 number-grown number parts batch =
     elim (batch.number == number) as (λ v. let left : Staged = cond v (record batch { parts = batch.parts ++ parts }) batch in left.number ≡ batch.number) [ true ↦ refl | false ↦ refl ]
 
@@ -272,7 +264,7 @@ stored-delete_collection account collection condition room within s =
       bytes = within-bytes (filter keep account.rows) (length (times_without collection account.collections)) within.within;
       number = within-number (filter keep account.rows) (length (times_without collection account.collections)) within.within;
       items = Each-imp (λ (row : Row). (keep row ≡ true) × IsItem account.collections row) (IsItem (times_without collection account.collections))
-          (λ row h. item_left account.collections collection row (not_true (bytes_eq row.collection collection) h.0) h.1) (filter keep account.rows)
+          (λ row h. item_left account.collections collection row (not-true (bytes_eq row.collection collection) h.0) h.1) (filter keep account.rows)
           (Each-and (λ (row : Row). keep row ≡ true) (IsItem account.collections) (filter keep account.rows) (Each-passes keep account.rows) (Each-filter (IsItem account.collections) keep account.rows s.items));
       times = Each-imp (λ (entry : List ℕ × ℕ). entry.1 ≤ account.store) (λ (entry : List ℕ × ℕ). entry.1 ≤ stamp_in account) (λ entry le. omega arith) (times_without collection account.collections)
           (Each-filter (λ (entry : List ℕ × ℕ). entry.1 ≤ account.store) kept account.collections s.times);
@@ -330,7 +322,7 @@ batched-done account (Post collection records Begin condition) p fit_request b =
     batched-begin account.moment account.counter account.batches (record { number = account.counter + 1; collection = collection; begun = account.moment; parts = records.parts })
     (room_from account.batches account.counter p.room) refl (omega arith) (omega (arith, fit_request.0)) (omega (arith, fit_request.1)) b
 batched-done account (Post collection records (Append number) condition) p fit_request b =
-    batched-append_at account.moment account.counter number records.parts account.batches collection (batch_of account collection number) refl p.batch (true_from _ p.full) b
+    batched-append_at account.moment account.counter number records.parts account.batches collection (batch_of account collection number) refl p.batch (not-false _ p.full) b
 batched-done account (Post collection records (Commit number) condition) p fit_request b =
     batched-later account.moment (write_some account collection (staged_parts account collection number ++ records.parts)).moment account.counter (filter (λ batch. not (batch.number == number)) account.batches)
     (moment-write_some account collection (staged_parts account collection number ++ records.parts))

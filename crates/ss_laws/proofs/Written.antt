@@ -1,5 +1,5 @@
 -- The rows after a write of a list: distinct places, and times that the collections allow.
-use Rattle.std.specs.Prelude.{◌≡◌, ℕ, ◌≤◌, Bool, true, false, not, ◌&&◌, ◌||◌, List, [], ◌∷◌, Option, Some, None, IsSomeAnd, IsFalse, bytes_eq, filter_map, map, refl}
+use Rattle.std.specs.Prelude.{◌≡◌, ℕ, ◌≤◌, Bool, true, false, not, ◌&&◌, List, [], ◌∷◌, Option, Some, None, IsSomeAnd, IsFalse, bytes_eq, filter_map, map, refl}
 use Rattle.std.proofs.Common.{subst, sym, ap, ◌∙◌, arith}
 use Rattle.ss_bso.specs.declared.rows.Row.{Row}
 use Rattle.ss_bso.specs.declared.parts.Part.{Part}
@@ -7,21 +7,10 @@ use Rattle.ss_bso.specs.Account.{is_at, row_at, time_of}
 use Rattle.ss_bso.specs.Put.{put}
 use Rattle.ss_bso.specs.Write.{ids_of, parts_of, is_among, put_all, rows_without, rows_written, times_with}
 use Rattle.ss_bso.proofs.Lists.{Each-any, Each-imp, Each-filter, Each-append, Each-passes, Each-find, Each-filter_map, Pairs-filter, Pairs-append, Pairs-filter_map, find-passes}
-use Rattle.ss_bso.proofs.Texts.{same_text, both, both_left, both_right, bytes_eq-same, not_true}
 use Rattle.ss_bso.specs.Lists.{Apart, Each, Pairs}
 use Rattle.ss_laws.proofs.Times.{time_of-with_same, time_of-with_other, item_below, once_by-distinct}
-
-pub and_false : (p : Bool) → (p && false) ≡ false
-and_false true = refl
-and_false false = refl
-
-either_left : (p q : Bool) → (p || q) ≡ false → p ≡ false
-either_left true q e = e
-either_left false q e = refl
-
-either_right : (p q : Bool) → (p || q) ≡ false → q ≡ false
-either_right true q e = cc
-either_right false q e = e
+use Rattle.ss_text.proofs.Basics.{and_false, both_left, both_right, neither_left, neither_right, same_text, bytes_eq-same}
+use Rattle.std.proofs.lemmas.Bool.{and_from, not-true}
 
 -- a row's collection is listed, with no earlier time
 abbrev pub IsItem : List (List ℕ × ℕ) → Row → Type 0
@@ -105,7 +94,7 @@ items-written collection parts time store times rows later all items =
 -- a row that isn't among the ids stands apart from each that is put for one of them
 list_any-false : (id : List ℕ) (ids : List (List ℕ)) → is_among ids id ≡ false → Each (λ (other : List ℕ). bytes_eq other id ≡ false) ids
 list_any-false id [] e = tt
-list_any-false id (other ∷ ids) e = (either_left (bytes_eq other id) (is_among ids id) e, list_any-false id ids (either_right (bytes_eq other id) (is_among ids id) e))
+list_any-false id (other ∷ ids) e = (neither_left (bytes_eq other id) (is_among ids id) e, list_any-false id ids (neither_right (bytes_eq other id) (is_among ids id) e))
 
 among_apart : (here : Bool) (id : List ℕ) (ids : List (List ℕ)) → (here && is_among ids id) ≡ false → Each (λ (other : List ℕ). (here && bytes_eq other id) ≡ false) ids
 among_apart true id ids e = list_any-false id ids e
@@ -148,7 +137,7 @@ apart_from collection id row new h e =
       | true ↦ (λ t.
           let first : new.collection ≡ row.collection = same_text new.collection row.collection (both_left (bytes_eq new.collection row.collection) (bytes_eq new.id row.id) t) in
           let second : new.id ≡ row.id = same_text new.id row.id (both_right (bytes_eq new.collection row.collection) (bytes_eq new.id row.id) t) in
-          sym (both (bytes_eq row.collection collection) (bytes_eq id row.id) (bytes_eq-same row.collection collection (sym first ∙ h.named)) (bytes_eq-same id row.id (sym h.of ∙ second))) ∙ e)
+          sym (and_from (bytes_eq row.collection collection) (bytes_eq id row.id) (bytes_eq-same row.collection collection (sym first ∙ h.named)) (bytes_eq-same id row.id (sym h.of ∙ second))) ∙ e)
       | false ↦ (λ t. refl)
     ] refl
 
@@ -169,5 +158,5 @@ places-written collection parts time rows places =
     (λ row kept.
     Each-filter_map (λ (id : List ℕ). (bytes_eq row.collection collection && bytes_eq id row.id) ≡ false) (Apart row) make
     (λ id new apart made_new. apart_from collection id row new (made_named collection parts time rows id new made_new) apart) ids
-    (among_apart (bytes_eq row.collection collection) row.id ids (not_true (bytes_eq row.collection collection && is_among ids row.id) kept)))
+    (among_apart (bytes_eq row.collection collection) row.id ids (not-true (bytes_eq row.collection collection && is_among ids row.id) kept)))
     (rows_without collection ids rows) (Each-passes keep rows))

@@ -7,9 +7,9 @@ use Rattle.std.specs.Cmp.Lexicographic.{nat_list_cmp_total, texts_ties}
 use Rattle.std.specs.List.Sorted.{ties}
 use Rattle.ss_text.specs.Texts.{text_cmp}
 use Rattle.ss_record.specs.Ids.{Apart, before, by_id, has}
-use Rattle.ss_record.proofs.IdLists.{same_id, has-nil, has-cons, Apart-head, Apart-tail}
-use Rattle.ss_build.proofs.Sorting.{sorted_alike}
-use Rattle.ss_dupe.proofs.Basics.{no_way}
+use Rattle.ss_record.proofs.IdLists.{has-nil, has-cons, Apart-head, Apart-tail}
+use Rattle.ss_text.proofs.Sorting.{sorted_alike}
+use Rattle.ss_text.proofs.Basics.{same_text, no_way}
 
 ties-is : (w x : List ℕ) → ties before w x ≡ bytes_eq w x
 unfolding before
@@ -38,7 +38,7 @@ one_left w (x ∷ xs) a = go (bytes_eq w x) refl (one_left w xs (Apart-tail x xs
   where
     go : (b : Bool) → bytes_eq w x ≡ b → filter (bytes_eq w) xs ≡ cond (has w xs) (w ∷ []) [] → cond (bytes_eq w x) (x ∷ filter (bytes_eq w) xs) (filter (bytes_eq w) xs) ≡ cond (has w (x ∷ xs)) (w ∷ []) []
     go true e more =
-        let same = same_id w x e in
+        let same = same_text w x e in
         ap (λ b. cond b (x ∷ filter (bytes_eq w) xs) (filter (bytes_eq w) xs)) e
         ∙ ap₂ (λ y l. y ∷ l) (sym same) (none_left w xs (ap (λ z. has z xs) same ∙ Apart-head x xs a))
         ∙ sym (ap (λ b. cond b (w ∷ []) []) (has-cons w x xs ∙ ap (λ b. b || has w xs) e))

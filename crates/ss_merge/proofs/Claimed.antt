@@ -2,7 +2,7 @@
 use Rattle.std.proofs.Common.{◌≡◌, ◌⊎◌, ℕ, zero, suc, Bool, true, false, cond, not, ◌&&◌, ◌||◌, List, [], ◌∷◌, ◌++◌, length, map, filter, find, bytes_eq, Option, Some, None, option_map, option_and_then, unwrap_or, refl, sym, ap, ap₂, subst, ◌∙◌, inl, inr}
 use Rattle.ss_record.specs.Ids.{Apart, by_id, firsts, has, places, roots, unfiled}
 use Rattle.ss_record.specs.Kinds.{is_folder}
-use Rattle.ss_record.proofs.IdLists.{same_id, bytes_eq-refl, bytes_eq-sym, has-nil, has-cons, has-filter, Apart-filter}
+use Rattle.ss_record.proofs.IdLists.{bytes_eq-refl, has-nil, has-cons, has-filter, Apart-filter}
 use Rattle.ss_tree.specs.Trees.{places_node, steps}
 use Rattle.ss_build.specs.declared.claims.Claim.{Claim}
 use Rattle.ss_build.specs.Built.{best, built_children, built_parent, claim, comes_back, ids as claim_ids, is_child as is_built_child, kept_if, lists, named, node_of, or_else, proposal, proposed, tree_of}
@@ -14,13 +14,15 @@ use Rattle.ss_build.proofs.Stand.{circle_top, named_is, walk_steps}
 use Rattle.ss_dupe.specs.Looks.{Id, is_places, is_root}
 use Rattle.ss_dupe.specs.Walks.{meets, passes}
 use Rattle.ss_dupe.specs.Sides.{Sides}
-use Rattle.ss_dupe.proofs.Basics.{two_ways, no_way, or_rest, and_first, and_second, false_from, some_from_passes}
+use Rattle.ss_dupe.proofs.Basics.{or_rest, false_from, some_from_passes}
 use Rattle.ss_dupe.proofs.Shapes.{places_is, has-roots, roots-has, apart_places}
 use Rattle.ss_merge.specs.Survivors.{content_of, survives}
 use Rattle.ss_merge.specs.Parents.{final}
 use Rattle.ss_merge.specs.Merged.{children, is_child, listed, merged, merged_node}
 use Rattle.ss_merge.specs.Claims.{AreMerging, claim_at}
 use Rattle.ss_merge.proofs.Sided.{root_survives, folder_survives, folder_kind, survivor_places, survivor_has, root_folder, comes_to_root, has_final, final-folder}
+use Rattle.std.proofs.lemmas.Bool.{cases_Bool}
+use Rattle.ss_text.proofs.Basics.{both_left, both_right, bytes_eq-sym, same_text, no_way}
 
 -- ---- lists
 
@@ -103,7 +105,7 @@ module _ (s : Sides) (n : ℕ) where
           or_other b e k miss = or_rest (bytes_eq x y) (has x ys) k (e ∙ miss)
 
           hit : (b : Bool) → bytes_eq x y ≡ b → (b ≡ false → has x ys ≡ true) → cond b (Some (claim_at s n y)) (find (λ e. bytes_eq x e.item.id) (map (claim_at s n) ys)) ≡ Some (claim_at s n x)
-          hit true e rest = ap (λ z. Some (claim_at s n z)) (sym (same_id x y e))
+          hit true e rest = ap (λ z. Some (claim_at s n z)) (sym (same_text x y e))
           hit false e rest = more (rest refl)
 
   in-claims : (e : Claim) (xs : List Id) → In e (map (claim_at s n) xs) → (x : Id) × (has x xs ≡ true) × (e ≡ claim_at s n x)
@@ -119,18 +121,18 @@ module _ (s : Sides) (n : ℕ) where
   child-final : (p x : Id) → is_child s n p x ≡ true → final s n x ≡ Some p
   unfolding is_child
   child-final p x h =
-      let f = some_from_passes (bytes_eq p) (final s n x) (and_second (survives s x && not (is_root x)) _ h) in
-      f.1 ∙ ap Some (sym (same_id p f.0 f.2))
+      let f = some_from_passes (bytes_eq p) (final s n x) (both_right (survives s x && not (is_root x)) _ h) in
+      f.1 ∙ ap Some (sym (same_text p f.0 f.2))
 
   child-survives : (p x : Id) → is_child s n p x ≡ true → survives s x ≡ true
   unfolding is_child
-  child-survives p x h = and_first (survives s x) _ (and_first (survives s x && not (is_root x)) _ h)
+  child-survives p x h = both_left (survives s x) _ (both_left (survives s x && not (is_root x)) _ h)
 
   lists-final : (y x : Id) → lists (claim_at s n y) x ≡ true → final s n x ≡ Some y
   unfolding lists
   lists-final y x h =
-      let k : has x (claim_at s n y).children ≡ true = and_second (is_folder (claim_at s n y).item.kind) _ h in
-      child-final y x (and_second (has x (listed s y)) _ (sym (has-filter (is_child s n y) x (listed s y)) ∙ ap (has x) (sym (claim_children y)) ∙ k))
+      let k : has x (claim_at s n y).children ≡ true = both_right (is_folder (claim_at s n y).item.kind) _ h in
+      child-final y x (both_right (has x (listed s y)) _ (sym (has-filter (is_child s n y) x (listed s y)) ∙ ap (has x) (sym (claim_children y)) ∙ k))
 
 module _ (s : Sides) (ids : List Id) (m : AreMerging s ids) where
   abbrev pub n : ℕ
@@ -146,7 +148,7 @@ module _ (s : Sides) (ids : List Id) (m : AreMerging s ids) where
   kept-has x h = has-filter (survives s) x ids ∙ ap₂ (λ a b. a && b) (survivor_has s ids m x h) h
 
   pub kept-survives : (x : Id) → has x kept ≡ true → survives s x ≡ true
-  kept-survives x h = and_second (has x ids) _ (sym (has-filter (survives s) x ids) ∙ h)
+  kept-survives x h = both_right (has x ids) _ (sym (has-filter (survives s) x ids) ∙ h)
 
   in_es : (x : Id) → survives s x ≡ true → has x (claim_ids es) ≡ true
   in_es x h = ap (has x) (ids-claims s n kept) ∙ kept-has x h
@@ -210,7 +212,7 @@ module _ (s : Sides) (ids : List Id) (m : AreMerging s ids) where
   up : (k : ℕ) (x : Id) → survives s x ≡ true → meets (final s n) is_root k x ≡ true → (j : ℕ) × (steps (proposed es) j x ≡ places)
   unfolding steps
   up zero x h r = (1, proposed_root es x (roots-has x r))
-  up (suc k) x h r = cases (two_ways (is_root x)) (λ p. up k p)
+  up (suc k) x h r = cases (cases_Bool (is_root x)) (λ p. up k p)
     where
       cases : (is_root x ≡ true) ⊎ (is_root x ≡ false) → ((p : Id) → survives s p ≡ true → meets (final s n) is_root k p ≡ true → (j : ℕ) × (steps (proposed es) j p ≡ places)) → (j : ℕ) × (steps (proposed es) j x ≡ places)
       cases (inl root) more = (1, proposed_root es x (roots-has x root))
@@ -238,9 +240,9 @@ module _ (s : Sides) (ids : List Id) (m : AreMerging s ids) where
 
   child-is : (p : Id) → is_places p ≡ false → (x : Id) → is_built_child es p x ≡ is_child s n p x
   unfolding is_built_child is_child
-  child-is p out x = elim (two_ways (survives s x)) [
+  child-is p out x = elim (cases_Bool (survives s x)) [
     | inr gone ↦ ap (λ b. b && bytes_eq (built_parent es x) p) (not_in_es x gone) ∙ sym (ap (λ b. (b && not (is_root x)) && passes (bytes_eq p) (final s n x)) gone)
-    | inl h ↦ ap (λ b. b && bytes_eq (built_parent es x) p) (in_es x h) ∙ under h (two_ways (is_root x)) ∙ sym (ap (λ b. (b && not (is_root x)) && passes (bytes_eq p) (final s n x)) h)
+    | inl h ↦ ap (λ b. b && bytes_eq (built_parent es x) p) (in_es x h) ∙ under h (cases_Bool (is_root x)) ∙ sym (ap (λ b. (b && not (is_root x)) && passes (bytes_eq p) (final s n x)) h)
   ]
     where
       under : survives s x ≡ true → (is_root x ≡ true) ⊎ (is_root x ≡ false) → bytes_eq (built_parent es x) p ≡ (not (is_root x) && passes (bytes_eq p) (final s n x))
@@ -254,7 +256,7 @@ module _ (s : Sides) (ids : List Id) (m : AreMerging s ids) where
   front p = firsts (filter (is_child s n p) (listed s p))
 
   rest-is : (p : Id) → filter (λ x. is_child s n p x && not (has x (front p))) kept ≡ filter (λ x. is_child s n p x && not (has x (front p))) ids
-  rest-is p = filter_within (survives s) (λ x. is_child s n p x && not (has x (front p))) ids (λ x k. child-survives s n p x (and_first (is_child s n p x) _ k))
+  rest-is p = filter_within (survives s) (λ x. is_child s n p x && not (has x (front p))) ids (λ x k. child-survives s n p x (both_left (is_child s n p x) _ k))
 
   listed-is : (p : Id) → is_places p ≡ false → firsts (filter (is_built_child es (claim_at s n p).item.id) (claim_at s n p).children) ≡ front p
   listed-is p out =
@@ -272,7 +274,7 @@ module _ (s : Sides) (ids : List Id) (m : AreMerging s ids) where
   -- ---- the tree
 
   up-of : (x : Id) → survives s x ≡ true → Some (built_parent es x) ≡ cond (is_root x) (Some places) (final s n x)
-  up-of x h = elim (two_ways (is_root x)) [
+  up-of x h = elim (cases_Bool (is_root x)) [
     | inl r ↦ ap Some (root-parent x r) ∙ sym (ap (λ b. cond b (Some places) (final s n x)) r)
     | inr miss ↦ let f = has_final s ids m x h miss in ap Some (parent-of x f.0 h miss f.1) ∙ sym (ap (λ b. cond b (Some places) (final s n x)) miss ∙ f.1)
   ]

@@ -3,9 +3,9 @@ use Rattle.std.proofs.Common.{◌≡◌, ◌⊎◌, ℕ, zero, suc, ◌<◌, ◌
 use Rattle.ss_dupe.specs.Looks.{Id}
 use Rattle.ss_dupe.specs.Walks.{meets, Meets}
 use Rattle.ss_merge.specs.Nearest.{nearest}
-use Rattle.ss_dupe.proofs.Basics.{two_ways}
 use Rattle.ss_dupe.proofs.Walks.{Meets-step, no_goal, meets-agree}
 use Rattle.ss_merge.proofs.Nearest.{IsFound, found}
+use Rattle.std.proofs.lemmas.Bool.{cases_Bool}
 
 -- What the proof needs of a merge: R and L say that an id is in the remote and in the local tree and is not `places`; `most` bounds the walks of chosen parents, `high` and `deep` those up the trees.
 pub record AreFinal (remote local chosen final : Id → Option Id) (root folder in_remote : Id → Bool) (R L : Id → Type 0) (most high deep : ℕ) : Type 0 where
@@ -29,7 +29,7 @@ module _ (remote local chosen final : Id → Option Id) (root folder in_remote :
   -- else each step goes up the remote tree, and stays in it: the depth there falls
   by_remote : (n d : ℕ) (x : Id) → d < n → d ≤ high → R x → meets remote root d x ≡ true → Meets final root x
   by_remote zero d x lt le r h = absurd (omega arith)
-  by_remote (suc n) d x lt le r h = cases (two_ways (meets chosen root most x)) (λ y e s k nearer. by_remote n e y (omega arith) (omega arith) s k)
+  by_remote (suc n) d x lt le r h = cases (cases_Bool (meets chosen root most x)) (λ y e s k nearer. by_remote n e y (omega arith) (omega arith) s k)
     where
       cases : (meets chosen root most x ≡ true) ⊎ (meets chosen root most x ≡ false) → ((y : Id) (e : ℕ) → R y → meets remote root e y ≡ true → e < d → Meets final root y) → Meets final root x
       cases (inl hit) more = by_chosen x hit
@@ -43,7 +43,7 @@ module _ (remote local chosen final : Id → Option Id) (root folder in_remote :
   -- or up the local tree, until an id is in the remote tree: the depth in the local tree falls
   by_local : (n d : ℕ) (x : Id) → d < n → d ≤ deep → L x → meets local root d x ≡ true → Meets final root x
   by_local zero d x lt le l h = absurd (omega arith)
-  by_local (suc n) d x lt le l h = cases (two_ways (in_remote x)) (two_ways (meets chosen root most x)) (λ y e s k nearer. by_local n e y (omega arith) (omega arith) s k)
+  by_local (suc n) d x lt le l h = cases (cases_Bool (in_remote x)) (cases_Bool (meets chosen root most x)) (λ y e s k nearer. by_local n e y (omega arith) (omega arith) s k)
     where
       cases : (in_remote x ≡ true) ⊎ (in_remote x ≡ false) → (meets chosen root most x ≡ true) ⊎ (meets chosen root most x ≡ false) → ((y : Id) (e : ℕ) → L y → meets local root e y ≡ true → e < d → Meets final root y) → Meets final root x
       cases (inl there) _ more = remote_reaches x (m.R_from x l there)

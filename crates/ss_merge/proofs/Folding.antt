@@ -7,7 +7,7 @@ use Rattle.ss_dupe.specs.declared.sides.Side.TheVariants.{Local, Remote}
 use Rattle.ss_dupe.specs.Looks.{Id, is_in, is_root, parent_of}
 use Rattle.ss_dupe.specs.Sides.{Sides, tree_of}
 use Rattle.ss_dupe.specs.Walks.{meets}
-use Rattle.ss_dupe.proofs.Basics.{or_first, or_second, same-tells}
+use Rattle.ss_dupe.proofs.Basics.{same-tells}
 use Rattle.ss_dupe.proofs.OneEach.{parent-lists, children-inside}
 use Rattle.ss_merge.specs.declared.parents.Folders.{Folders}
 use Rattle.ss_merge.specs.Nearest.{nearest}
@@ -20,6 +20,7 @@ use Rattle.ss_merge.proofs.Holding.{held, final-is}
 use Rattle.ss_merge.proofs.Sided.{chosen-folder, folder_survives, survivor_has}
 use Rattle.ss_merge.proofs.Stable.{stable}
 use Rattle.ss_merge.proofs.Marking.{meets_is}
+use Rattle.std.proofs.lemmas.Bool.{or_left, or_right}
 
 pub chosen_by : (s : Sides) (ids : List Id) (folders : Folders) → AreFolders s ids folders → (x : Id) → has x ids ≡ true → folder_on folders (side_of s same_parent x) x ≡ chosen s (length ids) x
 unfolding chosen
@@ -38,8 +39,8 @@ are_folders s ids folders local remote = record { each = on }
 module _ (s : Sides) (ids : List Id) (m : AreMerging s ids) where
   -- the parent of an item of a tree is in that tree
   pub side_stays : (side : Side) (x y : Id) → has x ids ≡ true → parent_of (tree_of s side) x ≡ Some y → has y ids ≡ true
-  side_stays Local x y i e = m.all y ∙ or_first (is_in s.local y) _ (children-inside s.local x y (parent-lists s.local m.shaped.local x y e))
-  side_stays Remote x y i e = m.all y ∙ or_second (is_in s.local y) _ (children-inside s.remote x y (parent-lists s.remote m.shaped.remote x y e))
+  side_stays Local x y i e = m.all y ∙ or_left (is_in s.local y) _ (children-inside s.local x y (parent-lists s.local m.shaped.local x y e))
+  side_stays Remote x y i e = m.all y ∙ or_right (is_in s.local y) _ (children-inside s.remote x y (parent-lists s.remote m.shaped.remote x y e))
 
   pub chosen_stays : (g : Id → Option Id) → Holds g (chosen s (length ids)) ids → (x y : Id) → has x ids ≡ true → g x ≡ Some y → has y ids ≡ true
   chosen_stays g h x y i e = survivor_has s ids m y (folder_survives s y (chosen-folder s (length ids) x y (sym (held g (chosen s (length ids)) ids x h i) ∙ e)))

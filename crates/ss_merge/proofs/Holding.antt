@@ -3,16 +3,16 @@ use Rattle.std.proofs.Common.{◌≡◌, ◌⊎◌, ◌+◌, ◌-◌, ◌<◌, �
 use Rattle.std.proofs.lemmas.List.{take_more, take_all}
 use Rattle.std.specs.Prelude.{Result, Ok, Err, OnOk}
 use Rattle.ss_record.specs.Ids.{has}
-use Rattle.ss_record.proofs.IdLists.{same_id, bytes_eq-sym, has-nil, has-cons, has-append}
-use Rattle.ss_build.proofs.Seats.{has_at}
+use Rattle.ss_record.proofs.IdLists.{has-nil, has-cons, has-append}
 use Rattle.ss_dupe.specs.Looks.{Id, is_root}
 use Rattle.ss_dupe.specs.Walks.{meets, passes}
 use Rattle.ss_dupe.specs.Sides.{Sides}
-use Rattle.ss_dupe.proofs.Basics.{two_ways, no_way}
 use Rattle.ss_merge.specs.Parents.{chosen, fallback, final, is_rooted}
 use Rattle.ss_merge.specs.Claims.{AreMerging}
 use Rattle.ss_merge.specs.Links.{Holds, or_else}
 use Rattle.ss_merge.proofs.Sided.{chosen-folder, folder_survives, survivor_has}
+use Rattle.std.proofs.lemmas.Bool.{cases_Bool}
+use Rattle.ss_text.proofs.Basics.{bytes_eq-sym, same_text, no_way}
 
 pub has-more : (x y : Id) (ids : List Id) (i : ℕ) → i < length ids → y ≡ get_or ids i y → has x (take (i + 1) ids) ≡ (has x (take i ids) || bytes_eq x y)
 has-more x y ids i lt e =
@@ -30,7 +30,7 @@ holds_none g f ids none x = none x ∙ sym (ap (λ b. cond b (f x) None) (has-ni
 pub holds_more : {A : Type 0} (g h f : Id → Option A) (ids : List Id) (i : ℕ) (y : Id) → i < length ids → y ≡ get_or ids i y → Holds g f (take i ids)
     → ((x : Id) → h x ≡ cond (bytes_eq y x) (or_else (f y) (g x)) (g x)) → Holds h f (take (i + 1) ids)
 holds_more {A = A} g h f ids i y lt e before put x =
-    put x ∙ ap (λ o. cond (bytes_eq y x) (or_else (f y) o) o) (before x) ∙ cases (two_ways (bytes_eq y x)) ∙ sym (ap (λ b. cond b (f x) None) (has-more x y ids i lt e))
+    put x ∙ ap (λ o. cond (bytes_eq y x) (or_else (f y) o) o) (before x) ∙ cases (cases_Bool (bytes_eq y x)) ∙ sym (ap (λ b. cond b (f x) None) (has-more x y ids i lt e))
   where
     added : (o : Option A) (b : Bool) → or_else o (cond b o None) ≡ o
     added None true = refl
@@ -48,7 +48,7 @@ holds_more {A = A} g h f ids i y lt e before put x =
     cases : (bytes_eq y x ≡ true) ⊎ (bytes_eq y x ≡ false) → cond (bytes_eq y x) (or_else (f y) (cond (has x (take i ids)) (f x) None)) (cond (has x (take i ids)) (f x) None) ≡ cond (has x (take i ids) || bytes_eq x y) (f x) None
     cases (inl hit) =
         ap (λ b. cond b (or_else (f y) (cond (has x (take i ids)) (f x) None)) (cond (has x (take i ids)) (f x) None)) hit
-        ∙ ap (λ z. or_else (f z) (cond (has x (take i ids)) (f x) None)) (same_id y x hit)
+        ∙ ap (λ z. or_else (f z) (cond (has x (take i ids)) (f x) None)) (same_text y x hit)
         ∙ added (f x) (has x (take i ids))
         ∙ sym (ap (λ b. cond (has x (take i ids) || b) (f x) None) (bytes_eq-sym x y ∙ hit) ∙ ap (λ b. cond b (f x) None) (or_true (has x (take i ids))))
     cases (inr miss) =
@@ -74,9 +74,6 @@ put_none g o y e x = sym (ap (λ w. cond (bytes_eq y x) (or_else w (g x)) (g x))
     same : (b : Bool) → cond b (g x) (g x) ≡ g x
     same true = refl
     same false = refl
-
-pub has_item : (ids : List Id) (i : ℕ) (y : Id) → i < length ids → y ≡ get_or ids i y → has y ids ≡ true
-has_item ids i y lt e = ap (λ z. has z ids) e ∙ has_at ids i y lt
 
 pub has_some : (x : Id) (ids : List Id) → has x ids ≡ true → 0 < length ids
 has_some x [] h = no_way (has x []) h (has-nil x)

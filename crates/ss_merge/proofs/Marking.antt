@@ -1,15 +1,17 @@
 -- Walks that mark what they pass.
 use Rattle.std.proofs.Common.{◌≡◌, ◌⊎◌, ◌+◌, ◌-◌, ◌<◌, ◌≤◌, ◌||◌, ℕ, zero, suc, Bool, true, false, cond, List, [], ◌∷◌, ◌++◌, length, take, take_all, get_or, bytes_eq, Option, Some, None, is_some, unwrap_or, refl, sym, ap, subst, ◌∙◌, inl, inr, arith}
 use Rattle.ss_record.specs.Ids.{has}
-use Rattle.ss_record.proofs.IdLists.{same_id, bytes_eq-sym, has-nil, has-cons, has-append}
+use Rattle.ss_record.proofs.IdLists.{has-nil, has-cons, has-append}
 use Rattle.ss_dupe.specs.Looks.{Id}
 use Rattle.ss_dupe.specs.Walks.{meets, passes}
-use Rattle.ss_dupe.proofs.Basics.{two_ways, no_way, same-tells}
+use Rattle.ss_dupe.proofs.Basics.{same-tells}
 use Rattle.ss_merge.specs.Nearest.{goal_or, nearest}
 use Rattle.ss_merge.specs.Ways.{AreMarks, StaysIn, Told, Walked, is_goal_on, nearest_on, next_on}
 use Rattle.ss_merge.specs.declared.ways.Way.{Way}
 use Rattle.ss_merge.proofs.Holding.{has-more}
 use Rattle.ss_merge.proofs.Stable.{nearest_on as on_by}
+use Rattle.std.proofs.lemmas.Bool.{cases_Bool}
+use Rattle.ss_text.proofs.Basics.{bytes_eq-sym, same_text, no_way}
 
 -- the walk comes to a goal where it starts at one or has one ahead
 pub meets_is : {A : Type 0} (step : A → Option A) (goal : A → Bool) (n : ℕ) (x : A) → meets step goal n x ≡ (goal x || is_some (nearest step goal n x))
@@ -126,11 +128,11 @@ module _ (way : Way) (ids : List Id) (stays : StaysIn way ids) where
         or-false false = refl
 
     in_end : (x at : Id) (path : List Id) → has x (path ++ at ∷ []) ≡ true → (has x path ≡ true) ⊎ (x ≡ at)
-    in_end x at path h = cases (two_ways (has x path)) (two_ways (bytes_eq x at))
+    in_end x at path h = cases (cases_Bool (has x path)) (cases_Bool (bytes_eq x at))
       where
         cases : (has x path ≡ true) ⊎ (has x path ≡ false) → (bytes_eq x at ≡ true) ⊎ (bytes_eq x at ≡ false) → (has x path ≡ true) ⊎ (x ≡ at)
         cases (inl a) _ = inl a
-        cases (inr a) (inl b) = inr (same_id x at b)
+        cases (inr a) (inl b) = inr (same_text x at b)
         cases (inr a) (inr b) = no_way (has x (path ++ at ∷ [])) h (has_end x at path ∙ ap (λ v. v || bytes_eq x at) a ∙ b)
 
     pub put_on : {now new : Id → Option (Option Id)} {path : List Id} {at : Id} {i : ℕ} → On way ids old start now path at i → ((x : Id) → new x ≡ cond (bytes_eq at x) (Some None) (now x)) → Put way ids old start new (path ++ at ∷ []) at i
@@ -164,7 +166,7 @@ module _ (way : Way) (ids : List Id) (stays : StaysIn way ids) where
 
     -- what is marked where the walk stands is its nearest goal
     pub known_on : AreMarks way ids old → {now : Id → Option (Option Id)} {path : List Id} {at : Id} {i : ℕ} → On way ids old start now path at i → (goal : Option Id) → now at ≡ Some goal → goal_ahead way ids at ≡ goal
-    known_on right {now} {path} {at} {i} on goal e = cases (two_ways (has at path))
+    known_on right {now} {path} {at} {i} on goal e = cases (cases_Bool (has at path))
       where
         cases : (has at path ≡ true) ⊎ (has at path ≡ false) → goal_ahead way ids at ≡ goal
         cases (inl h) =
@@ -233,7 +235,7 @@ module _ (way : Way) (ids : List Id) (stays : StaysIn way ids) where
   module _ (old : Id → Option (Option Id)) (start : Id) (right : AreMarks way ids old) where
     -- a walk that found nothing has marked all well
     pub walked_right : {new : Id → Option (Option Id)} {path : List Id} → Walked way ids old new path start None → AreMarks way ids new
-    walked_right {new} {path} w x goal e = cases (two_ways (has x path))
+    walked_right {new} {path} w x goal e = cases (cases_Bool (has x path))
       where
         cases : (has x path ≡ true) ⊎ (has x path ≡ false) → goal_ahead way ids x ≡ goal
         cases (inl h) =
@@ -250,7 +252,7 @@ module _ (way : Way) (ids : List Id) (stays : StaysIn way ids) where
         cases false = h
 
     pub told_right : {walked new : Id → Option (Option Id)} {path : List Id} {goal : Option Id} → Walked way ids old walked path start goal → Told walked new path goal → AreMarks way ids new
-    told_right {walked} {new} {path} {goal} w t x other e = cases (two_ways (has x path))
+    told_right {walked} {new} {path} {goal} w t x other e = cases (cases_Bool (has x path))
       where
         cases : (has x path ≡ true) ⊎ (has x path ≡ false) → goal_ahead way ids x ≡ other
         cases (inl h) =
@@ -270,11 +272,11 @@ module _ (way : Way) (ids : List Id) (stays : StaysIn way ids) where
 
 pub met_more : (old new : Id → Option (Option Id)) (ids : List Id) (i : ℕ) (y : Id) → i < length ids → y ≡ get_or ids i y → ((x : Id) → has x (take i ids) ≡ true → is_some (old x) ≡ true)
     → is_some (new y) ≡ true → ((x : Id) → is_some (old x) ≡ true → is_some (new x) ≡ true) → (x : Id) → has x (take (i + 1) ids) ≡ true → is_some (new x) ≡ true
-met_more old new ids i y lt is before one kept x h = cases (two_ways (has x (take i ids))) (two_ways (bytes_eq x y))
+met_more old new ids i y lt is before one kept x h = cases (cases_Bool (has x (take i ids))) (cases_Bool (bytes_eq x y))
   where
     cases : (has x (take i ids) ≡ true) ⊎ (has x (take i ids) ≡ false) → (bytes_eq x y ≡ true) ⊎ (bytes_eq x y ≡ false) → is_some (new x) ≡ true
     cases (inl a) _ = kept x (before x a)
-    cases (inr a) (inl b) = ap (λ z. is_some (new z)) (same_id x y b) ∙ one
+    cases (inr a) (inl b) = ap (λ z. is_some (new z)) (same_text x y b) ∙ one
     cases (inr a) (inr b) = no_way (has x (take (i + 1) ids)) h (has-more x y ids i lt is ∙ ap (λ v. v || bytes_eq x y) a ∙ b)
 
 pub all_met : (way : Way) (ids : List Id) (marks : Id → Option (Option Id)) → AreMarks way ids marks → (x : Id) → is_some (marks x) ≡ true → marks x ≡ Some (nearest_on way (length ids) x)

@@ -7,7 +7,7 @@ use Rattle.std.specs.Cmp.Lexicographic.{texts_ties}
 use Rattle.std.specs.Map.{lookup}
 use Rattle.ss_text.specs.Texts.{text_cmp}
 use Rattle.ss_record.specs.Ids.{Apart, has}
-use Rattle.ss_record.proofs.IdLists.{same_id, bytes_eq-same, bytes_eq-sym, has-nil, has-cons, has-head, has-tail, Apart-head, Apart-tail}
+use Rattle.ss_record.proofs.IdLists.{has-nil, has-cons, has-head, has-tail, Apart-head, Apart-tail}
 use Rattle.ss_tree.specs.Trees.{IsValidTree, Placed, node}
 use Rattle.ss_dupe.specs.Looks.{Id, Look, look, is_in}
 use Rattle.ss_dupe.specs.Sides.{sides}
@@ -15,11 +15,14 @@ use Rattle.ss_dupe.specs.Pairs.{ArePairs}
 use Rattle.ss_dupe.specs.Renaming.{named, renamed, renamed_item}
 use Rattle.ss_dupe.specs.Plains.{placed_at}
 use Rattle.ss_dupe.specs.declared.plain.Seat.{Seat}
-use Rattle.ss_dupe.proofs.Basics.{two_ways, no_way, false_from, has-cases}
+use Rattle.ss_dupe.proofs.Basics.{false_from, has-cases}
 use Rattle.ss_dupe.proofs.Shapes.{in-of_none, of-in, shape}
 use Rattle.ss_dupe.proofs.Renamed.{names_apart, look-renamed, from-renamed}
 use Rattle.ss_merge.specs.Links.{AreNames, IsRenamed, TakesIn, by_map, look_by, or_else}
-use Rattle.ss_merge.proofs.Holding.{has-more, has_item}
+use Rattle.ss_merge.proofs.Holding.{has-more}
+use Rattle.std.proofs.lemmas.Bool.{cases_Bool}
+use Rattle.ss_dupe.proofs.Newness.{has-at}
+use Rattle.ss_text.proofs.Basics.{bytes_eq-sym, same_text, bytes_eq-same, no_way}
 
 -- ---- a map of pairs
 
@@ -47,7 +50,7 @@ fresh_key (q ∷ ps) zero p a lt e = has-nil p.0
 fresh_key (q ∷ ps) (suc i) p a lt e =
     has-cons p.0 q.0 (map (λ q. q.0) (take i ps))
     ∙ ap₂ (λ b c. b || c) (false_from (bytes_eq p.0 q.0) (λ h.
-    no_way (has q.0 (map (λ q. q.0) ps)) (ap (λ z. has z (map (λ q. q.0) ps)) (sym (same_id p.0 q.0 h)) ∙ key_in ps i p (omega arith) e) (Apart-head q.0 (map (λ q. q.0) ps) a)))
+    no_way (has q.0 (map (λ q. q.0) ps)) (ap (λ z. has z (map (λ q. q.0) ps)) (sym (same_text p.0 q.0 h)) ∙ key_in ps i p (omega arith) e) (Apart-head q.0 (map (λ q. q.0) ps) a)))
     (fresh_key ps i p (Apart-tail q.0 (map (λ q. q.0) ps) a) (omega arith) e)
 
 lookup_end : (x : Id) (ps : List (Id × Id)) (k v : Id) → has k (map (λ q. q.0) ps) ≡ false → lookup (bytes_eq x) (ps ++ (k, v) ∷ []) ≡ cond (bytes_eq x k) (Some v) (lookup (bytes_eq x) ps)
@@ -63,7 +66,7 @@ lookup_end x (q ∷ ps) k v h = cases (bytes_eq x q.0) refl (lookup_end x ps k v
     first false b e = refl
 
     other : bytes_eq x q.0 ≡ true → bytes_eq x k ≡ false
-    other e = ap (λ z. bytes_eq z k) (same_id x q.0 e) ∙ bytes_eq-sym q.0 k ∙ first (bytes_eq k q.0) (has k (map (λ q. q.0) ps)) (sym (has-cons k q.0 (map (λ q. q.0) ps)) ∙ h)
+    other e = ap (λ z. bytes_eq z k) (same_text x q.0 e) ∙ bytes_eq-sym q.0 k ∙ first (bytes_eq k q.0) (has k (map (λ q. q.0) ps)) (sym (has-cons k q.0 (map (λ q. q.0) ps)) ∙ h)
 
     cases : (b : Bool) → bytes_eq x q.0 ≡ b → lookup (bytes_eq x) (ps ++ (k, v) ∷ []) ≡ cond (bytes_eq x k) (Some v) (lookup (bytes_eq x) ps)
         → cond b (Some q.1) (lookup (bytes_eq x) (ps ++ (k, v) ∷ [])) ≡ cond (bytes_eq x k) (Some v) (cond b (Some q.1) (lookup (bytes_eq x) ps))
@@ -118,18 +121,18 @@ met_again t name u ids i y lt e there s = record {
   where
     cases : (x : Id) (a : Bool) → has x (take i ids) ≡ a → (b : Bool) → bytes_eq x y ≡ b → (has x (take i ids) || bytes_eq x y) ≡ true → has x (take i ids) ≡ true
     cases x true p b q h = p
-    cases x false p true q h = ap (λ z. has z (take i ids)) (same_id x y q) ∙ there
+    cases x false p true q h = ap (λ z. has z (take i ids)) (same_text x y q) ∙ there
     cases x false p false q h = let no : (has x (take i ids) || bytes_eq x y) ≡ false = ap₂ (λ c d. c || d) p q in cc
 
 one_more : (t : Look) (name : Id → Id) (u v : Look) (ids : List Id) (i : ℕ) (y : Id) (n : Placed) → AreNames t name → ((x : Id) → has x ids ≡ is_in t x) → i < length ids → y ≡ get_or ids i y
     → Some n ≡ option_map (renamed_item name) (t y) → ((x : Id) → v x ≡ cond (bytes_eq (name y) x) (Some n) (u x)) → SoFar t name u (take i ids) → SoFar t name v (take (i + 1) ids)
 one_more t name u v ids i y n names are lt e given at s = record {
-  named = λ x h. named x (two_ways (bytes_eq (name y) (name x))) h;
-  from = λ q h. from q (two_ways (bytes_eq (name y) q)) h;
+  named = λ x h. named x (cases_Bool (bytes_eq (name y) (name x))) h;
+  from = λ q h. from q (cases_Bool (bytes_eq (name y) q)) h;
 }
   where
     inside : is_in t y ≡ true
-    inside = sym (are y) ∙ has_item ids i y lt e
+    inside = sym (are y) ∙ has-at ids i y lt e
 
     or_rest : (a b : Bool) → (a || b) ≡ true → b ≡ false → a ≡ true
     or_rest true b e f = refl
@@ -150,19 +153,19 @@ one_more t name u v ids i y n names are lt e given at s = record {
 
     named : (x : Id) → (bytes_eq (name y) (name x) ≡ true) ⊎ (bytes_eq (name y) (name x) ≡ false) → has x (take (i + 1) ids) ≡ true → v (name x) ≡ option_map (renamed_item name) (t x)
     named x (inl hit) h =
-        let same = names.apart y x inside (inside_of x h) (same_id (name y) (name x) hit) in
+        let same = names.apart y x inside (inside_of x h) (same_text (name y) (name x) hit) in
         at (name x) ∙ ap (λ b. cond b (Some n) (u (name x))) hit ∙ given ∙ ap (λ z. option_map (renamed_item name) (t z)) same
     named x (inr miss) h =
         at (name x) ∙ ap (λ b. cond b (Some n) (u (name x))) miss
         ∙ s.named x (or_rest (has x (take i ids)) (bytes_eq x y) (sym (has-more x y ids i lt e) ∙ h)
-        (false_from (bytes_eq x y) (λ f. no_way (bytes_eq (name y) (name x)) (bytes_eq-same (name y) (name x) (ap name (sym (same_id x y f)))) miss)))
+        (false_from (bytes_eq x y) (λ f. no_way (bytes_eq (name y) (name x)) (bytes_eq-same (name y) (name x) (ap name (sym (same_text x y f)))) miss)))
 
     or_true : (b : Bool) → (b || true) ≡ true
     or_true true = refl
     or_true false = refl
 
     from : (q : Id) → (bytes_eq (name y) q ≡ true) ⊎ (bytes_eq (name y) q ≡ false) → is_in v q ≡ true → (x : Id) × (has x (take (i + 1) ids) ≡ true) × (q ≡ name x)
-    from q (inl hit) h = (y, has-more y y ids i lt e ∙ ap (λ b. has y (take i ids) || b) (bytes_eq-same y y refl) ∙ or_true (has y (take i ids)), sym (same_id (name y) q hit))
+    from q (inl hit) h = (y, has-more y y ids i lt e ∙ ap (λ b. has y (take i ids) || b) (bytes_eq-same y y refl) ∙ or_true (has y (take i ids)), sym (same_text (name y) q hit))
     from q (inr miss) h =
         let f = s.from q (in_same v u q (at q ∙ ap (λ b. cond b (Some n) (u q)) miss) h) in
         (f.0, has-more f.0 y ids i lt e ∙ ap (λ b. b || bytes_eq f.0 y) f.1, f.2)
@@ -209,7 +212,7 @@ one_moved name first rest later u v ids i y names are lt e gone takes m = record
     done : (o : Option Seat) → rest y ≡ o → (b : Bool) → has y (take i ids) ≡ b → SoFar (look_by first) name v (take (i + 1) ids)
     done None q true h = met_again (look_by first) name v ids i y lt e h (subst (λ w. SoFar (look_by first) name w (take i ids)) (λ j x. sym (stays q x) j) m.done)
     done None q false h =
-        no_way (is_in (look_by first) y) (sym (are y) ∙ has_item ids i y lt e) (in-of_none (look_by first) y (ap (option_map placed_at) (first_at h ∙ q)))
+        no_way (is_in (look_by first) y) (sym (are y) ∙ has-at ids i y lt e) (in-of_none (look_by first) y (ap (option_map placed_at) (first_at h ∙ q)))
     done (Some s) q true h = let none : rest y ≡ None = m.left y ∙ ap (λ b. cond b None (first y)) h in cc
     done (Some s) q false h =
         one_more (look_by first) name u v ids i y (renamed_item name (placed_at s)) names are lt e
@@ -272,7 +275,7 @@ node_own [] x n e = cc
 node_own (m ∷ ms) x n e = cases (bytes_eq x m.id) refl e (λ k. node_own ms x n k)
   where
     cases : (b : Bool) → bytes_eq x m.id ≡ b → cond b (Some m) (find (λ k. bytes_eq x k.id) ms) ≡ Some n → (find (λ k. bytes_eq x k.id) ms ≡ Some n → n.id ≡ x) → n.id ≡ x
-    cases true h k more = let same : m ≡ n = cc in ap (λ (z : Placed). z.id) (sym same) ∙ sym (same_id x m.id h)
+    cases true h k more = let same : m ≡ n = cc in ap (λ (z : Placed). z.id) (sym same) ∙ sym (same_text x m.id h)
     cases false h k more = more k
 
 pub are_names : (m l r : List Placed) (x y : List Id) (pairs : List (Id × Id)) (t : Look) (g : Id → Option Id) → IsValidTree l → IsValidTree r → ArePairs (sides m l r x y) pairs
@@ -290,7 +293,7 @@ renamed_look l pairs t u g looks names are is q = by_parts (subst (λ f. AreName
     by_parts a s = by_names (subst (λ h. AreNames (look l) (by_map h)) (λ i z. names z i) a) (subst (λ h. IsRenamed (look l) (by_map h) u) (λ i z. names z i) s)
       where
         by_names : AreNames (look l) (named pairs) → IsRenamed (look l) (named pairs) u → u q ≡ look (renamed (named pairs) l) q
-        by_names b w = cases (two_ways (is_in u q)) (two_ways (is_in (look (renamed (named pairs) l)) q))
+        by_names b w = cases (cases_Bool (is_in u q)) (cases_Bool (is_in (look (renamed (named pairs) l)) q))
           where
             both : (x : Id) → is_in (look l) x ≡ true → q ≡ named pairs x → u q ≡ look (renamed (named pairs) l) q
             both x h e = ap u e ∙ w.named x h ∙ sym (look-renamed l (named pairs) b.apart x h) ∙ sym (ap (look (renamed (named pairs) l)) e)

@@ -2,7 +2,9 @@
 use Rattle.std.proofs.Common.{◌≡◌, ◌⊎◌, ℕ, zero, suc, ◌<◌, ◌≤◌, Bool, true, false, cond, Option, Some, None, sym, ap, subst, ◌∙◌, inl, inr, arith}
 use Rattle.ss_dupe.specs.Walks.{meets}
 use Rattle.ss_merge.specs.Nearest.{goal_or, nearest}
-use Rattle.ss_dupe.proofs.Basics.{two_ways, or_rest, no_way, some_from_passes, false_from}
+use Rattle.ss_dupe.proofs.Basics.{or_rest, some_from_passes, false_from}
+use Rattle.std.proofs.lemmas.Bool.{cases_Bool}
+use Rattle.ss_text.proofs.Basics.{no_way}
 
 -- the nearest stop, which has P, and is nearer to a root
 pub record IsFound {A : Type 0} (step : A → Option A) (stop root : A → Bool) (P : A → Type 0) (most d : ℕ) (x : A) : Type 0 where
@@ -21,7 +23,7 @@ module _ {A : Type 0} (step : A → Option A) (stop root : A → Bool) (roots_st
   found (suc d) zero x le p miss h = absurd (omega arith)
   found (suc d) (suc most) x le p miss h =
       let next = some_from_passes (meets step root d) (step x) (or_rest (root x) _ h miss) in
-      at_next next.0 next.1 next.2 (two_ways (stop next.0)) (λ q. found d most next.0 (omega arith) (kept x next.0 p miss next.1) q next.2)
+      at_next next.0 next.1 next.2 (cases_Bool (stop next.0)) (λ q. found d most next.0 (omega arith) (kept x next.0 p miss next.1) q next.2)
     where
       first : (q : A) → step x ≡ Some q → nearest step stop (suc most) x ≡ cond (stop q) (Some q) (nearest step stop most q)
       first q e = ap (goal_or stop (nearest step stop most)) e
@@ -50,7 +52,7 @@ module _ {A : Type 0} (step : A → Option A) (stop root : A → Bool) (roots_st
 
 goal_or-stops : {A : Type 0} (goal : A → Bool) (next : A → Option A) (o : Option A) (p : A) → ((q : A) → next q ≡ Some p → goal p ≡ true) → goal_or goal next o ≡ Some p → goal p ≡ true
 goal_or-stops goal next None p more e = cc
-goal_or-stops goal next (Some q) p more e = cases (two_ways (goal q))
+goal_or-stops goal next (Some q) p more e = cases (cases_Bool (goal q))
   where
     cases : (goal q ≡ true) ⊎ (goal q ≡ false) → goal p ≡ true
     cases (inl hit) =

@@ -9,7 +9,7 @@ use Rattle.ss_dupe.specs.Looks.{Id, is_in, at, parent_of, is_places, is_root}
 use Rattle.ss_dupe.specs.Walks.{meets, Meets}
 use Rattle.ss_dupe.specs.Shapes.{AreShaped}
 use Rattle.ss_dupe.specs.Sides.{Sides, tree_of}
-use Rattle.ss_dupe.proofs.Basics.{two_ways, no_way, or_first, or_second, or_rest, and_both, and_first, and_second, not_true, some_from_passes, same-tells}
+use Rattle.ss_dupe.proofs.Basics.{or_rest, some_from_passes, same-tells}
 use Rattle.ss_dupe.proofs.Bounds.{meets_within}
 use Rattle.ss_dupe.proofs.Shapes.{IsItem, item_up, rooted_within, root-not_places}
 use Rattle.ss_merge.specs.Survivors.{content_of, is_merged_folder, same_content, same_parent, side_of, survives}
@@ -17,10 +17,12 @@ use Rattle.ss_merge.specs.Parents.{chosen, fallback, final, is_rooted, nearest_f
 use Rattle.ss_merge.specs.Claims.{AreMerging}
 use Rattle.ss_merge.proofs.Nearest.{nearest-stops}
 use Rattle.ss_merge.proofs.Finals.{AreFinal, remote_reaches, local_reaches}
+use Rattle.std.proofs.lemmas.Bool.{cases_Bool, or_left, and_from, or_right, not-true}
+use Rattle.ss_text.proofs.Basics.{both_left, both_right, no_way}
 
 pub root_survives : (s : Sides) (x : Id) → is_root x ≡ true → survives s x ≡ true
 unfolding survives
-root_survives s x r = or_first (is_root x) _ r
+root_survives s x r = or_left (is_root x) _ r
 
 -- ---- final parents are merged folders
 
@@ -34,18 +36,18 @@ chosen-folder s n x p e = nearest-folder s n (side_of s same_parent x) x p e
 
 pub final-folder : (s : Sides) (n : ℕ) (x p : Id) → final s n x ≡ Some p → is_merged_folder s p ≡ true
 unfolding final fallback
-final-folder s n x p e = elim (two_ways (is_rooted s n x)) [
+final-folder s n x p e = elim (cases_Bool (is_rooted s n x)) [
   | inl hit ↦ chosen-folder s n x p (sym (ap (λ b. cond b (chosen s n x) (fallback s n x)) hit) ∙ e)
   | inr miss ↦ nearest-folder s n (cond (is_in s.remote x) Remote Local) x p (sym (ap (λ b. cond b (chosen s n x) (fallback s n x)) miss) ∙ e)
 ]
 
 pub folder_survives : (s : Sides) (x : Id) → is_merged_folder s x ≡ true → survives s x ≡ true
 unfolding is_merged_folder
-folder_survives s x h = and_first (survives s x) _ h
+folder_survives s x h = both_left (survives s x) _ h
 
 pub folder_kind : (s : Sides) (x : Id) → is_merged_folder s x ≡ true → is_folder (content_of s x).kind ≡ true
 unfolding is_merged_folder
-folder_kind s x h = and_second (survives s x) _ h
+folder_kind s x h = both_right (survives s x) _ h
 
 -- ---- survivors are items
 
@@ -56,19 +58,19 @@ one_of_two false false c d e = cc
 
 pub survivor_places : (s : Sides) (x : Id) → survives s x ≡ true → is_places x ≡ false
 unfolding survives
-survivor_places s x h = elim (two_ways (is_root x)) [
+survivor_places s x h = elim (cases_Bool (is_root x)) [
   | inl r ↦ root-not_places x r
-  | inr miss ↦ not_true (is_places x) (and_first (not (is_places x)) _ (or_rest (is_root x) _ h miss))
+  | inr miss ↦ not-true (is_places x) (both_left (not (is_places x)) _ (or_rest (is_root x) _ h miss))
 ]
 
 -- a survivor is in a tree
 pub survivor_in : (s : Sides) → AreShaped s → (x : Id) → survives s x ≡ true → (is_in s.local x ≡ true) ⊎ (is_in s.remote x ≡ true)
 unfolding survives
-survivor_in s shaped x h = cases (two_ways (is_root x))
+survivor_in s shaped x h = cases (cases_Bool (is_root x))
   where
     cases : (is_root x ≡ true) ⊎ (is_root x ≡ false) → (is_in s.local x ≡ true) ⊎ (is_in s.remote x ≡ true)
     cases (inl r) = inl (shaped.local.roots_in x r).0
-    cases (inr miss) = one_of_two _ _ _ _ (and_second (not (is_places x)) _ (or_rest (is_root x) _ h miss))
+    cases (inr miss) = one_of_two _ _ _ _ (both_right (not (is_places x)) _ (or_rest (is_root x) _ h miss))
 
 -- a root has the content of a folder
 pub root_content : (s : Sides) → AreShaped s → (x : Id) → is_root x ≡ true → is_folder (content_of s x).kind ≡ true
@@ -90,10 +92,10 @@ module _ (s : Sides) (ids : List Id) (m : AreMerging s ids) where
   ]
 
   local_has : (x : Id) → is_in s.local x ≡ true → has x ids ≡ true
-  local_has x h = m.all x ∙ or_first (is_in s.local x) _ h
+  local_has x h = m.all x ∙ or_left (is_in s.local x) _ h
 
   remote_has : (x : Id) → is_in s.remote x ≡ true → has x ids ≡ true
-  remote_has x h = m.all x ∙ or_second (is_in s.local x) _ h
+  remote_has x h = m.all x ∙ or_right (is_in s.local x) _ h
 
   pub survivor_has : (x : Id) → survives s x ≡ true → has x ids ≡ true
   survivor_has x h = elim (survivor_item x h) [ inl i ↦ local_has x i.inside | inr i ↦ remote_has x i.inside ]
@@ -103,7 +105,7 @@ module _ (s : Sides) (ids : List Id) (m : AreMerging s ids) where
 
   root_is_folder : (x : Id) → is_root x ≡ true → is_merged_folder s x ≡ true
   unfolding is_merged_folder
-  root_is_folder x r = and_both (survives s x) _ (root_survives s x r) (root_folder x r)
+  root_is_folder x r = and_from (survives s x) _ (root_survives s x r) (root_folder x r)
 
   abbrev AreFinalOf : Type 0
   AreFinalOf = AreFinal (parent_of s.remote) (parent_of s.local) (chosen s most) (final s most) is_root (is_merged_folder s) (is_in s.remote)

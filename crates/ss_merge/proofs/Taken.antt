@@ -5,8 +5,9 @@ use Rattle.ss_dupe.specs.declared.sides.Side.{Side}
 use Rattle.ss_dupe.specs.declared.sides.Side.TheVariants.{Local, Remote}
 use Rattle.ss_dupe.specs.Looks.{Id, is_in}
 use Rattle.ss_dupe.specs.Sides.{Sides, tree_of}
-use Rattle.ss_dupe.proofs.Basics.{two_ways, no_way}
 use Rattle.ss_merge.specs.Survivors.{differs, newer, side_of, taken}
+use Rattle.std.proofs.lemmas.Bool.{cases_Bool}
+use Rattle.ss_text.proofs.Basics.{no_way}
 
 module _ (s : Sides) (alike : Placed → Placed → Bool) (x : Id) where
   only_local : is_in s.remote x ≡ false → taken s alike x ≡ Some Local
@@ -36,7 +37,7 @@ module _ (s : Sides) (alike : Placed → Placed → Bool) (x : Id) where
 
   -- the side that is taken has the item
   pub side-in : (is_in s.local x ≡ true) ⊎ (is_in s.remote x ≡ true) → is_in (tree_of s (side_of s alike x)) x ≡ true
-  side-in h = cases (two_ways (is_in s.remote x)) (two_ways (is_in s.local x)) h
+  side-in h = cases (cases_Bool (is_in s.remote x)) (cases_Bool (is_in s.local x)) h
     where
       both : (side : Side) → is_in s.local x ≡ true → is_in s.remote x ≡ true → is_in (tree_of s side) x ≡ true
       both Local l r = l

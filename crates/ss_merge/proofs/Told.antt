@@ -1,24 +1,22 @@
 -- The ids of a tree's nodes: each once, and all of them.
-use Rattle.std.proofs.Common.{◌≡◌, ◌⊎◌, ℕ, ◌+◌, ◌<◌, ◌≤◌, Bool, true, false, not, cond, ◌&&◌, List, [], ◌∷◌, map, filter, bytes_eq, Option, Some, None, is_some, option_map, unwrap_or, refl, sym, ap, subst, ◌∙◌, inl, inr, arith}
+use Rattle.std.proofs.Common.{◌≡◌, ◌⊎◌, ℕ, ◌+◌, ◌<◌, ◌≤◌, Bool, true, false, not, cond, ◌&&◌, List, [], ◌∷◌, map, filter, bytes_eq, is_some, option_map, unwrap_or, refl, sym, ap, subst, ◌∙◌, inl, inr, arith}
 use Rattle.ss_list.specs.Chain.{times}
 use Rattle.ss_list.proofs.Times.{times-here, at_head, below-head}
 use Rattle.ss_record.specs.Ids.{Apart, has}
-use Rattle.ss_record.proofs.IdLists.{bytes_eq-same, has-nil, has-cons, has-head, has-tail, has-filter, Apart-nil, Apart-cons, Apart-filter}
+use Rattle.ss_record.proofs.IdLists.{has-nil, has-cons, has-head, has-tail, has-filter, Apart-nil, Apart-cons, Apart-filter}
 use Rattle.ss_tree.specs.declared.entries.Entry.{Entry}
 use Rattle.ss_tree.specs.Trees.{Placed, node, node_ids}
-use Rattle.ss_tree.specs.Entries.{entry, is_live, placed, tree, IsTree}
+use Rattle.ss_tree.specs.Entries.{is_live, placed, tree, IsTree}
 use Rattle.ss_tree.proofs.Valid.{entry_in, in_entry, one_entry, node_found, node_at}
 use Rattle.ss_build.proofs.Stand.{node_has, has_node}
 use Rattle.ss_dupe.specs.Looks.{Id, is_places}
 use Rattle.ss_dupe.specs.Reading.{id_at, ids_at}
-use Rattle.ss_dupe.proofs.Basics.{no_way, false_from, has-cases}
+use Rattle.ss_dupe.proofs.Basics.{false_from, has-cases}
 use Rattle.ss_dupe.proofs.ReadOut.{id_at-entry}
 use Rattle.ss_merge.specs.declared.merging.Origin.{Origin}
-
-both : (a b : Bool) → (a ≡ true → b ≡ true) → (b ≡ true → a ≡ true) → a ≡ b
-both true b f g = sym (f refl)
-both false true f g = g refl
-both false false f g = refl
+use Rattle.ss_build.proofs.Hops.{equal_bools}
+use Rattle.ss_tree.proofs.Looked.{live_entry}
+use Rattle.ss_text.proofs.Basics.{no_way}
 
 in_ids : (es : List Entry) (x : Id) (ks : List ℕ) → has x (ids_at es ks) ≡ true → (k : ℕ) × (0 < times k ks) × (x ≡ id_at es k)
 in_ids es x [] h = no_way (has x []) h (has-nil x)
@@ -35,13 +33,6 @@ ids_in es k (j ∷ js) there =
       | inl same ↦ ap (λ i. has (id_at es i) (ids_at es (j ∷ js))) same.0 ∙ has-head (id_at es j) (ids_at es js)
       | inr other ↦ has-tail (id_at es k) (id_at es j) (ids_at es js) (ids_in es k js (omega arith))
     ]
-
-live_entry : (es : List Entry) (k : ℕ) → is_live k es ≡ true → (e : Entry) × (entry k es ≡ Some e)
-live_entry es k live = cases (entry k es) refl live
-  where
-    cases : (o : Option Entry) → entry k es ≡ o → is_some o ≡ true → (e : Entry) × (entry k es ≡ Some e)
-    cases None h l = cc
-    cases (Some e) h l = (e, h)
 
 module _ (es : List Entry) (t : IsTree es) where
   -- one id, one node
@@ -87,7 +78,7 @@ module _ (es : List Entry) (t : IsTree es) where
     all_apart = ids_apart ks met_live met_once
 
     pub all_there : (x : Id) → has x (ids_at es ks) ≡ has x (node_ids (tree es))
-    all_there x = both (has x (ids_at es ks)) (has x (node_ids (tree es))) to from
+    all_there x = equal_bools (has x (ids_at es ks)) (has x (node_ids (tree es))) to from
       where
         to : has x (ids_at es ks) ≡ true → has x (node_ids (tree es)) ≡ true
         to h =

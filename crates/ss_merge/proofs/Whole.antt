@@ -13,7 +13,6 @@ use Rattle.ss_dupe.specs.Walks.{passes}
 use Rattle.ss_dupe.specs.Sides.{Sides}
 use Rattle.ss_dupe.specs.Renaming.{named, paired, renamed}
 use Rattle.ss_dupe.specs.Shapes.{AreShaped}
-use Rattle.ss_dupe.proofs.Basics.{two_ways}
 use Rattle.ss_dupe.proofs.Renamed.{node_ids-has}
 use Rattle.ss_merge.specs.Survivors.{content_of, survives}
 use Rattle.ss_merge.specs.Parents.{final}
@@ -24,6 +23,7 @@ use Rattle.ss_merge.proofs.Sided.{survivor_has}
 use Rattle.ss_merge.proofs.Holding.{held}
 use Rattle.ss_merge.proofs.Claimed.{are_items, es, kept, kept-survives, tree-is}
 use Rattle.ss_merge.proofs.Valid.{merged_ids}
+use Rattle.std.proofs.lemmas.Bool.{cases_Bool}
 
 map_alike : {A : Type 0} (f g : Id → A) (xs : List Id) → ((x : Id) → has x xs ≡ true → f x ≡ g x) → map f xs ≡ map g xs
 map_alike f g [] is = refl
@@ -32,7 +32,7 @@ map_alike f g (x ∷ xs) is = ap₂ (λ a l. a ∷ l) (is x (has-head x xs)) (ma
 module _ (s : Sides) (ids : List Id) (m : AreMerging s ids) (g : Id → Option Id) (h : Holds g (final s (length ids)) ids) where
   under-is : (p x : Id) → is_under s g p x ≡ is_child s (length ids) p x
   unfolding is_under is_child
-  under-is p x = elim (two_ways (survives s x)) [
+  under-is p x = elim (cases_Bool (survives s x)) [
     | inl k ↦ ap (λ o. (survives s x && not (is_root x)) && passes (bytes_eq p) o) (held g (final s (length ids)) ids x h (survivor_has s ids m x k))
     | inr k ↦ ap (λ b. (b && not (is_root x)) && passes (bytes_eq p) (g x)) k ∙ sym (ap (λ b. (b && not (is_root x)) && passes (bytes_eq p) (final s (length ids) x)) k)
   ]

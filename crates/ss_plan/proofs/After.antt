@@ -17,11 +17,12 @@ use Rattle.ss_build.specs.Rows.{is_item, readings, row_of, rows_of}
 use Rattle.ss_build.specs.Stand.{HasItsRows, agrees, row}
 use Rattle.ss_build.proofs.Items as items
 use Rattle.ss_build.proofs.Keyed.{key_in}
-use Rattle.ss_build.proofs.Stand.{node_id, node_has, node_none, some_same}
+use Rattle.ss_build.proofs.Stand.{node_id, node_has, node_none}
 use Rattle.ss_plan.specs.Plan.{Readings, gone, id_at, is_told, item_of, order, plan, puts, reading_at, record_at, record_due, record_for}
 use Rattle.ss_plan.specs.Written.{IsWritten, sheet, sheet_after}
 use Rattle.ss_plan.proofs.Last.{after-append, after-puts, made, made-none, made-some}
 use Rattle.ss_plan.proofs.Stands.{AreFit, gone_to, not_gone, out_of, read_found, reading_is, reads, reads_is, record_agrees, row_is, row_reading}
+use Rattle.ss_text.proofs.Basics.{some_same, none_some}
 
 -- ---- each item of the tree is met
 
@@ -84,9 +85,6 @@ unfolding is_told
 told_sheet n None e = absurd (false≢true e)
 told_sheet n (Some s) e = (s, refl, e)
 
-none_some : {X : Type 0} {x : X} → None ≡ Some x → ⊥
-none_some e = cc
-
 fit_tree : (es : List Entry) → IsTree es → ((k : ℕ) (e : Entry) → entry k es ≡ Some e → is_fit e.item ≡ true) → AreFit (tree es)
 unfolding placed
 fit_tree es t fit x n q =
@@ -116,7 +114,7 @@ module _ (es : List Entry) (t : IsTree es) (each_fit : (k : ℕ) (e : Entry) →
     where
       row_is_read : (s : Sheet) → sheet x after ≡ Some s → is_item (reads s) ≡ true
       row_is_read s k =
-          let same : row_of s ≡ r = some_same (row_of s) r (sym (made_row x s k) ∙ q) in
+          let same : row_of s ≡ r = some_same (sym (made_row x s k) ∙ q) in
           ap is_item (sym (row_reading s) ∙ ap (λ y. y.reading) same) ∙ e
 
       tomb : (s : Sheet) → s ≡ record { id = x; modified = stamp; payload = tombstone_of x } → is_item (reads s) ≡ false

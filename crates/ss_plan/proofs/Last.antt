@@ -3,10 +3,11 @@ use Rattle.std.proofs.Common.{◌≡◌, ℕ, List, [], ◌∷◌, ◌++◌, Boo
 use Rattle.std.specs.List.{cons_option}
 use Rattle.ss_record.specs.declared.readings.Sheet.{Sheet}
 use Rattle.ss_record.specs.Ids.{has}
-use Rattle.ss_record.proofs.IdLists.{same_id, bytes_eq-sym, has-nil, has-cons}
+use Rattle.ss_record.proofs.IdLists.{has-nil, has-cons}
 use Rattle.ss_bso.specs.declared.parts.Part.{Part}
 use Rattle.ss_plan.specs.Plan.{part, puts}
 use Rattle.ss_plan.specs.Written.{sheet_after, sheet_put}
+use Rattle.ss_text.proofs.Basics.{bytes_eq-sym, same_text}
 
 pub after-append : (s : ℕ) (us vs : List Part) (x : List ℕ) (o : Option Sheet) → sheet_after s (us ++ vs) x o ≡ sheet_after s vs x (sheet_after s us x o)
 unfolding sheet_after
@@ -45,7 +46,7 @@ kept_either : (b : Bool) (o : Option Sheet) → cond b o o ≡ o
 kept_either true o = refl
 kept_either false o = refl
 
-after-none : (s : ℕ) (x : List ℕ) (o : Option Sheet) → sheet_after s [] x o ≡ o
+pub after-none : (s : ℕ) (x : List ℕ) (o : Option Sheet) → sheet_after s [] x o ≡ o
 unfolding sheet_after
 after-none s x o = refl
 
@@ -61,7 +62,7 @@ after-puts s f (y ∷ ys) x o = go (f y) refl (after-puts s f ys x) ∙ ap (λ b
       where
         by : (b : Bool) → bytes_eq x y ≡ b → (h : Bool) → cond h (made s x (f x) o) o ≡ cond (bytes_eq x y || h) (made s x (f x) o) o
         by true k h =
-            let no : made s x (f x) o ≡ o = ap (λ z. made s x (f z) o) (same_id x y k) ∙ ap (λ q. made s x q o) e in
+            let no : made s x (f x) o ≡ o = ap (λ z. made s x (f z) o) (same_text x y k) ∙ ap (λ q. made s x q o) e in
             ap (λ m. cond h m o) no ∙ (kept_either h o ∙ (sym (kept_either (bytes_eq x y || h) o) ∙ ap (λ m. cond (bytes_eq x y || h) m o) (sym no)))
         by false k h = ap (λ b. cond (b || h) (made s x (f x) o) o) (sym k)
     go (Some p) e ih = ap (λ q. sheet_after s (cons_option (option_map (part y) q) (puts f ys)) x o) e ∙ (after-part s y p (puts f ys) x o ∙ by (bytes_eq x y) refl)
@@ -69,9 +70,9 @@ after-puts s f (y ∷ ys) x o = go (f y) refl (after-puts s f ys x) ∙ ap (λ b
         by : (b : Bool) → bytes_eq x y ≡ b → cond (bytes_eq y x) (sheet_after s (puts f ys) x (Some (record { id = y; modified = s; payload = p }))) (sheet_after s (puts f ys) x o) ≡ cond (bytes_eq x y || has x ys) (made s x (f x) o) o
         by true k =
             let yes : made s x (f x) o ≡ Some (record { id = y; modified = s; payload = p }) =
-            ap (λ z. made s x (f z) o) (same_id x y k) ∙ (ap (λ q. made s x q o) e ∙ ap (λ z. Some (record { id = z; modified = s; payload = p })) (same_id x y k)) in
+            ap (λ z. made s x (f z) o) (same_text x y k) ∙ (ap (λ q. made s x q o) e ∙ ap (λ z. Some (record { id = z; modified = s; payload = p })) (same_text x y k)) in
             let again : made s x (f x) (Some (record { id = y; modified = s; payload = p })) ≡ Some (record { id = y; modified = s; payload = p }) =
-            ap (λ z. made s x (f z) (Some (record { id = y; modified = s; payload = p }))) (same_id x y k) ∙ (ap (λ q. made s x q (Some (record { id = y; modified = s; payload = p }))) e ∙ ap (λ z. Some (record { id = z; modified = s; payload = p })) (same_id x y k)) in
+            ap (λ z. made s x (f z) (Some (record { id = y; modified = s; payload = p }))) (same_text x y k) ∙ (ap (λ q. made s x q (Some (record { id = y; modified = s; payload = p }))) e ∙ ap (λ z. Some (record { id = z; modified = s; payload = p })) (same_text x y k)) in
             ap (λ b. cond b (sheet_after s (puts f ys) x (Some (record { id = y; modified = s; payload = p }))) (sheet_after s (puts f ys) x o)) (bytes_eq-sym y x ∙ k)
             ∙ (ih (Some (record { id = y; modified = s; payload = p }))
             ∙ (ap (λ m. cond (has x ys) m (Some (record { id = y; modified = s; payload = p }))) again

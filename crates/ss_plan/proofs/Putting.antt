@@ -1,5 +1,5 @@
 -- The loops of a plan: one more reading that is known, one more record that is put.
-use Rattle.std.proofs.Common.{◌≡◌, ◌⊎◌, inl, inr, nat_lt, ℕ, suc, zero, ◌+◌, ◌<◌, ◌≤◌, List, [], ◌∷◌, ◌++◌, length, map, take, drop, get_or, Bool, true, false, cond, refl, sym, ap, ap₂, subst, ◌∙◌, arith, find, bytes_eq, Option, Some, None, option_map, option_and_then, unwrap_or, is_some, add-one}
+use Rattle.std.proofs.Common.{◌≡◌, nat_lt, ℕ, suc, zero, ◌+◌, ◌<◌, ◌≤◌, List, [], ◌∷◌, ◌++◌, length, map, take, drop, get_or, Bool, true, false, cond, refl, sym, ap, ap₂, subst, ◌∙◌, arith, find, bytes_eq, Option, Some, None, option_map, option_and_then, unwrap_or, is_some, add-one}
 use Rattle.std.proofs.lemmas.Bool.{false≢true, lt-ltb, le-ltb}
 use Rattle.std.proofs.lemmas.List.{drop_all, take_more}
 use Rattle.std.proofs.Math.Seq.{drop-cons}
@@ -8,18 +8,16 @@ use Rattle.std.specs.Option.{option_to_list}
 use Rattle.ss_record.specs.declared.readings.Reading.{Reading}
 use Rattle.ss_record.specs.Ids.{has, places}
 use Rattle.ss_record.specs.Items.{is_fit}
-use Rattle.ss_record.proofs.IdLists.{bytes_eq-sym, bytes_eq-same}
 use Rattle.ss_tree.specs.declared.entries.Entry.{Entry}
-use Rattle.ss_tree.specs.Trees.{Placed, node, node_ids}
-use Rattle.ss_tree.specs.Entries.{IsTree, above, entry, entry_ids, kid_ids, node_of, placed, tree}
-use Rattle.ss_tree.proofs.Ids.{has_node}
-use Rattle.ss_tree.proofs.Valid.{In, entry_in, node_at, valid_tree}
-use Rattle.ss_build.proofs.Stand.{some_same}
+use Rattle.ss_tree.specs.Trees.{Placed, node}
+use Rattle.ss_tree.specs.Entries.{IsTree, above, entry, kid_ids, placed, tree}
+use Rattle.ss_tree.proofs.Valid.{entry_in, node_at, valid_tree}
 use Rattle.ss_bso.specs.declared.parts.Part.{Part}
 use Rattle.ss_plan.specs.Plan.{Readings, id_at, item_of, part, puts, reading_at, record_due, record_for}
 use Rattle.ss_plan.specs.Refusals.{first_over}
 use Rattle.ss_plan.specs.declared.seats.Seat.{Seat}
 use Rattle.ss_plan.specs.Seats.{placed_at}
+use Rattle.ss_text.proofs.Basics.{some_same, bytes_eq-sym, bytes_eq-same}
 
 -- ---- what is known
 
@@ -85,24 +83,17 @@ seat_place es t k seat q = cases (entry k es) refl q
     cases : (o : Option Entry) → entry k es ≡ o → option_map (placed es) o ≡ Some (placed_at seat) → IsSeat es k seat
     cases None h i = cc
     cases (Some e) h i =
-        let same : placed es e ≡ placed_at seat = some_same (placed es e) (placed_at seat) i in
+        let same : placed es e ≡ placed_at seat = some_same i in
         let id : e.item.id ≡ seat.item.now.id = ap (λ n. n.id) same in
         let there : node seat.item.now.id (tree es) ≡ Some (placed_at seat) = ap (λ x. node x (tree es)) (sym id) ∙ (node_at es e t.ids (entry_in k es e h).0 ∙ i) in
         record {
           there = there;
           id = ap (λ o. unwrap_or (option_map (λ (w : Entry). w.item.id) o) []) h ∙ id;
           parent = λ ne. let f = (valid_tree es t).folder seat.item.now.id (placed_at seat) there (λ p. false≢true (sym ne ∙ bytes_eq-same seat.item.now.id places p)) in ap is_some f.1;
-          fit = λ g d r. let one : e ≡ d = some_same e d (sym h ∙ r) in ap (λ (w : Entry). is_fit w.item) (sym one) ∙ (ap (λ n. is_fit (item_of n)) same ∙ g);
+          fit = λ g d r. let one : e ≡ d = some_same (sym h ∙ r) in ap (λ (w : Entry). is_fit w.item) (sym one) ∙ (ap (λ n. is_fit (item_of n)) same ∙ g);
         }
 
 -- the tree has an item of an id where it has a node of it
-pub in_tree : (es : List Entry) (x : List ℕ) → has x (node_ids (tree es)) ≡ is_some (node_of x es)
-unfolding tree node_ids placed entry_ids
-in_tree es x = ap (has x) (same es) ∙ has_node x es
-  where
-    same : (fs : List Entry) → map (λ n. n.id) (map (placed es) fs) ≡ map (λ e. e.item.id) fs
-    same [] = refl
-    same (f ∷ fs) = ap (λ ys. f.item.id ∷ ys) (same fs)
 
 -- ---- one part more
 
@@ -152,15 +143,6 @@ unfolding record_for
 due_is t rs x n reading due q r d = d ∙ (ap (record_due n) r ∙ sym (ap (option_and_then (λ m. record_due m (reading_at x rs))) q))
 
 -- what stands in one more
-pub in_more : (ks : List ℕ) (i k j : ℕ) → i < length ks → k ≡ get_or ks i k → In j (take (i + 1) ks) → In j (take i ks) ⊎ (j ≡ k)
-unfolding In
-in_more ks i k j lt is h = elim (split (take i ks) (get_or ks i k) (subst (In j) (take_more ks i k lt) h)) [ inl a ↦ inl a | inr b ↦ inr (b ∙ sym is) ]
-  where
-    split : (xs : List ℕ) (y : ℕ) → In j (xs ++ y ∷ []) → In j xs ⊎ (j ≡ y)
-    split [] y (inl e) = inr e
-    split [] y (inr e) = absurd e
-    split (x ∷ xs) y (inl e) = inl (inl e)
-    split (x ∷ xs) y (inr e) = elim (split xs y e) [ inl a ↦ inl (inr a) | inr b ↦ inr b ]
 
 -- ---- the first part that passes a limit
 

@@ -1,6 +1,6 @@
 -- What agrees with an item, and who is gone.
 use Rattle.std.proofs.Common.{◌≡◌, ◌≢◌, ◌⊎◌, ℕ, List, [], ◌∷◌, map, Bool, true, false, not, cond, ◌&&◌, inl, inr, refl, sym, ap, ap₂, ◌∙◌, filter, find, bytes_eq, Some, None, option_map, unwrap_or}
-use Rattle.std.proofs.lemmas.Bool.{and_parts, false≢true}
+use Rattle.std.proofs.lemmas.Bool.{and_parts, false≢true, false_from_ne_true}
 use Rattle.ss_record.specs.declared.kinds.Kind.{Kind}
 use Rattle.ss_record.specs.declared.kinds.Kind.TheVariants.{Bookmark, Folder, Livemark, Query, Separator}
 use Rattle.ss_record.specs.declared.readings.Reading.{Reading}
@@ -17,10 +17,10 @@ use Rattle.ss_record.proofs.IdLists.{bytes_eq-refl, has-head, has-by_id}
 use Rattle.ss_record.proofs.Fit.{fit_reads_back}
 use Rattle.ss_build.proofs.Items.{In, In-filter}
 use Rattle.ss_build.proofs.Keyed.{key_found, key_in, has_key}
-use Rattle.ss_build.proofs.OfRows.{none_true}
-use Rattle.ss_build.proofs.Stand.{node_id, node_has, root_under, some_same}
+use Rattle.ss_build.proofs.Stand.{node_id, node_has, root_under}
 use Rattle.ss_plan.specs.Plan.{Readings, gone, item_of, reading_at, record_at}
 use Rattle.ss_plan.specs.Written.{sheet}
+use Rattle.ss_text.proofs.Basics.{some_same}
 
 -- each item is fit: its record reads back as it
 abbrev pub AreFit : List Placed → Type 0
@@ -43,7 +43,7 @@ same_list-refl (x ∷ xs) = ap₂ (λ a b. a && b) (bytes_eq-refl x) (same_list-
 -- `places` stands under nothing
 top_parent : (t : List Placed) → IsValidTree t → (m : Placed) (x : List ℕ) → node places t ≡ Some m → m.parent ≡ Some x → ⊥
 unfolding places_node
-top_parent t v m x q p = let same : places_node ≡ m = some_same places_node m (sym v.top_is ∙ q) in none (ap (λ k. k.parent) same ∙ p)
+top_parent t v m x q p = let same : places_node ≡ m = some_same (sym v.top_is ∙ q) in none (ap (λ k. k.parent) same ∙ p)
   where
     none : None ≡ Some x → ⊥
     none e = cc
@@ -58,8 +58,8 @@ no_kids t v x n q f = go n.children refl
     go (c ∷ cs) e =
         let u = (v.stands x n q c).0 (ap (has c) e ∙ has-head c cs) in
         let w = v.folder c u.0 u.1 (λ s. top_parent t v u.0 x (ap (λ y. node y t) (sym s) ∙ u.1) u.2) in
-        let same : x ≡ w.0 = some_same x w.0 (sym u.2 ∙ w.1) in
-        let there : n ≡ w.2 = some_same n w.2 (sym q ∙ (ap (λ y. node y t) same ∙ w.3)) in
+        let same : x ≡ w.0 = some_same (sym u.2 ∙ w.1) in
+        let there : n ≡ w.2 = some_same (sym q ∙ (ap (λ y. node y t) same ∙ w.3)) in
         absurd (false≢true (sym f ∙ (ap (λ m. is_folder m.kind) there ∙ w.4)))
 
 own_agrees : (n : Placed) (y : List ℕ) → n.parent ≡ Some y → agrees n (Item (item_of n) (Some y) n.children) ≡ true
@@ -161,11 +161,11 @@ gone_to t rs r i e f =
     has-by_id r.0 (map (λ w. w.0) (filter p rs)) ∙ key_in (λ (w : List ℕ × Reading). w.0) (filter p rs) r (filter_in p rs r i (ap₂ (λ a b. a && not b) e f))
 
 pub not_gone : (t : List Placed) (rs : Readings) (x : List ℕ) → has x (node_ids t) ≡ true → has x (gone t rs) ≡ false
-not_gone t rs x h = none_true (has x (gone t rs)) (λ g. false≢true (sym (gone_out t rs x g) ∙ h))
+not_gone t rs x h = false_from_ne_true (has x (gone t rs)) (λ g. false≢true (sym (gone_out t rs x g) ∙ h))
 
 -- what isn't in a valid tree is neither `places` nor a root
 pub out_of : (t : List Placed) (x : List ℕ) → IsValidTree t → has x (node_ids t) ≡ false → (x ≢ places) × (has x roots ≡ false)
 out_of t x v h = (
   λ e. false≢true (sym h ∙ (ap (λ w. has w (node_ids t)) e ∙ node_has t places places_node v.top_is)),
-  none_true (has x roots) (λ r. let u = root_under t v x r in false≢true (sym h ∙ node_has t x u.0 u.1)),
+  false_from_ne_true (has x roots) (λ r. let u = root_under t v x r in false≢true (sym h ∙ node_has t x u.0 u.1)),
 )

@@ -17,8 +17,8 @@ use Rattle.ss_query.specs.Answer.{is_asked, sort_cmp, row_cmp, comes_before, lim
 use Rattle.ss_bso.specs.Lists.{Apart, OtherId}
 use Rattle.ss_query.specs.Told.{by_name}
 use Rattle.ss_bso.proofs.Lists.{Each-any, Each-passes, Pairs, Pairs-filter, Pairs-imp}
-use Rattle.ss_bso.proofs.Texts.{same_text, bytes_eq-flip, bytes_eq-same as bytes_same}
 use Rattle.ss_bso.proofs.Reordering.{reordered-filter, Ranked, sorted-reordered}
+use Rattle.ss_text.proofs.Basics.{bytes_eq-flip, same_text, bytes_eq-same, is_less}
 
 sort_total : (sort : Sort) → IsTotalOrder (sort_cmp sort)
 sort_total Newest = back_total (on_total (λ (row : Row). row.modified) nat_cmp_total)
@@ -28,14 +28,9 @@ sort_total Index = back_total (on_total (λ (row : Row). unwrap_or row.sortindex
 pub row_total : (sort : Sort) → IsTotalOrder (row_cmp sort)
 row_total sort = then_total (sort_total sort) (on_total (λ (row : Row). row.id) nat_list_cmp_total)
 
-less_from : (o : Ordering) → is_lt o ≡ true → o ≡ Less
-less_from Less e = refl
-less_from Equal e = cc
-less_from Greater e = cc
-
 -- what comes before, by a total order
 pub through : {X : Type 0} (R : X → X → Ordering) → IsTotalOrder R → (x y z : X) → is_lt (R x y) ≡ true → is_lt (R y z) ≡ true → is_lt (R x z) ≡ true
-through R o x y z e f = ap is_lt (o.trans x y z (less_from (R x y) e) (less_from (R y z) f))
+through R o x y z e f = ap is_lt (o.trans x y z (is_less (R x y) e) (is_less (R y z) f))
 
 less_reversed : (o : Ordering) → is_lt (ordering_reverse o) ≡ true → is_lt o ≡ false
 less_reversed Less e = cc
@@ -72,7 +67,7 @@ ids_distinct collection rows places =
     Pairs-imp Apart OtherId (λ (row : Row). bytes_eq row.collection collection ≡ true)
     (λ row other e f apart.
     let here : other.collection ≡ row.collection = same_text other.collection collection f ∙ sym (same_text row.collection collection e) in
-    both_sides (bytes_eq other.collection row.collection) (bytes_eq other.id row.id) (bytes_same other.collection row.collection here) apart)
+    both_sides (bytes_eq other.collection row.collection) (bytes_eq other.id row.id) (bytes_eq-same other.collection row.collection here) apart)
     (rows_of collection rows) (Each-passes (λ row. bytes_eq row.collection collection) rows)
     (Pairs-filter Apart (λ row. bytes_eq row.collection collection) rows places)
 

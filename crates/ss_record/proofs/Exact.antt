@@ -21,9 +21,8 @@ use Rattle.ss_record.specs.Kinds.{is_folder, kind_of}
 use Rattle.ss_record.specs.Payloads.{without, lacks, is_string, is_true, payload_members}
 use Rattle.ss_record.specs.Records.{parentid_of, children_of, item_of, members_reading, reading}
 use Rattle.ss_record.specs.Marks.{said_text, string_of, is_plain_number, is_plain, items_plain, members_plain, plain_text}
-use Rattle.ss_record.proofs.IdLists.{same_id}
-use Rattle.ss_record.proofs.OfId.{and_then_some}
 use Rattle.ss_record.proofs.Sorted.{Below, MembersSorted}
+use Rattle.ss_text.proofs.Basics.{same_text, and_then_some}
 
 -- ---- the parts of a reading that is an item
 
@@ -160,7 +159,7 @@ get-skip q k d ms ne = go (slice_cmp nat_cmp q k) refl
   where
     go : (o : Ordering) → slice_cmp nat_cmp q k ≡ o → match_ordering o (get_member q ms) (Some d) (get_member q ms) ≡ get_member q ms
     go Less e = refl
-    go Equal e = absurd (ne (same_id q k (sym (is_eq-slice_cmp q k) ∙ ap is_eq e)))
+    go Equal e = absurd (ne (same_text q k (sym (is_eq-slice_cmp q k) ∙ ap is_eq e)))
     go Greater e = refl
 
 pub get-without : (names : List (List ℕ)) (q : List ℕ) (ms : Members) → has q names ≡ false → get_member q (without names ms) ≡ get_member q ms

@@ -18,19 +18,20 @@ use Rattle.ss_record.specs.Payloads.{without, lacks, is_true, payload_members}
 use Rattle.ss_record.specs.Records.{children_of, item_of, members_reading, reading, string_items, record_members, record_of, ReadsBack, IsFit}
 use Rattle.ss_record.specs.Marks.{marked_string, said_text, is_string_or_decimal, members_plain, plain_text}
 use Rattle.ss_record.proofs.Strings.{said_marked, string_plain, name_plain, kind_said}
-use Rattle.ss_record.proofs.IdLists.{same_id, bytes_eq-refl, bytes_eq-same, bytes_eq-apart}
+use Rattle.ss_record.proofs.IdLists.{bytes_eq-refl, bytes_eq-apart}
 use Rattle.ss_record.proofs.OfId.{kind_of-name}
 use Rattle.ss_record.proofs.Sorted.{IsSorted, MembersSorted, Sorted-put, Sorted-read}
 use Rattle.ss_record.specs.declared.kinds.Kind.TheVariants.{Bookmark, Query, Folder, Livemark, Separator}
 use Rattle.ss_record.proofs.Exact.{float_members, payload_plain, payload_parts, item_parts, members_parts, reading_parts, without_lacks, without_plain, without_depth, without_sorted, get-without, deleted_kept}
 use Rattle.ss_record.proofs.Unmarked.{lacks-without, without-put, plain-put, depth-put, plain_strings, flat_strings, strings_back, payload_back}
+use Rattle.ss_text.proofs.Basics.{same_text, bytes_eq-same}
 
 -- ---- the record of an item with such a content
 
 with_names : List ℕ → Kind → Members → List ℕ → Members
 with_names id kind ms parent = put (codes "id") (string (marked_string id)) (put (codes "type") (string (kind_name kind)) (put (codes "parentid") (string (marked_string parent)) ms))
 
-differ : (x y : List ℕ) → bytes_eq x y ≡ false → x ≢ y
+pub differ : (x y : List ℕ) → bytes_eq x y ≡ false → x ≢ y
 differ x y h e = false≢true (sym h ∙ bytes_eq-same x y e)
 
 get-id : (id : List ℕ) (kind : Kind) (ms : Members) (p : List ℕ) → get_member (codes "id") (with_names id kind ms p) ≡ Some (string (marked_string id))
@@ -147,7 +148,7 @@ content_parts i ms h =
     let a = and_parts (bytes_eq (plain_text (object ms)) i.content) (lacks (names_of i.kind) ms && (not (is_true (get_member (codes "deleted") ms)) && (not (has i.id roots) || is_folder i.kind))) h in
     let b = and_parts (lacks (names_of i.kind) ms) (not (is_true (get_member (codes "deleted") ms)) && (not (has i.id roots) || is_folder i.kind)) a.1 in
     let c = and_parts (not (is_true (get_member (codes "deleted") ms))) (not (has i.id roots) || is_folder i.kind) b.1 in
-    record { text = same_id (plain_text (object ms)) i.content a.0; alone = b.0; live = not-true (is_true (get_member (codes "deleted") ms)) c.0; root = c.1 }
+    record { text = same_text (plain_text (object ms)) i.content a.0; alone = b.0; live = not-true (is_true (get_member (codes "deleted") ms)) c.0; root = c.1 }
 
 pub content_fits : (i : ItemView) (ms : Members) → i.id ≢ places → payload_members i.content ≡ Some ms → are_content i ms ≡ true → (p : List ℕ) (cs : List (List ℕ)) → ReadsBack i p cs
 unfolding reading record_of
@@ -247,12 +248,12 @@ fit_is i = go (bytes_eq i.id places) refl
     go true q = (down, up)
       where
         top : i.id ≡ places
-        top = same_id i.id places q
+        top = same_text i.id places q
 
         down : cond (bytes_eq i.id places) (is_folder i.kind && bytes_eq i.content (codes "{}")) (has_content i) ≡ true → IsFit i
         down h =
             let p = and_parts (is_folder i.kind) (bytes_eq i.content (codes "{}")) (sym (ap (λ b. cond b (is_folder i.kind && bytes_eq i.content (codes "{}")) (has_content i)) q) ∙ h) in
-            inl (ap (λ x. folder_at x i.kind i.content) top ∙ (ap (λ k. folder_at places k i.content) (folder_kind i.kind p.0) ∙ ap (folder_at places Folder) (same_id i.content (codes "{}") p.1)))
+            inl (ap (λ x. folder_at x i.kind i.content) top ∙ (ap (λ k. folder_at places k i.content) (folder_kind i.kind p.0) ∙ ap (folder_at places Folder) (same_text i.content (codes "{}") p.1)))
 
         up : IsFit i → cond (bytes_eq i.id places) (is_folder i.kind && bytes_eq i.content (codes "{}")) (has_content i) ≡ true
         up (inl e) = ap (λ b. cond b (is_folder i.kind && bytes_eq i.content (codes "{}")) (has_content i)) q ∙ and_from _ _ (ap (λ w. is_folder w.kind) e) (bytes_eq-same i.content (codes "{}") (ap (λ w. w.content) e))
@@ -298,7 +299,7 @@ fit_members i h = go (bytes_eq i.id places) h
     found (Some ms) q k = (ms, q)
 
     go : (b : Bool) → cond b (is_folder i.kind && bytes_eq i.content (codes "{}")) (unwrap_or (option_map (are_content i) (payload_members i.content)) false) ≡ true → (ms : Members) × (payload_members i.content ≡ Some ms)
-    go true k = (no_members, ap payload_members (same_id i.content (codes "{}") (and_parts (is_folder i.kind) (bytes_eq i.content (codes "{}")) k).1) ∙ empty_members)
+    go true k = (no_members, ap payload_members (same_text i.content (codes "{}") (and_parts (is_folder i.kind) (bytes_eq i.content (codes "{}")) k).1) ∙ empty_members)
     go false k = found (payload_members i.content) refl k
 
 -- a fit item has members

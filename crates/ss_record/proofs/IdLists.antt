@@ -4,47 +4,23 @@ use Rattle.std.proofs.lemmas.Bool.{or_parts}
 use Rattle.std.proofs.lemmas.Slice.Eq.{bytes_eq-Decides}
 use Rattle.ss_text.specs.Texts.{placed}
 use Rattle.ss_record.specs.Ids.{has, Apart, firsts, before, by_id}
-
-pub same_id : (x y : List ℕ) → bytes_eq x y ≡ true → x ≡ y
-same_id x y e = (bytes_eq-Decides x y).0 e
+use Rattle.ss_text.proofs.Basics.{and_false, bytes_eq-sym, same_text}
 
 pub bytes_eq-refl : (x : List ℕ) → bytes_eq x x ≡ true
 bytes_eq-refl x = (bytes_eq-Decides x x).1 refl
-
-pub bytes_eq-same : (x y : List ℕ) → x ≡ y → bytes_eq x y ≡ true
-bytes_eq-same x y e = (bytes_eq-Decides x y).1 e
 
 pub bytes_eq-apart : (x y : List ℕ) → x ≢ y → bytes_eq x y ≡ false
 bytes_eq-apart x y ne = go (bytes_eq x y) refl
   where
     go : (b : Bool) → bytes_eq x y ≡ b → b ≡ false
-    go true e = absurd (ne (same_id x y e))
+    go true e = absurd (ne (same_text x y e))
     go false e = refl
-
-pub bytes_eq-sym : (x y : List ℕ) → bytes_eq x y ≡ bytes_eq y x
-bytes_eq-sym x y = go (bytes_eq x y) (bytes_eq y x) refl refl
-  where
-    go : (a b : Bool) → bytes_eq x y ≡ a → bytes_eq y x ≡ b → a ≡ b
-    go true true e f = refl
-    go false false e f = refl
-    go true false e f = sym (bytes_eq-same y x (sym (same_id x y e))) ∙ f
-    go false true e f = sym (sym (bytes_eq-same x y (sym (same_id y x f))) ∙ e)
 
 -- ---- Booleans
 
 pub and-true : (b : Bool) → (b && true) ≡ b
 and-true true = refl
 and-true false = refl
-
-pub and-false : (b : Bool) → (b && false) ≡ false
-and-false true = refl
-and-false false = refl
-
-pub and-comm : (a b : Bool) → (a && b) ≡ (b && a)
-and-comm true true = refl
-and-comm true false = refl
-and-comm false true = refl
-and-comm false false = refl
 
 pub or-assoc : (a b c : Bool) → ((a || b) || c) ≡ (a || (b || c))
 or-assoc true b c = refl
@@ -83,9 +59,9 @@ has-filter p x (y ∷ ys) = go (p y) refl (bytes_eq x y) refl (has-filter p x ys
     rest = filter p ys
 
     go : (b : Bool) → p y ≡ b → (c : Bool) → bytes_eq x y ≡ c → has x rest ≡ (has x ys && p x) → has x (cond b (y ∷ rest) rest) ≡ ((c || has x ys) && p x)
-    go true e true f ih = has-cons x y rest ∙ (ap (λ b. b || has x rest) f ∙ sym (ap p (same_id x y f) ∙ e))
+    go true e true f ih = has-cons x y rest ∙ (ap (λ b. b || has x rest) f ∙ sym (ap p (same_text x y f) ∙ e))
     go true e false f ih = has-cons x y rest ∙ (ap (λ b. b || has x rest) f ∙ ih)
-    go false e true f ih = let px : p x ≡ false = ap p (same_id x y f) ∙ e in ih ∙ (ap (λ b. has x ys && b) px ∙ (and-false (has x ys) ∙ sym px))
+    go false e true f ih = let px : p x ≡ false = ap p (same_text x y f) ∙ e in ih ∙ (ap (λ b. has x ys && b) px ∙ (and_false (has x ys) ∙ sym px))
     go false e false f ih = ih
 
 pub has-firsts : (x : List ℕ) (ys : List (List ℕ)) → has x (firsts ys) ≡ has x ys
@@ -147,7 +123,7 @@ pub Apart-firsts : (xs : List (List ℕ)) → Apart (firsts xs)
 Apart-firsts [] = Apart-nil
 Apart-firsts (x ∷ xs) =
     Apart-cons x (filter (λ z. not (bytes_eq z x)) (firsts xs))
-    (has-filter (λ z. not (bytes_eq z x)) x (firsts xs) ∙ (ap (λ b. has x (firsts xs) && not b) (bytes_eq-refl x) ∙ and-false (has x (firsts xs))))
+    (has-filter (λ z. not (bytes_eq z x)) x (firsts xs) ∙ (ap (λ b. has x (firsts xs) && not b) (bytes_eq-refl x) ∙ and_false (has x (firsts xs))))
     (Apart-filter (λ z. not (bytes_eq z x)) (firsts xs) (Apart-firsts xs))
 
 pub Apart-placed : (x : List ℕ) (xs : List (List ℕ)) → has x xs ≡ false → Apart xs → Apart (placed before x xs)

@@ -10,3 +10,5 @@ pub mod Tombs
 pub mod Exact
 pub mod Fit
 pub mod Literals
+pub mod OneLine
+pub mod Below

@@ -13,11 +13,7 @@ use Rattle.ss_record.specs.Ids.{has, places, roots}
 use Rattle.ss_record.specs.Kinds.{is_folder, kind_name, kind_of}
 use Rattle.ss_record.specs.Payloads.{without, is_string, is_true, payload_members}
 use Rattle.ss_record.specs.Records.{parentid_of, children_of, item_of, members_reading, reading}
-use Rattle.ss_record.proofs.IdLists.{bytes_eq-same}
-
-pub and_then_some : {A B : Type 0} (f : A → Option B) (o : Option A) (b : B) → option_and_then f o ≡ Some b → (a : A) × (o ≡ Some a) × (f a ≡ Some b)
-and_then_some f None b e = cc
-and_then_some f (Some a) b e = (a, refl, e)
+use Rattle.ss_text.proofs.Basics.{bytes_eq-same, and_then_some}
 
 -- an item is of its row's id; it is not `places`, and a root is a folder
 pub record IsRead (id : List ℕ) (r : Reading) : Type 0 where

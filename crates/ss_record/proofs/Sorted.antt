@@ -1,5 +1,5 @@
 -- Values whose members are in order, as reading gives them, are read back from their text.
-use Rattle.std.proofs.Common.{◌&&◌, is_some, ◌≡◌, ℕ, suc, ◌^◌, ◌<◌, max, pos, negsuc, List, true, nat_lt, refl, sym, ap, ap₂, ◌∙◌, subst, arith, Option, Some, None, option_map, option_and_then, Ordering, Less, Equal, Greater, nat_cmp}
+use Rattle.std.proofs.Common.{◌&&◌, is_some, ◌≡◌, ℕ, suc, ◌^◌, ◌<◌, max, pos, negsuc, List, true, nat_lt, refl, sym, ap, ap₂, ◌∙◌, subst, arith, Some, option_map, option_and_then, Ordering, Less, Equal, Greater, nat_cmp}
 use Rattle.std.specs.Bool.{⊤}
 use Rattle.std.specs.Ordering.{match_ordering, ordering_reverse}
 use Rattle.std.specs.Cmp.Lexicographic.{slice_cmp, nat_list_cmp_total}
@@ -15,7 +15,7 @@ use Rattle.serde_json.specs.Written.{outline, items_outline, members_outline, nu
 use Rattle.serde_json.proofs.Numbers.{number_of-decimal, number_of-negative}
 use Rattle.std.specs.Int.Signed.{lt_z}
 use Rattle.ss_record.specs.Marks.{said_text, is_plain_number, is_plain, items_plain, members_plain}
-use Rattle.ss_record.proofs.OfId.{and_then_some}
+use Rattle.ss_text.proofs.Basics.{and_then_some, map_some}
 
 abbrev cmp : List ℕ → List ℕ → Ordering
 cmp = slice_cmp nat_cmp
@@ -66,10 +66,6 @@ Sorted-put k d (member l e ms) h s = go (cmp k l) refl (Sorted-put k d ms h s.2)
     go Less q ih = (h, q, s)
     go Equal q ih = (h, s.1, s.2)
     go Greater q ih = (s.0, Below-put l k d ms (less_greater k l q) s.1, ih)
-
-pub map_some : {A B : Type 0} (f : A → B) (o : Option A) (b : B) → option_map f o ≡ Some b → (a : A) × (o ≡ Some a) × (f a ≡ b)
-map_some f None b e = cc
-map_some f (Some a) b e = (a, refl, cc)
 
 -- what is read is in order
 mutual

@@ -14,11 +14,11 @@ use Rattle.ss_record.specs.Ids.{has}
 use Rattle.ss_record.specs.Marks.{said_text, is_plain, items_plain, members_plain, plain_text}
 use Rattle.ss_record.specs.Payloads.{without, lacks, strings, payload_members}
 use Rattle.ss_record.specs.Records.{string_items}
-use Rattle.ss_record.proofs.IdLists.{same_id}
 use Rattle.ss_record.proofs.Texts.{read_compact}
 use Rattle.ss_record.proofs.Strings.{said_marked, string_plain}
 use Rattle.ss_record.proofs.Back.{marked_plain}
 use Rattle.ss_record.proofs.Sorted.{MembersSorted, HasNumbers-outline, depth-outline, of_json-outline}
+use Rattle.ss_text.proofs.Basics.{same_text}
 
 -- ---- a plain object in order is read back
 
@@ -46,7 +46,7 @@ without-put names k d (member l e ms) h = go (slice_cmp nat_cmp k l) refl (witho
         → without names (match_ordering o (member k d (member l e ms)) (member l d ms) (member l e (put k d ms))) ≡ without names (member l e ms)
     go Less q ih = ap (λ b. cond b (without names (member l e ms)) (member k d (without names (member l e ms)))) h
     go Equal q ih =
-        let same : k ≡ l = same_id k l (sym (is_eq-slice_cmp k l) ∙ ap is_eq q) in
+        let same : k ≡ l = same_text k l (sym (is_eq-slice_cmp k l) ∙ ap is_eq q) in
         let out : has l names ≡ true = ap (λ w. has w names) (sym same) ∙ h in
         ap (λ b. cond b (without names ms) (member l d (without names ms))) out ∙ sym (ap (λ b. cond b (without names ms) (member l e (without names ms))) out)
     go Greater q ih = ap (λ r. cond (has l names) r (member l e r)) ih

@@ -1,6 +1,5 @@
 -- Requests of a device that come to the account, until its run ends.
 use Rattle.std.proofs.Common.{◌≡◌, ◌≢◌, ◌⊎◌, ◌&&◌, ℕ, ◌+◌, ◌*◌, ◌<◌, ◌≤◌, ◌==◌, suc, le_refl, List, [], ◌∷◌, ◌++◌, length, set, length-set, slice_get, Bool, true, false, cond, Option, Some, None, option_and_then, map, unwrap_or, refl, sym, ap, subst, ◌∙◌, arith, inl, inr}
-use Rattle.std.proofs.lemmas.Bool.Decides.{nat_tests}
 use Rattle.std.specs.Prelude.{MatchOption, Result, Ok, Err, IfOk, OnOk}
 use Rattle.std.specs.Option.{option_map_or}
 use Rattle.std.proofs.lemmas.Bool.{eqb-true, false≢true}
@@ -36,6 +35,8 @@ use Rattle.ss_world.specs.Happening.{Delivers, Happens, IsDelivered, Starts, Ste
 use Rattle.ss_world.proofs.Lists.{at_set}
 use Rattle.ss_rehearse.specs.Plays.{Asks, IsIdle, IsSynced, is_post, once}
 use Rattle.ss_rehearse.specs.Syncing.{AreIdle, IsAsking, IsBoundedSeat, IsUnderWay, left, left_at, post_at}
+use Rattle.ss_text.proofs.Basics.{own_number}
+use Rattle.ss_client.proofs.Told.{told_good}
 
 -- ---- the limits that are told
 
@@ -52,10 +53,6 @@ page_ours next rows time = go (is_offset next)
 first_ours : (next : Option ℕ) (rows : List Row) (o : Option ℕ) → TellsOurs (option_map_or (λ time. page_told next rows time) o Unread)
 first_ours next rows None = tt
 first_ours next rows (Some time) = page_ours next rows time
-
-told_failed : (status : ℕ) (o : Option (List ℕ)) (answer : Answer) → TellsOurs answer → TellsOurs (told status o answer)
-told_failed status None answer h = h
-told_failed status (Some id) answer h = tt
 
 configured : (r : Reply) (b : Body) → TellsOurs (said_by awaited.Configuration r b)
 configured r Limits = ours
@@ -74,11 +71,11 @@ listed r (Ids ids) = tt
 listed r b = tt
 
 staged : (r : Reply) (b : Body) → TellsOurs (said_by awaited.Staging r b)
-staged r (Staged batch success failed) = told_failed 202 (first_failed failed) (Held batch) tt
+staged r (Staged batch success failed) = told_good 202 (first_failed failed) (Held batch) tt
 staged r b = tt
 
 written : (r : Reply) (b : Body) → TellsOurs (said_by awaited.Writing r b)
-written r (Posted time success failed) = told_failed 200 (first_failed failed) (Written time) tt
+written r (Posted time success failed) = told_good 200 (first_failed failed) (Written time) tt
 written r b = tt
 
 said : (a : Awaited) (r : Reply) (b : Body) → TellsOurs (said_by a r b)
@@ -166,9 +163,6 @@ once_few : (b : Bool) → once b ≤ 1
 once_few true = le_refl 1
 once_few false = let z : 0 ≤ 1 = omega arith in z
 
-same_number : (x : ℕ) → (x == x) ≡ true
-same_number x = grind (arith, nat_tests)
-
 pub deliver_more : (n now : ℕ) (w : WorldView) (posts : ℕ) (v : WorldView) (next : ℕ) (m : MachineView) (u : WorldView) → IsAsking n now w posts v next → slice_get v.seats n ≡ Some (Syncs m) → Happens v (Deliver n next) u
     → IsAsking n now w (posts + once (is_post (awaits m.stage))) u (next + 100) × (left n u < left n v)
 deliver_more n now w posts v next m u a there h = (
@@ -222,7 +216,7 @@ none_under_way n now w posts v next a e = record { two = a.two; idle = λ k. go 
   where
     go : (k : ℕ) (b : Bool) → (k == n) ≡ b → IsIdle k v
     go k true q s t = not_under_way s (ap (option_and_then post_at) (sym (ap (slice_get v.seats) (sym (eqb-true k n q)) ∙ t)) ∙ e)
-    go k false q s t = a.others k (λ i. false≢true (sym q ∙ (ap (λ x. x == n) i ∙ same_number n))) s t
+    go k false q s t = a.others k (λ i. false≢true (sym q ∙ (ap (λ x. x == n) i ∙ own_number n))) s t
 
 pub one_more : (n now : ℕ) (w : WorldView) (posts : ℕ) (v : WorldView) (next : ℕ) (u : WorldView) (b : Bool) → Some b ≡ option_and_then post_at (slice_get v.seats n) → IsAsking n now w posts v next → Happens v (Deliver n next) u
     → IsAsking n now w (posts + once b) u (next + 100) × (left n u < left n v)

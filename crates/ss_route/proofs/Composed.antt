@@ -17,6 +17,7 @@ use Rattle.percent_encoding.specs.Percent.{percent_decode}
 use Rattle.percent_encoding.proofs.PercentLemmas.{percent_decode-nil, percent_decode_not_percent}
 use Rattle.ss_query.specs.Parameters.{parameter, first_in}
 use Rattle.ss_route.specs.Targets.{path_of, query_of, without_empty_end, segments_behind, segments_of}
+use Rattle.ss_http.proofs.Values.{all_weaker}
 
 -- a name and a value
 abbrev pub Pair : Type 0
@@ -240,12 +241,6 @@ target_between x h = last (or_cases (is_plain x || x == 47 || x == 63 || x == 38
     last : ((is_plain x || x == 47 || x == 63 || x == 38) ≡ true) ⊎ ((x == 61) ≡ true) → Between x
     last e = ⊎_elim ampersand (same_byte 61 x (lit≤ tt) (lit≤ tt)) e
 
-widened : (p q : ℕ → Bool) → ((x : ℕ) → p x ≡ true → q x ≡ true) → (xs : List ℕ) → list_all p xs ≡ true → list_all q xs ≡ true
-widened p q wider [] h = refl
-widened p q wider (x ∷ xs) h =
-    let parts = and_parts (p x) (list_all p xs) h in
-    ap₂ (λ s t. s && t) (wider x parts.0) (widened p q wider xs parts.1)
-
 path_in_target : (x : ℕ) → is_path x ≡ true → is_target_byte x ≡ true
 path_in_target x e = ap (λ b. b || x == 63 || x == 38 || x == 61) e
 
@@ -255,7 +250,7 @@ pair_in_target x e =
 
 pair_bytes : (p : Pair) → IsPlainPair p → list_all is_target_byte (pair_text p) ≡ true
 pair_bytes p h =
-    widened is_pair_byte is_target_byte pair_in_target (pair_text p) (all_append is_pair_byte p.0 (61 ∷ p.1) (plain_pair p.0 h.name) (plain_pair p.1 h.value))
+    all_weaker is_pair_byte is_target_byte pair_in_target (pair_text p) (all_append is_pair_byte p.0 (61 ∷ p.1) (plain_pair p.0 h.name) (plain_pair p.1 h.value))
 
 query_bytes : (pairs : List Pair) → ArePlainPairs pairs → list_all is_target_byte (query_text pairs) ≡ true
 query_bytes [] h = refl
@@ -269,7 +264,7 @@ behind_bytes (p ∷ pairs) h = query_bytes (p ∷ pairs) h
 target_all : (segments : List (List ℕ)) (pairs : List Pair) → ArePlainSegments segments → ArePlainPairs pairs → list_all is_target_byte (target_text segments pairs) ≡ true
 target_all segments pairs h g =
     all_append is_target_byte (47 ∷ join_with_byte 47 segments) (behind pairs)
-    (widened is_path is_target_byte path_in_target (join_with_byte 47 segments) (all_path segments h.1)) (behind_bytes pairs g)
+    (all_weaker is_path is_target_byte path_in_target (join_with_byte 47 segments) (all_path segments h.1)) (behind_bytes pairs g)
 
 uri_byte : (x : ℕ) → is_target_byte x ≡ true → is_uri_byte x ≡ true
 uri_byte x h =
@@ -277,7 +272,7 @@ uri_byte x h =
     ap₂ (λ s t. s && not t) (lt-ltb 32 x (omega (arith, range.0))) (ne_eqb x 127 (λ e. (let top = range.1 in let never : ⊥ = omega arith in never)))
 
 pub target_uri : (segments : List (List ℕ)) (pairs : List Pair) → ArePlainSegments segments → ArePlainPairs pairs → list_all is_uri_byte (target_text segments pairs) ≡ true
-target_uri segments pairs h g = widened is_target_byte is_uri_byte uri_byte (target_text segments pairs) (target_all segments pairs h g)
+target_uri segments pairs h g = all_weaker is_target_byte is_uri_byte uri_byte (target_text segments pairs) (target_all segments pairs h g)
 
 target_small : (xs : List ℕ) → list_all is_target_byte xs ≡ true → (i : ℕ) → get_or xs i 0 < 128
 target_small xs h i = at (cases_lt i (length xs))

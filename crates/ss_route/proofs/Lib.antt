@@ -9,3 +9,4 @@ pub mod Sendable
 pub mod Sent
 mod Tokens
 mod Uploads
+pub mod Quiet

@@ -14,7 +14,6 @@ use Rattle.ss_text.specs.declared.stamps.Cond.TheVariants.{Free, IfModified, IfU
 use Rattle.ss_bso.specs.Limits.{part_bytes, payload_size}
 use Rattle.ss_bso.specs.declared.parts.Part.{Part}
 use Rattle.ss_bso.specs.declared.parts.Records.{Records}
-use Rattle.ss_http.proofs.Values.{stamp_again}
 use Rattle.ss_http.specs.Requests.{IsCond, request_fields}
 use Rattle.ss_http.specs.declared.message.Message.{Message}
 use Rattle.ss_query.specs.Fit.{IsFitRequest, most_post_records, most_post_bytes}
@@ -52,6 +51,7 @@ use Rattle.ss_route.specs.Targets.{query_of, named_by, named_in, place_of, info_
 use Rattle.ss_route.proofs.Composed.{Pair, is_plain, IsPlainSegment, IsPlainPair, ArePlainSegments, ArePlainPairs, target_text, first_value, path_again, parameter_again}
 use Rattle.ss_route.proofs.Tokens.{decimal_is_plain, stamp_is_plain, token_is_plain, number_back, uid_back, batch_back, token_is_not_true}
 use Rattle.ss_route.proofs.Uploads.{IsPart, uploads_are_read}
+use Rattle.ss_text.proofs.StampTexts.{stamp_again}
 
 -- a step that goes on
 pub on : {A B E : Type 0} (x : Result A E) (v : A) (f : A → Result B E) (y : B) → x ≡ Ok v → f v ≡ Ok y → (x >>= f) ≡ Ok y

@@ -1,6 +1,6 @@
 -- Numbers and ids of batches, as they are written and read.
 use Rattle.std.proofs.Common.{◌≡◌, ℕ, ◌+◌, ◌*◌, ◌/◌, ◌%◌, ◌^◌, ◌<◌, ◌≤◌, List, [], ◌∷◌, ◌++◌, length, get_or, Bool, true, false, ◌&&◌, ◌||◌, ◌==◌, cond, leb, eq-eqb, rules, Result, Ok, Err, Option, Some, None, option_and_then, codes, decimal, refl, sym, ap, ap₂, ◌∙◌, arith, lit<, append-nil, le-leb, ne_eqb}
-use Rattle.std.proofs.lemmas.Bool.{and_parts, leb-true}
+use Rattle.std.proofs.lemmas.Bool.{and_parts, leb-true, false_from_ne_true}
 use Rattle.std.proofs.lemmas.Fmt.{decimal_is_IsNumeral, decimal_nonempty, length-decimal-le, first_decimal, IsAscii-decimal, decimal-digits_value}
 use Rattle.std.proofs.lemmas.Str.Parse.{IsNumeralModel, numerals_by_value, digits_value_short}
 use Rattle.std.proofs.lemmas.List.Sums.{AllPass-from_list_all}
@@ -16,13 +16,13 @@ use Rattle.base64.specs.GeneralPurpose.{IsBytes, decode_of, decoded_of, encode_o
 use Rattle.base64.specs.declared.decode.DecodeError.{DecodeError}
 use Rattle.base64.specs.Engines.{url_safe_no_pad}
 use Rattle.base64.proofs.EngineFacts.{decode_of-encode_of, decode_of_strict}
-use Rattle.ss_http.proofs.Values.{decimal_digits, two_are_digits}
 use Rattle.std.proofs.lemmas.List.Folds.{list_all-append}
 use Rattle.ss_text.specs.Time.{stamp_text, two_digits, last_stamp}
 use Rattle.ss_text.specs.Numbers.{number_of}
 use Rattle.ss_route.specs.Posts.{token, batch_of}
 use Rattle.ss_route.specs.Targets.{positive_of, uid_of}
 use Rattle.ss_route.proofs.Composed.{is_plain, all_append}
+use Rattle.ss_text.proofs.StampTexts.{two_are_digits, decimal_digits}
 
 digit_is_plain : (x : ℕ) → is_ascii_digit x ≡ true → is_plain x ≡ true
 digit_is_plain x e = ap (λ b. ((b || (leb 65 x && leb x 90)) || (leb 97 x && leb x 122)) || x == 45 || x == 46 || x == 95) e
@@ -64,7 +64,7 @@ symbols_are_plain (a ∷ b ∷ c ∷ rest) h =
     all_append is_plain (get_or letters (a / 4) 0 ∷ get_or letters (a % 4 * 16 + b / 16) 0 ∷ get_or letters (b % 16 * 4 + c / 64) 0 ∷ get_or letters (c % 64) 0 ∷ []) (encode_symbols letters rest)
     (ap₂ (λ s t. s && t) first last) (symbols_are_plain rest h.1.1.1)
 
-few_bytes : (xs : List ℕ) → list_all is_ascii_digit xs ≡ true → AllByRecursion (λ b. b < 256) xs
+pub few_bytes : (xs : List ℕ) → list_all is_ascii_digit xs ≡ true → AllByRecursion (λ b. b < 256) xs
 few_bytes [] h = tt
 few_bytes (x ∷ xs) h =
     let parts = and_parts (is_ascii_digit x) (list_all is_ascii_digit xs) h in
@@ -91,7 +91,7 @@ token_short n below =
     omega (arith, digits, symbols, same)
 
 -- a number is read back
-three_tests : (a b c : Bool) (x : Option ℕ) → a ≡ true → b ≡ true → c ≡ true → cond (a && b && c) x None ≡ x
+pub three_tests : (a b c : Bool) (x : Option ℕ) → a ≡ true → b ≡ true → c ≡ true → cond (a && b && c) x None ≡ x
 three_tests a b c x p q r = ap₂ (λ s t. cond (s && t && c) x None) p q ∙ ap (λ t. cond (true && true && t) x None) r
 
 pub number_back : (most n : ℕ) → 0 < most → n < 2 ^ 64 → n < 10 ^ most → number_of most (decimal n) ≡ Some n
@@ -162,14 +162,10 @@ true_is_none : batch_of (codes "true") ≡ None
 unfolding batch_of decoded_of positive_of number_of groups_error scan_steps groups_bytes
 true_is_none = refl
 
-never_true : (b : Bool) → (b ≡ true → ⊥) → b ≡ false
-never_true true h = absurd (h refl)
-never_true false h = refl
-
 some_is_not_none : (n : ℕ) → Some n ≡ None → ⊥
 some_is_not_none n e = cc
 
 pub token_is_not_true : (n : ℕ) → 1 ≤ n → n ≤ 999999999999 → bytes_eq (token n) (codes "true") ≡ false
 token_is_not_true n above below =
-    never_true _ (λ e. (let same : token n ≡ codes "true" = (bytes_eq-Decides (token n) (codes "true")).0 e in
+    false_from_ne_true _ (λ e. (let same : token n ≡ codes "true" = (bytes_eq-Decides (token n) (codes "true")).0 e in
     some_is_not_none n (sym (batch_back n above below) ∙ ap batch_of same ∙ true_is_none)))

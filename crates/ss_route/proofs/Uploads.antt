@@ -1,11 +1,8 @@
 -- The body that a client writes is read as its parts.
-use Rattle.std.proofs.Common.{◌≡◌, ℕ, ◌+◌, ◌<◌, ◌≤◌, List, [], ◌∷◌, ◌++◌, length, map, Bool, true, false, ◌&&◌, ◌==◌, cond, leb, Option, Some, None, option_map, option_and_then, Ok, Err, codes, is_some, get_or, refl, sym, ap, ap₂, ◌∙◌, arith, lit<, lit≤, append_assoc, append-nil, inl, inr, ◌⊎◌, le-ltb}
-use Rattle.std.proofs.lemmas.Bool.{cases_lt, and_parts, leb-true}
-use Rattle.std.specs.List.{flat_map, filter_map, cons_option, list_all, AllPass, join_with_byte, AllByRecursion}
+use Rattle.std.proofs.Common.{◌≡◌, ℕ, ◌+◌, ◌≤◌, List, [], ◌∷◌, ◌++◌, length, map, Bool, true, false, ◌==◌, cond, Option, Some, None, option_map, option_and_then, Ok, Err, codes, is_some, refl, sym, ap, ap₂, ◌∙◌, arith, lit≤, append_assoc, append-nil, le-ltb}
+use Rattle.std.specs.List.{flat_map, filter_map, cons_option, join_with_byte, AllByRecursion}
 use Rattle.std.specs.Str.{IsUtf8, is_utf8}
-use Rattle.std.proofs.lemmas.Str.{IsUtf8-append, IsUtf8-from_ascii, is_utf8-from_IsUtf8}
-use Rattle.std.proofs.lemmas.List.{get_or_past}
-use Rattle.std.proofs.lemmas.List.Sums.{AllPass-from_list_all}
+use Rattle.std.proofs.lemmas.Str.{IsUtf8-append, is_utf8-from_IsUtf8}
 use Rattle.json.proofs.Printed.Utf8.{IsUtf8-are_ascii, IsUtf8-quoted}
 use Rattle.json.specs.Print.{escape_byte, quoted}
 use Rattle.json.specs.Print.{print, print_from}
@@ -16,7 +13,7 @@ use Rattle.json.specs.Lex.{tokens}
 use Rattle.json.proofs.Printed.Tokens.{tokens-print}
 use Rattle.json.proofs.Printed.Trees.{ArePrintable-json_tokens, value-json_tokens}
 use Rattle.serde_json.specs.Read.{read, max_depth, of_json, of_items}
-use Rattle.ss_text.specs.Names.{is_id, is_visible}
+use Rattle.ss_text.specs.Names.{is_id}
 use Rattle.ss_text.specs.Decimals.{is_number_byte, outside, pieces, spelled, wrapped_pieces, wrapped}
 use Rattle.ss_text.proofs.Pieces.{at_byte}
 use Rattle.ss_text.proofs.Printed.{quoted_there}
@@ -31,6 +28,7 @@ use Rattle.serde_json.specs.Data.{Data, string, object, array, put, no_members, 
 use Rattle.ss_route.specs.Sending.{IsUpload as SetsPayload, payload_set, upload_text, uploads_text}
 use Rattle.ss_route.specs.Texts.{list_text, json_text}
 use Rattle.ss_bso.specs.declared.limits.TheConstants.{MOST_PAYLOAD}
+use Rattle.ss_text.proofs.NameLemmas.{IsUtf8-from_id}
 
 -- an id and a payload
 record Upload : Type 0 where
@@ -183,18 +181,9 @@ no_failures (u ∷ us) h = ap₂ (λ o ps. cons_option o ps) (ap₂ failure_with
 
 -- ---- the text is UTF-8
 
-id_is_text : (id : List ℕ) → is_id id ≡ true → IsUtf8 id
-id_is_text id h =
-    let visible = AllPass-from_list_all is_visible id (and_parts (leb 1 (length id) && leb (length id) 64) (list_all is_visible id) h).1 in
-    IsUtf8-from_ascii id (λ i. at visible i (cases_lt i (length id)))
-  where
-    at : AllPass is_visible id → (i : ℕ) → (i < length id) ⊎ (length id ≤ i) → get_or id i 0 < 128
-    at pass i (inl few) = let high = leb-true (get_or id i 0) 126 (and_parts (leb 32 (get_or id i 0)) (leb (get_or id i 0) 126) (pass i 0 few)).1 in omega arith
-    at pass i (inr past) = rw (get_or_past id i 0 past) (lit< tt)
-
 object_is_text : (u : Upload) → IsUpload u → IsUtf8 (object_text u)
 object_is_text u h =
-    IsUtf8-append _ (codes "}") (IsUtf8-append _ (quoted u.payload) (IsUtf8-append _ (codes ",\"payload\":") (IsUtf8-append (codes "{\"id\":") (quoted u.id) (IsUtf8-are_ascii _ refl) (IsUtf8-quoted u.id (id_is_text u.id h.id)))
+    IsUtf8-append _ (codes "}") (IsUtf8-append _ (quoted u.payload) (IsUtf8-append _ (codes ",\"payload\":") (IsUtf8-append (codes "{\"id\":") (quoted u.id) (IsUtf8-are_ascii _ refl) (IsUtf8-quoted u.id (IsUtf8-from_id u.id h.id)))
     (IsUtf8-are_ascii _ refl)) (IsUtf8-quoted u.payload h.payload)) (IsUtf8-are_ascii _ refl)
 
 objects_are_text : (us : List Upload) → AllByRecursion IsUpload us → IsUtf8 (join_with_byte 44 (map object_text us))

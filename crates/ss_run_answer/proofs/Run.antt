@@ -21,15 +21,13 @@ use Rattle.ss_http.specs.Buffers.{Kept}
 use Rattle.ss_http.specs.Reading.{ReadsNext, EndsWith, RisesWith}
 use Rattle.ss_http.specs.Responses.{memory_response}
 use Rattle.ss_http.proofs.MessageLemmas.{reads_append, reads_further}
-use Rattle.ss_route.specs.declared.routed.Local.{Local}
 use Rattle.ss_route.specs.Wire.{wire, refusal_of}
 use Rattle.ss_run_answer.specs.declared.answer.Ending.{Ending}
 use Rattle.ss_run_answer.specs.declared.answer.Ending.TheVariants as endings
 use Rattle.ss_run_answer.specs.Turns.{Asked, asks, told, asked, Course, entered, unread, IsCourseOf, left_by, response_to, Turn, AreTurns, closes, account_after, responses, IsRefused, refusal_response, IsReading, AreReadings, GoesOn, Answered, IsTurn, WasSent, WasCut, Progress, ending_of, Refuses, refusal, Stops, most_messages}
+use Rattle.ss_route.proofs.Quiet.{quiet}
 
 -- a count that stands at 0 never rose
-pub never-rose : {before now : ℕ} → now ≡ 0 → Rose before now → ⊥
-never-rose {before} {now} stands rose = let risen = rose.risen in absurd (omega arith)
 
 -- one turn more
 pub courses_further : (uid : ℕ) (turns : List Turn) (t : Turn) → AreTurns uid turns → IsCourseOf t.course (asked uid t.message) → AreTurns uid (turns ++ t ∷ [])
@@ -278,16 +276,6 @@ ended_cut uid at input input' input2 output output' output2 coming coming' comin
     }
 
 -- a fault that is answered is none of the source
-pub quiet : (fault : MsgFault) (local : Local) (before now : ℕ) → refusal_of fault ≡ Some local → RisesWith fault before now → now ≡ before
-quiet faults.End local before now answered rises = rises
-quiet faults.Cut local before now answered rises = rises
-quiet faults.BadHead local before now answered rises = rises
-quiet faults.HeadTooLong local before now answered rises = rises
-quiet faults.Coded local before now answered rises = rises
-quiet faults.BadLength local before now answered rises = rises
-quiet (faults.TooLarge n) local before now answered rises = rises
-quiet faults.ReadFault local before now answered rises = cc
-quiet faults.Memory local before now answered rises = rises
 
 -- the refused bytes of a run
 abbrev refused_for : {fault : MsgFault} {at : Option ℕ} {count : ℕ} {coming coming' : Option (List ℕ)} → (refuses : Refuses fault at count coming coming') → (rest : List ℕ) → IsMessageFault fault rest → IsRefused rest (refusal refuses)

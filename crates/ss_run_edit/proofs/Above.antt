@@ -6,10 +6,8 @@ use Rattle.ss_tree.specs.declared.entries.Entry.{Entry}
 use Rattle.ss_tree.specs.Entries.{IsTree, above, entry, node_of, tree}
 use Rattle.ss_tree.specs.Trees.{Placed, node, parent_in}
 use Rattle.ss_device.proofs.ByIds.{idof, placed_is}
-use Rattle.ss_device.proofs.Refused.{node_there, none_from, there}
-
-some_same : {X : Type 0} {x y : X} → Some x ≡ Some y → x ≡ y
-some_same e = cc
+use Rattle.ss_device.proofs.Refused.{node_there, there}
+use Rattle.ss_text.proofs.Basics.{is_none, some_same}
 
 -- by the node of the item
 of_node : (es : List Entry) → IsTree es → (x : List ℕ) (k : ℕ) → node_of x es ≡ Some k → parent_in (tree es) x ≡ unwrap_or (option_and_then (idof es) (above es k)) places
@@ -22,7 +20,7 @@ of_node es t x k at =
 
 no_node : (es : List Entry) (x : List ℕ) → node_of x es ≡ None → parent_in (tree es) x ≡ places
 unfolding parent_in
-no_node es x at = ap (λ o. unwrap_or (option_and_then (λ (n : Placed). n.parent) o) places) (none_from (node x (tree es)) (node_there es x ∙ ap is_some at))
+no_node es x at = ap (λ o. unwrap_or (option_and_then (λ (n : Placed). n.parent) o) places) (is_none (node x (tree es)) (node_there es x ∙ ap is_some at))
 
 pub none_above : (es : List Entry) → IsTree es → (x : List ℕ) → None ≡ option_and_then (above es) (node_of x es) → parent_in (tree es) x ≡ places
 none_above es t x h = go (node_of x es) refl h

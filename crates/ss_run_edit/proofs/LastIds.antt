@@ -1,5 +1,5 @@
 -- One more id behind ids that stand in their order.
-use Rattle.std.proofs.Common.{◌≡◌, ℕ, suc, ◌+◌, ◌-◌, true, false, List, [], ◌∷◌, ◌++◌, length, Option, Some, None, Ordering, Less, Equal, Greater, refl, sym, ap, ◌∙◌, subst, arith}
+use Rattle.std.proofs.Common.{◌≡◌, ℕ, suc, ◌+◌, ◌-◌, true, false, List, [], ◌∷◌, ◌++◌, length, Option, Some, None, Less, refl, sym, ap, ◌∙◌, subst, arith}
 use Rattle.std.specs.List.{AllByRecursion, slice_get}
 use Rattle.std.specs.List.Sorted.{IsStrictlySortedBy}
 use Rattle.std.specs.Ordering.{is_lt}
@@ -8,6 +8,7 @@ use Rattle.std.proofs.lemmas.Cmp.{nat_list_cmp_total}
 use Rattle.ss_text.specs.Texts.{text_cmp}
 use Rattle.ss_record.specs.declared.readings.Sheet.{Sheet}
 use Rattle.ss_device.specs.Device.{AreById, row_ids}
+use Rattle.ss_text.proofs.Basics.{is_less, some_same}
 
 -- each of the ids is below this one
 abbrev AllBelow : List ℕ → List (List ℕ) → Type 0
@@ -45,9 +46,6 @@ last_more p q rows =
     step : (k : ℕ) → slice_get (p ∷ q ∷ rows) (k + 1) ≡ slice_get (q ∷ rows) k
     step k = let e : k + 1 ≡ suc k = omega arith in ap (slice_get (p ∷ q ∷ rows)) e
 
-some_same : {X : Type 0} {x y : X} → Some x ≡ Some y → x ≡ y
-some_same e = cc
-
 -- where the last is below an id, all are
 below_all : (rows : List Sheet) (q : Sheet) (x : List ℕ) → AreById (row_ids rows) → last rows ≡ Some q → text_cmp q.id x ≡ Less → AllBelow x (row_ids rows)
 unfolding AreById IsStrictlySortedBy
@@ -74,15 +72,10 @@ ids_more : (rows : List Sheet) (r : Sheet) → row_ids (rows ++ r ∷ []) ≡ ro
 ids_more [] r = refl
 ids_more (p ∷ rows) r = ap (λ xs. p.id ∷ xs) (ids_more rows r)
 
-less_by : (o : Ordering) → is_lt o ≡ true → o ≡ Less
-less_by Less e = refl
-less_by Equal e = absurd (false≢true e)
-less_by Greater e = absurd (false≢true e)
-
 -- a row behind others, where its id is above the last one's
 pub row_more : (rows : List Sheet) (q r : Sheet) → AreById (row_ids rows) → last rows ≡ Some q → is_lt (text_cmp q.id r.id) ≡ true → AreById (row_ids (rows ++ r ∷ []))
 unfolding AreById
-row_more rows q r s e l = subst (IsStrictlySortedBy text_cmp) (sym (ids_more rows r)) (put_last r.id (row_ids rows) s (below_all rows q r.id s e (less_by (text_cmp q.id r.id) l)))
+row_more rows q r s e l = subst (IsStrictlySortedBy text_cmp) (sym (ids_more rows r)) (put_last r.id (row_ids rows) s (below_all rows q r.id s e (is_less (text_cmp q.id r.id) l)))
 
 pub row_first : (rows : List Sheet) (r : Sheet) → last rows ≡ None → AreById (row_ids (rows ++ r ∷ []))
 unfolding AreById IsStrictlySortedBy

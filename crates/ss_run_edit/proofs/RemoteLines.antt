@@ -8,9 +8,9 @@ use Rattle.ss_device.specs.Writing.{quoted, row_line}
 use Rattle.ss_device_file.specs.declared.lines.Line.{Line}
 use Rattle.ss_device_file.specs.declared.lines.Line.TheVariants.{Head, Synced, Row, Item, Dead, End}
 use Rattle.ss_device_file.specs.Files.{row_in}
-use Rattle.ss_device_file.proofs.Breaks.{NoLine, noline_append, noline_by}
 use Rattle.ss_device_file.proofs.Bodies.{HasBody, break_at, line_body}
 use Rattle.ss_run_edit.specs.Remotes.{IsRow, remote_line}
+use Rattle.ss_record.proofs.OneLine.{NoLine, noline_by, noline_append}
 
 -- a line behind its tag, without its line break, and with it
 abbrev inner : Sheet → List ℕ

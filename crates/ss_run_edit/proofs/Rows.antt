@@ -13,12 +13,7 @@ use Rattle.ss_run_edit.specs.declared.endings.Ending.TheVariants as ending
 use Rattle.ss_run_edit.specs.declared.remotes.Found.TheVariants as found
 use Rattle.ss_run_edit.specs.Remotes.{AreRead, AreRemotes, IsFound, IsRow, IsStuck, IsStuckAt, IsStuckBy, Stops, remote_line, remote_lines}
 use Rattle.ss_run_edit.proofs.RemoteLines.{goes_on_with, remote_body}
-
-some_same : {X : Type 0} {x y : X} → Some x ≡ Some y → x ≡ y
-some_same e = cc
-
-none_some : {X : Type 0} {x : X} → None ≡ Some x → ⊥
-none_some e = cc
+use Rattle.ss_text.proofs.Basics.{some_same, none_some}
 
 -- ---- nothing comes next
 

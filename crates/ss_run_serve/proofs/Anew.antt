@@ -13,26 +13,17 @@ use Rattle.ss_bso.specs.declared.account.Plain.{Plain}
 use Rattle.ss_bso.specs.declared.changes.Kept.{Kept}
 use Rattle.ss_bso.specs.Account.{is_alive, is_open}
 use Rattle.ss_bso.specs.Validity.{SameAccount}
-use Rattle.ss_bso.proofs.Reordering.{reordered-refl, reordered-filter, same-through}
+use Rattle.ss_bso.proofs.Reordering.{reordered-filter, same-through, same-self}
 use Rattle.ss_account.specs.Keeping.{IsKept}
 use Rattle.ss_run_serve.specs.Hosted.{Hosted, IsBegun, left_by}
 use Rattle.ss_run_serve.specs.Terms.{BeginsAnew, IsLeft}
 
-pub same_self : (account : Plain) → SameAccount account account
-same_self account = record {
-  rows = reordered-refl account.rows;
-  collections = reordered-refl account.collections;
-  batches = reordered-refl account.batches;
-  store = refl;
-  last_delete = refl;
-  moment = refl;
-  counter = refl;
 }
 
 begins_itself : (account : ℕ × Hosted) → IsBegun account.1 → BeginsAnew account account
 begins_itself account begun = record {
   uid = refl;
-  opening = subst (λ (entries : List Entry). SameAccount (account_after account.1.fixed.opening entries) account.1.fixed.opening) (sym begun.entries) (same_self account.1.fixed.opening);
+  opening = subst (λ (entries : List Entry). SameAccount (account_after account.1.fixed.opening entries) account.1.fixed.opening) (sym begun.entries) (same-self account.1.fixed.opening);
   begun = begun;
   most = refl;
   faults = refl;
@@ -60,7 +51,7 @@ left_zip R says (x ∷ xs) (y ∷ ys) zip =
     All-cons (IsLeft (x ∷ xs)) y ys (0, x, omega arith, refl, (sym is.0, is.1)) (All-weaker (IsLeft xs) (IsLeft (x ∷ xs)) (left_later x xs) ys (left_zip R says xs ys zip.1))
 
 pub left_themselves : (accounts : List (ℕ × Hosted)) → All (IsLeft accounts) accounts
-left_themselves accounts = All-weaker (Contains accounts) (IsLeft accounts) (λ a there. (there.0, a, there.1, there.2, (refl, same_self (left_by a.1)))) accounts (All-contains_itself accounts)
+left_themselves accounts = All-weaker (Contains accounts) (IsLeft accounts) (λ a there. (there.0, a, there.1, there.2, (refl, same-self (left_by a.1)))) accounts (All-contains_itself accounts)
 
 pub left_through : (one two three : List (ℕ × Hosted)) → All (IsLeft one) two → All (IsLeft two) three → All (IsLeft one) three
 left_through one two three first then = All-weaker (IsLeft two) (IsLeft one) (λ a is. through a is) three then

@@ -38,9 +38,10 @@ use Rattle.ss_run_serve.specs.Retiring.{uids_in}
 use Rattle.ss_run_serve.specs.Terms.{IsLeft}
 use Rattle.ss_run_serve.specs.Once.{Follows, GoesOn, HasFailed, IsDone, IsLast, IsLost, IsOnce, IsUnheard, IsUntold, TookPlace}
 use Rattle.ss_run_serve.proofs.Handed.{all_at, at_seen, contains_at, seen, seen_at, term_seen}
-use Rattle.ss_run_serve.proofs.Anew.{left_moved, left_themselves, left_zip, same_self}
+use Rattle.ss_run_serve.proofs.Anew.{left_moved, left_themselves, left_zip}
 use Rattle.ss_run_serve.proofs.Progress.{IsFaulty, any_of, map_there, same_uids}
 use Rattle.ss_run_serve.proofs.Rising.{rose_some}
+use Rattle.ss_bso.proofs.Reordering.{same-self}
 
 -- why no further term follows, or that one does
 last_is : (stop : TermStop) (connections : ℕ) (old new : Accepts) (next : Option Stop) → ((fault : TownFault) → stop ≡ ended.Town fault → ⊥) → HasEnded stop connections old new → Follows stop new next
@@ -76,7 +77,7 @@ left_again : (before after : ℕ × Hosted) → Again before after → SameAccou
 left_again before after again =
     let first : left_by before.1 ≡ before.1.fixed.opening = ap (λ (entries : List Entry). account_after before.1.fixed.opening entries) again.begun.entries in
     let then : left_by after.1 ≡ before.1.fixed.opening = ap (λ (entries : List Entry). account_after after.1.fixed.opening entries) again.entries ∙ ap (λ (t : Terms). t.opening) again.fixed in
-    subst (λ (account : Plain). SameAccount (left_by before.1) account) (first ∙ sym then) (same_self (left_by before.1))
+    subst (λ (account : Plain). SameAccount (left_by before.1) account) (first ∙ sym then) (same-self (left_by before.1))
 
 module _ {K : Type 0} {G : Ghosts K} (told : K → Option Kept) (faults : K → ℕ) where
   abbrev fixed : Booked K G → Terms

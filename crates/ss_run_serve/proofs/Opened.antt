@@ -9,7 +9,7 @@ use Rattle.ss_bso.specs.declared.changes.Kept.{Kept}
 use Rattle.ss_bso.specs.declared.account.Plain.{Plain}
 use Rattle.ss_bso.specs.Changes.{opened}
 use Rattle.ss_bso.specs.Validity.{SameAccount}
-use Rattle.ss_bso.proofs.Reordering.{same-through}
+use Rattle.ss_bso.proofs.Reordering.{same-through, same-self}
 use Rattle.ss_laws.specs.Journal.{Journal}
 use Rattle.ss_laws.specs.Journals.{account_after, begun}
 use Rattle.ss_account.specs.Held.{Held}
@@ -21,7 +21,7 @@ use Rattle.ss_run_serve.specs.Hosted.{Hosted, IsBegun, hosted, hosted_at, left_b
 use Rattle.ss_run_serve.specs.Opening.{IsOpened}
 use Rattle.ss_run_serve.specs.Terms.{BeginsAnew}
 use Rattle.ss_run_serve.specs.Course.{SameKeeper}
-use Rattle.ss_run_serve.proofs.Anew.{left_anew, same_self}
+use Rattle.ss_run_serve.proofs.Anew.{left_anew}
 
 module _ {K : Type 0} {G : Ghosts K} (told : K → Option Kept) (faults : K → ℕ) where
   pub opened_account : {E : Type 0} (folder : List ℕ) (uid : ℕ) (kept kept' : Option Entries) (account : Held K) (r : Result (Booked K G) E) → kept' ≡ kept
@@ -60,12 +60,8 @@ module _ {K : Type 0} {G : Ghosts K} (told : K → Option Kept) (faults : K → 
   folded_same uid old new (Err e) same anew unfolded = record {
     uid = refl;
     faults = ap (λ (a : Held K). faults a.keeper) same;
-    left = subst (λ (j : Journal). SameAccount (account_after (journal_of old).opening (journal_of old).entries) (account_after j.opening j.entries)) (sym unfolded) (same_self (account_after (journal_of old).opening (journal_of old).entries));
+    left = subst (λ (j : Journal). SameAccount (account_after (journal_of old).opening (journal_of old).entries) (account_after j.opening j.entries)) (sym unfolded) (same-self (account_after (journal_of old).opening (journal_of old).entries));
   }
-
-pub map_same : {X : Type 0} (xs : List X) → map (λ x. x) xs ≡ xs
-map_same [] = refl
-map_same (x ∷ xs) = ap (λ (ys : List _). x ∷ ys) (map_same xs)
 
 pub take_whole : {X : Type 0} (xs : List X) (n : ℕ) → length xs ≤ n → take n xs ≡ xs
 take_whole [] zero long = refl
@@ -133,7 +129,7 @@ pub keeper_anew : (before after : ℕ × Hosted) → BeginsAnew before after →
 keeper_anew before after anew = record { uid = anew.uid; faults = anew.faults; left = left_anew before after anew }
 
 pub keeper_self : (account : ℕ × Hosted) → SameKeeper account account
-keeper_self account = record { uid = refl; faults = refl; left = same_self (left_by account.1) }
+keeper_self account = record { uid = refl; faults = refl; left = same-self (left_by account.1) }
 
 zip_long : {X Y : Type 0} (R : X → Y → Type 0) (xs : List X) (ys : List Y) → AllZip R xs ys → length ys ≡ length xs
 zip_long R [] [] zip = refl

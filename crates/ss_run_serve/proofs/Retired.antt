@@ -6,13 +6,13 @@ use Rattle.std.proofs.lemmas.List.{map-append}
 use Rattle.std.proofs.lemmas.List.Elements.{All-contains, All-cons, All-head, All-nil, All-tail, Contains-append_left, Contains-append_right, Contains-push, Contains-push_cases}
 use Rattle.ss_outside.specs.Causes.{Rose}
 use Rattle.ss_bso.specs.declared.changes.Kept.{Kept}
-use Rattle.ss_bso.proofs.Texts.{same_text, bytes_eq-same}
 use Rattle.ss_site.specs.Sites.{Counts, Entries, IsEntry, IsWith, HasRetired, CountsKeeper, RoseUnless}
 use Rattle.ss_run_serve.specs.Hosted.{Hosted}
 use Rattle.ss_run_serve.specs.declared.stop.Stop.{Stop}
 use Rattle.ss_run_serve.specs.declared.stop.Stop.TheVariants as stops
 use Rattle.ss_run_serve.specs.Opening.{AreAsBefore, CountsFaults, IsUnopened, RefusesOne}
 use Rattle.ss_run_serve.specs.Retiring.{uids_in, ComeBack, HaveRetired, CountsKeepers}
+use Rattle.ss_text.proofs.Basics.{same_text, bytes_eq-same}
 
 -- a text is another one, or isn't
 text_cases : (b : Bool) (x y : List ℕ) → bytes_eq x y ≡ b → (x ≡ y) ⊎ (x ≢ y)

@@ -7,11 +7,11 @@ use Rattle.std.proofs.lemmas.List.Folds.{list_all-append}
 use Rattle.std.proofs.lemmas.List.Sums.{AllPass-from_list_all, list_all-from_AllPass}
 use Rattle.std.proofs.lemmas.Fmt.{length-decimal-le}
 use Rattle.ss_http.specs.Requests.{is_host_byte}
-use Rattle.ss_http.proofs.Values.{decimal_digits}
 use Rattle.ss_route.specs.Sending.{IsHost}
 use Rattle.ss_words.specs.declared.urls.Server.{Server}
 use Rattle.ss_words.specs.Urls.{HasHost}
 use Rattle.ss_run_sync.specs.Naming.{host_named}
+use Rattle.ss_text.proofs.StampTexts.{decimal_digits}
 
 digit_is_visible : (b : ℕ) → is_ascii_digit b ≡ true → is_host_byte b ≡ true
 digit_is_visible b e = grind (arith, nat_tests, e)

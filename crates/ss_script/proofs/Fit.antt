@@ -16,10 +16,10 @@ use Rattle.ss_record.specs.Ids.{has, places, roots}
 use Rattle.ss_record.specs.Items.{names_of, are_content, has_content, is_fit}
 use Rattle.ss_record.specs.Marks.{is_string_or_decimal, members_plain, plain_text, said_text}
 use Rattle.ss_record.specs.Payloads.{payload_members}
-use Rattle.ss_record.proofs.IdLists.{bytes_eq-same}
 use Rattle.ss_record.proofs.Exact.{float_members}
 use Rattle.ss_record.proofs.Unmarked.{payload_back}
 use Rattle.ss_script.specs.Bookmarks.{address, bookmark_id, eleven_digits, members_of, title}
+use Rattle.ss_text.proofs.Basics.{bytes_eq-same}
 
 -- ---- ids
 

@@ -8,7 +8,6 @@ use Rattle.atomic_table.proofs.badge.Badge.TheSendSync as badge
 use Rattle.ss_desk.specs.declared.journaled.Journaled as journaled
 use Rattle.ss_serve.specs.contracts.worker.Worker as Worker
 use Rattle.ss_serve.specs.contracts.threads.Crew as Crew
-use Rattle.ss_keeper.specs.declared.keeper.Keeper.{Ghosts}
 use Rattle.ss_laws.specs.contracts.journal.Entry as Entry
 use Rattle.ss_laws.specs.contracts.journal.Journal as Journal
 use Rattle.ss_account.specs.contracts.account.Account as Account
@@ -31,12 +30,6 @@ shelf_send = search (sendable, crosses, maps.crosses) depth 200 fits 200000
 
 pub stage_send : IsSend Stage.the_row
 stage_send = search (sendable, crosses, maps.crosses) depth 100 fits 200000
-
-pub account_send : (K : RattleType) (g : Ghosts K.Denot) → IsSend K → IsSend (Account.the_row K g)
-account_send K g k = search (shelf_send, stage_send, sendable, crosses, maps.crosses) depth 100 fits 200000
-
-pub booked_send : (K : RattleType) (g : Ghosts K.Denot) → IsSend K → IsSend (Booked.the_row K g)
-booked_send K g k = search (account_send, journal_send, sendable, crosses, maps.crosses) depth 100 fits 200000
 
 module _ (T F E A R : RattleType) (J : journaled.Ghosts T.Denot F.Denot E.Denot A.Denot R.Denot) (t : IsSend T) where
   pub worker_send : (L C : RattleType) → IsSend L → IsSend C → IsSend (Worker.the_row L C T F E A R J)

@@ -7,3 +7,4 @@ pub mod Tying
 pub mod Fillings
 pub mod Naming
 pub mod Crossing
+pub mod Bare

@@ -1,6 +1,6 @@
 -- Times and numbers as numbers of JSON, which are ASCII.
-use Rattle.std.proofs.Common.{◌≡◌, ℕ, ℤ, pos, negsuc, zero, suc, ◌+◌, ◌/◌, ◌%◌, ◌^◌, ◌<◌, ◌≤◌, true, false, cond, ◌==◌, ◌&&◌, List, [], ◌∷◌, ◌++◌, length, drop, get_or, Some, option_and_then, decimal, refl, ap, ap₂, ◌∙◌, arith, IsUtf8, leb, ne_eqb}
-use Rattle.std.proofs.lemmas.Bool.{and_parts, leb-true, lt-ltb}
+use Rattle.std.proofs.Common.{◌≡◌, ℕ, ℤ, pos, negsuc, zero, suc, ◌+◌, ◌/◌, ◌%◌, ◌^◌, ◌<◌, ◌≤◌, true, false, cond, ◌==◌, List, [], ◌∷◌, ◌++◌, length, drop, get_or, Some, option_and_then, decimal, refl, ap, ◌∙◌, arith, IsUtf8, ne_eqb}
+use Rattle.std.proofs.lemmas.Bool.{and_parts}
 use Rattle.std.proofs.lemmas.Fmt.{decimal_digit, first_decimal}
 use Rattle.std.proofs.lemmas.Str.{IsUtf8-append}
 use Rattle.std.specs.Fmt.{signed_decimal}
@@ -9,28 +9,9 @@ use Rattle.std.specs.List.{list_all, prefix_len}
 use Rattle.std.specs.Char.{is_ascii_digit}
 use Rattle.json.specs.Word.{head, after_whole, after_fraction, after_exponent, after_number}
 use Rattle.json.specs.Print.{IsNumber}
-use Rattle.json.proofs.Printed.Utf8.{are_ascii, IsUtf8-are_ascii}
+use Rattle.json.proofs.Printed.Utf8.{IsUtf8-are_ascii}
 use Rattle.ss_text.specs.Time.{stamp_text, two_digits, last_stamp}
-use Rattle.ss_http.proofs.Values.{decimal_digits, two_are_digits}
-
-digits_are_ascii : (xs : List ℕ) → list_all is_ascii_digit xs ≡ true → are_ascii xs ≡ true
-digits_are_ascii [] h = refl
-digits_are_ascii (x ∷ xs) h =
-    let parts = and_parts (is_ascii_digit x) (list_all is_ascii_digit xs) h in
-    let high : x ≤ 57 = leb-true x 57 (and_parts (leb 48 x) (leb x 57) parts.0).1 in
-    ap₂ (λ a b. a && b) (lt-ltb x 128 (omega arith)) (digits_are_ascii xs parts.1)
-
-pub digits_are_utf8 : (xs : List ℕ) → list_all is_ascii_digit xs ≡ true → IsUtf8 xs
-digits_are_utf8 xs h = IsUtf8-are_ascii xs (digits_are_ascii xs h)
-
-pub decimal_is_utf8 : (n : ℕ) → n < 2 ^ 64 → IsUtf8 (decimal n)
-decimal_is_utf8 n h = digits_are_utf8 (decimal n) (decimal_digits n h)
-
-pub stamp_is_utf8 : (time : ℕ) → time ≤ last_stamp → IsUtf8 (stamp_text time)
-unfolding stamp_text
-stamp_is_utf8 time h =
-    IsUtf8-append (decimal (time / 100)) (46 ∷ two_digits (time % 100)) (decimal_is_utf8 (time / 100) (omega arith))
-    (IsUtf8-append (46 ∷ []) (two_digits (time % 100)) (IsUtf8-are_ascii (46 ∷ []) refl) (digits_are_utf8 (two_digits (time % 100)) (two_are_digits (time % 100) (omega arith))))
+use Rattle.ss_text.proofs.StampTexts.{two_are_digits, decimal_is_utf8, decimal_digits}
 
 pub signed_is_utf8 : (z : ℤ) → mag z < 2 ^ 63 → IsUtf8 (signed_decimal z)
 signed_is_utf8 (pos n) h = decimal_is_utf8 n (omega arith)

@@ -13,7 +13,6 @@ use Rattle.ss_bso.specs.Lists.{Each, Pairs}
 use Rattle.ss_bso.specs.Validity.{IsValid, SameAccount}
 use Rattle.ss_bso.proofs.Lists.{Each-imp, Each-from_All, Pairs-from_AllPairs}
 use Rattle.ss_bso.proofs.Reordering.{reordered-sym, Pairs-reordered, same-back}
-use Rattle.ss_bso.proofs.Texts.{bytes_eq-flip}
 use Rattle.ss_text.specs.Time.{after as clock}
 use Rattle.ss_query.specs.declared.requests.Request.{Request}
 use Rattle.ss_query.specs.Refused.{Refusal, collection_time}
@@ -46,6 +45,7 @@ use Rattle.ss_serving.proofs.Ticking.{ages_same, rows_ticked, ticks_quiet, ticks
 use Rattle.ss_serving.proofs.Posting.{never_awaited, quiet-told, page-told, turn}
 use Rattle.ss_serving.proofs.Others.{turn_calm}
 use Rattle.ss_serving.proofs.Same.{sheets-reordered, batch-reordered, other_turned, time-reordered, good-same}
+use Rattle.ss_text.proofs.Basics.{bytes_eq-flip}
 
 named_turned : (entry other : List ℕ × ℕ) → NamedApart entry other → NamedApart other entry
 named_turned entry other e = bytes_eq-flip other.0 entry.0 e

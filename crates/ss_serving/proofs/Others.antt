@@ -16,12 +16,11 @@ use Rattle.ss_query.specs.Refused.{Refusal, collection_time, staged_parts}
 use Rattle.ss_query.specs.Effect.{effect, is_empty, write_some, stamp_in}
 use Rattle.ss_query.specs.Api.{outcome, refusal}
 use Rattle.ss_bso.specs.Lists.{Each, Pairs}
-use Rattle.ss_bso.proofs.Lists.{Each-and, Each-imp, Each-map, Each-append, Each-filter, Each-filter_map, Pairs-filter, find-last_not, length-filter_le}
-use Rattle.ss_bso.proofs.Texts.{same_text, bytes_eq-flip}
+use Rattle.ss_bso.proofs.Lists.{Each-and, Each-imp, Each-map, Each-append, Each-filter, Each-filter_map, Pairs-filter, find-last_not}
 use Rattle.ss_laws.proofs.Times.{time_of-with_other, time_of-without}
 use Rattle.ss_bso.specs.Lists.{Apart}
 use Rattle.ss_bso.proofs.Lists.{Each-any}
-use Rattle.ss_laws.proofs.Written.{and_false, made, made_named, places-written}
+use Rattle.ss_laws.proofs.Written.{made, made_named, places-written}
 use Rattle.ss_laws.proofs.Commit.{Passes, passes}
 use Rattle.ss_laws.proofs.CommitLaw.{over_from}
 use Rattle.ss_bso.specs.Limits.{most_rows_and_collections}
@@ -34,17 +33,12 @@ use Rattle.ss_serving.proofs.Seen.{sheets_same}
 use Rattle.ss_serving.proofs.Batches.{parts_in, is_it, found_before, found_number, found_collection, found_grown, grown_not, one_number}
 use Rattle.ss_serving.proofs.Ticking.{staged_before, ages_same}
 use Rattle.ss_serving.proofs.Posting.{room_in, good_grown, numbers_grown, numbers_more, batches_more}
-
-clash : {X : Type 0} (b : Bool) → b ≡ true → b ≡ false → X
-clash true e f = cc
-clash false e f = cc
+use Rattle.ss_text.proofs.Basics.{and_false, bytes_eq-flip, same_text, no_way, length-filter_le}
+use Rattle.std.proofs.lemmas.Bool.{not_from_false}
 
 -- a row of another collection is no bookmark
 is_other : (collection name : List ℕ) → bytes_eq bookmarks collection ≡ false → name ≡ collection → bytes_eq name bookmarks ≡ false
 is_other collection name e same = ap (λ n. bytes_eq n bookmarks) same ∙ bytes_eq-flip bookmarks collection e
-
-not_from : (b : Bool) → b ≡ false → not b ≡ true
-not_from b e = ap not e
 
 module _ (collection : List ℕ) (else : bytes_eq bookmarks collection ≡ false) where
   -- a bookmark isn't of the other collection
@@ -52,7 +46,7 @@ module _ (collection : List ℕ) (else : bytes_eq bookmarks collection ≡ false
   kept_here row here = ap (λ n. bytes_eq n collection) (same_text row.collection bookmarks here) ∙ else
 
   kept_beside : (ids : List (List ℕ)) (row : Row) → bytes_eq row.collection bookmarks ≡ true → not (bytes_eq row.collection collection && is_among ids row.id) ≡ true
-  kept_beside ids row here = not_from (bytes_eq row.collection collection && is_among ids row.id) (ap (λ v. v && is_among ids row.id) (kept_here row here))
+  kept_beside ids row here = not_from_false (bytes_eq row.collection collection && is_among ids row.id) (ap (λ v. v && is_among ids row.id) (kept_here row here))
 
   rows_beside : (ids : List (List ℕ)) (rows : List Row) → rows_of bookmarks (rows_without collection ids rows) ≡ rows_of bookmarks rows
   rows_beside ids rows =
@@ -62,7 +56,7 @@ module _ (collection : List ℕ) (else : bytes_eq bookmarks collection ≡ false
   rows_elsewhere : (rows : List Row) → rows_of bookmarks (filter (λ row. not (bytes_eq row.collection collection)) rows) ≡ rows_of bookmarks rows
   rows_elsewhere rows =
       filter_within (λ row. bytes_eq row.collection bookmarks) (λ row. not (bytes_eq row.collection collection)) rows
-      (Each-imp (λ (row : Row). Unit {0}) (λ (row : Row). bytes_eq row.collection bookmarks ≡ true → not (bytes_eq row.collection collection) ≡ true) (λ row _ here. not_from (bytes_eq row.collection collection) (kept_here row here)) rows (Each-any rows))
+      (Each-imp (λ (row : Row). Unit {0}) (λ (row : Row). bytes_eq row.collection bookmarks ≡ true → not (bytes_eq row.collection collection) ≡ true) (λ row _ here. not_from_false (bytes_eq row.collection collection) (kept_here row here)) rows (Each-any rows))
 
   made_other : (parts : List Part) (time : ℕ) (rows : List Row) (id : List ℕ) (row : Row) → made collection parts time rows id ≡ Some row → bytes_eq row.collection bookmarks ≡ false
   made_other parts time rows id row e = is_other collection row.collection else (made_named collection parts time rows id row e).named
@@ -81,7 +75,7 @@ module _ (collection : List ℕ) (else : bytes_eq bookmarks collection ≡ false
   lasting_put parts time rows all =
       Each-append Lasts (rows_without collection (ids_of parts) rows) (filter_map (made collection parts time rows) (ids_of parts))
       (Each-filter Lasts (λ row. not (bytes_eq row.collection collection && is_among (ids_of parts) row.id)) rows all)
-      (Each-filter_map (λ (id : List ℕ). Unit {0}) Lasts (made collection parts time rows) (λ id row _ e here. clash (bytes_eq row.collection bookmarks) here (made_other parts time rows id row e)) (ids_of parts) (Each-any (ids_of parts)))
+      (Each-filter_map (λ (id : List ℕ). Unit {0}) Lasts (made collection parts time rows) (λ id row _ e here. no_way (bytes_eq row.collection bookmarks) here (made_other parts time rows id row e)) (ids_of parts) (Each-any (ids_of parts)))
 
 -- a is an account, and t what the clock leaves of it
 module _ {first : ℕ} (a t : Plain) (quiet : IsQuiet (shown a) (shown t)) (ages : Ages (shown a) (shown t)) (good : IsGood first t) where
@@ -150,7 +144,7 @@ module _ {first : ℕ} (a t : Plain) (quiet : IsQuiet (shown a) (shown t)) (ages
         let far : bytes_eq collection bookmarks ≡ false = bytes_eq-flip bookmarks collection else in
         record {
           numbers = numbers_more first t.counter new t.batches refl good.numbers good.batches;
-          each = batches_more first t.counter new t.batches refl (λ here. clash (bytes_eq collection bookmarks) here far) good.batches;
+          each = batches_more first t.counter new t.batches refl (λ here. no_way (bytes_eq collection bookmarks) here far) good.batches;
           count = omega arith;
           less = λ n staged e. sym (ap (option_map parts_in) (find-last_not (is_it bookmarks n) t.batches new (ap (λ v. (t.counter + 1 == n) && v) far ∙ and_false (t.counter + 1 == n)))) ∙ e;
         }
@@ -161,7 +155,7 @@ module _ {first : ℕ} (a t : Plain) (quiet : IsQuiet (shown a) (shown t)) (ages
     apart_from number (Some found) e f batch h here is =
         let one : batch ≡ found = one_number t.batches good.numbers batch found h (among_find (is_it collection number) t.batches found e) (is ∙ sym (found_number collection number t.batches found e)) in
         let name : batch.collection ≡ collection = ap (λ (b : Staged). b.collection) one ∙ same_text found.collection collection (found_collection collection number t.batches found e) in
-        clash (bytes_eq batch.collection bookmarks) here (is_other collection batch.collection else name)
+        no_way (bytes_eq batch.collection bookmarks) here (is_other collection batch.collection else name)
 
     grown_remain : (number : ℕ) (parts : List Part) → is_none (batch_in collection number t.batches) ≡ false → Remain (map (grown number parts) t.batches) t.counter
     grown_remain number parts f = record {

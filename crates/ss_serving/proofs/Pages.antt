@@ -11,7 +11,6 @@ use Rattle.ss_bso.specs.Limits.{rows_of, most_rows_and_collections}
 use Rattle.ss_query.specs.declared.requests.Sort.TheVariants.{Newest, Oldest}
 use Rattle.ss_query.specs.Answer.{is_asked, comes_before, next_offset, answer}
 use Rattle.ss_query.specs.Api.{why_stopped}
-use Rattle.ss_bso.proofs.Lists.{length-filter_le}
 use Rattle.ss_bso.proofs.Reordering.{length-reordered}
 use Rattle.ss_laws.proofs.InOrder.{reordered-sorted}
 use Rattle.ss_record.specs.declared.readings.Sheet.{Sheet}
@@ -24,6 +23,7 @@ use Rattle.ss_serving.specs.Bookmarks.{bookmarks, sheet_of, sheets_of}
 use Rattle.ss_serving.proofs.Lists.{filter_all, filter_same, filter_map_of}
 use Rattle.ss_serving.proofs.Order.{filter_sorted}
 use Rattle.ss_serving.proofs.Seen.{oldest_order, sheet-map}
+use Rattle.ss_text.proofs.Basics.{length-filter_le}
 
 -- a condition that doesn't stop a request
 pub unmodified : (condition time : ℕ) → option_map why_stopped (stops (IfUnmodified condition) time) ≡ None → time ≤ condition

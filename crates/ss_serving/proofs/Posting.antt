@@ -32,14 +32,14 @@ use Rattle.ss_serving.specs.Bookmarks.{bookmarks, sheet_of, sheets_of, Shown, sh
 use Rattle.ss_serving.specs.Asking.{Ask, Configure, FirstPage, NextPage, ListIds, PostAll, PostFirst, PostNext, PostLast, IsAskable, request_of, awaited_of, is_offset, page_told, said_by, told_by}
 use Rattle.ss_serving.specs.Good.{PutsPayloads, OtherNumber, IsGoodBatch, IsGood}
 use Rattle.ss_serving.specs.Serving.{IsQuiet, Writes, Begins, Appends, Ages, Serves}
-use Rattle.ss_serving.proofs.Batches.{parts_in, is_it, same_number, number_differs, number_same, found_before, found_number, found_collection, found_grown, number_grown, collection_grown, grown_it, grown_not}
+use Rattle.ss_serving.proofs.Batches.{parts_in, is_it, found_before, found_number, found_collection, found_grown, collection_grown, grown_it, grown_not}
 use Rattle.ss_serving.proofs.Ticking.{staged_before, ages_same}
 use Rattle.ss_serving.proofs.Pages.{unmodified, page_is, offset_is, ids_are}
 use Rattle.ss_serving.proofs.Seen.{sheets-apart}
 use Rattle.ss_serving.proofs.Putting.{written, nothing_written, after-aged, lasting-written}
-
-some_same : {X : Type 0} (x y : X) → Some x ≡ Some y → x ≡ y
-some_same x y e = cc
+use Rattle.ss_text.proofs.Basics.{some_same}
+use Rattle.ss_laws.proofs.Valid.{number-grown}
+use Rattle.std.proofs.lemmas.Bool.{eqb-true, ne_eqb, eq-eqb}
 
 -- a written account has room
 pub room_in : (account : Plain) → IsWithinLimits account → length account.rows ≤ most_rows_and_collections
@@ -48,9 +48,9 @@ room_in account within = omega (arith, within-number account.rows (length accoun
 -- a batch with more parts stays good
 pub good_grown : {first : ℕ} (counter number : ℕ) (parts : List Part) (batch : Staged) → (bytes_eq batch.collection bookmarks ≡ true → batch.number ≡ number → Each IsUpload parts) → IsGoodBatch first counter batch → IsGoodBatch first counter (grown number parts batch)
 good_grown {first} counter number parts batch more h = record {
-  counted = subst (λ n. n ≤ counter) (sym (number_grown number parts batch)) h.counted;
+  counted = subst (λ n. n ≤ counter) (sym (number-grown number parts batch)) h.counted;
   plain = λ late here.
-      let old : first < batch.number = subst (λ n. first < n) (number_grown number parts batch) late in
+      let old : first < batch.number = subst (λ n. first < n) (number-grown number parts batch) late in
       let was : bytes_eq batch.collection bookmarks ≡ true = ap (λ name. bytes_eq name bookmarks) (sym (collection_grown number parts batch)) ∙ here in
       elim (batch.number == number) as (λ v. (batch.number == number) ≡ v → let left : Staged = cond v (record batch { parts = batch.parts ++ parts }) batch in Each IsUpload left.parts) [
         | true ↦ (λ t. Each-append IsUpload batch.parts parts (h.plain old was) (more was (is t)))
@@ -59,11 +59,11 @@ good_grown {first} counter number parts batch more h = record {
 }
   where
     is : (batch.number == number) ≡ true → batch.number ≡ number
-    is t = same_number batch.number number t
+    is t = eqb-true batch.number number t
 
 pub numbers_grown : (number : ℕ) (parts : List Part) (batches : List Staged) → Pairs OtherNumber batches → Pairs OtherNumber (map (grown number parts) batches)
 numbers_grown number parts batches p =
-    Pairs-map OtherNumber OtherNumber (grown number parts) (λ batch other differ equal. differ (sym (number_grown number parts batch) ∙ equal ∙ number_grown number parts other)) batches p
+    Pairs-map OtherNumber OtherNumber (grown number parts) (λ batch other differ equal. differ (sym (number-grown number parts batch) ∙ equal ∙ number-grown number parts other)) batches p
 
 -- one more batch
 pub numbers_more : (first counter : ℕ) (new : Staged) (batches : List Staged) → new.number ≡ counter + 1 → Pairs OtherNumber batches → Each (IsGoodBatch first counter) batches → Pairs OtherNumber (batches ++ new ∷ [])
@@ -216,13 +216,13 @@ module _ {first : ℕ} (a t : Plain) (quiet : IsQuiet (shown a) (shown t)) (ages
         let at : batch_in bookmarks (t.counter + 1) (t.batches ++ newly parts ∷ []) ≡ Some (newly parts) =
         find-skip (is_it bookmarks (t.counter + 1)) t.batches (newly parts ∷ [])
         (Each-imp (IsGoodBatch first t.counter) (λ (batch : Staged). is_it bookmarks (t.counter + 1) batch ≡ false)
-        (λ batch h. let le : batch.number ≤ t.counter = h.counted in ap (λ v. v && bytes_eq batch.collection bookmarks) (number_differs batch.number (t.counter + 1) (λ same. absurd (omega arith)))) t.batches good.batches)
-        ∙ ap (λ v. cond (v && bytes_eq bookmarks bookmarks) (Some (newly parts)) None) (number_same (t.counter + 1) (t.counter + 1) refl) in
-        sym (some_same parts ps (sym (ap (option_map parts_in) at) ∙ e));
+        (λ batch h. let le : batch.number ≤ t.counter = h.counted in ap (λ v. v && bytes_eq batch.collection bookmarks) (ne_eqb batch.number (t.counter + 1) (λ same. absurd (omega arith)))) t.batches good.batches)
+        ∙ ap (λ v. cond (v && bytes_eq bookmarks bookmarks) (Some (newly parts)) None) (eq-eqb (t.counter + 1) (t.counter + 1) refl) in
+        sym (some_same (sym (ap (option_map parts_in) at) ∙ e));
     others = λ n ps le e.
         let under : n ≤ t.counter = omega (arith, quiet.counter) in
         quiet.staged n ps (sym (ap (option_map parts_in) (find-last_not (is_it bookmarks n) t.batches (newly parts)
-        (ap (λ v. v && bytes_eq bookmarks bookmarks) (number_differs (t.counter + 1) n (λ same. absurd (omega arith)))))) ∙ e);
+        (ap (λ v. v && bytes_eq bookmarks bookmarks) (ne_eqb (t.counter + 1) n (λ same. absurd (omega arith)))))) ∙ e);
   }
 
   begun_well : (parts : List Part) → Each IsUpload parts → IsGood first (begun parts)
@@ -251,7 +251,7 @@ module _ {first : ℕ} (a t : Plain) (quiet : IsQuiet (shown a) (shown t)) (ages
     grown = λ ps h.
         let at : batch_in bookmarks number (map (grown number parts) t.batches) ≡ Some (grown number parts batch) =
         found_grown bookmarks number number parts t.batches ∙ ap (option_map (grown number parts)) e in
-        sym (some_same (parts_in (grown number parts batch)) ps (sym (ap (option_map parts_in) at) ∙ h))
+        sym (some_same (sym (ap (option_map parts_in) at) ∙ h))
         ∙ grown_it number parts batch (found_number bookmarks number t.batches batch e);
     others = λ n ps differ h.
         quiet.staged n ps (unchanged n ps differ (batch_in bookmarks n t.batches) refl

@@ -10,7 +10,6 @@ use Rattle.ss_bso.specs.Lists.{Each, Pairs, Apart}
 use Rattle.ss_bso.specs.Put.{field_value, put}
 use Rattle.ss_bso.specs.Write.{ids_of, is_among, parts_of, put_all, rows_without, rows_written}
 use Rattle.ss_bso.proofs.Lists.{Each-any, Each-append, Each-filter, Each-filter_map, Each-find}
-use Rattle.ss_bso.proofs.Texts.{bytes_eq-same}
 use Rattle.ss_laws.proofs.Reading.{write_law}
 use Rattle.ss_laws.proofs.Written.{made, places-written, row_at-named}
 use Rattle.ss_route.specs.Sending.{IsUpload}
@@ -18,6 +17,7 @@ use Rattle.ss_plan.specs.Written.{IsWritten, sheet_after, sheet_put}
 use Rattle.ss_serving.specs.Bookmarks.{bookmarks, sheet_of, sheets_of}
 use Rattle.ss_serving.specs.Good.{Lasts}
 use Rattle.ss_serving.proofs.Seen.{sheet-shown, sheets-apart}
+use Rattle.ss_text.proofs.Basics.{bytes_eq-same}
 
 sheet-put : (stamp : ℕ) (old : Option Row) (part : Part) → sheet_of (put old bookmarks part stamp) ≡ sheet_put stamp (option_map sheet_of old) part
 unfolding sheet_put

@@ -12,7 +12,6 @@ use Rattle.ss_bso.specs.Lists.{Each, Pairs, Apart}
 use Rattle.ss_bso.specs.Validity.{SameAccount}
 use Rattle.ss_bso.proofs.Lists.{Each-any, Pairs-imp}
 use Rattle.ss_bso.proofs.Reordering.{NotBoth, Each-reordered, Pairs-reordered, find-reordered, length-reordered, reordered-filter}
-use Rattle.ss_bso.proofs.Texts.{both_left}
 use Rattle.ss_query.specs.declared.requests.Query.{Query}
 use Rattle.ss_query.specs.declared.requests.Sort.TheVariants.{Oldest}
 use Rattle.ss_query.specs.declared.replies.Picked.{Picked}
@@ -20,11 +19,13 @@ use Rattle.ss_query.specs.Answer.{is_asked, comes_before, answer}
 use Rattle.ss_query.specs.Refused.{collection_time}
 use Rattle.ss_query.proofs.Orders.{NamedApart, ids_distinct, answer-reordered}
 use Rattle.ss_laws.proofs.SameApi.{time-same}
-use Rattle.ss_laws.proofs.SameValid.{apart_flip}
 use Rattle.ss_serving.specs.Bookmarks.{bookmarks, sheet_of, sheets_of}
 use Rattle.ss_serving.specs.Good.{Lasts, OtherNumber, IsGoodBatch, IsGood}
 use Rattle.ss_serving.proofs.Lists.{filter_all}
-use Rattle.ss_serving.proofs.Batches.{is_it, same_number}
+use Rattle.ss_serving.proofs.Batches.{is_it}
+use Rattle.ss_text.proofs.Basics.{both_left}
+use Rattle.ss_bso.proofs.Places.{apart_flip}
+use Rattle.std.proofs.lemmas.Bool.{eqb-true}
 
 abbrev all_rows : Query
 all_rows = record { ids = None; newer = None; older = None; limit = None; offset = 0; sort = Oldest; full = true }
@@ -43,7 +44,7 @@ not_both n batch other differ =
     elim (is_it bookmarks n batch) as (λ v. is_it bookmarks n batch ≡ v → (v && is_it bookmarks n other) ≡ false) [
       | true ↦ (λ t.
           elim (is_it bookmarks n other) as (λ w. is_it bookmarks n other ≡ w → w ≡ false) [
-            | true ↦ (λ u. absurd (differ (same_number batch.number n (both_left (batch.number == n) (bytes_eq batch.collection bookmarks) t) ∙ sym (same_number other.number n (both_left (other.number == n) (bytes_eq other.collection bookmarks) u)))))
+            | true ↦ (λ u. absurd (differ (eqb-true batch.number n (both_left (batch.number == n) (bytes_eq batch.collection bookmarks) t) ∙ sym (eqb-true other.number n (both_left (other.number == n) (bytes_eq other.collection bookmarks) u)))))
             | false ↦ (λ u. refl)
           ] refl)
       | false ↦ (λ t. refl)

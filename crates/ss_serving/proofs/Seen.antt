@@ -13,13 +13,13 @@ use Rattle.ss_bso.specs.Limits.{rows_of}
 use Rattle.ss_bso.specs.Lists.{Each, Pairs, Apart, OtherId}
 use Rattle.ss_bso.proofs.Lists.{Each-any, Pairs-imp}
 use Rattle.ss_bso.proofs.Reordering.{NotBoth, Pairs-reordered, find-reordered}
-use Rattle.ss_bso.proofs.Texts.{same_text, bytes_eq-same, bytes_eq-flip}
 use Rattle.ss_query.specs.declared.requests.Sort.TheVariants.{Oldest}
 use Rattle.ss_query.specs.Answer.{comes_before}
 use Rattle.ss_query.proofs.Orders.{row_total, ids_distinct}
 use Rattle.ss_laws.proofs.InOrder.{reordered-sorted}
 use Rattle.ss_plan.specs.Written.{sheet}
 use Rattle.ss_serving.specs.Bookmarks.{bookmarks, sheet_of, sheets_of}
+use Rattle.ss_text.proofs.Basics.{bytes_eq-sym, bytes_eq-flip, same_text}
 
 pub oldest_order : IsStrictWeakOrder (comes_before Oldest)
 oldest_order = ranks_by (row_total Oldest) (λ (row : Row). row)
@@ -43,12 +43,6 @@ sheet-map x (row ∷ rows) = by (bytes_eq x row.id) (sheet-map x rows)
     by true ih = refl
     by false ih = ih
 
-bytes_eq-turned : (x y : List ℕ) → bytes_eq x y ≡ bytes_eq y x
-bytes_eq-turned x y = elim (bytes_eq y x) as (λ v. bytes_eq y x ≡ v → bytes_eq x y ≡ v) [
-  | true ↦ (λ e. bytes_eq-same x y (sym (same_text y x e)))
-  | false ↦ (λ e. bytes_eq-flip y x e)
-] refl
-
 -- no two of the rows have one id
 only_one : (x : List ℕ) (row other : Row) → OtherId row other → NotBoth (λ r. bytes_eq x r.id) row other
 only_one x row other differ = elim (bytes_eq x row.id) as (λ v. bytes_eq x row.id ≡ v → (v && bytes_eq x other.id) ≡ false) [
@@ -64,7 +58,7 @@ sheet-shown rows places x =
     sym (find-reordered (λ row. bytes_eq x row.id) (reordered-sorted (comes_before Oldest) (rows_of bookmarks rows))
     (Pairs-imp OtherId (NotBoth (λ row. bytes_eq x row.id)) (λ (row : Row). Unit {0}) (λ row other _ _ differ. only_one x row other differ) (rows_of bookmarks rows) (Each-any (rows_of bookmarks rows)) (ids_distinct bookmarks rows places)))
     ∙ find-filtered (λ row. bytes_eq x row.id) (λ row. bytes_eq row.collection bookmarks) (is_at bookmarks x)
-    (λ row. ap (λ b. bytes_eq row.collection bookmarks && b) (bytes_eq-turned row.id x)) rows)
+    (λ row. ap (λ b. bytes_eq row.collection bookmarks && b) (bytes_eq-sym row.id x)) rows)
 
 has-none : (row : Row) (rows : List Row) → Each (OtherId row) rows → has row.id (map (λ s. s.id) (map sheet_of rows)) ≡ false
 has-none row [] e = has-nil row.id

@@ -11,7 +11,7 @@ use Rattle.ss_bso.specs.Account.{tick, is_alive, is_open}
 use Rattle.ss_bso.specs.Batches.{batch_in}
 use Rattle.ss_bso.specs.Limits.{rows_of}
 use Rattle.ss_bso.specs.Lists.{Apart}
-use Rattle.ss_bso.proofs.Lists.{Each-imp, Each-filter, Pairs-filter, length-filter_le}
+use Rattle.ss_bso.proofs.Lists.{Each-imp, Each-filter, Pairs-filter}
 use Rattle.ss_plan.specs.Written.{sheet}
 use Rattle.ss_serving.specs.Bookmarks.{bookmarks, sheets_of, Shown, shown}
 use Rattle.ss_serving.specs.Good.{Lasts, OtherNumber, IsGoodBatch, IsGood}
@@ -19,6 +19,7 @@ use Rattle.ss_serving.specs.Serving.{IsQuiet, Ages}
 use Rattle.ss_serving.proofs.Lists.{filter_within}
 use Rattle.ss_serving.proofs.Seen.{sheets_same}
 use Rattle.ss_serving.proofs.Batches.{parts_in, found_before}
+use Rattle.ss_text.proofs.Basics.{length-filter_le}
 
 -- what is staged among fewer batches was staged
 pub staged_before : (o before : Option Staged) → ((batch : Staged) → o ≡ Some batch → before ≡ Some batch) → (parts : List Part) → option_map parts_in o ≡ Some parts → option_map parts_in before ≡ Some parts

@@ -4,14 +4,14 @@ use Rattle.std.proofs.lemmas.Bool.{and_parts, leb-true, lt-ltb, not-true, eqb-fa
 use Rattle.std.proofs.lemmas.List.Sums.{AllPass-from_list_all}
 use Rattle.std.proofs.lemmas.List.Folds.{list_all-append}
 use Rattle.std.specs.List.{list_all, AllByRecursion}
-use Rattle.std.specs.Char.{is_ascii_digit}
 use Rattle.base64.specs.Rfc4648.{encode_symbols}
 use Rattle.base64.specs.Engines.{url_safe_no_pad}
 use Rattle.json.specs.Print.{escape}
 use Rattle.json.proofs.Printed.Strings.{escape_byte_plain}
 use Rattle.json.proofs.Printed.Utf8.{are_ascii, IsUtf8-are_ascii}
-use Rattle.ss_http.proofs.Values.{decimal_digits}
 use Rattle.ss_route.specs.Posts.{token}
+use Rattle.ss_route.proofs.Tokens.{few_bytes}
+use Rattle.ss_text.proofs.StampTexts.{decimal_digits}
 
 abbrev letters : List ℕ
 letters = url_safe_no_pad.encode_table
@@ -40,13 +40,6 @@ symbols_are_mild (a ∷ b ∷ c ∷ rest) h =
     let last = three (get_or letters (a % 4 * 16 + b / 16) 0) (get_or letters (b % 16 * 4 + c / 64) 0) (get_or letters (c % 64) 0) (symbol (a % 4 * 16 + b / 16) (omega (arith, h.1.0))) (symbol (b % 16 * 4 + c / 64) (omega (arith, h.1.1.0))) (symbol (c % 64) (omega arith)) in
     all_append (get_or letters (a / 4) 0 ∷ get_or letters (a % 4 * 16 + b / 16) 0 ∷ get_or letters (b % 16 * 4 + c / 64) 0 ∷ get_or letters (c % 64) 0 ∷ []) (encode_symbols letters rest)
     (ap₂ (λ s t. s && t) first last) (symbols_are_mild rest h.1.1.1)
-
-few_bytes : (xs : List ℕ) → list_all is_ascii_digit xs ≡ true → AllByRecursion (λ b. b < 256) xs
-few_bytes [] h = tt
-few_bytes (x ∷ xs) h =
-    let parts = and_parts (is_ascii_digit x) (list_all is_ascii_digit xs) h in
-    let high = leb-true x 57 (and_parts (leb 48 x) (leb x 57) parts.0).1 in
-    (omega arith, few_bytes xs parts.1)
 
 token_is_mild : (n : ℕ) → n < 2 ^ 64 → list_all is_mild (token n) ≡ true
 unfolding token

@@ -15,7 +15,7 @@ use Rattle.ss_text.specs.Names.{is_id}
 use Rattle.ss_text.specs.Numbers.{number_of}
 use Rattle.ss_text.specs.Time.{last_stamp, stamp_text}
 use Rattle.ss_text.proofs.NameLemmas.{IsUtf8-from_id}
-use Rattle.ss_http.proofs.Values.{decimal_digits, stamp_again, number_again}
+use Rattle.ss_http.proofs.Values.{number_again}
 use Rattle.ss_record.specs.declared.readings.Sheet.{Sheet}
 use Rattle.ss_bso.specs.declared.rows.Row.{Row}
 use Rattle.ss_bso.specs.declared.parts.Reason.{Reason}
@@ -30,9 +30,11 @@ use Rattle.ss_bso.specs.declared.limits.TheConstants.{MOST_PAYLOAD, MOST_POST_RE
 use Rattle.ss_http.specs.declared.limits.TheConstants.{BODY_ROOM}
 use Rattle.ss_serving.specs.Asking.{first_failed, our_limits}
 use Rattle.ss_serving.specs.Typed.{IsTypedRow}
-use Rattle.ss_serving.proofs.JsonNumbers.{stamp_is_utf8, decimal_is_utf8, signed_is_utf8, IsNumber-stamp}
+use Rattle.ss_serving.proofs.JsonNumbers.{signed_is_utf8, IsNumber-stamp}
 use Rattle.ss_serving.proofs.Bodies.{items_of, members_of, sortindex_json, row_json, rows_json, ids_json, failure_json, failed_json, records_json, posted_json, staged_json, limits_json}
 use Rattle.ss_serving.proofs.Clean.{IsClean, AreClean, HasClean}
+use Rattle.ss_route.proofs.Tokens.{three_tests}
+use Rattle.ss_text.proofs.StampTexts.{decimal_is_utf8, decimal_digits, stamp_is_utf8, stamp_again}
 
 -- ---- rows
 
@@ -188,9 +190,6 @@ module _ (success : List (List ℕ)) (failed : List (List ℕ × Reason)) (s : E
   staged_batch batch back = back
 
 -- ---- offsets
-
-three_tests : (a b c : Bool) (x : Option ℕ) → a ≡ true → b ≡ true → c ≡ true → cond (a && b && c) x None ≡ x
-three_tests a b c x p q r = ap₂ (λ s t. cond (s && t && c) x None) p q ∙ ap (λ t. cond (true && true && t) x None) r
 
 short_back : (n : ℕ) → n < 1000000000 → number_of 9 (decimal n) ≡ Some n
 unfolding number_of

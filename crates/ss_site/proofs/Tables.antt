@@ -4,9 +4,9 @@ use Rattle.std.proofs.Common.{sym, ap, subst, ◌∙◌, arith, inl, inr}
 use Rattle.std.proofs.lemmas.Bool.{eqb-true}
 use Rattle.ss_bso.specs.declared.changes.Kept.{Kept}
 use Rattle.ss_bso.specs.Changes.{fresh_kept}
-use Rattle.ss_bso.proofs.Texts.{same_text, both_left, both_right}
 use Rattle.ss_site.specs.Sites.{IsEntry, IsWith}
 use Rattle.ss_site.specs.Tables.{Held, is_at, entries_of, NoneBefore, IsPlace}
+use Rattle.ss_text.proofs.Basics.{both_left, both_right, same_text}
 
 -- an entry stands at one place
 one_place : (folder : List ℕ) (uid : ℕ) (f : List ℕ) (u : ℕ) (held : Held) (b : Bool) → is_at folder uid held ≡ true → ((f ≢ folder) ⊎ (u ≢ uid)) → is_at f u held ≡ b → is_at f u held ≡ false

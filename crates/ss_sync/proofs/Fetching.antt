@@ -6,9 +6,10 @@ use Rattle.std.specs.List.{list_any}
 use Rattle.indexmap.specs.IndexSet.{insert_key}
 use Rattle.ss_record.specs.declared.readings.Sheet.{Sheet}
 use Rattle.ss_record.specs.Ids.{Apart, has}
-use Rattle.ss_record.proofs.IdLists.{same_id, bytes_eq-sym, has-nil, has-cons, has-append, bytes_eq-refl, Apart-nil, Apart-cons, Apart-head, Apart-tail}
+use Rattle.ss_record.proofs.IdLists.{has-nil, has-cons, has-append, bytes_eq-refl, Apart-nil, Apart-cons, Apart-head, Apart-tail}
 use Rattle.ss_sync.specs.Rows.{ids_of}
 use Rattle.ss_sync.specs.Fetched.{are_apart, kept}
+use Rattle.ss_text.proofs.Basics.{and_false, or_false, or_true, bytes_eq-sym, same_text, take_push}
 
 pub ids-append : (xs ys : List Sheet) → ids_of (xs ++ ys) ≡ ids_of xs ++ ids_of ys
 ids-append [] ys = refl
@@ -28,18 +29,6 @@ pub apart-from : (xs : List (List ℕ)) → Apart xs → are_apart xs ≡ true
 apart-from [] h = refl
 apart-from (x ∷ xs) h = ap (λ b. not b && are_apart xs) (Apart-head x xs h) ∙ apart-from xs (Apart-tail x xs h)
 
-or_true : (b : Bool) → (b || true) ≡ true
-or_true true = refl
-or_true false = refl
-
-or_no : (b : Bool) → (b || false) ≡ b
-or_no true = refl
-or_no false = refl
-
-and_false : (b : Bool) → (b && false) ≡ false
-and_false true = refl
-and_false false = refl
-
 -- an id that stands among others and once more
 pub apart-twice : (xs : List (List ℕ)) (y : List ℕ) (ys : List (List ℕ)) → has y xs ≡ true → are_apart (xs ++ y ∷ ys) ≡ false
 apart-twice [] y ys h = absurd (false≢true (sym (has-nil y) ∙ h))
@@ -47,7 +36,7 @@ apart-twice (x ∷ xs) y ys h = go (bytes_eq y x) refl (sym (has-cons y x xs) �
   where
     here : bytes_eq y x ≡ true → has x (xs ++ y ∷ ys) ≡ true
     here e =
-        has-append x xs (y ∷ ys) ∙ (ap (λ b. has x xs || b) (has-cons x y ys ∙ ap (λ b. b || has x ys) (ap (bytes_eq x) (same_id y x e) ∙ bytes_eq-refl x)) ∙ or_true (has x xs))
+        has-append x xs (y ∷ ys) ∙ (ap (λ b. has x xs || b) (has-cons x y ys ∙ ap (λ b. b || has x ys) (ap (bytes_eq x) (same_text y x e) ∙ bytes_eq-refl x)) ∙ or_true (has x xs))
 
     go : (b : Bool) → bytes_eq y x ≡ b → (b || has y xs) ≡ true → (has y xs ≡ true → are_apart (xs ++ y ∷ ys) ≡ false) → (not (has x (xs ++ y ∷ ys)) && are_apart (xs ++ y ∷ ys)) ≡ false
     go true e k ih = ap (λ b. not b && are_apart (xs ++ y ∷ ys)) (here e)
@@ -97,8 +86,8 @@ has-is x ks = refl
 
 has-there : (ks : List (List ℕ)) (k x : List ℕ) → list_any (bytes_eq k) ks ≡ true → (b : Bool) → bytes_eq x k ≡ b → (c : Bool) → has x ks ≡ c → has x ks ≡ (has x ks || has x (k ∷ []))
 has-there ks k x e true q true r = r ∙ sym (ap (λ a. a || has x (k ∷ [])) r)
-has-there ks k x e true q false r = absurd (false≢true (sym r ∙ (ap (λ z. has z ks) (same_id x k q) ∙ (has-is k ks ∙ e))))
-has-there ks k x e false q c r = sym (ap (λ a. has x ks || a) (has-cons x k [] ∙ ap₂ (λ a b. a || b) q (has-nil x)) ∙ or_no (has x ks))
+has-there ks k x e true q false r = absurd (false≢true (sym r ∙ (ap (λ z. has z ks) (same_text x k q) ∙ (has-is k ks ∙ e))))
+has-there ks k x e false q c r = sym (ap (λ a. has x ks || a) (has-cons x k [] ∙ ap₂ (λ a b. a || b) q (has-nil x)) ∙ or_false (has x ks))
 
 pub has-insert : (ks : List (List ℕ)) (k x : List ℕ) → has x (insert_key bytes_eq ks k) ≡ has x (ks ++ k ∷ [])
 has-insert ks k x = go (list_any (bytes_eq k) ks) refl
@@ -188,7 +177,7 @@ pub kept_more : (rows now new ms : List Sheet) (ids : List (List ℕ)) (i : ℕ)
 kept_more rows now new ms ids i m fresh a here is listed f n old =
     let there : has m.id (ids_of now) ≡ has m.id (ids_of rows) =
     ap (λ l. has m.id (ids_of l)) old ∙ (ap (has m.id) (ids-append rows (kept rows ids (take i ms))) ∙ (has-append m.id (ids_of rows) (ids_of (kept rows ids (take i ms)))
-    ∙ (ap (λ b. has m.id (ids_of rows) || b) (has-kept rows ids m.id (take i ms) (not_before ms i m a here is)) ∙ or_no (has m.id (ids_of rows))))) in
+    ∙ (ap (λ b. has m.id (ids_of rows) || b) (has-kept rows ids m.id (take i ms) (not_before ms i m a here is)) ∙ or_false (has m.id (ids_of rows))))) in
     n ∙ (ap₂ (λ b l. cond b (l ++ m ∷ []) l) (f ∙ ap not there) old
     ∙ (by (has m.id (ids_of rows)) refl
     ∙ ap (λ l. rows ++ l) (sym (kept-append rows ids (take i ms) (m ∷ [])) ∙ ap (kept rows ids) (ap (λ x. take i ms ++ x ∷ []) is ∙ sym (take_more ms i m here)))))
@@ -232,18 +221,11 @@ set_more keys keys' front next copy id n c k old x =
 pub set_none : (keys : List (List ℕ)) → keys ≡ [] → (x : List ℕ) → list_any (bytes_eq x) keys ≡ has x []
 set_none keys e x = ap (list_any (bytes_eq x)) e ∙ sym (has-nil x)
 
-pub take_next : {X : Type 0} (xs : List X) (i : ℕ) (x : X) → i < length xs → x ≡ get_or xs i x → take (i + 1) xs ≡ take i xs ++ x ∷ []
-take_next xs i x here is = take_more xs i x here ∙ ap (λ y. take i xs ++ y ∷ []) (sym is)
-
 pub ids_next : (xs : List Sheet) (i : ℕ) (x : Sheet) → i < length xs → x ≡ get_or xs i x → ids_of (take (i + 1) xs) ≡ ids_of (take i xs) ++ x.id ∷ []
-ids_next xs i x here is = ap ids_of (take_next xs i x here is) ∙ ids-append (take i xs) (x ∷ [])
+ids_next xs i x here is = ap ids_of (take_push xs i x here is) ∙ ids-append (take i xs) (x ∷ [])
 
 pub of_true : (b : Bool) (xs ys : List Sheet) (new : List Sheet) → new ≡ cond b xs ys → b ≡ true → new ≡ xs
 of_true b xs ys new e t = e ∙ ap (λ c. cond c xs ys) t
-
-pub of_not : (b c : Bool) → b ≡ not c → b ≡ false → c ≡ true
-of_not b true e f = refl
-of_not b false e f = absurd (false≢true (sym f ∙ e))
 
 -- a row's copy is put in its place
 pub copied_fresh : (b : Bool) (now : List Sheet) (copy s : Sheet) → b ≡ not (has copy.id (ids_of now)) → copy ≡ s → b ≡ not (has s.id (ids_of now))

@@ -1,16 +1,13 @@
 -- Rows that are gathered by id, and what a part makes of them.
-use Rattle.std.proofs.Common.{◌≡◌, ℕ, ◌+◌, ◌<◌, List, [], ◌∷◌, ◌++◌, length, map, take, fold, get_or, Bool, true, false, cond, ◌||◌, bytes_eq, Option, Some, None, option_map, Bor, Less, is_eq, refl, sym, ap, ap₂, ◌∙◌, append_assoc, append-nil}
+use Rattle.std.proofs.Common.{◌≡◌, ℕ, ◌+◌, ◌<◌, List, [], ◌∷◌, ◌++◌, length, map, take, fold, get_or, Bool, true, false, cond, bytes_eq, Option, Some, None, option_map, Bor, is_eq, refl, sym, ap, ap₂, ◌∙◌, append_assoc, append-nil}
 use Rattle.std.proofs.lemmas.Map.Text.{is_eq-slice_cmp}
 use Rattle.std.proofs.lemmas.List.{take_more}
-use Rattle.std.specs.Cmp.Lexicographic.{texts_ties}
-use Rattle.std.specs.List.{AllByRecursion}
 use Rattle.std.specs.List.Sorted.{IsStrictlySortedBy}
 use Rattle.std.specs.Map.{lookup}
 use Rattle.std.specs.Option.{option_map_or}
 use Rattle.ss_text.specs.Texts.{text_cmp}
 use Rattle.ss_record.specs.declared.readings.Sheet.{Sheet}
-use Rattle.ss_record.specs.Ids.{Apart, has}
-use Rattle.ss_record.proofs.IdLists.{same_id, bytes_eq-sym, has-nil, has-cons}
+use Rattle.ss_record.specs.Ids.{Apart}
 use Rattle.ss_bso.specs.declared.parts.Part.{Part}
 use Rattle.ss_bso.specs.Put.{field_value}
 use Rattle.ss_plan.specs.Written.{sheet, sheet_put, sheet_after}
@@ -18,6 +15,8 @@ use Rattle.ss_plan.proofs.Last.{after-append}
 use Rattle.ss_sync.specs.declared.written.Told.{Told}
 use Rattle.ss_sync.specs.Rows.{ids_of}
 use Rattle.ss_sync.specs.Told.{row_of, rows_of}
+use Rattle.ss_record.proofs.Below.{below_out}
+use Rattle.ss_text.proofs.Basics.{bytes_eq-sym, same_text}
 
 -- one more row is there
 pub put_row : (m n : List ℕ → Option Told) (key : List ℕ) (t : Told) → ((q : List ℕ) → n q ≡ cond (is_eq (text_cmp key q)) (Some t) (m q))
@@ -25,10 +24,10 @@ pub put_row : (m n : List ℕ → Option Told) (key : List ℕ) (t : Told) → (
 put_row m n key t new x = ap (option_map (row_of x)) (new x ∙ ap (λ b. cond b (Some t) (m x)) (is_eq-slice_cmp key x ∙ bytes_eq-sym key x)) ∙ by (bytes_eq x key) refl
   where
     by : (b : Bool) → bytes_eq x key ≡ b → option_map (row_of x) (cond b (Some t) (m x)) ≡ cond b (Some (row_of key t)) (option_map (row_of x) (m x))
-    by true e = ap (λ y. Some (row_of y t)) (same_id x key e)
+    by true e = ap (λ y. Some (row_of y t)) (same_text x key e)
     by false e = refl
 
-sheet-cons : (x : List ℕ) (s : Sheet) (done : List Sheet) → sheet x (s ∷ done) ≡ cond (bytes_eq x s.id) (Some s) (sheet x done)
+pub sheet-cons : (x : List ℕ) (s : Sheet) (done : List Sheet) → sheet x (s ∷ done) ≡ cond (bytes_eq x s.id) (Some s) (sheet x done)
 unfolding sheet
 sheet-cons x s done = refl
 
@@ -85,12 +84,8 @@ put_part m n s p key payload k w new x =
     ∙ (ap (λ b. cond b (Some (sheet_put s (option_map (row_of x) (m x)) p)) (option_map (row_of x) (m x))) (bytes_eq-sym x p.id) ∙ sym (after-one s p x (option_map (row_of x) (m x))))))
   where
     by : (b : Bool) → bytes_eq x p.id ≡ b → cond b (Some (row_of key (record { modified = s; payload = payload }))) (option_map (row_of x) (m x)) ≡ cond b (Some (sheet_put s (option_map (row_of x) (m x)) p)) (option_map (row_of x) (m x))
-    by true e = ap Some (made s p (m p.id) key payload k w ∙ ap (λ y. sheet_put s (option_map (row_of y) (m y)) p) (sym (same_id x p.id e)))
+    by true e = ap Some (made s p (m p.id) key payload k w ∙ ap (λ y. sheet_put s (option_map (row_of y) (m y)) p) (sym (same_text x p.id e)))
     by false e = refl
-
-pub after-none : (s : ℕ) (x : List ℕ) (o : Option Sheet) → sheet_after s [] x o ≡ o
-unfolding sheet_after
-after-none s x o = refl
 
 -- one more part of a list
 pub after_more : (s : ℕ) (parts : List Part) (i : ℕ) (p : Part) (x : List ℕ) (o : Option Sheet) → i < length parts → p ≡ get_or parts i p
@@ -109,22 +104,18 @@ found_rows x [] = refl
 found_rows x (e ∷ es) = ap (λ b. cond b (Some (row_of e.0 e.1)) (sheet x (rows_of es))) (sym (is_eq-slice_cmp x e.0)) ∙ by (is_eq (text_cmp x e.0)) refl (found_rows x es)
   where
     by : (b : Bool) → is_eq (text_cmp x e.0) ≡ b → sheet x (rows_of es) ≡ option_map (row_of x) (lookup (λ k. is_eq (text_cmp x k)) es) → cond b (Some (row_of e.0 e.1)) (sheet x (rows_of es)) ≡ option_map (row_of x) (cond b (Some e.1) (lookup (λ k. is_eq (text_cmp x k)) es))
-    by true q ih = ap (λ y. Some (row_of y e.1)) (sym (same_id x e.0 (sym (is_eq-slice_cmp x e.0) ∙ q)))
+    by true q ih = ap (λ y. Some (row_of y e.1)) (sym (same_text x e.0 (sym (is_eq-slice_cmp x e.0) ∙ q)))
     by false q ih = ih
 
 pub ids_of_rows : (es : List (List ℕ × Told)) → ids_of (rows_of es) ≡ map (λ e. e.0) es
 ids_of_rows [] = refl
 ids_of_rows (e ∷ es) = ap (λ l. e.0 ∷ l) (ids_of_rows es)
 
-not_below : (x : List ℕ) (xs : List (List ℕ)) → AllByRecursion (λ y. text_cmp x y ≡ Less) xs → has x xs ≡ false
-not_below x [] h = has-nil x
-not_below x (y ∷ ys) h = has-cons x y ys ∙ ap₂ (λ a b. a || b) (texts_ties x y ∙ ap is_eq h.0) (not_below x ys h.1)
-
 -- texts in order are apart
 pub apart_sorted : (xs : List (List ℕ)) → IsStrictlySortedBy text_cmp xs → Apart xs
 unfolding IsStrictlySortedBy Apart
 apart_sorted [] h = tt
-apart_sorted (x ∷ xs) h = (not_below x xs h.0, apart_sorted xs h.1)
+apart_sorted (x ∷ xs) h = (below_out x xs h.0, apart_sorted xs h.1)
 
 -- what a part finds of the old row
 pub old_now : (r : Option (Bor Told)) → option_map_or (λ (t : Bor Told). t.now.payload) r [] ≡ option_map_or (λ (t : Told). t.payload) (option_map (λ (t : Bor Told). t.now) r) []

@@ -1,3 +1,4 @@
+pub mod Basics
 pub mod Digits
 pub mod Marks
 pub mod NameLemmas
@@ -6,6 +7,8 @@ pub mod Pieces
 pub mod Points
 pub mod Printed
 pub mod Scans
+pub mod Sorting
+pub mod StampTexts
 pub mod StringTokens
 pub mod Strings
 pub mod TokensStay

@@ -9,6 +9,7 @@ use Rattle.ss_text.specs.Decimals.{is_number_byte, outside, Piece, run, text, un
 use Rattle.ss_text.specs.declared.decimals.Change.{Change}
 use Rattle.ss_text.specs.declared.decimals.Change.TheVariants.{Wrap, Mark, Unmark}
 use Rattle.ss_text.proofs.Pieces.{small_byte, begins_run, raw_run, Cut, cut_pieces, pieces_text, recut}
+use Rattle.ss_text.proofs.Basics.{same_text}
 
 -- ---- a changed text is cut into the changed pieces
 
@@ -122,7 +123,7 @@ marked-unmarked ps h e =
 
 -- ---- what is changed is UTF-8
 
-cut_at_byte : (a b : List ℕ) (x : ℕ) → x < 128 → IsUtf8 (a ++ x ∷ b) → IsUtf8 a × IsUtf8 b
+pub cut_at_byte : (a b : List ℕ) (x : ℕ) → x < 128 → IsUtf8 (a ++ x ∷ b) → IsUtf8 a × IsUtf8 b
 cut_at_byte a b x small u =
     let t = a ++ x ∷ b in
     let long : length t ≡ length a + suc (length b) = length-append a (x ∷ b) in
@@ -161,14 +162,8 @@ mark_utf8 = first 92 (lit< tt) _ (first 117 (lit< tt) _ (first 48 (lit< tt) _ (f
     first : (x : ℕ) → x < 128 → (xs : List ℕ) → IsUtf8 xs → IsUtf8 (x ∷ xs)
     first x h xs u = IsUtf8-append (x ∷ []) xs (one_ascii x h) u
 
-pub same_bytes : (xs ys : List ℕ) → bytes_eq xs ys ≡ true → xs ≡ ys
-same_bytes [] [] e = refl
-same_bytes [] (y ∷ ys) e = absurd (true≢false (sym e))
-same_bytes (x ∷ xs) [] e = absurd (true≢false (sym e))
-same_bytes (x ∷ xs) (y ∷ ys) e = let p = and_parts (x == y) (bytes_eq xs ys) e in ap₂ (λ a l. a ∷ l) (eqb-true x y p.0) (same_bytes xs ys p.1)
-
 pub begins_split : (s : List ℕ) → begins_marked s ≡ true → s ≡ escape_mark ++ drop 6 s
-begins_split s e = sym (take-append-drop 6 s) ∙ ap (λ m. m ++ drop 6 s) (same_bytes (take 6 s) escape_mark e)
+begins_split s e = sym (take-append-drop 6 s) ∙ ap (λ m. m ++ drop 6 s) (same_text (take 6 s) escape_mark e)
 
 rest_utf8 : (s : List ℕ) → begins_marked s ≡ true → IsUtf8 s → IsUtf8 (drop 6 s)
 rest_utf8 s e u = (cut_at_byte (92 ∷ 117 ∷ 48 ∷ 48 ∷ 48 ∷ []) (drop 6 s) 49 (lit< tt) (subst IsUtf8 (begins_split s e) u)).1

@@ -20,6 +20,7 @@ use Rattle.fast_float.specs.Text.{with_sign}
 use Rattle.serde_json.specs.Read.{number_of, number_from}
 use Rattle.serde_json.specs.Find.{is_float}
 use Rattle.ss_text.specs.Decimals.{is_point, is_all, is_decimal}
+use Rattle.ss_text.proofs.Basics.{some_same}
 
 -- ---- a sign and digits are read as a whole number
 
@@ -34,9 +35,6 @@ number_of-text_of false p h some = rw (ne_eqb (get_or (text_of p) 0 0) 45 (no_mi
 
 abbrev digits : List ℕ → Parts
 digits ds = record { whole = ds; point = false; fraction = []; exponent_negative = false; exponent = []; len = length (ds ++ []) }
-
-pub some_same : {A : Type 0} (a b : A) → Some a ≡ Some b → a ≡ b
-some_same a b e = cc
 
 module _ (m : List ℕ) (all : AllDigits 10 m) (some : 0 < length m) (few : length m ≤ 18) where
   formed : IsWellFormed (digits m)
@@ -56,7 +54,7 @@ module _ (m : List ℕ) (all : AllDigits 10 m) (some : 0 < length m) (few : leng
   whole_positive n e =
       let small : digits_value 10 (m ++ []) < 2 ^ 64 = omega (arith, value_small) in
       let whole : number_from false (digits m) ≡ Some (unsigned (digits_value 10 (m ++ []))) = rw (lt-ltb 0 (length m) some, lt-ltb _ _ small) refl in
-      ap is_float (some_same n (unsigned (digits_value 10 (m ++ []))) (sym e ∙ read_as false ∙ whole))
+      ap is_float (some_same (sym e ∙ read_as false ∙ whole))
 
   whole_negative : 0 < digits_value 10 m → (n : Num) → number_of (sign_text true ++ m) ≡ Some n → is_float n ≡ false
   whole_negative positive n e =
@@ -64,7 +62,7 @@ module _ (m : List ℕ) (all : AllDigits 10 m) (some : 0 < length m) (few : leng
       let small : v ≤ 2 ^ 63 = omega (arith, value_small) in
       let some_value : 0 < v = omega (arith, positive, ap (digits_value 10) (append-nil m)) in
       let whole : number_from true (digits m) ≡ Some (negative (with_sign true v)) = rw (lt-ltb 0 (length m) some, lt-ltb 0 v some_value, le-leb v (2 ^ 63) small) refl in
-      ap is_float (some_same n (negative (with_sign true v)) (sym e ∙ read_as true ∙ whole))
+      ap is_float (some_same (sym e ∙ read_as true ∙ whole))
 
 -- ---- the shape of a number without marks
 
@@ -165,10 +163,10 @@ digits_from m e = at (head m == 48) refl e
   where
     run : (b : Bool) → (prefix_len is_ascii_digit m == 0) ≡ b → (head m == 48) ≡ false → cond b None (Some (drop (prefix_len is_ascii_digit m) m)) ≡ Some [] → Digits m
     run true z other e = absurd (let f : Option (List ℕ) → Bool = λ o. is_some o in false≢true (ap f e))
-    run false z other e = Digits-run m (prefix_len is_ascii_digit m) refl (λ n. true≢false (sym (ap (λ k. k == 0) n) ∙ z)) (some_same _ _ e) other
+    run false z other e = Digits-run m (prefix_len is_ascii_digit m) refl (λ n. true≢false (sym (ap (λ k. k == 0) n) ∙ z)) (some_same e) other
 
     at : (b : Bool) → (head m == 48) ≡ b → cond b (Some (drop 1 m)) (after_digits m) ≡ Some [] → Digits m
-    at true z e = subst Digits (sym (head_is m 48 (λ k. let never : ⊥ = omega arith in never) (eqb-true (head m) 48 z) ∙ ap (λ t. 48 ∷ t) (some_same _ _ e))) Digits-zero
+    at true z e = subst Digits (sym (head_is m 48 (λ k. let never : ⊥ = omega arith in never) (eqb-true (head m) 48 z) ∙ ap (λ t. 48 ∷ t) (some_same e))) Digits-zero
     at false z e = run (prefix_len is_ascii_digit m == 0) refl z e
 
 value_grows : (n : ℕ) (ds : List ℕ) → n ≤ digits_value_after 10 n ds

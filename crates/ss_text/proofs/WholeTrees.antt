@@ -1,5 +1,5 @@
 -- A value whose numbers are not to be wrapped has no float.
-use Rattle.std.proofs.Common.{◌≡◌, ℕ, List, ◌++◌, Bool, true, false, ◌||◌, Option, Some, None, option_map, option_and_then, refl, sym, ap, ap₂, ◌∙◌, subst, append_assoc}
+use Rattle.std.proofs.Common.{◌≡◌, ℕ, List, ◌++◌, false, Option, Some, None, option_map, option_and_then, refl, sym, ap, ◌∙◌, subst, append_assoc}
 use Rattle.std.specs.Ordering.{nat_cmp, match_ordering}
 use Rattle.std.specs.Cmp.Lexicographic.{slice_cmp}
 use Rattle.std.specs.declared.cmp.Ordering.{Ordering}
@@ -13,7 +13,9 @@ use Rattle.serde_json.specs.Read.{number_of, of_json, of_items, of_members}
 use Rattle.serde_json.specs.Written.{has_float, items_have_float, members_have_float}
 use Rattle.ss_text.specs.Decimals.{is_decimal}
 use Rattle.ss_text.specs.Tokens.{AreWhole}
-use Rattle.ss_text.proofs.Whole.{number_is_whole, some_same}
+use Rattle.ss_text.proofs.Whole.{number_is_whole}
+use Rattle.ss_text.proofs.Basics.{some_same, neither_left, neither_right}
+use Rattle.std.proofs.lemmas.Bool.{or_from}
 
 abbrev mutual
   JsonWhole : json.Json → Type 0
@@ -60,41 +62,30 @@ ordered Less a b c p q r = p
 ordered Equal a b c p q r = q
 ordered Greater a b c p q r = r
 
-or_false : (a b : Bool) → a ≡ false → b ≡ false → (a || b) ≡ false
-or_false a b p q = ap₂ (λ x y. x || y) p q
-
-left_false : (a b : Bool) → (a || b) ≡ false → a ≡ false
-left_false true b h = h
-left_false false b h = refl
-
-right_false : (a b : Bool) → (a || b) ≡ false → b ≡ false
-right_false true b h = cc
-right_false false b h = h
-
 put_whole : (k : List ℕ) (d : Data) (ms : Members) → has_float d ≡ false → members_have_float ms ≡ false → members_have_float (put k d ms) ≡ false
-put_whole k d no_members h g = or_false _ _ h refl
+put_whole k d no_members h g = or_from _ _ h refl
 put_whole k d (member l e ms) h g =
     ordered (slice_cmp nat_cmp k l) (member k d (member l e ms)) (member l d ms) (member l e (put k d ms))
-    (or_false _ _ h g) (or_false _ _ h (right_false (has_float e) (members_have_float ms) g))
-    (or_false _ _ (left_false (has_float e) (members_have_float ms) g) (put_whole k d ms h (right_false (has_float e) (members_have_float ms) g)))
+    (or_from _ _ h g) (or_from _ _ h (neither_right (has_float e) (members_have_float ms) g))
+    (or_from _ _ (neither_left (has_float e) (members_have_float ms) g) (put_whole k d ms h (neither_right (has_float e) (members_have_float ms) g)))
 
 at_number : (o : Option Num) (d : Data) → ((n : Num) → o ≡ Some n → has_float (number n) ≡ false) → option_map number o ≡ Some d → has_float d ≡ false
 at_number None d h e = cc
-at_number (Some n) d h e = ap has_float (sym (some_same _ _ e)) ∙ h n refl
+at_number (Some n) d h e = ap has_float (sym (some_same e)) ∙ h n refl
 
 at_array : (o : Option Items) (d : Data) → ((ds : Items) → o ≡ Some ds → items_have_float ds ≡ false) → option_map array o ≡ Some d → has_float d ≡ false
 at_array None d h e = cc
-at_array (Some ds) d h e = ap has_float (sym (some_same _ _ e)) ∙ h ds refl
+at_array (Some ds) d h e = ap has_float (sym (some_same e)) ∙ h ds refl
 
 at_object : (o : Option Members) (d : Data) → ((ms : Members) → o ≡ Some ms → members_have_float ms ≡ false) → option_map object o ≡ Some d → has_float d ≡ false
 at_object None d h e = cc
-at_object (Some ms) d h e = ap has_float (sym (some_same _ _ e)) ∙ h ms refl
+at_object (Some ms) d h e = ap has_float (sym (some_same e)) ∙ h ms refl
 
 at_item : (o : Option Data) (p : Option Items) (ds : Items) → ((d : Data) → o ≡ Some d → has_float d ≡ false) → ((es : Items) → p ≡ Some es → items_have_float es ≡ false)
     → option_and_then (λ d. option_map (item d) p) o ≡ Some ds → items_have_float ds ≡ false
 at_item None p ds h g e = cc
 at_item (Some d) None ds h g e = cc
-at_item (Some d) (Some es) ds h g e = ap items_have_float (sym (some_same _ _ e)) ∙ or_false _ _ (h d refl) (g es refl)
+at_item (Some d) (Some es) ds h g e = ap items_have_float (sym (some_same e)) ∙ or_from _ _ (h d refl) (g es refl)
 
 at_member : (o : Option Data) (f : Data → Option Members) (out : Members) → ((d : Data) → o ≡ Some d → has_float d ≡ false)
     → ((d : Data) → has_float d ≡ false → f d ≡ Some out → members_have_float out ≡ false) → option_and_then f o ≡ Some out → members_have_float out ≡ false
@@ -103,19 +94,19 @@ at_member (Some d) f out h g e = g d (h d refl) e
 
 mutual
   whole_value : (j : json.Json) (d : Data) → JsonWhole j → of_json j ≡ Some d → has_float d ≡ false
-  whole_value json.null d h e = ap has_float (sym (some_same _ _ e))
-  whole_value (json.boolean b) d h e = ap has_float (sym (some_same _ _ e))
+  whole_value json.null d h e = ap has_float (sym (some_same e))
+  whole_value (json.boolean b) d h e = ap has_float (sym (some_same e))
   whole_value (json.number s) d h e = at_number (number_of s) d (λ n r. number_is_whole s h.0 h.1 n r) e
-  whole_value (json.string s) d h e = ap has_float (sym (some_same _ _ e))
+  whole_value (json.string s) d h e = ap has_float (sym (some_same e))
   whole_value (json.array js) d h e = at_array (of_items js) d (λ ds r. whole_items js ds h r) e
   whole_value (json.object ms) d h e = at_object (of_members ms no_members) d (λ ds r. whole_members ms no_members ds h refl r) e
 
   whole_items : (js : json.Items) (ds : Items) → ItemsWhole js → of_items js ≡ Some ds → items_have_float ds ≡ false
-  whole_items json.no_items ds h e = ap items_have_float (sym (some_same _ _ e))
+  whole_items json.no_items ds h e = ap items_have_float (sym (some_same e))
   whole_items (json.item j js) ds h e = at_item (of_json j) (of_items js) ds (λ d r. whole_value j d h.0 r) (λ es r. whole_items js es h.1 r) e
 
   whole_members : (ms : json.Members) (found out : Members) → MembersWhole ms → members_have_float found ≡ false → of_members ms found ≡ Some out → members_have_float out ≡ false
-  whole_members json.no_members found out h g e = ap members_have_float (sym (some_same _ _ e)) ∙ g
+  whole_members json.no_members found out h g e = ap members_have_float (sym (some_same e)) ∙ g
   whole_members (json.member k j ms) found out h g e =
       at_member (of_json j) (λ d. of_members ms (put k d found)) out (λ d r. whole_value j d h.0 r) (λ d w r. whole_members ms (put k d found) out h.1 (put_whole k d found w g) r) e
 

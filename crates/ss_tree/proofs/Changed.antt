@@ -14,7 +14,7 @@ use Rattle.ss_tree.proofs.Kept.{insert_free, move_free, remove_free, takes_parts
 use Rattle.ss_tree.specs.declared.cells.Cell.{Cell}
 use Rattle.ss_tree.specs.declared.cells.TheConstants.{END}
 use Rattle.ss_tree.specs.Cells.{IsPlace, blank, cell_at, next_of, prev_of, seat, seat_at, link_of, Joins, Attaches, Frees, SameLinks, Seats, listing, Lies, IsLinked}
-use Rattle.ss_tree.proofs.Kin.{under_from, entry_kid, kid_entry, kid_once, kid_apart}
+use Rattle.ss_tree.proofs.Kin.{entry_kid, kid_entry, kid_once, kid_apart}
 use Rattle.ss_tree.proofs.Listed.{absent}
 use Rattle.ss_tree.proofs.Sibs.{times-gone, times-kept, times-without}
 use Rattle.ss_tree.proofs.Ids.{node_kept, node_more, node_less}
@@ -24,6 +24,7 @@ use Rattle.ss_tree.proofs.Settled.{end_nowhere, kid_below, settled, listed_entry
 use Rattle.ss_tree.proofs.Strung.{Strung, detached, left_in, right_in}
 use Rattle.ss_tree.proofs.Attached.{attached, beside}
 use Rattle.std.proofs.lemmas.Option.{none-some}
+use Rattle.ss_tree.proofs.Valid.{under_from}
 
 -- the rows of a tree's nodes share no node
 pub strung_from : (cells : List Cell) (es : List Entry) → IsKept es (length cells) → Lies cells es → Strung cells (λ p. kids p es)
@@ -105,10 +106,6 @@ has_parent es t k live loose none = go (entry k es) refl live none
     go (Some e) q l w =
         let f = t.folder k e q (λ is. false≢true (sym (or_parts (k == 0) (unwrap_or (option_map (stands_under 0) (entry k es)) false) loose).0 ∙ eq-eqb k 0 is)) in
         none-some _ (sym w ∙ f.1)
-
-pub live_some : {X : Type 0} (o : Option X) → is_some o ≡ true → (x : X) × (o ≡ Some x)
-live_some None l = absurd (false≢true l)
-live_some (Some x) l = (x, refl)
 
 some_number : {a b : ℕ} → Some a ≡ Some b → a ≡ b
 some_number h = cc

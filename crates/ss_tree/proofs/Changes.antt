@@ -1,16 +1,13 @@
 -- Edits keep a tree a tree.
 use Rattle.std.proofs.Common.{◌≡◌, ◌≢◌, ℕ, zero, suc, ◌==◌, List, Bool, true, false, cond, refl, sym, ap, ◌∙◌, subst, Option, Some, None, option_and_then, unwrap_or, is_some}
-use Rattle.std.proofs.lemmas.Bool.{false≢true, eqb-true}
+use Rattle.std.proofs.lemmas.Bool.{false≢true, eqb-true, eqb-false}
 use Rattle.ss_record.specs.Ids.{Apart, roots}
 use Rattle.ss_record.specs.Kinds.{is_folder}
 use Rattle.ss_tree.specs.declared.entries.Entry.{Entry}
 use Rattle.ss_tree.specs.Trees.{steps, Reaches}
 use Rattle.ss_tree.specs.Entries.{entry, kid_ids, above, up, entry_ids, NodesApart, IsTree, top_entry}
-use Rattle.ss_tree.proofs.Edits.{other_number, number_sym}
 use Rattle.std.proofs.lemmas.Option.{none-some}
-
-pub some_same : {X : Type 0} {x y : X} → Some x ≡ Some y → x ≡ y
-some_same f = cc
+use Rattle.ss_text.proofs.Basics.{number_turned, some_same}
 
 pub up_of : (es : List Entry) (j : ℕ) (g : Entry) (p : ℕ) → entry j es ≡ Some g → g.parent ≡ Some p → up es j ≡ p
 unfolding up above
@@ -45,7 +42,7 @@ live_up es t j l = go (entry j es) refl l
       where
         at : (b : Bool) → (j == 0) ≡ b → is_some (entry (up es j) es) ≡ true
         at true z = let zero_is : j ≡ 0 = eqb-true j 0 z in ap (λ i. is_some (entry i es)) (ap (up es) zero_is ∙ up_top es t) ∙ ap is_some t.top
-        at false z = let f = t.folder j g q (other_number j 0 z) in ap (λ i. is_some (entry i es)) (up_of es j g f.0 q f.1) ∙ ap is_some f.3
+        at false z = let f = t.folder j g q (eqb-false j 0 z) in ap (λ i. is_some (entry i es)) (up_of es j g f.0 q f.1) ∙ ap is_some f.3
 
 pub live_steps : (es : List Entry) → IsTree es → (i j : ℕ) → is_some (entry j es) ≡ true → is_some (entry (steps (up es) i j) es) ≡ true
 unfolding steps
@@ -106,7 +103,7 @@ module _ (es fs : List Entry) (t : IsTree es) (k p : ℕ) (e f : Entry)
   changed_tree = record {
     nodes = nodes;
     ids = ids;
-    top = look_other 0 (number_sym 0 k ∙ inside) ∙ t.top;
+    top = look_other 0 (number_turned 0 k ∙ inside) ∙ t.top;
     under_top = under_top;
     root_folder = λ j g q r. at_root j g q r (j == k) refl;
     folder = λ j g q ne. at_folder j g q ne (j == k) refl;
@@ -114,7 +111,7 @@ module _ (es fs : List Entry) (t : IsTree es) (k p : ℕ) (e f : Entry)
   }
     where
       at_root : (j : ℕ) (g : Entry) → entry j fs ≡ Some g → g.parent ≡ Some 0 → (b : Bool) → (j == k) ≡ b → is_folder g.item.kind ≡ true
-      at_root j g q r true c = let same : e ≡ g = some_same (sym (look_here j c) ∙ q) in absurd (other_number p 0 below (some_same (sym under ∙ (ap (λ x. x.parent) same ∙ r))))
+      at_root j g q r true c = let same : e ≡ g = some_same (sym (look_here j c) ∙ q) in absurd (eqb-false p 0 below (some_same (sym under ∙ (ap (λ x. x.parent) same ∙ r))))
       at_root j g q r false c = t.root_folder j g (sym (look_other j c) ∙ q) r
 
       found : (q : ℕ) (h : Entry) → entry q es ≡ Some h → is_folder h.item.kind ≡ true → (b : Bool) → (q == k) ≡ b → (m : Entry) × (entry q fs ≡ Some m) × (is_folder m.item.kind ≡ true)
@@ -149,11 +146,11 @@ module _ (es fs : List Entry) (t : IsTree es) (k : ℕ)
   not_leaf j = go (k == up es j) refl
     where
       parent : (g : Entry) (o : Option ℕ) → entry j es ≡ Some g → g.parent ≡ o → k ≡ up es j → ⊥
-      parent g None q r e = other_number k 0 inside (e ∙ up_orphan es j g q r)
+      parent g None q r e = eqb-false k 0 inside (e ∙ up_orphan es j g q r)
       parent g (Some p) q r e = leaf j g q (r ∙ ap Some (sym (e ∙ up_of es j g p q r)))
 
       at : (o : Option Entry) → entry j es ≡ o → k ≡ up es j → ⊥
-      at None q e = other_number k 0 inside (e ∙ up_none es j q)
+      at None q e = eqb-false k 0 inside (e ∙ up_none es j q)
       at (Some g) q e = parent g g.parent q refl e
 
       go : (b : Bool) → (k == up es j) ≡ b → b ≡ false
@@ -217,7 +214,7 @@ module _ (es fs : List Entry) (t : IsTree es) (k : ℕ) (e d : Entry)
   revised_tree = record {
     nodes = nodes;
     ids = ids;
-    top = look 0 ∙ (ap (λ b. cond b (Some e) (entry 0 es)) (number_sym 0 k ∙ inside) ∙ t.top);
+    top = look 0 ∙ (ap (λ b. cond b (Some e) (entry 0 es)) (number_turned 0 k ∙ inside) ∙ t.top);
     under_top = under_top;
     root_folder = λ j g q r. let s = seen j g q in s.3 ∙ t.root_folder j s.0 s.1 (sym s.2 ∙ r);
     folder = λ j g q ne. let s = seen j g q in let h = t.folder j s.0 s.1 ne in let m = shown h.0 h.2 h.3 h.4 in (h.0, s.2 ∙ h.1, m.0, m.1, m.2);

@@ -2,12 +2,11 @@
 use Rattle.std.proofs.Common.{◌≡◌, ◌≢◌, ℕ, ◌+◌, ◌<◌, List, Bool, true, false, cond, nat_lt, refl, sym, ap, ◌∙◌, arith, inl, inr, Option, Some, None, option_map, is_some, bytes_eq}
 use Rattle.std.proofs.lemmas.Bool.{false≢true, cases_lt, lt-ltb, le-ltb}
 use Rattle.ss_record.specs.Items.{ItemView}
-use Rattle.ss_record.proofs.IdLists.{same_id, bytes_eq-same}
 use Rattle.ss_tree.specs.declared.entries.Entry.{Entry}
 use Rattle.ss_tree.specs.Entries.{entry, is_live, node_of, IsTree}
-use Rattle.ss_tree.proofs.Changes.{some_same}
 use Rattle.ss_tree.proofs.Ids.{node_found, node_there}
 use Rattle.std.proofs.lemmas.Option.{none-some}
+use Rattle.ss_text.proofs.Basics.{same_text, bytes_eq-same, some_same}
 
 -- a node below i
 abbrev pub low : ℕ → Option ℕ → Option ℕ
@@ -45,7 +44,7 @@ module _ (es : List Entry) (t : IsTree es) (x : List ℕ) where
 
       go : (b : Bool) → bytes_eq e.item.id x ≡ b → cond b (Some i) (low i (node_of x es)) ≡ low (i + 1) (node_of x es)
       go true c =
-          let here : node_of x es ≡ Some i = node_there es t x i e q (same_id e.item.id x c) in
+          let here : node_of x es ≡ Some i = node_there es t x i e q (same_text e.item.id x c) in
           sym (ap (low (i + 1)) here ∙ ap (λ b. cond b (Some i) None) (lt-ltb i (i + 1) (omega arith)))
       go false c = other c (node_of x es) refl
 

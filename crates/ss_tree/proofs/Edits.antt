@@ -1,36 +1,15 @@
 -- What a list of entries with one more, or one less, says of each node.
-use Rattle.std.proofs.Common.{◌≡◌, ◌≢◌, ℕ, ◌==◌, List, [], ◌∷◌, ◌++◌, map, Bool, true, false, not, cond, ◌||◌, refl, sym, ap, ◌∙◌, filter, bytes_eq, Option, Some, None, option_map, unwrap_or, is_some, arith}
-use Rattle.std.proofs.lemmas.Bool.{false≢true, eqb-true, or_parts}
+use Rattle.std.proofs.Common.{◌≡◌, ◌≢◌, ℕ, ◌==◌, List, [], ◌∷◌, ◌++◌, map, Bool, true, false, not, cond, ◌||◌, refl, sym, ap, ◌∙◌, filter, bytes_eq, Option, Some, None, option_map, unwrap_or, is_some}
+use Rattle.std.proofs.lemmas.Bool.{false≢true, eqb-true, or_parts, eqb-false}
 use Rattle.ss_record.specs.Ids.{has, Apart}
 use Rattle.ss_record.specs.Items.{is_fit}
-use Rattle.ss_record.proofs.IdLists.{same_id, bytes_eq-refl, has-cons, Apart-cons, Apart-head, Apart-tail}
+use Rattle.ss_record.proofs.IdLists.{bytes_eq-refl, has-cons, Apart-cons, Apart-head, Apart-tail}
 use Rattle.ss_tree.specs.declared.entries.Entry.{Entry}
 use Rattle.ss_tree.specs.Entries.{entry, stands_under, kids, kid_ids, entry_ids, NodesApart, put_before, without_node, is_place, is_live, is_fit_with}
 use Rattle.ss_tree.proofs.Lists.{put_entry, without_entry}
+use Rattle.ss_text.proofs.Basics.{bytes_eq-flip, same_text, number_turned}
 
 -- ---- numbers
-
-pub same_number : (a b : ℕ) → a ≡ b → (a == b) ≡ true
-same_number a b e = go (a == b) refl
-  where
-    go : (c : Bool) → (a == b) ≡ c → c ≡ true
-    go true q = refl
-    go false q = absurd (false≢true (sym q ∙ (ap (λ x. x == b) e ∙ self b)))
-      where
-        self : (x : ℕ) → (x == x) ≡ true
-        self x = grind arith
-
-pub other_number : (a b : ℕ) → (a == b) ≡ false → a ≢ b
-other_number a b h e = false≢true (sym h ∙ same_number a b e)
-
-pub number_sym : (a b : ℕ) → (a == b) ≡ (b == a)
-number_sym a b = go (a == b) (b == a) refl refl
-  where
-    go : (c d : Bool) → (a == b) ≡ c → (b == a) ≡ d → c ≡ d
-    go true true p q = refl
-    go false false p q = refl
-    go true false p q = sym (same_number b a (sym (eqb-true a b p))) ∙ q
-    go false true p q = sym p ∙ same_number a b (sym (eqb-true b a q))
 
 -- ---- by node
 
@@ -59,13 +38,13 @@ entry_put None e (f ∷ fs) j fresh = later (entry_put None e fs j (fresh_parts 
     later ih = entry-cons j f (put_entry None e fs) ∙ (ap (cond (j == f.node) (Some f)) ih ∙ (turn (j == f.node) (j == e.node) refl refl ∙ ap (cond (j == e.node) (Some e)) (sym (entry-cons j f fs))))
       where
         turn : (x y : Bool) → (j == f.node) ≡ x → (j == e.node) ≡ y → cond x (Some f) (cond y (Some e) (entry j fs)) ≡ cond y (Some e) (cond x (Some f) (entry j fs))
-        turn true true p q = absurd (other_number e.node f.node (fresh_parts e.node f fs fresh).0 (sym (eqb-true j e.node q) ∙ eqb-true j f.node p))
+        turn true true p q = absurd (eqb-false e.node f.node (fresh_parts e.node f fs fresh).0 (sym (eqb-true j e.node q) ∙ eqb-true j f.node p))
         turn true false p q = refl
         turn false y p q = refl
 entry_put (Some b) e (f ∷ fs) j fresh = go (b == f.node) (entry_put (Some b) e fs j (fresh_parts e.node f fs fresh).1)
   where
     turn : (x y : Bool) → (j == f.node) ≡ x → (j == e.node) ≡ y → cond x (Some f) (cond y (Some e) (entry j fs)) ≡ cond y (Some e) (cond x (Some f) (entry j fs))
-    turn true true p q = absurd (other_number e.node f.node (fresh_parts e.node f fs fresh).0 (sym (eqb-true j e.node q) ∙ eqb-true j f.node p))
+    turn true true p q = absurd (eqb-false e.node f.node (fresh_parts e.node f fs fresh).0 (sym (eqb-true j e.node q) ∙ eqb-true j f.node p))
     turn true false p q = refl
     turn false y p q = refl
 
@@ -83,11 +62,11 @@ entry_without k (f ∷ fs) j = go (k == f.node) refl (entry_without k fs j)
   where
     gone : (x y : Bool) → (k == j) ≡ x → (j == f.node) ≡ y → (k == f.node) ≡ true → cond x None (entry j fs) ≡ cond x None (cond y (Some f) (entry j fs))
     gone true y p q h = refl
-    gone false true p q h = absurd (other_number k j p (eqb-true k f.node h ∙ sym (eqb-true j f.node q)))
+    gone false true p q h = absurd (eqb-false k j p (eqb-true k f.node h ∙ sym (eqb-true j f.node q)))
     gone false false p q h = refl
 
     kept : (x y : Bool) → (k == j) ≡ x → (j == f.node) ≡ y → (k == f.node) ≡ false → cond y (Some f) (cond x None (entry j fs)) ≡ cond x None (cond y (Some f) (entry j fs))
-    kept true true p q h = absurd (other_number k f.node h (eqb-true k j p ∙ eqb-true j f.node q))
+    kept true true p q h = absurd (eqb-false k f.node h (eqb-true k j p ∙ eqb-true j f.node q))
     kept true false p q h = refl
     kept false y p q h = refl
 
@@ -227,12 +206,12 @@ nodes_put None e [] a h = (h, tt)
 nodes_put (Some b) e [] a h = (h, tt)
 nodes_put None e (f ∷ fs) a h =
     let p = fresh_parts e.node f fs h in
-    (entry_put None e fs f.node p.1 ∙ (ap (λ c. cond c (Some e) (entry f.node fs)) (number_sym f.node e.node ∙ p.0) ∙ a.0), nodes_put None e fs a.1 p.1)
+    (entry_put None e fs f.node p.1 ∙ (ap (λ c. cond c (Some e) (entry f.node fs)) (number_turned f.node e.node ∙ p.0) ∙ a.0), nodes_put None e fs a.1 p.1)
 nodes_put (Some b) e (f ∷ fs) a h = go (b == f.node) (fresh_parts e.node f fs h) (nodes_put (Some b) e fs a.1)
   where
     go : (c : Bool) → ((e.node == f.node) ≡ false) × (entry e.node fs ≡ None) → (entry e.node fs ≡ None → NodesApart (put_entry (Some b) e fs)) → NodesApart (cond c (e ∷ f ∷ fs) (f ∷ put_entry (Some b) e fs))
     go true p ih = (h, a)
-    go false p ih = (entry_put (Some b) e fs f.node p.1 ∙ (ap (λ c. cond c (Some e) (entry f.node fs)) (number_sym f.node e.node ∙ p.0) ∙ a.0), ih p.1)
+    go false p ih = (entry_put (Some b) e fs f.node p.1 ∙ (ap (λ c. cond c (Some e) (entry f.node fs)) (number_turned f.node e.node ∙ p.0) ∙ a.0), ih p.1)
 
 pub nodes_without : (k : ℕ) (es : List Entry) → NodesApart es → NodesApart (without_entry k es)
 unfolding NodesApart
@@ -282,25 +261,18 @@ ids-parts : (f : Entry) (fs : List Entry) → Apart (entry_ids (f ∷ fs)) → (
 unfolding entry_ids
 ids-parts f fs a = (Apart-head f.item.id (map (λ e. e.item.id) fs) a, Apart-tail f.item.id (map (λ e. e.item.id) fs) a)
 
-different : (x y : List ℕ) → bytes_eq x y ≡ false → bytes_eq y x ≡ false
-different x y h = go (bytes_eq y x) refl
-  where
-    go : (b : Bool) → bytes_eq y x ≡ b → b ≡ false
-    go true e = absurd (false≢true (sym h ∙ (ap (λ w. bytes_eq x w) (same_id y x e) ∙ bytes_eq-refl x)))
-    go false e = refl
-
 pub ids_put : (b : Option ℕ) (e : Entry) (es : List Entry) → Apart (entry_ids es) → has e.item.id (entry_ids es) ≡ false → Apart (entry_ids (put_entry b e es))
 ids_put None e [] a h = ids-apart e [] h a
 ids_put (Some b) e [] a h = ids-apart e [] h a
 ids_put None e (f ∷ fs) a h = later (or_parts (bytes_eq e.item.id f.item.id) (has e.item.id (entry_ids fs)) (sym (ids-cons e.item.id f fs) ∙ h)) (ids-parts f fs a) (ids_put None e fs)
   where
     later : (bytes_eq e.item.id f.item.id ≡ false) × (has e.item.id (entry_ids fs) ≡ false) → (has f.item.id (entry_ids fs) ≡ false) × Apart (entry_ids fs) → (Apart (entry_ids fs) → has e.item.id (entry_ids fs) ≡ false → Apart (entry_ids (put_entry None e fs))) → Apart (entry_ids (f ∷ put_entry None e fs))
-    later p q ih = ids-apart f (put_entry None e fs) (has_put f.item.id None e fs ∙ (ap (λ c. c || has f.item.id (entry_ids fs)) (different e.item.id f.item.id p.0) ∙ q.0)) (ih q.1 p.1)
+    later p q ih = ids-apart f (put_entry None e fs) (has_put f.item.id None e fs ∙ (ap (λ c. c || has f.item.id (entry_ids fs)) (bytes_eq-flip e.item.id f.item.id p.0) ∙ q.0)) (ih q.1 p.1)
 ids_put (Some b) e (f ∷ fs) a h = go (b == f.node) (or_parts (bytes_eq e.item.id f.item.id) (has e.item.id (entry_ids fs)) (sym (ids-cons e.item.id f fs) ∙ h)) (ids-parts f fs a) (ids_put (Some b) e fs)
   where
     go : (c : Bool) → (bytes_eq e.item.id f.item.id ≡ false) × (has e.item.id (entry_ids fs) ≡ false) → (has f.item.id (entry_ids fs) ≡ false) × Apart (entry_ids fs) → (Apart (entry_ids fs) → has e.item.id (entry_ids fs) ≡ false → Apart (entry_ids (put_entry (Some b) e fs))) → Apart (entry_ids (cond c (e ∷ f ∷ fs) (f ∷ put_entry (Some b) e fs)))
     go true p q ih = ids-apart e (f ∷ fs) h a
-    go false p q ih = ids-apart f (put_entry (Some b) e fs) (has_put f.item.id (Some b) e fs ∙ (ap (λ c. c || has f.item.id (entry_ids fs)) (different e.item.id f.item.id p.0) ∙ q.0)) (ih q.1 p.1)
+    go false p q ih = ids-apart f (put_entry (Some b) e fs) (has_put f.item.id (Some b) e fs ∙ (ap (λ c. c || has f.item.id (entry_ids fs)) (bytes_eq-flip e.item.id f.item.id p.0) ∙ q.0)) (ih q.1 p.1)
 
 pub ids_without : (k : ℕ) (es : List Entry) → Apart (entry_ids es) → Apart (entry_ids (without_entry k es))
 ids_without k [] a = a
@@ -343,7 +315,7 @@ id_is_free k (f ∷ fs) e n a q = go (k == f.node) (sym (entry-cons k f fs) ∙ 
         apart_from h c2 = pick (bytes_eq e.item.id f.item.id) refl
           where
             pick : (b : Bool) → bytes_eq e.item.id f.item.id ≡ b → b ≡ false
-            pick true s = absurd (false≢true (sym h ∙ (ap (λ w. has w (entry_ids fs)) (sym (same_id e.item.id f.item.id s)) ∙ entry_has k fs e c2)))
+            pick true s = absurd (false≢true (sym h ∙ (ap (λ w. has w (entry_ids fs)) (sym (same_text e.item.id f.item.id s)) ∙ entry_has k fs e c2)))
             pick false s = refl
 
 -- ---- a content that is fit

@@ -5,7 +5,7 @@ use Rattle.std.proofs.Math.Seq.{get_or-append_seam}
 use Rattle.std.proofs.lemmas.Bool.{false≢true, cases_lt}
 use Rattle.std.proofs.lemmas.List.{get_or_past}
 use Rattle.ss_record.specs.Ids.{has, Apart}
-use Rattle.ss_record.proofs.IdLists.{same_id, bytes_eq-sym, has-nil, has-cons, has-head, Apart-head, Apart-tail}
+use Rattle.ss_record.proofs.IdLists.{has-nil, has-cons, has-head, Apart-head, Apart-tail}
 use Rattle.ss_list.specs.Chain.{times}
 use Rattle.ss_list.proofs.Times.{times-append, at_head}
 use Rattle.ss_list.proofs.Paths.{Path}
@@ -21,6 +21,7 @@ use Rattle.ss_tree.proofs.Listed.{absent}
 use Rattle.ss_tree.proofs.Strung.{Strung}
 use Rattle.ss_tree.proofs.Attached.{attached, beside}
 use Rattle.ss_tree.proofs.Changed.{Holds, strung_same, read_push, seat_push, row_place}
+use Rattle.ss_text.proofs.Basics.{bytes_eq-sym, same_text}
 
 -- the cells have these entries, and their rows are linked
 pub record Built (cells : List Cell) (es : List Entry) : Type 0 where
@@ -162,7 +163,7 @@ node_push x (f ∷ fs) e none = go (bytes_eq x f.item.id) refl (bytes_eq e.item.
     go b w true q h ih = absurd (false≢true (sym h))
     go false w false q h ih = ih h
     go true w false q h ih =
-        let is : x ≡ f.item.id = same_id x f.item.id w in
+        let is : x ≡ f.item.id = same_text x f.item.id w in
         sym (ap (λ c. cond c (Some e.node) (Some f.node)) (ap (bytes_eq e.item.id) is ∙ q))
 
 pub apart_before : (xs : List Entry) (e : Entry) (ys : List Entry) → Apart (entry_ids (xs ++ e ∷ ys)) → has e.item.id (entry_ids xs) ≡ false
@@ -181,7 +182,7 @@ apart_before (f ∷ fs) e ys a =
 
     go : (b : Bool) → bytes_eq e.item.id f.item.id ≡ b → has e.item.id (map (λ d. d.item.id) fs) ≡ false → (b || has e.item.id (map (λ d. d.item.id) fs)) ≡ false
     go false q ih = ih
-    go true q ih = absurd (false≢true (sym (Apart-head f.item.id (map (λ d. d.item.id) (fs ++ e ∷ ys)) a) ∙ (ap (λ i. has i (map (λ d. d.item.id) (fs ++ e ∷ ys))) (sym (same_id e.item.id f.item.id q)) ∙ later fs)))
+    go true q ih = absurd (false≢true (sym (Apart-head f.item.id (map (λ d. d.item.id) (fs ++ e ∷ ys)) a) ∙ (ap (λ i. has i (map (λ d. d.item.id) (fs ++ e ∷ ys))) (sym (same_text e.item.id f.item.id q)) ∙ later fs)))
 
 pub node_none : (x : List ℕ) → node_of x [] ≡ None
 unfolding node_of

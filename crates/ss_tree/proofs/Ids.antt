@@ -1,14 +1,14 @@
 -- The nodes of ids.
 use Rattle.std.proofs.Common.{◌≡◌, ◌⊎◌, ℕ, ◌==◌, List, [], ◌∷◌, map, find, Bool, true, false, cond, ◌||◌, refl, sym, ap, subst, ◌∙◌, inl, inr, Option, Some, None, option_map, is_some, bytes_eq}
-use Rattle.std.proofs.lemmas.Bool.{false≢true, eqb-true}
+use Rattle.std.proofs.lemmas.Bool.{false≢true, eqb-true, eq-eqb}
 use Rattle.ss_record.specs.Ids.{has}
-use Rattle.ss_record.proofs.IdLists.{same_id, bytes_eq-same, has-nil, has-cons}
+use Rattle.ss_record.proofs.IdLists.{has-nil, has-cons}
 use Rattle.ss_tree.specs.declared.entries.Entry.{Entry}
 use Rattle.ss_tree.specs.Entries.{entry, entry_ids, node_of, IsTree}
-use Rattle.ss_tree.proofs.Edits.{same_number, entry_has}
-use Rattle.ss_tree.proofs.Changes.{some_same}
+use Rattle.ss_tree.proofs.Edits.{entry_has}
 use Rattle.ss_tree.proofs.Valid.{In, entry_in, in_entry, one_entry}
 use Rattle.std.proofs.lemmas.Option.{none-some}
+use Rattle.ss_text.proofs.Basics.{same_text, bytes_eq-same, some_same}
 
 pub has_node : (x : List ℕ) (es : List Entry) → has x (entry_ids es) ≡ is_some (node_of x es)
 unfolding node_of entry_ids
@@ -26,7 +26,7 @@ found_in x (f ∷ fs) k q = go (bytes_eq x f.item.id) refl q (found_in x fs k)
   where
     go : (b : Bool) → bytes_eq x f.item.id ≡ b → option_map (λ e. e.node) (cond b (Some f) (find (λ e. bytes_eq x e.item.id) fs)) ≡ Some k
         → (option_map (λ e. e.node) (find (λ e. bytes_eq x e.item.id) fs) ≡ Some k → (e : Entry) × In e fs × (e.node ≡ k) × (e.item.id ≡ x)) → (e : Entry) × ((e ≡ f) ⊎ In e fs) × (e.node ≡ k) × (e.item.id ≡ x)
-    go true c h ih = (f, inl refl, some_same h, sym (same_id x f.item.id c))
+    go true c h ih = (f, inl refl, some_same h, sym (same_text x f.item.id c))
     go false c h ih = let r = ih h in (r.0, inr r.1, r.2, r.3)
 
 -- the node of an id has an item with it
@@ -74,7 +74,7 @@ module _ (es fs : List Entry) (t : IsTree es) (u : IsTree fs) (x : List ℕ) whe
   node_more n e none look = go (bytes_eq e.item.id x) refl
     where
       at_n : entry n fs ≡ Some e
-      at_n = look n ∙ ap (λ b. cond b (Some e) (entry n es)) (same_number n n refl)
+      at_n = look n ∙ ap (λ b. cond b (Some e) (entry n es)) (eq-eqb n n refl)
 
       other : (j : ℕ) → (j == n) ≡ false → entry j fs ≡ entry j es
       other j c = look j ∙ ap (λ b. cond b (Some e) (entry j es)) c
@@ -90,7 +90,7 @@ module _ (es fs : List Entry) (t : IsTree es) (u : IsTree fs) (x : List ℕ) whe
       from apart j false c f q is = (f, sym (other j c) ∙ q, is)
 
       go : (b : Bool) → bytes_eq e.item.id x ≡ b → node_of x fs ≡ cond b (Some n) (node_of x es)
-      go true c = node_there fs u x n e at_n (same_id e.item.id x c)
+      go true c = node_there fs u x n e at_n (same_text e.item.id x c)
       go false c = node_same (λ j d q is. to j (j == n) refl d q is) (λ j f q is. from c j (j == n) refl f q is)
 
   -- one item less
@@ -112,9 +112,9 @@ module _ (es fs : List Entry) (t : IsTree es) (u : IsTree fs) (x : List ℕ) whe
       gone c (Some j) h =
           let f = node_found fs u x j h in
           let s = still j (k == j) refl f.0 f.1 in
-          let mine : node_of x es ≡ Some k = node_there es t x k d at (same_id d.item.id x c) in
+          let mine : node_of x es ≡ Some k = node_there es t x k d at (same_text d.item.id x c) in
           let is : k ≡ j = some_same (sym mine ∙ node_there es t x j f.0 s.1 f.2) in
-          absurd (false≢true (sym s.0 ∙ same_number k j is))
+          absurd (false≢true (sym s.0 ∙ eq-eqb k j is))
 
       go : (b : Bool) → bytes_eq d.item.id x ≡ b → node_of x fs ≡ cond b None (node_of x es)
       go true c = gone c (node_of x fs) refl

@@ -1,7 +1,7 @@
 -- The calls keep a tree.
 use Rattle.std.proofs.Common.{◌≡◌, ◌≢◌, ℕ, zero, suc, ◌-◌, ◌<◌, ◌≤◌, ◌==◌, List, [], ◌∷◌, map, Bool, true, false, not, cond, ◌||◌, ◌⊎◌, inl, inr, refl, sym, ap, ap₂, ◌∙◌, subst, arith, Option, Some, None, option_map, unwrap_or, is_some, codes, lit<}
 use Rattle.std.specs.List.{flat_map}
-use Rattle.std.proofs.lemmas.Bool.{false≢true, eqb-true, or_parts, and_parts, not-true}
+use Rattle.std.proofs.lemmas.Bool.{false≢true, eqb-true, or_parts, and_parts, not-true, eqb-false, eq-eqb}
 use Rattle.ss_record.specs.Ids.{has, Apart, places, roots}
 use Rattle.ss_record.specs.Kinds.{is_folder}
 use Rattle.ss_record.specs.Items.{empty_folder}
@@ -12,12 +12,13 @@ use Rattle.ss_tree.specs.declared.faults.RemoveFault.TheVariants.{Root as Fixed,
 use Rattle.ss_tree.specs.Trees.{steps, Reaches, empty_tree, places_node}
 use Rattle.ss_tree.specs.Entries.{entry, is_live, stands_under, kids, kid_ids, up, placed, tree, NodesApart, entry_ids, top_entry, IsTree, IsKept, under, revised, put_before, without_node, first_of, is_below, takes_children, is_fixed, is_place, insert_fault, is_node, move_fault, remove_fault, new_entries, is_fit_with, preorder}
 use Rattle.ss_tree.proofs.Lists.{put_entry, without_entry, revise_entry}
-use Rattle.ss_tree.proofs.Edits.{same_number, other_number, number_sym, entry-nil, entry-cons, entry_put, entry_without, kids-cons, kids_put, kids_without, kid_ids-cons, kid_ids_put, kid_ids_without, nodes_put, nodes_without, ids_put, ids_without, id_is_free}
-use Rattle.ss_tree.proofs.Changes.{some_same, onward, up_of, live_steps, changed_tree, leafless_tree, revised_tree}
+use Rattle.ss_tree.proofs.Edits.{entry-nil, entry-cons, entry_put, entry_without, kids-cons, kids_put, kids_without, kid_ids-cons, kid_ids_put, kid_ids_without, nodes_put, nodes_without, ids_put, ids_without, id_is_free}
+use Rattle.ss_tree.proofs.Changes.{onward, up_of, live_steps, changed_tree, leafless_tree, revised_tree}
 use Rattle.ss_tree.proofs.Ways.{never_met}
 use Rattle.ss_tree.proofs.Edits.{live_entry}
 use Rattle.ss_tree.proofs.Valid.{In, entry_in}
 use Rattle.std.proofs.lemmas.Option.{none-some}
+use Rattle.ss_text.proofs.Basics.{own_number, number_turned, some_same}
 
 -- ---- what no fault means
 
@@ -89,9 +90,6 @@ dead j es h = go (entry j es) refl
     go None q = q
     go (Some e) q = absurd (h (ap is_some q))
 
-same_is : (x : ℕ) → (x == x) ≡ true
-same_is x = same_number x x refl
-
 -- ---- insert
 
 pub kept_insert : (es : List Entry) (next m p : ℕ) (b : Option ℕ) (e : Entry) → IsKept es next → insert_fault es p b e.item.id ≡ None → entry e.node es ≡ None → e.node < m → next ≤ m → e.parent ≡ Some p → IsKept (put_entry b e es) m
@@ -106,7 +104,7 @@ kept_insert es next m p b e h free none inside longer under_p = record { is_tree
         let t = takes_parts p es f.0.takes in
         let top : is_live 0 es ≡ true = ap is_some h.is_tree.top in
         changed_tree es (put_entry b e es) h.is_tree e.node p e t.1.0 look (nodes_put b e es h.is_tree.nodes none) (ids_put b e es h.is_tree.ids f.1)
-        (kid_ids_put 0 b e es (ap (λ o. unwrap_or (option_map (λ q. 0 == q) o) false) under_p ∙ (number_sym 0 p ∙ t.0)) ∙ h.is_tree.under_top)
+        (kid_ids_put 0 b e es (ap (λ o. unwrap_or (option_map (λ q. 0 == q) o) false) under_p ∙ (number_turned 0 p ∙ t.0)) ∙ h.is_tree.under_top)
         (not_top top) under_p t.0 t.1.1 t.1.2 (λ g q. absurd (none-some _ (sym none ∙ q)))
         (λ i q. no_live (ap (λ x. is_some (entry x es)) (sym q) ∙ live_steps es h.is_tree i p (ap is_some t.1.1)))
       where
@@ -138,10 +136,10 @@ insert_kids es p b e free under_p j =
 pub move_look : (es : List Entry) (k p : ℕ) (b : Option ℕ) (d : Entry) → entry k es ≡ Some d → (j : ℕ) → entry j (put_entry b (under p d) (without_entry k es)) ≡ cond (j == k) (Some (under p d)) (entry j es)
 move_look es k p b d q j =
     let at : d.node ≡ k = (entry_in k es d q).1 in
-    let none : entry d.node (without_entry k es) ≡ None = entry_without k es d.node ∙ ap (λ c. cond c None (entry d.node es)) (same_number k d.node (sym at)) in
+    let none : entry d.node (without_entry k es) ≡ None = entry_without k es d.node ∙ ap (λ c. cond c None (entry d.node es)) (eq-eqb k d.node (sym at)) in
     entry_put b (under p d) (without_entry k es) j none
     ∙ (ap (λ i. cond (j == i) (Some (under p d)) (entry j (without_entry k es))) at
-    ∙ (ap (cond (j == k) (Some (under p d))) (entry_without k es j) ∙ go (j == k) (k == j) (number_sym j k)))
+    ∙ (ap (cond (j == k) (Some (under p d))) (entry_without k es j) ∙ go (j == k) (k == j) (number_turned j k)))
   where
     go : (x y : Bool) → x ≡ y → cond x (Some (under p d)) (cond y None (entry j es)) ≡ cond x (Some (under p d)) (entry j es)
     go true y e = refl
@@ -174,7 +172,7 @@ kept_move es next k p b d h free q = record { is_tree = kept; below = low }
     at = (entry_in k es d q).1
 
     none : entry d.node (without_entry k es) ≡ None
-    none = entry_without k es d.node ∙ ap (λ c. cond c None (entry d.node es)) (same_number k d.node (sym at))
+    none = entry_without k es d.node ∙ ap (λ c. cond c None (entry d.node es)) (eq-eqb k d.node (sym at))
 
     kept : IsTree (put_entry b (under p d) (without_entry k es))
     kept =
@@ -184,7 +182,7 @@ kept_move es next k p b d h free q = record { is_tree = kept; below = low }
         changed_tree es (put_entry b (under p d) (without_entry k es)) h.is_tree k p (under p d) t.1.0 (move_look es k p b d q)
         (nodes_put b (under p d) (without_entry k es) (nodes_without k es h.is_tree.nodes) none)
         (ids_put b (under p d) (without_entry k es) (ids_without k es h.is_tree.ids) (id_is_free k es d h.is_tree.nodes h.is_tree.ids q))
-        (kid_ids_put 0 b (under p d) (without_entry k es) (number_sym 0 p ∙ t.0) ∙ (kid_ids_without 0 k es h.is_tree.nodes l.1 ∙ h.is_tree.under_top))
+        (kid_ids_put 0 b (under p d) (without_entry k es) (number_turned 0 p ∙ t.0) ∙ (kid_ids_without 0 k es h.is_tree.nodes l.1 ∙ h.is_tree.under_top))
         l.0 refl t.0 t.1.1 t.1.2 (λ g r. ap (λ x. is_folder x.item.kind) (some_same (sym q ∙ r)))
         (never_met es h.is_tree k p t.1.0 t.1.1 l.0 f.apart f.above)
 
@@ -203,7 +201,7 @@ first_there k j (f ∷ fs) g q r = ap (λ ks. is_some (first_of ks)) (kids-cons 
   where
     go : (c u : Bool) → stands_under k f ≡ u → cond c (Some f) (entry j fs) ≡ Some g → (entry j fs ≡ Some g → is_some (first_of (kids k fs)) ≡ true) → is_some (first_of (cond u (f.node ∷ kids k fs) (kids k fs))) ≡ true
     go c true w e ih = refl
-    go true false w e ih = absurd (false≢true (sym w ∙ (ap (λ x. stands_under k x) (some_same e) ∙ (ap (λ o. unwrap_or (option_map (λ p. k == p) o) false) r ∙ same_is k))))
+    go true false w e ih = absurd (false≢true (sym w ∙ (ap (λ x. stands_under k x) (some_same e) ∙ (ap (λ o. unwrap_or (option_map (λ p. k == p) o) false) r ∙ own_number k))))
     go false false w e ih = ih e
 
 pub kept_remove : (es : List Entry) (next k : ℕ) → IsKept es next → remove_fault es k ≡ None → IsKept (without_entry k es) next
@@ -235,11 +233,11 @@ entry_revise k content time (f ∷ fs) j = go (k == f.node) refl (entry_revise k
   where
     both : (x y : Bool) → (j == f.node) ≡ x → (j == k) ≡ y → (k == f.node) ≡ true → cond x (Some (revised content time f)) (cond y (option_map (revised content time) (entry j fs)) (entry j fs)) ≡ cond y (option_map (revised content time) (cond x (Some f) (entry j fs))) (cond x (Some f) (entry j fs))
     both true true p q c = refl
-    both true false p q c = absurd (other_number j k q (eqb-true j f.node p ∙ sym (eqb-true k f.node c)))
+    both true false p q c = absurd (eqb-false j k q (eqb-true j f.node p ∙ sym (eqb-true k f.node c)))
     both false y p q c = refl
 
     none : (x y : Bool) → (j == f.node) ≡ x → (j == k) ≡ y → (k == f.node) ≡ false → cond x (Some f) (cond y (option_map (revised content time) (entry j fs)) (entry j fs)) ≡ cond y (option_map (revised content time) (cond x (Some f) (entry j fs))) (cond x (Some f) (entry j fs))
-    none true true p q c = absurd (other_number k f.node c (sym (eqb-true j k q) ∙ eqb-true j f.node p))
+    none true true p q c = absurd (eqb-false k f.node c (sym (eqb-true j k q) ∙ eqb-true j f.node p))
     none true false p q c = refl
     none false y p q c = refl
 

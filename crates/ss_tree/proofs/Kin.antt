@@ -1,24 +1,17 @@
 -- The nodes under a node, in entries whose nodes are apart.
-use Rattle.std.proofs.Common.{◌≡◌, ℕ, ◌<◌, ◌≤◌, ◌==◌, ◌⊎◌, List, [], ◌∷◌, Bool, true, false, cond, refl, sym, ap, subst, ◌∙◌, arith, inl, inr, Option, Some, None, option_map, unwrap_or}
-use Rattle.std.proofs.lemmas.Bool.{false≢true, eqb-true, cases_lt}
+use Rattle.std.proofs.Common.{◌≡◌, ℕ, ◌<◌, ◌≤◌, ◌==◌, ◌⊎◌, List, [], ◌∷◌, Bool, true, false, cond, refl, sym, ap, subst, ◌∙◌, arith, inl, inr, Some, option_map, unwrap_or}
+use Rattle.std.proofs.lemmas.Bool.{eqb-true, cases_lt, eq-eqb}
 use Rattle.ss_list.specs.Chain.{times}
 use Rattle.ss_list.proofs.Times.{times-here, at_head, below-head}
 use Rattle.ss_tree.specs.declared.entries.Entry.{Entry}
 use Rattle.ss_tree.specs.Entries.{entry, stands_under, kids, NodesApart}
-use Rattle.ss_tree.proofs.Edits.{same_number, entry-cons, entry-nil, kids-cons, kids-nil}
-use Rattle.ss_tree.proofs.Changes.{some_same}
-use Rattle.ss_tree.proofs.Valid.{In, in_entry}
+use Rattle.ss_tree.proofs.Edits.{entry-cons, entry-nil, kids-cons, kids-nil}
+use Rattle.ss_tree.proofs.Valid.{In, in_entry, under_from}
 use Rattle.std.proofs.lemmas.Option.{none-some}
+use Rattle.ss_text.proofs.Basics.{some_same}
 
 pub under_is : (j p : ℕ) (e : Entry) → e.parent ≡ Some p → stands_under j e ≡ (j == p)
 under_is j p e q = ap (λ o. unwrap_or (option_map (λ i. j == i) o) false) q
-
-pub under_from : (j : ℕ) (e : Entry) → stands_under j e ≡ true → e.parent ≡ Some j
-under_from j e h = go e.parent refl h
-  where
-    go : (o : Option ℕ) → e.parent ≡ o → unwrap_or (option_map (λ p. j == p) o) false ≡ true → e.parent ≡ Some j
-    go None q k = absurd (false≢true k)
-    go (Some p) q k = q ∙ ap Some (sym (eqb-true j p k))
 
 pub kid_in : (p x : ℕ) (fs : List Entry) → 0 < times x (kids p fs) → (e : Entry) × In e fs × (e.node ≡ x) × (e.parent ≡ Some p)
 unfolding In
@@ -49,7 +42,7 @@ entry_kid p x (f ∷ fs) e q r = subst (λ ks. 0 < times x ks) (sym (kids-cons p
 
     go : (b : Bool) → (x == f.node) ≡ b → cond b (Some f) (entry x fs) ≡ Some e → (entry x fs ≡ Some e → e.parent ≡ Some p → 0 < times x (kids p fs)) → 0 < times x (cond (stands_under p f) (f.node ∷ kids p fs) (kids p fs))
     go true c h ih =
-        let at : stands_under p f ≡ true = under_is p p f (ap (λ g. g.parent) (some_same h) ∙ r) ∙ same_number p p refl in
+        let at : stands_under p f ≡ true = under_is p p f (ap (λ g. g.parent) (some_same h) ∙ r) ∙ eq-eqb p p refl in
         subst (λ b. 0 < times x (cond b (f.node ∷ kids p fs) (kids p fs))) (sym at) (omega (arith, times-here x f.node (kids p fs) (eqb-true x f.node c)))
     go false c h ih = later (stands_under p f) (ih h r)
 

@@ -23,3 +23,4 @@ pub mod Placed
 pub mod Once
 pub mod Copied
 pub mod EachMet
+pub mod Looked

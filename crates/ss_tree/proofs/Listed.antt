@@ -3,7 +3,7 @@ use Rattle.std.proofs.Common.{◌≡◌, ◌≢◌, ℕ, zero, suc, ◌<◌, ◌
 use Rattle.std.specs.List.{flat_map}
 use Rattle.std.proofs.lemmas.Bool.{false≢true, cases_lt, eq-eqb, ne_eqb}
 use Rattle.ss_record.specs.Ids.{has, Apart}
-use Rattle.ss_record.proofs.IdLists.{same_id, has-nil, has-cons}
+use Rattle.ss_record.proofs.IdLists.{has-nil, has-cons}
 use Rattle.ss_list.specs.Chain.{times}
 use Rattle.ss_list.proofs.Times.{times-here, times-append, at_head, below-head}
 use Rattle.ss_tree.specs.declared.entries.Entry.{Entry}
@@ -11,6 +11,7 @@ use Rattle.ss_tree.specs.Entries.{entry, stands_under, kids, entry_ids, NodesApa
 use Rattle.ss_tree.proofs.Edits.{entry-cons, entry-nil, kids-cons, kids-nil}
 use Rattle.ss_tree.specs.Cells.{down}
 use Rattle.ss_tree.proofs.Kin.{under_is}
+use Rattle.ss_text.proofs.Basics.{same_text}
 
 pub absent : (x : ℕ) (ks : List ℕ) → (0 < times x ks → ⊥) → times x ks ≡ 0
 absent x ks h = elim (cases_lt 0 (times x ks)) [ inl there ↦ absurd (h there) | inr none ↦ omega arith ]
@@ -50,7 +51,7 @@ module _ (ent : ℕ → Entry) (at : (k : ℕ) → (ent k).node ≡ k) where
   id_found x (k ∷ ks) h = go (bytes_eq x (ent k).item.id) refl (sym (has-cons x (ent k).item.id (map (λ e. e.item.id) (map ent ks))) ∙ h) (id_found x ks)
     where
       go : (b : Bool) → bytes_eq x (ent k).item.id ≡ b → (b || has x (entry_ids (map ent ks))) ≡ true → (has x (entry_ids (map ent ks)) ≡ true → (j : ℕ) × (0 < times j ks) × ((ent j).item.id ≡ x)) → (j : ℕ) × (0 < times j (k ∷ ks)) × ((ent j).item.id ≡ x)
-      go true c w ih = (k, omega (arith, times-here k k ks refl), sym (same_id x (ent k).item.id c))
+      go true c w ih = (k, omega (arith, times-here k k ks refl), sym (same_text x (ent k).item.id c))
       go false c w ih = let r = ih w in (r.0, omega (arith, below-head r.0 k ks), r.2)
 
   -- where no two of the places have one id, the ids are apart

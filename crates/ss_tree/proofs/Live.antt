@@ -2,14 +2,14 @@
 use Rattle.std.proofs.Common.{◌≡◌, ℕ, zero, suc, ◌==◌, List, [], ◌∷◌, ◌++◌, Bool, true, false, cond, ◌⊎◌, inl, inr, refl, sym, ap, ◌∙◌, subst, find, bytes_eq, Option, Some, None, option_and_then, option_map, is_some}
 use Rattle.std.specs.Option.{IfSome}
 use Rattle.std.specs.List.{AllByRecursion, All, flat_map}
-use Rattle.std.proofs.lemmas.Bool.{eqb-true}
+use Rattle.std.proofs.lemmas.Bool.{eqb-true, eqb-false}
 use Rattle.std.proofs.lemmas.List.Elements.{All-from_recursion}
 use Rattle.ss_tree.specs.declared.entries.Entry.{Entry}
 use Rattle.ss_tree.specs.Entries.{entry, is_live, node_of, stands_under, kids, above, first_of, next_after, preorder, IsTree}
-use Rattle.ss_tree.proofs.Edits.{other_number, kids-cons, kids-nil}
-use Rattle.ss_tree.proofs.Changes.{some_same}
+use Rattle.ss_tree.proofs.Edits.{kids-cons, kids-nil}
 use Rattle.ss_tree.proofs.Valid.{In, in_entry}
 use Rattle.std.proofs.lemmas.Option.{none-some}
+use Rattle.ss_text.proofs.Basics.{some_same}
 
 live_in : (es : List Entry) (e : Entry) → IsTree es → In e es → is_live e.node es ≡ true
 live_in es e t i = ap is_some (in_entry es e t.nodes i)
@@ -37,7 +37,7 @@ live_above es k t = if_some (option_and_then (λ e. e.parent) (entry k es)) (λ 
   where
     at : (g : Entry) → entry k es ≡ Some g → (p : ℕ) → g.parent ≡ Some p → (b : Bool) → (k == 0) ≡ b → is_live p es ≡ true
     at g h p q true z = absurd (none-some _ (ap (λ e. e.parent) (some_same (sym t.top ∙ (ap (λ j. entry j es) (sym (eqb-true k 0 z)) ∙ h))) ∙ q))
-    at g h p q false z = let f = t.folder k g h (other_number k 0 z) in ap (λ j. is_live j es) (some_same (sym q ∙ f.1)) ∙ ap is_some f.3
+    at g h p q false z = let f = t.folder k g h (eqb-false k 0 z) in ap (λ j. is_live j es) (some_same (sym q ∙ f.1)) ∙ ap is_some f.3
 
     go : (o : Option Entry) → entry k es ≡ o → (p : ℕ) → option_and_then (λ e. e.parent) o ≡ Some p → is_live p es ≡ true
     go None h p q = absurd (none-some _ q)

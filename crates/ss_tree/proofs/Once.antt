@@ -7,12 +7,12 @@ use Rattle.ss_list.proofs.Times.{times-here, times-apart, times-append, at_head}
 use Rattle.ss_tree.specs.declared.entries.Entry.{Entry}
 use Rattle.ss_tree.specs.Trees.{steps}
 use Rattle.ss_tree.specs.Entries.{entry, above, up, is_live, kids, preorder, IsTree}
-use Rattle.ss_tree.proofs.Changes.{some_same}
 use Rattle.ss_tree.proofs.Ways.{first_zero, up_some}
 use Rattle.ss_tree.proofs.Kin.{entry_kid, kid_once}
 use Rattle.ss_tree.proofs.Listed.{absent}
 use Rattle.ss_tree.proofs.Walked.{above_is, strictly}
 use Rattle.std.proofs.lemmas.Option.{none-some}
+use Rattle.ss_text.proofs.Basics.{some_same}
 
 -- the way up, at most n nodes of it
 abbrev pub way : List Entry → ℕ → Option ℕ → List ℕ

@@ -1,13 +1,12 @@
 -- What one entry more makes of cells that were blank.
 use Rattle.std.proofs.Common.{◌≡◌, ◌≢◌, ℕ, ◌<◌, ◌==◌, List, [], ◌∷◌, ◌++◌, length, Bool, true, false, cond, refl, sym, ap, subst, ◌∙◌, arith, inl, inr, Option, Some, None, is_some, option_map, unwrap_or}
-use Rattle.std.proofs.lemmas.Bool.{false≢true, cases_lt, eqb-true}
+use Rattle.std.proofs.lemmas.Bool.{false≢true, cases_lt, eqb-true, eq-eqb}
 use Rattle.ss_list.specs.Chain.{times}
 use Rattle.ss_list.proofs.Times.{times-append, at_head}
 use Rattle.ss_list.proofs.Paths.{Path}
 use Rattle.ss_tree.specs.declared.entries.Entry.{Entry}
 use Rattle.ss_tree.specs.Entries.{entry, is_live, is_place, stands_under, kids, NodesApart, IsTree}
-use Rattle.ss_tree.proofs.Edits.{same_number, entry_put, entry-nil, entry-cons, kids-nil, kids_put}
-use Rattle.ss_tree.proofs.Changes.{some_same}
+use Rattle.ss_tree.proofs.Edits.{entry_put, entry-nil, entry-cons, kids-nil, kids_put}
 use Rattle.ss_tree.proofs.Valid.{In, in_entry}
 use Rattle.ss_tree.specs.declared.cells.Cell.{Cell}
 use Rattle.ss_tree.specs.declared.cells.TheConstants.{END}
@@ -20,6 +19,7 @@ use Rattle.ss_tree.proofs.Attached.{attached, beside}
 use Rattle.ss_tree.proofs.Changed.{strung_same, row_place}
 use Rattle.ss_tree.proofs.Grown.{Built, strung_lists}
 use Rattle.std.proofs.lemmas.Option.{none-some}
+use Rattle.ss_text.proofs.Basics.{some_same}
 
 -- where an entry is ready, the last node under its parent has a cell
 pub ready_left : (cells middle : List Cell) (e : Entry) (p : ℕ) → IsReady cells e → e.parent ≡ Some p → SameLinks cells middle → IsPlace middle (prev_of middle p END)
@@ -46,7 +46,7 @@ built_blank cells all = record {
 in_live : (es : List Entry) (e : Entry) → In e es → is_some (entry e.node es) ≡ true
 unfolding In
 in_live [] e i = absurd i
-in_live (f ∷ fs) e (inl q) = ap is_some (entry-cons e.node f fs ∙ ap (λ b. cond b (Some f) (entry e.node fs)) (same_number e.node f.node (ap (λ x. x.node) q)))
+in_live (f ∷ fs) e (inl q) = ap is_some (entry-cons e.node f fs ∙ ap (λ b. cond b (Some f) (entry e.node fs)) (eq-eqb e.node f.node (ap (λ x. x.node) q)))
 in_live (f ∷ fs) e (inr i) = ap is_some (entry-cons e.node f fs) ∙ go (e.node == f.node) (in_live fs e i)
   where
     go : (b : Bool) → is_some (entry e.node fs) ≡ true → is_some (cond b (Some f) (entry e.node fs)) ≡ true

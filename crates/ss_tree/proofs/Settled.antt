@@ -11,7 +11,6 @@ use Rattle.ss_tree.specs.declared.entries.Entry.{Entry}
 use Rattle.ss_tree.specs.Trees.{steps}
 use Rattle.ss_tree.specs.Entries.{entry, stands_under, kids, kid_ids, above, up, entry_ids, NodesApart, IsTree, IsKept, top_entry}
 use Rattle.ss_tree.proofs.Edits.{kids-cons, kid_ids-cons}
-use Rattle.ss_tree.proofs.Changes.{some_same}
 use Rattle.ss_tree.proofs.Valid.{In, entry_in, in_entry, one_entry}
 use Rattle.ss_tree.specs.declared.cells.Cell.{Cell}
 use Rattle.ss_tree.specs.declared.cells.TheConstants.{END}
@@ -21,6 +20,7 @@ use Rattle.ss_tree.proofs.Rows.{row_path, length_within}
 use Rattle.ss_tree.proofs.Kin.{kid_entry, entry_kid, kid_once, kid_apart}
 use Rattle.ss_tree.proofs.Listed.{absent, nobody, entry_there, entry_absent, nodes_apart, ids_apart, kids_past, kids_row, row_there, row_found, rows_once}
 use Rattle.std.proofs.lemmas.Option.{none-some}
+use Rattle.ss_text.proofs.Basics.{some_same}
 
 -- ---- trees with the same entries
 

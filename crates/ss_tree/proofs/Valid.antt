@@ -1,16 +1,24 @@
 -- Entries that are a tree give a valid tree of ids.
 use Rattle.std.proofs.Common.{◌≡◌, ◌≢◌, ℕ, zero, suc, ◌==◌, List, [], ◌∷◌, map, Bool, true, false, cond, ◌||◌, ◌⊎◌, inl, inr, refl, sym, ap, ◌∙◌, subst, find, bytes_eq, codes, Option, Some, None, option_and_then, option_map, unwrap_or}
-use Rattle.std.proofs.lemmas.Bool.{false≢true, eqb-true}
+use Rattle.std.proofs.lemmas.Bool.{false≢true, eqb-true, eqb-false, eq-eqb}
 use Rattle.ss_record.specs.declared.kinds.Kind.TheVariants.{Folder}
 use Rattle.ss_record.specs.Ids.{has, Apart, places}
 use Rattle.ss_record.specs.Kinds.{is_folder}
-use Rattle.ss_record.proofs.IdLists.{same_id, bytes_eq-apart, bytes_eq-same, has-nil, has-cons, has-head, has-tail, Apart-nil, Apart-cons, Apart-head, Apart-tail}
+use Rattle.ss_record.proofs.IdLists.{bytes_eq-apart, has-nil, has-cons, has-head, has-tail, Apart-nil, Apart-cons, Apart-head, Apart-tail}
 use Rattle.ss_tree.specs.declared.entries.Entry.{Entry}
 use Rattle.ss_tree.specs.Trees.{Placed, node_ids, node, parent_in, places_node, IsUnder, steps, Reaches, IsValidTree}
 use Rattle.ss_tree.specs.Entries.{entry, stands_under, kid_ids, up, placed, tree, entry_ids, NodesApart, IsTree, top_entry}
-use Rattle.ss_tree.proofs.Edits.{same_number, other_number, entry-cons, entry-nil, kid_ids-cons}
-use Rattle.ss_tree.proofs.Changes.{some_same, up_of}
+use Rattle.ss_tree.proofs.Edits.{entry-cons, entry-nil, kid_ids-cons}
+use Rattle.ss_tree.proofs.Changes.{up_of}
 use Rattle.std.proofs.lemmas.Option.{none-some}
+use Rattle.ss_text.proofs.Basics.{same_text, bytes_eq-same, some_same}
+
+pub under_from : (j : ℕ) (e : Entry) → stands_under j e ≡ true → e.parent ≡ Some j
+under_from j e h = go e.parent refl h
+  where
+    go : (o : Option ℕ) → e.parent ≡ o → unwrap_or (option_map (λ p. j == p) o) false ≡ true → e.parent ≡ Some j
+    go None q k = absurd (false≢true k)
+    go (Some p) q k = q ∙ ap Some (sym (eqb-true j p k))
 
 -- ---- elements
 
@@ -30,7 +38,7 @@ entry_in k (f ∷ fs) e q = go (k == f.node) refl (sym (entry-cons k f fs) ∙ q
 pub in_entry : (es : List Entry) (e : Entry) → NodesApart es → In e es → entry e.node es ≡ Some e
 unfolding In NodesApart
 in_entry [] e a i = absurd i
-in_entry (f ∷ fs) e a (inl q) = entry-cons e.node f fs ∙ (ap (λ b. cond b (Some f) (entry e.node fs)) (same_number e.node f.node (ap (λ x. x.node) q)) ∙ ap Some (sym q))
+in_entry (f ∷ fs) e a (inl q) = entry-cons e.node f fs ∙ (ap (λ b. cond b (Some f) (entry e.node fs)) (eq-eqb e.node f.node (ap (λ x. x.node) q)) ∙ ap Some (sym q))
 in_entry (f ∷ fs) e a (inr i) = entry-cons e.node f fs ∙ go (e.node == f.node) refl (in_entry fs e a.1 i)
   where
     go : (b : Bool) → (e.node == f.node) ≡ b → entry e.node fs ≡ Some e → cond b (Some f) (entry e.node fs) ≡ Some e
@@ -69,7 +77,7 @@ module _ (es : List Entry) where
     where
       go : (b : Bool) → bytes_eq x f.item.id ≡ b → cond b (Some (placed es f)) (find (λ n. bytes_eq x n.id) (map (placed es) fs)) ≡ Some m
           → (find (λ n. bytes_eq x n.id) (map (placed es) fs) ≡ Some m → (e : Entry) × In e fs × (e.item.id ≡ x) × (m ≡ placed es e)) → (e : Entry) × ((e ≡ f) ⊎ In e fs) × (e.item.id ≡ x) × (m ≡ placed es e)
-      go true c h ih = (f, inl refl, sym (same_id x f.item.id c), sym (some_same h))
+      go true c h ih = (f, inl refl, sym (same_text x f.item.id c), sym (some_same h))
       go false c h ih = let r = ih h in (r.0, inr r.1, r.2, r.3)
 
   placed_at : (fs : List Entry) (e : Entry) → Apart (entry_ids fs) → In e fs → find (λ n. bytes_eq e.item.id n.id) (map (placed es) fs) ≡ Some (placed es e)
@@ -96,15 +104,8 @@ ids_same es (f ∷ fs) = ap (λ r. f.item.id ∷ r) (ids_same es fs)
 
 -- ---- children
 
-under_from : (y : ℕ) (e : Entry) → stands_under y e ≡ true → e.parent ≡ Some y
-under_from y e h = go e.parent refl h
-  where
-    go : (o : Option ℕ) → e.parent ≡ o → unwrap_or (option_map (λ p. y == p) o) false ≡ true → e.parent ≡ Some y
-    go None q k = absurd (false≢true k)
-    go (Some p) q k = q ∙ ap Some (sym (eqb-true y p k))
-
 under_to : (y : ℕ) (e : Entry) → e.parent ≡ Some y → stands_under y e ≡ true
-under_to y e q = ap (λ o. unwrap_or (option_map (λ p. y == p) o) false) q ∙ same_number y y refl
+under_to y e q = ap (λ o. unwrap_or (option_map (λ p. y == p) o) false) q ∙ eq-eqb y y refl
 
 kid_none : (y : ℕ) (x : List ℕ) → has x (kid_ids y []) ≡ false
 unfolding kid_ids
@@ -116,7 +117,7 @@ kid_found y [] x h = absurd (false≢true (sym (kid_none y x) ∙ h))
 kid_found y (f ∷ fs) x h = go (stands_under y f) refl (sym (ap (has x) (kid_ids-cons y f fs)) ∙ h) (kid_found y fs x)
   where
     here : (b : Bool) → bytes_eq x f.item.id ≡ b → stands_under y f ≡ true → (b || has x (kid_ids y fs)) ≡ true → (has x (kid_ids y fs) ≡ true → (e : Entry) × In e fs × (e.parent ≡ Some y) × (e.item.id ≡ x)) → (e : Entry) × ((e ≡ f) ⊎ In e fs) × (e.parent ≡ Some y) × (e.item.id ≡ x)
-    here true c u k ih = (f, inl refl, under_from y f u, sym (same_id x f.item.id c))
+    here true c u k ih = (f, inl refl, under_from y f u, sym (same_text x f.item.id c))
     here false c u k ih = let r = ih k in (r.0, inr r.1, r.2, r.3)
 
     go : (b : Bool) → stands_under y f ≡ b → has x (cond b (f.item.id ∷ kid_ids y fs) (kid_ids y fs)) ≡ true → (has x (kid_ids y fs) ≡ true → (e : Entry) × In e fs × (e.parent ≡ Some y) × (e.item.id ≡ x)) → (e : Entry) × ((e ≡ f) ⊎ In e fs) × (e.parent ≡ Some y) × (e.item.id ≡ x)
@@ -238,7 +239,7 @@ module _ (es : List Entry) (t : IsTree es) where
       go : (b : Bool) → (e.node == 0) ≡ b → ((f : Entry) → In f es → steps (up es) n f.node ≡ 0 → Reaches (parent_in (tree es)) places f.item.id) → Reaches (parent_in (tree es)) places e.item.id
       go true c ih = at_top e i (eqb-true e.node 0 c)
       go false c ih =
-          let p = t.folder e.node e (in_entry es e t.nodes i) (other_number e.node 0 c) in
+          let p = t.folder e.node e (in_entry es e t.nodes i) (eqb-false e.node 0 c) in
           let f = entry_in p.0 es p.2 p.3 in
           one_more e.item.id p.2.item.id (step_up e p.2 p.0 i p.1 p.3)
           (ih p.2 f.0 (ap (steps (up es) n) (f.1 ∙ sym (up_of es e.node e p.0 (in_entry es e t.nodes i) p.1)) ∙ q))

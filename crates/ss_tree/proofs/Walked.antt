@@ -10,12 +10,13 @@ use Rattle.ss_list.proofs.Times.{times-here, times-append, at_head}
 use Rattle.ss_tree.specs.declared.entries.Entry.{Entry}
 use Rattle.ss_tree.specs.Trees.{steps}
 use Rattle.ss_tree.specs.Entries.{entry, above, up, kids, first_of, next_after, preorder, IsTree, top_entry}
-use Rattle.ss_tree.proofs.Changes.{some_same, live_steps}
+use Rattle.ss_tree.proofs.Changes.{live_steps}
 use Rattle.ss_tree.proofs.Kept.{preorder_more}
 use Rattle.ss_tree.proofs.Ways.{walk, length-walk, member_walk, all_apart, distinct_walk, live_member, length-nodes, up_some}
 use Rattle.ss_tree.specs.Walks.{sibling, after, follower}
 use Rattle.ss_tree.proofs.Kin.{kid_entry, kid_once}
 use Rattle.std.proofs.lemmas.Option.{none-some}
+use Rattle.ss_text.proofs.Basics.{some_same}
 
 -- ---- where the way stands
 

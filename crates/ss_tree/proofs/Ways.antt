@@ -3,12 +3,12 @@ use Rattle.std.proofs.Common.{option_and_then, ◌≡◌, ◌≢◌, ◌↔◌, 
 use Rattle.std.specs.List.{IsDistinct, AllByRecursion}
 use Rattle.std.specs.Set.{is_member}
 use Rattle.std.specs.Cmp.{nat_eq_equiv}
-use Rattle.std.proofs.lemmas.Bool.{false≢true, or_parts, eqb-true, ltb-true, ltb-false}
+use Rattle.std.proofs.lemmas.Bool.{false≢true, or_parts, eqb-true, ltb-true, ltb-false, eqb-false, eq-eqb}
 use Rattle.std.proofs.lemmas.Map.Made.{length-le_from_is_member}
 use Rattle.ss_tree.specs.declared.entries.Entry.{Entry}
 use Rattle.ss_tree.specs.Trees.{steps}
 use Rattle.ss_tree.specs.Entries.{entry, above, ancestor, up, met, is_below, IsBelow, IsTree}
-use Rattle.ss_tree.proofs.Edits.{same_number, other_number, entry-nil, entry-cons}
+use Rattle.ss_tree.proofs.Edits.{entry-nil, entry-cons}
 use Rattle.ss_tree.proofs.Changes.{up_top, live_steps}
 use Rattle.std.proofs.lemmas.Option.{none-some}
 
@@ -46,7 +46,7 @@ first_zero step (suc n) x e = go (x == 0) refl (first_zero step n (step x) e)
     go false q r = (suc r.0, r.1, not_yet)
       where
         not_yet : (i : ℕ) → i < suc r.0 → steps step i x ≢ 0
-        not_yet zero l = other_number x 0 q
+        not_yet zero l = eqb-false x 0 q
         not_yet (suc i) l = r.2 i (omega arith)
 
 pub all_apart : (x : ℕ) (ys : List ℕ) → is_member nat_eq ys x ≡ false → AllByRecursion (λ y. nat_eq x y ≡ false) ys
@@ -124,7 +124,7 @@ met_on_way es t top (suc n) i x l e ne = go (above es x) refl (λ m j. met_on_wa
         either false c h = h
 
         at : (m : ℕ) → m < suc n → steps (up es) m j ≡ top → ((top == j) || met es top n (above es j)) ≡ true
-        at zero l2 e2 = ap (λ b. b || met es top n (above es j)) (same_number top j (sym e2))
+        at zero l2 e2 = ap (λ b. b || met es top n (above es j)) (eq-eqb top j (sym e2))
         at (suc m) l2 e2 = either (top == j) (met es top n (above es j)) (ih m j (omega arith) e2 ne)
 
 compare_le : (a b : ℕ) → (a ≤ suc b) ⊎ (suc b < a)
@@ -137,14 +137,14 @@ compare_le a b = go (nat_lt (suc b) a) refl
 -- where a node isn't found on the way up from p, no step from p leads to it
 pub never_met : (es : List Entry) → IsTree es → (k p : ℕ) (f : Entry) → entry p es ≡ Some f → (k == 0) ≡ false → (k == p) ≡ false → is_below es k p ≡ false → (i : ℕ) → steps (up es) i p ≢ k
 unfolding is_below steps
-never_met es t k p f q ne np nb zero e = other_number k p np (sym e)
-never_met es t k p f q ne np nb (suc i) e = false≢true (sym nb ∙ met_on_way es t k (length es) i p (bound (within es t p f q)) e (other_number k 0 ne))
+never_met es t k p f q ne np nb zero e = eqb-false k p np (sym e)
+never_met es t k p f q ne np nb (suc i) e = false≢true (sym nb ∙ met_on_way es t k (length es) i p (bound (within es t p f q)) e (eqb-false k 0 ne))
   where
     bound : (m : ℕ) × (steps (up es) m p ≡ 0) × (m ≤ length es) → i < length es
     bound w = go (compare_le w.0 i)
       where
         past : w.0 ≤ suc i → ⊥
-        past le = other_number k 0 ne (sym e ∙ (ap (λ n. steps (up es) n p) split ∙ (steps_add (up es) w.0 (suc i - w.0) p ∙ (ap (steps (up es) (suc i - w.0)) w.1 ∙ stays es t (suc i - w.0)))))
+        past le = eqb-false k 0 ne (sym e ∙ (ap (λ n. steps (up es) n p) split ∙ (steps_add (up es) w.0 (suc i - w.0) p ∙ (ap (steps (up es) (suc i - w.0)) w.1 ∙ stays es t (suc i - w.0)))))
           where
             split : suc i ≡ w.0 + (suc i - w.0)
             split = omega arith
@@ -165,7 +165,7 @@ nowhere es top (suc n) k h q = none-some _ (sym (ap (option_and_then (ancestor e
 
 met_above : (es : List Entry) (top most n k : ℕ) → n < most → ancestor es n k ≡ Some top → met es top most (above es k) ≡ true
 met_above es top zero n k l q = absurd (omega arith)
-met_above es top (suc most) zero k l q = ap (met es top (suc most)) q ∙ ap (λ b. b || met es top most (above es top)) (same_number top top refl)
+met_above es top (suc most) zero k l q = ap (met es top (suc most)) q ∙ ap (λ b. b || met es top most (above es top)) (eq-eqb top top refl)
 met_above es top (suc most) (suc n) k l q = go (above es k) refl (λ j. met_above es top most n j (omega arith))
   where
     either : (b c : Bool) → c ≡ true → (b || c) ≡ true

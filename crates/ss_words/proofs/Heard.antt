@@ -12,7 +12,8 @@ use Rattle.ss_words.specs.declared.lines.Place.TheVariants.{Between, Value, Behi
 use Rattle.ss_words.specs.Names.{option_text, option_of, takes, has_value}
 use Rattle.ss_words.specs.Lines.{Line, is_dashed}
 use Rattle.ss_words.specs.Reading.{Reading, at, with_positional, with_option, key_of, value_in, taken, dashed, between}
-use Rattle.ss_words.proofs.Choices.{same_text, chosen}
+use Rattle.ss_words.proofs.Choices.{chosen}
+use Rattle.ss_text.proofs.Basics.{same_text}
 
 pub same_some : {X : Type 0} (x y : X) → Some x ≡ Some y → y ≡ x
 same_some x y e = sym (ap (λ o. unwrap_or o x) e)

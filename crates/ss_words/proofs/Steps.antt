@@ -8,7 +8,7 @@ use Rattle.ss_words.specs.declared.lines.Place.TheVariants.{Between, Value, Behi
 use Rattle.ss_words.specs.Names.{option_text, option_of, takes, has_value}
 use Rattle.ss_words.specs.Lines.{Line, is_dashed}
 use Rattle.ss_words.specs.Reading.{at, with_positional, with_option, key_of, taken, dashed, between}
-use Rattle.ss_words.proofs.Choices.{same_text}
+use Rattle.ss_text.proofs.Basics.{same_text}
 
 -- two dashes are a word that begins with a dash
 no_dashes : (word : List ℕ) → is_dashed word ≡ false → bytes_eq word (codes "--") ≡ false

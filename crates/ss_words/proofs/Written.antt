@@ -9,9 +9,11 @@ use Rattle.ss_words.specs.declared.lines.Place.TheVariants.{Between, Value, Behi
 use Rattle.ss_words.specs.Names.{option_text, takes, has_value}
 use Rattle.ss_words.specs.Lines.{Line, IsLine, is_dashed, Piece, Positional, Joined, Apart, Bare, spelled, fits, ending, line_made}
 use Rattle.ss_words.specs.Reading.{Reading, at, with_positional, with_option, step, between, read_from, empty_line}
-use Rattle.ss_words.proofs.Choices.{not_true, both_left, both_right, both, followed}
+use Rattle.ss_words.proofs.Choices.{followed}
 use Rattle.ss_words.proofs.Steps.{positional_step, apart_step, bare_step, joined_step}
 use Rattle.ss_words.proofs.Heard.{same_some, Heard, dashes, positional, joined, apart, bare, heard}
+use Rattle.ss_text.proofs.Basics.{both_left, both_right}
+use Rattle.std.proofs.lemmas.Bool.{and_from, not-true}
 
 -- a line, and then what a further one has
 abbrev pub followed_by : Line → Line → Line
@@ -40,7 +42,7 @@ pub written : (name : Name) (pieces : List Piece) (behind : Option (List (List �
 written name [] None line fit = ap₂ (λ p o. Some (record { positionals = p; options = o })) (sym (append-nil line.positionals)) (sym (append-nil line.options))
 written name [] (Some words) line fit = behind_reads name line words ∙ ap (λ o. Some (record { positionals = line.positionals ++ words; options = o })) (sym (append-nil line.options))
 written name (Positional word ∷ pieces) behind line fit =
-    ap (option_and_then (onward name (flat_map spelled pieces ++ ending behind))) (positional_step name line word (not_true _ (both_left _ _ fit)))
+    ap (option_and_then (onward name (flat_map spelled pieces ++ ending behind))) (positional_step name line word (not-true _ (both_left _ _ fit)))
     ∙ written name pieces behind (with_positional line word) (both_right _ _ fit)
     ∙ ap Some (more_positionals line word (line_made pieces behind))
 written name (Joined option value ∷ pieces) behind line fit =
@@ -52,12 +54,12 @@ written name (Apart option value ∷ pieces) behind line fit =
     let own = both_left (takes name option && (has_value option && not (is_dashed value))) (list_all (fits name) pieces) fit in
     let valued = both_right (takes name option) (has_value option && not (is_dashed value)) own in
     ap (option_and_then (onward name (value ∷ (flat_map spelled pieces ++ ending behind)))) (apart_step name line option (both_left _ _ own) (both_left _ _ valued))
-    ∙ ap (option_and_then (onward name (flat_map spelled pieces ++ ending behind))) (value_step name line option value (not_true _ (both_right _ _ valued)))
+    ∙ ap (option_and_then (onward name (flat_map spelled pieces ++ ending behind))) (value_step name line option value (not-true _ (both_right _ _ valued)))
     ∙ written name pieces behind (with_option line option value) (both_right (takes name option && (has_value option && not (is_dashed value))) _ fit)
     ∙ ap Some (more_options line option value (line_made pieces behind))
 written name (Bare option ∷ pieces) behind line fit =
     let own = both_left (takes name option && not (has_value option)) (list_all (fits name) pieces) fit in
-    ap (option_and_then (onward name (flat_map spelled pieces ++ ending behind))) (bare_step name line option (both_left _ _ own) (not_true _ (both_right _ _ own)))
+    ap (option_and_then (onward name (flat_map spelled pieces ++ ending behind))) (bare_step name line option (both_left _ _ own) (not-true _ (both_right _ _ own)))
     ∙ written name pieces behind (with_option line option []) (both_right (takes name option && not (has_value option)) _ fit)
     ∙ ap Some (more_options line option [] (line_made pieces behind))
 
@@ -96,7 +98,7 @@ with_word : (name : Name) (line found : Line) (word : List ℕ) (words : List (L
 with_word name line found word words plain more = record {
   pieces = Positional word ∷ more.pieces;
   behind = more.behind;
-  fit = both _ _ (ap not plain) more.fit;
+  fit = and_from _ _ (ap not plain) more.fit;
   words_are = ap (λ ws. word ∷ ws) more.words_are;
   found_is = more.found_is ∙ more_positionals line word (line_made more.pieces more.behind);
 }
@@ -106,7 +108,7 @@ with_joined : (name : Name) (line found : Line) (option : OptionName) (value wor
 with_joined name line found option value word words t v is more = record {
   pieces = Joined option value ∷ more.pieces;
   behind = more.behind;
-  fit = both _ _ (both _ _ t v) more.fit;
+  fit = and_from _ _ (and_from _ _ t v) more.fit;
   words_are = ap₂ (λ w ws. w ∷ ws) is more.words_are;
   found_is = more.found_is ∙ more_options line option value (line_made more.pieces more.behind);
 }
@@ -116,7 +118,7 @@ with_bare : (name : Name) (line found : Line) (option : OptionName) (word : List
 with_bare name line found option word words t v is more = record {
   pieces = Bare option ∷ more.pieces;
   behind = more.behind;
-  fit = both _ _ (both _ _ t (ap not v)) more.fit;
+  fit = and_from _ _ (and_from _ _ t (ap not v)) more.fit;
   words_are = ap₂ (λ w ws. w ∷ ws) is more.words_are;
   found_is = more.found_is ∙ more_options line option [] (line_made more.pieces more.behind);
 }
@@ -126,7 +128,7 @@ with_apart : (name : Name) (line found : Line) (option : OptionName) (word : Lis
 with_apart name line found option word words t v is more = record {
   pieces = Apart option more.value ∷ more.others.pieces;
   behind = more.others.behind;
-  fit = both _ _ (both _ _ t (both _ _ v (ap not more.plain))) more.others.fit;
+  fit = and_from _ _ (and_from _ _ t (and_from _ _ v (ap not more.plain))) more.others.fit;
   words_are = ap₂ (λ w ws. w ∷ ws) is (more.words_are ∙ ap (λ ws. more.value ∷ ws) more.others.words_are);
   found_is = more.others.found_is ∙ more_options line option more.value (line_made more.others.pieces more.others.behind);
 }

@@ -14,7 +14,6 @@ use Rattle.ss_tree.specs.Entries.{tree}
 use Rattle.ss_build.specs.Rows.{readings, rows_of}
 use Rattle.ss_build.specs.Stand.{HasItsRows}
 use Rattle.ss_bso.specs.declared.parts.Part.{Part}
-use Rattle.ss_bso.proofs.Lists.{length-filter_le as filter_le}
 use Rattle.ss_route.specs.Sending.{IsUpload}
 use Rattle.ss_plan.specs.Plan.{plan}
 use Rattle.ss_plan.specs.Refusals.{refusal}
@@ -44,6 +43,7 @@ use Rattle.ss_world.specs.Promises.{AreAll, IsUnderstood, noted_at}
 use Rattle.ss_world.proofs.Lists.{page_more, page_last}
 use Rattle.ss_world.proofs.Looking.{apart-newer, apart-take, all-same, written-over, recalls}
 use Rattle.ss_world.proofs.Fitting.{IsOwn, IsFresh, Fits, UploadFits, BatchFits, since_by, fresh_later, now, begins_later, appends_later, by_cases}
+use Rattle.ss_text.proofs.Basics.{length-filter_le}
 
 -- at what comes next
 at : (P : Next → Type 0) (next it : Next) → next ≡ it → P it → P next
@@ -183,7 +183,7 @@ module _ (first : ℕ) (a b : Shown) (m : MachineView) (valid : IsDevice m.devic
 
     few_picked : (o : Option ℕ) → length (newer o b.rows) ≤ length b.rows
     few_picked None = omega arith
-    few_picked (Some t) = filter_le (λ row. nat_lt t row.modified) b.rows
+    few_picked (Some t) = length-filter_le (λ row. nat_lt t row.modified) b.rows
 
     page_fits : (stage : Stage) (time : ℕ) (fetched : List Sheet) (next : Next) → fetched ≡ newer (since_by m.device m.run.newer) b.rows → time ≤ b.target → noted_at stage b.rows old ≡ b.rows → LastPage m.device m.run time fetched next → Well stage next
     page_fits stage time fetched next e le note l = go m.run.newer refl l

@@ -4,7 +4,7 @@ use Rattle.std.proofs.lemmas.Bool.Decides.{nat_tests}
 use Rattle.std.proofs.lemmas.List.{take-append-drop}
 use Rattle.ss_record.specs.declared.readings.Sheet.{Sheet}
 use Rattle.ss_record.specs.Ids.{Apart, has}
-use Rattle.ss_record.proofs.IdLists.{same_id, has-nil, has-cons, has-append, Apart-nil, Apart-cons, Apart-head, Apart-tail, Apart-append}
+use Rattle.ss_record.proofs.IdLists.{has-nil, has-cons, Apart-nil, Apart-cons, Apart-head, Apart-tail, Apart-append}
 use Rattle.ss_bso.specs.declared.parts.Part.{Part}
 use Rattle.ss_plan.specs.Written.{IsWritten, sheet, sheet_after}
 use Rattle.ss_sync.specs.Rows.{ids_of}
@@ -12,16 +12,15 @@ use Rattle.ss_sync.specs.Fetched.{kept}
 use Rattle.ss_sync.proofs.Fetching.{ids-append}
 use Rattle.ss_serving.specs.Serving.{AreIdsOf, newer}
 use Rattle.ss_world.specs.Promises.{AreAll}
+use Rattle.ss_text.proofs.Basics.{same_text}
+use Rattle.ss_sync.proofs.Putting.{sheet-cons}
+use Rattle.ss_build.proofs.Seats.{Apart-left}
 
 -- ---- look-ups
 
 pub sheet-nil : (x : List ℕ) → sheet x [] ≡ None
 unfolding sheet
 sheet-nil x = refl
-
-pub sheet-cons : (x : List ℕ) (s : Sheet) (rows : List Sheet) → sheet x (s ∷ rows) ≡ cond (bytes_eq x s.id) (Some s) (sheet x rows)
-unfolding sheet
-sheet-cons x s rows = refl
 
 -- one or else another
 pub first : Option Sheet → Option Sheet → Option Sheet
@@ -62,7 +61,7 @@ sheet-id x [] s e = none (sym (sheet-nil x) ∙ e)
 sheet-id x (r ∷ rows) s e = by (bytes_eq x r.id) refl (sym (sheet-cons x r rows) ∙ e) (sheet-id x rows s)
   where
     by : (b : Bool) → bytes_eq x r.id ≡ b → cond b (Some r) (sheet x rows) ≡ Some s → (sheet x rows ≡ Some s → s.id ≡ x) → s.id ≡ x
-    by true q f ih = let same : r ≡ s = cc in ap (λ (z : Sheet). z.id) (sym same) ∙ sym (same_id x r.id q)
+    by true q f ih = let same : r ≡ s = cc in ap (λ (z : Sheet). z.id) (sym same) ∙ sym (same_text x r.id q)
     by false q f ih = ih f
 
 -- ---- filters
@@ -89,7 +88,7 @@ sheet-filter test [] a x = sheet-nil x ∙ sym (ap (passing test) (sheet-nil x) 
 sheet-filter test (s ∷ rows) a x = by (sheet-filter test rows (Apart-tail s.id (ids_of rows) a) x) (bytes_eq x s.id) refl (test s) refl ∙ sym (ap (passing test) (sheet-cons x s rows))
   where
     gone : sheet x (filter test rows) ≡ passing test (sheet x rows) → bytes_eq x s.id ≡ true → sheet x (filter test rows) ≡ None
-    gone ih q = ih ∙ (ap (passing test) (sheet-none x rows (ap (λ y. has y (ids_of rows)) (same_id x s.id q) ∙ Apart-head s.id (ids_of rows) a)) ∙ passing-none test)
+    gone ih q = ih ∙ (ap (passing test) (sheet-none x rows (ap (λ y. has y (ids_of rows)) (same_text x s.id q) ∙ Apart-head s.id (ids_of rows) a)) ∙ passing-none test)
 
     by : sheet x (filter test rows) ≡ passing test (sheet x rows) → (b : Bool) → bytes_eq x s.id ≡ b → (t : Bool) → test s ≡ t → sheet x (cond (test s) (s ∷ filter test rows) (filter test rows)) ≡ passing test (cond (bytes_eq x s.id) (Some s) (sheet x rows))
     by ih true q true t = ap (λ v. sheet x (cond v (s ∷ filter test rows) (filter test rows))) t ∙ (sheet-cons x s (filter test rows) ∙ (ap (λ b. cond b (Some s) (sheet x (filter test rows))) q ∙ sym (ap (λ b. passing test (cond b (Some s) (sheet x rows))) q ∙ passing-true test s t)))
@@ -109,16 +108,9 @@ apart-filter test (s ∷ rows) a = by (apart-filter test rows (Apart-tail s.id (
     by rest false = rest
 
 -- the front of a list of ids that stand apart
-apart-front : (xs ys : List (List ℕ)) → Apart (xs ++ ys) → Apart xs
-apart-front [] ys a = Apart-nil
-apart-front (x ∷ xs) ys a = Apart-cons x xs (front (has x xs) (has x ys) (sym (has-append x xs ys) ∙ Apart-head x (xs ++ ys) a)) (apart-front xs ys (Apart-tail x (xs ++ ys) a))
-  where
-    front : (p q : Bool) → (p || q) ≡ false → p ≡ false
-    front true q e = e
-    front false q e = refl
 
 pub apart-take : (n : ℕ) (rows : List Sheet) → Apart (ids_of rows) → Apart (ids_of (take n rows))
-apart-take n rows a = apart-front (ids_of (take n rows)) (ids_of (drop n rows)) (subst Apart (ap ids_of (sym (take-append-drop n rows)) ∙ ids-append (take n rows) (drop n rows)) a)
+apart-take n rows a = Apart-left (ids_of (take n rows)) (ids_of (drop n rows)) (subst Apart (ap ids_of (sym (take-append-drop n rows)) ∙ ids-append (take n rows) (drop n rows)) a)
 
 pub apart-newer : (since : Option ℕ) (rows : List Sheet) → Apart (ids_of rows) → Apart (ids_of (newer since rows))
 apart-newer None rows a = a

@@ -1,10 +1,9 @@
 -- What a step comes to.
-use Rattle.std.proofs.Common.{◌≡◌, ℕ, List, set, slice_get, Option, Some, None, option_map, MatchOption, false, sym, subst, refl, ap, inl, inr, ◌∙◌, arith}
+use Rattle.std.proofs.Common.{◌≡◌, ℕ, List, set, slice_get, Option, Some, None, option_map, MatchOption, false, sym, subst, refl, ap, inl, inr, ◌∙◌}
 use Rattle.std.specs.Bool.{MatchBool}
 use Rattle.std.specs.Option.{option_map_or}
 use Rattle.std.specs.Prelude.{Result, Ok, Err, IsErrAnd, IfErr, OnOk}
 use Rattle.std.proofs.lemmas.Option.{none-some}
-use Rattle.ss_outside.specs.Causes.{Rose}
 use Rattle.ss_query.specs.declared.requests.Request.{Request}
 use Rattle.ss_query.specs.Api.{api}
 use Rattle.ss_client.specs.declared.summaries.Fetch.{Fetch}
@@ -130,5 +129,3 @@ both (Ok x) f p q = f p q
 both (Err e) f p q = tt
 
 -- a count that stands at 0 didn't rise
-pub never-rose : {before now : ℕ} → now ≡ 0 → Rose before now → ⊥
-never-rose {before} {now} stands rose = let risen = rose.risen in absurd (omega arith)

@@ -10,10 +10,9 @@ use Rattle.ss_bso.specs.declared.changes.CollectionChange.TheVariants.{Drop as D
 use Rattle.ss_bso.specs.Account.{is_at}
 use Rattle.ss_bso.specs.Changes.{row_changed, time_changed}
 use Rattle.ss_bso.specs.Write.{is_among, rows_without}
-use Rattle.ss_bso.proofs.Texts.{same_text, bytes_eq-same, bytes_eq-flip}
 use Rattle.ss_bso.specs.Lists.{Each, Pairs, Apart}
-use Rattle.ss_laws.proofs.Written.{and_false}
-use Rattle.ss_laws.proofs.SameValid.{apart_flip}
+use Rattle.ss_text.proofs.Basics.{and_false, and_swap, bytes_eq-sym}
+use Rattle.ss_bso.proofs.Places.{apart_flip}
 
 -- filters
 pub filter-true : {X : Type 0} (xs : List X) → filter (λ x. true) xs ≡ xs
@@ -28,12 +27,6 @@ filter-both {X} p q (x ∷ xs) =
       | false ↦ filter-both p q xs
     ]
 
-and_swap : (a b : Bool) → (a && b) ≡ (b && a)
-and_swap true true = refl
-and_swap true false = refl
-and_swap false true = refl
-and_swap false false = refl
-
 pub filter-swap : {X : Type 0} (p q : X → Bool) (xs : List X) → filter p (filter q xs) ≡ filter q (filter p xs)
 filter-swap p q xs = filter-both p q xs ∙ filter_agree (λ x. q x && p x) (λ x. p x && q x) (λ x. and_swap (q x) (p x)) xs ∙ sym (filter-both q p xs)
 
@@ -45,21 +38,7 @@ absorbed a false h = and_false a
 pub filter-absorb : {X : Type 0} (p q : X → Bool) (xs : List X) → ((x : X) → p x ≡ true → q x ≡ true) → filter p (filter q xs) ≡ filter p xs
 filter-absorb p q xs h = filter-both p q xs ∙ filter_agree (λ x. q x && p x) p (λ x. absorbed (q x) (p x) (h x)) xs
 
-pub filter-none : {X : Type 0} (p : X → Bool) (xs : List X) → Each (λ (x : X). p x ≡ false) xs → filter p xs ≡ []
-filter-none p [] e = refl
-filter-none p (x ∷ xs) e = ap (λ v. cond v (x ∷ filter p xs) (filter p xs)) e.0 ∙ filter-none p xs e.1
-
 -- texts
-pub bytes_eq-sym : (x y : List ℕ) → bytes_eq x y ≡ bytes_eq y x
-bytes_eq-sym x y =
-    elim (bytes_eq x y) as (λ v. bytes_eq x y ≡ v → v ≡ bytes_eq y x) [
-      | true ↦ (λ e. sym (bytes_eq-same y x (sym (same_text x y e))))
-      | false ↦ (λ e. sym (bytes_eq-flip x y e))
-    ] refl
-
-pub or_false : (b : Bool) → (b || false) ≡ b
-or_false true = refl
-or_false false = refl
 
 -- whether a row has the place of one of those
 abbrev pub is_covered : List Row → Row → Bool
@@ -69,7 +48,7 @@ uncovered : (new : Row) (made : List Row) → Each (Apart new) made → is_cover
 uncovered new [] e = refl
 uncovered new (other ∷ made) e = ap (λ v. v || is_covered made new) (apart_flip new other e.0) ∙ uncovered new made e.1
 
-not_either : (a b : Bool) → (not a && not b) ≡ not (a || b)
+pub not_either : (a b : Bool) → (not a && not b) ≡ not (a || b)
 not_either true b = refl
 not_either false b = refl
 
@@ -98,7 +77,7 @@ covered_is collection (new ∷ made) row e =
     (λ i. (bytes_eq row.collection (e.0 i) && bytes_eq-sym row.id new.id i) || covered_is collection made row e.1 i)
     ∙ both_either (bytes_eq row.collection collection) (bytes_eq new.id row.id) (is_among (map (λ new. new.id) made) row.id)
 
-not_among : (a b d : Bool) → (not (a && b) && not (a && d)) ≡ not (a && (b || d))
+pub not_among : (a b d : Bool) → (not (a && b) && not (a && d)) ≡ not (a && (b || d))
 not_among true true d = refl
 not_among true false d = refl
 not_among false b d = refl

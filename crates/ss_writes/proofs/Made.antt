@@ -12,11 +12,11 @@ use Rattle.ss_bso.specs.Put.{put}
 use Rattle.ss_bso.specs.Write.{ids_of, is_among, parts_of, put_all}
 use Rattle.ss_writes.specs.Parts.{OtherText, or_else, with_id, with_part_id, with_row}
 use Rattle.ss_bso.proofs.Lists.{Each-imp, Pairs-append}
-use Rattle.ss_bso.proofs.Texts.{same_text, bytes_eq-same, bytes_eq-flip}
 use Rattle.ss_bso.specs.Lists.{Each, Pairs}
 use Rattle.ss_laws.proofs.Times.{once_by-distinct}
 use Rattle.ss_writes.proofs.Making.{ids-more}
 use Rattle.ss_laws.proofs.Reading.{among-once, none_named, put_all-append, parts_of-append}
+use Rattle.ss_text.proofs.Basics.{bytes_eq-sym, bytes_eq-flip, same_text, bytes_eq-same}
 
 -- a fold over one list and then another, and over one element more
 pub fold-append : {X Y : Type 0} (f : Y → X → Y) (xs ys : List X) (y : Y) → fold f y (xs ++ ys) ≡ fold f (fold f y xs) ys
@@ -27,14 +27,10 @@ pub fold-more : {X Y : Type 0} (f : Y → X → Y) (y : Y) (xs : List X) (k : �
 fold-more f y xs k x lt at =
     ap (fold f y) (take_more xs k x lt ∙ ap (λ z. take k xs ++ z ∷ []) (sym at)) ∙ fold-append f (take k xs) (x ∷ []) y
 
-bytes_eq-turn : (x y : List ℕ) → bytes_eq x y ≡ bytes_eq y x
-bytes_eq-turn x y =
-    elim (bytes_eq y x) as (λ v. bytes_eq y x ≡ v → bytes_eq x y ≡ v) [ true ↦ (λ e. bytes_eq-same x y (sym (same_text y x e))) | false ↦ (λ e. bytes_eq-flip y x e) ] refl
-
 -- a search for an id from either side
 pub among-turn : (id : List ℕ) (ids : List (List ℕ)) → list_any (bytes_eq id) ids ≡ is_among ids id
 among-turn id [] = refl
-among-turn id (x ∷ ids) = λ i. bytes_eq-turn id x i || among-turn id ids i
+among-turn id (x ∷ ids) = λ i. bytes_eq-sym id x i || among-turn id ids i
 
 -- the ids of parts, one after the other
 pub ids-fold : (past parts : List Part) → fold with_part_id (ids_of past) parts ≡ ids_of (past ++ parts)
@@ -101,11 +97,11 @@ module _ (collection : List ℕ) (old : List ℕ → Option Row) (time : ℕ) wh
   keys-insert [] id row = refl
   keys-insert (entry ∷ made) id row =
       elim (bytes_eq id entry.0) as (λ v. bytes_eq id entry.0 ≡ v → keys_of (cond v ((entry.0, row) ∷ made) (entry ∷ insert_entry bytes_eq made id row)) ≡ with_id (entry.0 ∷ keys_of made) id) [
-        | true ↦ (λ e. sym (ap (λ b. cond (b || is_among (keys_of made) id) (entry.0 ∷ keys_of made) ((entry.0 ∷ keys_of made) ++ id ∷ [])) (bytes_eq-turn entry.0 id ∙ e)))
+        | true ↦ (λ e. sym (ap (λ b. cond (b || is_among (keys_of made) id) (entry.0 ∷ keys_of made) ((entry.0 ∷ keys_of made) ++ id ∷ [])) (bytes_eq-sym entry.0 id ∙ e)))
         | false ↦ (λ e.
             ap (λ rest. entry.0 ∷ rest) (keys-insert made id row)
             ∙ joins (is_among (keys_of made) id)
-            ∙ sym (ap (λ b. cond (b || is_among (keys_of made) id) (entry.0 ∷ keys_of made) ((entry.0 ∷ keys_of made) ++ id ∷ [])) (bytes_eq-turn entry.0 id ∙ e)))
+            ∙ sym (ap (λ b. cond (b || is_among (keys_of made) id) (entry.0 ∷ keys_of made) ((entry.0 ∷ keys_of made) ++ id ∷ [])) (bytes_eq-sym entry.0 id ∙ e)))
       ] refl
     where
       joins : (b : Bool) → entry.0 ∷ cond b (keys_of made) (keys_of made ++ id ∷ []) ≡ cond b (entry.0 ∷ keys_of made) ((entry.0 ∷ keys_of made) ++ id ∷ [])
@@ -158,7 +154,7 @@ module _ (collection : List ℕ) (old : List ℕ → Option Row) (time : ℕ) wh
   not-among id (entry ∷ made) e =
       elim (bytes_eq id entry.0) as (λ v. bytes_eq id entry.0 ≡ v → cond v (Some entry.1) (lookup (bytes_eq id) made) ≡ None → (bytes_eq entry.0 id || is_among (keys_of made) id) ≡ false) [
         | true ↦ (λ t h. cc)
-        | false ↦ (λ t h. ap (λ b. b || is_among (keys_of made) id) (bytes_eq-turn entry.0 id ∙ t) ∙ not-among id made h)
+        | false ↦ (λ t h. ap (λ b. b || is_among (keys_of made) id) (bytes_eq-sym entry.0 id ∙ t) ∙ not-among id made h)
       ] refl e
 
   no-parts : (parts : List Part) (id : List ℕ) → is_among (ids_of parts) id ≡ false → parts_of id parts ≡ []

@@ -15,7 +15,7 @@ use Rattle.ss_bso.specs.Limits.{row_bytes}
 use Rattle.ss_writes.specs.declared.sizes.Size.{Size}
 use Rattle.ss_batch.specs.Stage.{most_counted}
 use Rattle.ss_writes.specs.Parts.{IsSize}
-use Rattle.ss_bso.proofs.Texts.{same_text, bytes_eq-same, bytes_eq-flip}
+use Rattle.ss_text.proofs.Basics.{bytes_eq-flip, same_text, bytes_eq-same}
 
 -- the elements each once, with one more element
 module _ {X : Type 0} (key : X → List ℕ) where

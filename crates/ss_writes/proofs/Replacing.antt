@@ -14,12 +14,13 @@ use Rattle.ss_bso.specs.Write.{is_among, rows_without}
 use Rattle.ss_bso.proofs.Lists.{Each-imp, Pairs-filter, find-filter}
 use Rattle.ss_bso.proofs.Reordering.{NotBoth, length-reordered, reordered-refl, sum_by-reordered}
 use Rattle.ss_bso.proofs.SameRows.{filter-all, pairs_not_both}
-use Rattle.ss_bso.proofs.Texts.{both, both_left, both_right, bytes_eq-same, not_false, same_text}
 use Rattle.ss_batch.specs.Stage.{most_counted}
-use Rattle.ss_laws.proofs.Written.{and_false}
 use Rattle.ss_writes.specs.declared.sizes.Size.{Size}
 use Rattle.ss_writes.specs.Parts.{IsSize, OtherText}
-use Rattle.ss_writes.proofs.Changing.{filter-true, filter-both, bytes_eq-sym}
+use Rattle.ss_writes.proofs.Changing.{filter-true, filter-both, not_among}
+use Rattle.ss_text.proofs.Basics.{and_false, both_left, both_right, bytes_eq-sym, same_text, bytes_eq-same}
+use Rattle.std.proofs.lemmas.Bool.{and_from, not-false}
+use Rattle.ss_index.proofs.Picks.{Each-find_none}
 
 -- the one element that passes, before those that don't
 pub pulled : {X : Type 0} (p : X → Bool) (xs : List X) (x : X) → find p xs ≡ Some x → Pairs (NotBoth p) xs → Reordered xs (x ∷ filter (λ y. not (p y)) xs)
@@ -35,29 +36,17 @@ pulled {X} p (y ∷ xs) x e n =
     ] refl e
 
 -- no element passes where none is found
-none-found : {X : Type 0} (p : X → Bool) (xs : List X) → find p xs ≡ None → Each (λ (x : X). p x ≡ false) xs
-none-found p [] e = tt
-none-found {X} p (x ∷ xs) e =
-    elim (p x) as (λ v. p x ≡ v → cond v (Some x) (find p xs) ≡ None → (p x ≡ false) × Each (λ (y : X). p y ≡ false) xs) [
-      | true ↦ (λ t is. cc)
-      | false ↦ (λ t is. (t, none-found p xs is))
-    ] refl e
 
 -- the rows of other places
 abbrev others_than : List ℕ → List ℕ → List Row → List Row
 others_than collection id rows = filter (λ row. not (is_at collection id row)) rows
-
-neither : (here mine among : Bool) → (not (here && mine) && not (here && among)) ≡ not (here && (mine || among))
-neither false mine among = refl
-neither true true among = refl
-neither true false among = refl
 
 left-more : (collection id : List ℕ) (ids : List (List ℕ)) (rows : List Row) → rows_without collection (id ∷ ids) rows ≡ rows_without collection ids (others_than collection id rows)
 left-more collection id ids rows =
     filter_agree (λ (row : Row). not (bytes_eq row.collection collection && (bytes_eq id row.id || is_among ids row.id)))
     (λ (row : Row). not (bytes_eq row.collection collection && bytes_eq row.id id) && not (bytes_eq row.collection collection && is_among ids row.id))
     (λ row. ap (λ v. not (bytes_eq row.collection collection && (v || is_among ids row.id))) (bytes_eq-sym id row.id)
-    ∙ sym (neither (bytes_eq row.collection collection) (bytes_eq row.id id) (is_among ids row.id))) rows
+    ∙ sym (not_among (bytes_eq row.collection collection) (bytes_eq row.id id) (is_among ids row.id))) rows
     ∙ sym (filter-both (λ (row : Row). not (bytes_eq row.collection collection && is_among ids row.id)) (λ (row : Row). not (bytes_eq row.collection collection && bytes_eq row.id id)) rows)
 
 found-still : (collection id other : List ℕ) (rows : List Row) → IsFalse (bytes_eq other id) → row_at collection other (others_than collection id rows) ≡ row_at collection other rows
@@ -65,7 +54,7 @@ found-still collection id other rows differ =
     find-filter (is_at collection other) (λ row. not (is_at collection id row)) rows
     (λ row e. elim (is_at collection other row) as (λ v. is_at collection other row ≡ v → v ≡ false) [
       | true ↦ (λ t. absurd (
-          let mine : row.id ≡ id = same_text row.id id (both_right (bytes_eq row.collection collection) (bytes_eq row.id id) (not_false (is_at collection id row) e)) in
+          let mine : row.id ≡ id = same_text row.id id (both_right (bytes_eq row.collection collection) (bytes_eq row.id id) (not-false (is_at collection id row) e)) in
           let its : row.id ≡ other = same_text row.id other (both_right (bytes_eq row.collection collection) (bytes_eq row.id other) t) in
           let no : bytes_eq other other ≡ false = ap (bytes_eq other) (sym its ∙ mine) ∙ differ in
           let yes : bytes_eq other other ≡ true = bytes_eq-same other other refl in
@@ -85,7 +74,7 @@ one-there collection id rows apart =
     (λ x y differ s t.
     let here : x.collection ≡ y.collection = same_text x.collection collection (both_left (bytes_eq x.collection collection) (bytes_eq x.id id) s) ∙ sym (same_text y.collection collection (both_left (bytes_eq y.collection collection) (bytes_eq y.id id) t)) in
     let same : x.id ≡ y.id = same_text x.id id (both_right (bytes_eq x.collection collection) (bytes_eq x.id id) s) ∙ sym (same_text y.id id (both_right (bytes_eq y.collection collection) (bytes_eq y.id id) t)) in
-    let yes : is_at x.collection x.id y ≡ true = both (bytes_eq y.collection x.collection) (bytes_eq y.id x.id)
+    let yes : is_at x.collection x.id y ≡ true = and_from (bytes_eq y.collection x.collection) (bytes_eq y.id x.id)
     (bytes_eq-same y.collection x.collection (sym here)) (bytes_eq-same y.id x.id (sym same)) in
     let no : is_at x.collection x.id y ≡ false = differ in
     let clash : true ≡ false = sym yes ∙ no in cc) rows apart
@@ -104,7 +93,7 @@ replaced collection (id ∷ ids) rows apart differ =
     (subst (λ (found : List Row). Reordered rest (found ++ rows_without collection ids rest)) (found-all collection id ids rows differ.0)
     (replaced collection ids rest (Pairs-filter Apart (λ row. not (is_at collection id row)) rows apart) differ.1)) in
     elim (row_at collection id rows) as (λ o. row_at collection id rows ≡ o → Reordered rows (cons_option o named ++ rows_without collection (id ∷ ids) rows)) [
-      | None ↦ (λ e. subst (λ (all : List Row). Reordered all (named ++ rows_without collection (id ∷ ids) rows)) (filter-all (is_at collection id) rows (none-found (is_at collection id) rows e)) later)
+      | None ↦ (λ e. subst (λ (all : List Row). Reordered all (named ++ rows_without collection (id ∷ ids) rows)) (filter-all (is_at collection id) rows (Each-find_none (is_at collection id) rows e)) later)
       | Some row ↦ (λ e. chain (pulled (is_at collection id) rows row e (one-there collection id rows apart)) (head row later))
     ] refl
 

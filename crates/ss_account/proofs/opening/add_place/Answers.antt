@@ -1,9 +1,9 @@
 use Rattle.std.proofs.Common.{◌≡◌, not, ◌&&◌, ◌||◌, bytes_eq, sym, ◌∙◌}
-use Rattle.ss_bso.proofs.Texts.{same_text, both_left, both_right}
 use Rattle.ss_keeper.proofs.Sets.{any-put}
 use Rattle.ss_account.specs.Places.{is_placed}
 use Rattle.ss_account.specs.declared.places.Place.{Place}
 use Rattle.ss_account.proofs.opening.add_place.Goals as goal
+use Rattle.ss_text.proofs.Basics.{both_left, both_right, same_text}
 
 pub returns-clause-places : goal.returns-clause-places
 returns-clause-places c = λ collection id.

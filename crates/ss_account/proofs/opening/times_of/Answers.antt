@@ -4,8 +4,9 @@ use Rattle.std.specs.HashMap.{get}
 use Rattle.ss_bso.specs.Account.{time_of}
 use Rattle.ss_account.specs.Opening.{is_bad_collection}
 use Rattle.ss_writes.specs.Parts.{or_else}
-use Rattle.ss_account.proofs.Opened.{bad-at, none-at, one-more, time-more, time_bad}
+use Rattle.ss_account.proofs.Opened.{bad-at, none-at, time-more, time_bad}
 use Rattle.ss_account.proofs.opening.times_of.Goals as goal
+use Rattle.ss_text.proofs.Basics.{take_push}
 
 pub loop-entry-preserved : goal.loop-entry-preserved
 loop-entry-preserved c =
@@ -20,7 +21,7 @@ loop-entry-preserved c =
       same = c.loop-entry.invariant.same;
       times = λ name. c.in_ok-is_first.ensures.times name
           ∙ ap (λ (o : Option ℕ). cond (bytes_eq entry.0 name) (or_else o (Some entry.1)) o) (c.loop-entry.invariant.times name)
-          ∙ sym (ap (time_of name) (one-more all k entry c.loop-entry-test.true c.entry-item.is) ∙ time-more name _ entry);
+          ∙ sym (ap (time_of name) (take_push all k entry c.loop-entry-test.true c.entry-item.is) ∙ time-more name _ entry);
       good = none-at (is_bad_collection c.args.store) all k entry c.loop-entry-test.true c.entry-item.is c.loop-entry.invariant.good (sym bad ∙ c.if-is_bad_time.false);
     }
 

@@ -1,15 +1,16 @@
 use Rattle.std.proofs.Common.{sym, ap, ◌∙◌, ◌&&◌, get_or, length, replicate, false, ◌≡◌, arith, rules}
 use Rattle.std.proofs.lemmas.List.{take_at, get_or-replicate}
 use Rattle.ss_build.specs.Places.{at, kept_at}
-use Rattle.ss_build.proofs.Chosen.{folder_marked, all_marked, le-false}
+use Rattle.ss_build.proofs.Chosen.{folder_marked, all_marked}
 use Rattle.ss_build.proofs.proposals.listed_by_named.Goals as goal
+use Rattle.std.proofs.lemmas.Bool.{le-ltb}
 
 pub loop-folder-init : goal.loop-folder-init
 loop-folder-init c = (
   search rules,
   λ i l.
       let e : c.in_ok-kept.kept.items ≡ replicate (length c.args.claims.now) false = search rules in
-      ap (λ w. get_or w i false) e ∙ (get_or-replicate (length c.args.claims.now) i false false l ∙ sym (ap (λ b. b && kept_at c.args.claims.now (at c.args.claims.now i)) (le-false (get_or c.args.claimed.now i 0) 0 (omega arith)))),
+      ap (λ w. get_or w i false) e ∙ (get_or-replicate (length c.args.claims.now) i false false l ∙ sym (ap (λ b. b && kept_at c.args.claims.now (at c.args.claims.now i)) (le-ltb (get_or c.args.claimed.now i 0) 0 (omega arith)))),
 )
 
 pub loop-folder-preserved : goal.loop-folder-preserved

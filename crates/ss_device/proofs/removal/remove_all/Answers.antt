@@ -1,8 +1,8 @@
 use Rattle.std.proofs.Common.{◌≡◌, [], ◌∷◌, ◌++◌, ◌-◌, take, sym, ap, ◌∙◌, subst, append-nil, append_assoc}
 use Rattle.ss_device.proofs.Gone.{Left, all_gone, left_first, left_next, next_free, next_live}
-use Rattle.ss_device.proofs.ByIds.{none_some}
 use Rattle.ss_device.proofs.Refused.{at_there}
 use Rattle.ss_device.proofs.removal.remove_all.Goals as goal
+use Rattle.ss_text.proofs.Basics.{none_some}
 
 pub loop-node-init : goal.loop-node-init
 loop-node-init c = ([], sym (append-nil c.args.nodes.items), left_first c.args.tree.now)

@@ -2,11 +2,12 @@ use Rattle.std.proofs.Common.{◌≡◌, inr, true, sym, ap, ◌∙◌, is_some}
 use Rattle.ss_record.specs.Items.{is_fit}
 use Rattle.ss_tree.specs.Entries.{tree}
 use Rattle.ss_device.proofs.Composed.{add_same, grown_parent, grown_there}
-use Rattle.ss_device.proofs.Refused.{add_apart, add_no_parent, add_parts, takes_inner, node_there, none_from}
+use Rattle.ss_device.proofs.Refused.{add_apart, add_no_parent, add_parts, takes_inner, node_there}
 use Rattle.ss_device.proofs.tree_edits.add_to.Goals as goal
+use Rattle.ss_text.proofs.Basics.{is_none}
 
 pub returns-then-is_none-clause-refused : goal.returns-then-is_none-clause-refused
-returns-then-is_none-clause-refused c = inr (add_no_parent c.args.tree.now c.args.parent.now c.args.item.id (sym c.find.ensures.node ∙ none_from c.find.result c.if-is_none.ensures))
+returns-then-is_none-clause-refused c = inr (add_no_parent c.args.tree.now c.args.parent.now c.args.item.id (sym c.find.ensures.node ∙ is_none c.find.result c.if-is_none.ensures))
 
 pub content_of-requires : goal.content_of-requires
 content_of-requires c = node_there c.args.tree.now c.args.parent.now ∙ (ap is_some (sym c.find.ensures.node) ∙ c.if-is_none.ensures)

@@ -6,11 +6,13 @@ use Rattle.ss_tree.specs.Entries.{tree}
 use Rattle.ss_device.specs.Edits.{item_of, moved_only, stamped}
 use Rattle.ss_device.proofs.Composed.{move_same, still, through}
 use Rattle.ss_device.proofs.Known.{has_is_node}
-use Rattle.ss_device.proofs.Refused.{change_loose, fixed_inner, in_tree, move_from_change, move_no_parent, move_takes, node_there, none_from, takes_inner}
+use Rattle.ss_device.proofs.Refused.{change_loose, fixed_inner, move_from_change, move_no_parent, move_takes, node_there, takes_inner}
 use Rattle.ss_device.proofs.tree_edits.move_in.Goals as goal
+use Rattle.ss_tree.proofs.Looked.{in_tree}
+use Rattle.ss_text.proofs.Basics.{is_none}
 
 pub returns-then-is_none-clause-refused : goal.returns-then-is_none-clause-refused
-returns-then-is_none-clause-refused c = inr (move_no_parent c.args.tree.now c.args.id.now c.args.parent.now (sym c.find.ensures.node ∙ none_from c.find.result c.if-is_none.ensures))
+returns-then-is_none-clause-refused c = inr (move_no_parent c.args.tree.now c.args.id.now c.args.parent.now (sym c.find.ensures.node ∙ is_none c.find.result c.if-is_none.ensures))
 
 pub returns-in-Some-clause-refused : goal.returns-in-Some-clause-refused
 returns-in-Some-clause-refused c = inr (move_from_change c.args.tree.now c.args.id.now c.args.parent.now c.in-Some.fault (in_tree c.args.tree.now c.args.parent.now ∙ (ap is_some (sym c.find.ensures.node) ∙ c.if-is_none.ensures)) (sym c.change_fault.ensures ∙ c.in-Some.is))

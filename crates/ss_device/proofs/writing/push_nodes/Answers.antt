@@ -3,8 +3,9 @@ use Rattle.ss_list.specs.Chain.{times}
 use Rattle.ss_tree.specs.Entries.{entry}
 use Rattle.ss_tree.proofs.EachMet.{each_met}
 use Rattle.ss_tree.proofs.Valid.{In}
-use Rattle.ss_device.proofs.Formed.{in_next, line_next}
+use Rattle.ss_device.proofs.Formed.{line_next}
 use Rattle.ss_device.proofs.writing.push_nodes.Goals as goal
+use Rattle.ss_tree.proofs.Looked.{in_more}
 
 pub loop-node-init : goal.loop-node-init
 unfolding In
@@ -17,7 +18,7 @@ loop-node-preserved c =
     let lt : c.loop-node.node-index < length c.deref-node-items.result.now = omega arith in
     record {
       lines = line_next es nodes c.loop-node.node-index c.node-item.result _ _ _ lt c.node-item.is c.loop-node.invariant.lines c.in_ok-push_node.ensures.line;
-      formed = λ k e i ne q. elim (in_next nodes c.loop-node.node-index c.node-item.result k lt c.node-item.is i) [
+      formed = λ k e i ne q. elim (in_more nodes c.loop-node.node-index c.node-item.result k lt c.node-item.is i) [
         | inl a ↦ c.loop-node.invariant.formed k e a ne q
         | inr b ↦ c.in_ok-push_node.ensures.formed e (λ z. ne (b ∙ z)) (ap (λ j. entry j es) (sym b) ∙ q)
       ];

@@ -9,9 +9,7 @@ use Rattle.ss_device_file.specs.Lines.{IsItemLine, record_in}
 use Rattle.ss_device_file.specs.Records.{item_from}
 use Rattle.ss_device_file.proofs.Recorded.{item_cut, parts_are, read_is_line, written_read}
 use Rattle.ss_device_file.proofs.items.item_in.Goals as goal
-
-none_some : {X : Type 0} {x : X} → None ≡ Some x → ⊥
-none_some e = cc
+use Rattle.ss_text.proofs.Basics.{some_same, none_some}
 
 pub returns-in_default-clause-all : goal.returns-in_default-clause-all
 returns-in_default-clause-all c = λ i h u is. absurd (none_some (item_cut _ _ c.in_default.ensures i h is))
@@ -20,9 +18,6 @@ pub returns-in_default-time_of-clause-all : goal.returns-in_default-time_of-clau
 returns-in_default-time_of-clause-all c = λ i h u is.
     let p = parts_are c.in-Some.cut i (item_cut _ _ c.in-Some.ensures i h is) in
     absurd (none_some (c.in_default-time_of.ensures.all i.time h.time p.digits))
-
-some_same : {X : Type 0} {x y : X} → Some x ≡ Some y → x ≡ y
-some_same e = cc
 
 so : (time : ℕ) (text : List ℕ) → time ≤ last_stamp → (o : Option ItemLine) → o ≡ item_from time text → IfSome o IsItemLine
 so time text h None e = tt

@@ -1,8 +1,9 @@
 use Rattle.std.proofs.Common.{◌≡◌, ◌++◌, ◌∷◌, ap, arith, append_assoc, filter_map, length, sym, ◌∙◌}
 use Rattle.std.specs.Option.{option_to_list}
 use Rattle.ss_device_file.specs.Files.{death_in, deaths_in, item_in, items_in, row_in, rows_in}
-use Rattle.ss_device_file.proofs.Apart.{filter_map_more, none_left}
+use Rattle.ss_device_file.proofs.Apart.{none_left}
 use Rattle.ss_device_file.proofs.parts.apart.Goals as goal
+use Rattle.ss_text.proofs.Basics.{filter_map-push}
 
 pub loop-line-preserved : goal.loop-line-preserved
 loop-line-preserved c =
@@ -15,9 +16,9 @@ loop-line-preserved c =
     record {
       all = rw append_assoc so_far;
       rest_long = let l = ap length steps.0 in let m = steps.1 in let n = v.rest_long in omega (arith, l, m, n);
-      rows = c.in_ok-sort_in.ensures.rows ∙ (ap (λ t. t ++ option_to_list (row_in e)) v.rows ∙ sym (filter_map_more row_in done e));
-      items = c.in_ok-sort_in.ensures.items ∙ (ap (λ t. t ++ option_to_list (item_in e)) v.items ∙ sym (filter_map_more item_in done e));
-      deaths = c.in_ok-sort_in.ensures.deaths ∙ (ap (λ t. t ++ option_to_list (death_in e)) v.deaths ∙ sym (filter_map_more death_in done e));
+      rows = c.in_ok-sort_in.ensures.rows ∙ (ap (λ t. t ++ option_to_list (row_in e)) v.rows ∙ sym (filter_map-push row_in done e));
+      items = c.in_ok-sort_in.ensures.items ∙ (ap (λ t. t ++ option_to_list (item_in e)) v.items ∙ sym (filter_map-push item_in done e));
+      deaths = c.in_ok-sort_in.ensures.deaths ∙ (ap (λ t. t ++ option_to_list (death_in e)) v.deaths ∙ sym (filter_map-push death_in done e));
     }
 
 pub returns-clause-rows : goal.returns-clause-rows

@@ -11,9 +11,7 @@ use Rattle.ss_device_file.proofs.Written.{form_in}
 use Rattle.serde_json.specs.Read.{read}
 use Rattle.ss_device_file.proofs.single.guess.Goals as goal
 use Rattle.ss_device_file.proofs.single.guess.Goals.{in_default-via-in-Some-split_last+else-last-eq10, in_default-via-in_default}
-
-none_some : {X : Type 0} {x : X} → None ≡ Some x → ⊥
-none_some e = cc
+use Rattle.ss_text.proofs.Basics.{none_some}
 
 empty : (xs : List ℕ) → length xs ≡ 0 → xs ≡ []
 empty [] e = refl

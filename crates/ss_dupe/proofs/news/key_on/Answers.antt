@@ -2,10 +2,10 @@ use Rattle.std.proofs.Common.{◌≡◌, List, ℕ, sym, ap, subst, ◌∙◌, S
 use Rattle.ss_dupe.specs.Looks.{is_in}
 use Rattle.ss_dupe.specs.Sides.{tree_of}
 use Rattle.ss_dupe.specs.Plains.{view, placed_at}
-use Rattle.ss_dupe.proofs.Basics.{no_way}
 use Rattle.ss_dupe.proofs.Shapes.{in-of_none}
 use Rattle.ss_dupe.proofs.Newness.{key-is}
 use Rattle.ss_dupe.proofs.news.key_on.Goals as goal
+use Rattle.ss_text.proofs.Basics.{no_way}
 
 pub unreachable-requires : goal.unreachable-requires
 unreachable-requires c =

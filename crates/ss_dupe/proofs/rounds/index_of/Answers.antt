@@ -3,8 +3,9 @@ use Rattle.std.proofs.lemmas.Iterator.Adapters.{YieldsList-from_vec}
 use Rattle.std.proofs.lemmas.Iterator.Consumers.{YieldsList-end}
 use Rattle.std.specs.HashMap.{get}
 use Rattle.ss_dupe.specs.News.{same_mark, HasNew}
-use Rattle.ss_dupe.proofs.Alike.{one_indexed, map_same}
+use Rattle.ss_dupe.proofs.Alike.{one_indexed}
 use Rattle.ss_dupe.proofs.rounds.index_of.Goals as goal
+use Rattle.ss_text.proofs.Basics.{map_same}
 
 pub loop-new-preserved-in_ok-insert : goal.loop-new-preserved-in_ok-insert
 loop-new-preserved-in_ok-insert c = one_indexed c.loop-new.yielded c.in-Some.new (get same_mark c.loop-new.index) (get same_mark c.insert.new.self) c.loop-new.invariant c.in_ok-insert.ensures.updates.0

@@ -6,8 +6,9 @@ use Rattle.ss_dupe.specs.declared.news.New.{New}
 use Rattle.ss_dupe.specs.declared.sides.Side.TheVariants.{Remote}
 use Rattle.ss_dupe.specs.Plains.{view}
 use Rattle.ss_dupe.specs.News.{same_mark, news_of}
-use Rattle.ss_dupe.proofs.Alike.{apart_of, Indexed, Matched, one_matched, none_matched, like_pairs, map_same}
+use Rattle.ss_dupe.proofs.Alike.{apart_of, Indexed, Matched, one_matched, none_matched, like_pairs}
 use Rattle.ss_dupe.proofs.rounds.like_children.Goals as goal
+use Rattle.ss_text.proofs.Basics.{map_same}
 
 pub news_of-requires : goal.news_of-requires
 news_of-requires c = apart_of (view c.args.plains.now) c.requires

@@ -1,10 +1,10 @@
 use Rattle.std.proofs.Common.{sym, ap, ◌∙◌, map, arith, nat_lt}
 use Rattle.std.proofs.lemmas.Bool.Decides.{Decides-ltb}
 use Rattle.std.proofs.lemmas.List.{length-map}
-use Rattle.ss_bso.proofs.Texts.{both_left, both_right}
 use Rattle.ss_index.specs.Walk.{is_past}
 use Rattle.ss_index.proofs.Walks.{enough_whole, walk_on, walk_count, walk_below, walk_past}
 use Rattle.ss_index.proofs.walk.walk.Goals as goal
+use Rattle.ss_text.proofs.Basics.{both_left, both_right}
 
 pub returns-then-not-is_above-clause-rows : goal.returns-then-not-is_above-clause-rows
 returns-then-not-is_above-clause-rows g c =

@@ -3,11 +3,11 @@ use Rattle.ss_record.specs.Kinds.{is_folder}
 use Rattle.ss_record.specs.Items.{is_fit}
 use Rattle.ss_tree.specs.Trees.{Placed}
 use Rattle.ss_dupe.specs.Plains.{view}
-use Rattle.ss_dupe.proofs.Basics.{no_way}
 use Rattle.ss_dupe.proofs.Shapes.{apart_places, has-roots}
 use Rattle.ss_merge.proofs.Sided.{root_content, survivor_places}
 use Rattle.ss_merge.proofs.Fit.{fit_again}
 use Rattle.ss_merge.proofs.claims.item_of.Goals as goal
+use Rattle.ss_text.proofs.Basics.{no_way}
 
 pub unreachable-requires : goal.unreachable-requires
 unreachable-requires c =

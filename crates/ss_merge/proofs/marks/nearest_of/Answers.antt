@@ -3,10 +3,10 @@ use Rattle.std.specs.Map.{lookup}
 use Rattle.std.specs.HashMap.{get}
 use Rattle.ss_record.specs.Ids.{has}
 use Rattle.ss_record.proofs.IdLists.{has-nil}
-use Rattle.ss_dupe.proofs.Basics.{no_way}
-use Rattle.ss_merge.proofs.Holding.{has_item}
 use Rattle.ss_merge.proofs.Marking.{met_more}
 use Rattle.ss_merge.proofs.marks.nearest_of.Goals as goal
+use Rattle.ss_dupe.proofs.Newness.{has-at}
+use Rattle.ss_text.proofs.Basics.{no_way}
 
 pub loop-id-init : goal.loop-id-init
 loop-id-init c = record {
@@ -15,7 +15,7 @@ loop-id-init c = record {
 }
 
 pub mark-requires-clause-one : goal.mark-requires-clause-one
-mark-requires-clause-one c = has_item c.args.ids.now c.loop-id.id-index c.id-item.result c.loop-id-test.true c.id-item.is
+mark-requires-clause-one c = has-at c.args.ids.now c.loop-id.id-index c.id-item.result c.loop-id-test.true c.id-item.is
 
 pub loop-id-preserved : goal.loop-id-preserved
 loop-id-preserved c = record {

@@ -2,9 +2,9 @@ use Rattle.std.proofs.Common.{◌∙◌, ap, sym, option_map}
 use Rattle.ss_dupe.specs.Looks.{is_in}
 use Rattle.ss_dupe.specs.Plains.{placed_at, view}
 use Rattle.ss_dupe.specs.Sides.{tree_of}
-use Rattle.ss_dupe.proofs.Basics.{no_way}
 use Rattle.ss_dupe.proofs.Shapes.{in-of_none}
 use Rattle.ss_merge.proofs.survivors.seat_on.Goals as goal
+use Rattle.ss_text.proofs.Basics.{no_way}
 
 pub unreachable-requires : goal.unreachable-requires
 unreachable-requires c =

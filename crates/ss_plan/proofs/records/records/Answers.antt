@@ -7,8 +7,9 @@ use Rattle.ss_tree.specs.Trees.{node}
 use Rattle.ss_tree.proofs.EachMet.{each_met}
 use Rattle.ss_tree.proofs.Valid.{In}
 use Rattle.ss_plan.specs.Plan.{puts, record_for}
-use Rattle.ss_plan.proofs.Putting.{due_is, in_more, puts_step, seat_place}
+use Rattle.ss_plan.proofs.Putting.{due_is, puts_step, seat_place}
 use Rattle.ss_plan.proofs.records.records.Goals as goal
+use Rattle.ss_tree.proofs.Looked.{in_more}
 
 pub loop-node-init : goal.loop-node-init
 unfolding puts In

@@ -2,10 +2,7 @@ use Rattle.std.proofs.Common.{◌≡◌, ℕ, zero, suc, ◌<◌, List, [], ◌�
 use Rattle.std.specs.List.{list_all}
 use Rattle.ss_text.specs.Names.{is_id}
 use Rattle.ss_query.proofs.queries.ids_of_pieces.Goals as goal
-
-and_false : (b : Bool) → (b && false) ≡ false
-and_false true = refl
-and_false false = refl
+use Rattle.ss_text.proofs.Basics.{and_false}
 
 one_fails : {X Y : Type 0} (p : Y → Bool) (f : X → Y) (xs : List X) (i : ℕ) (d : X) → i < length xs → p (f (get_or xs i d)) ≡ false → list_all p (map f xs) ≡ false
 one_fails p f [] i d here e = let never : ⊥ = omega arith in absurd never

@@ -6,8 +6,8 @@ use Rattle.ss_query.specs.Marks.{mark_of}
 use Rattle.ss_http.specs.Responses.{memory_response}
 use Rattle.ss_route.specs.Wire.{wire}
 use Rattle.ss_run_answer.specs.Turns.{entered}
-use Rattle.ss_run_answer.proofs.Run.{never-rose}
 use Rattle.ss_run_answer.proofs.answer.ask.Goals as goal
+use Rattle.ss_account.proofs.Rising.{never-rose}
 
 pub returns-clause-turn : goal.returns-clause-turn
 returns-clause-turn c = record {

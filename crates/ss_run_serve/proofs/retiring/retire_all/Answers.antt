@@ -9,9 +9,9 @@ use Rattle.ss_run_serve.specs.Hosted.{Hosted, Stands, hosted_at}
 use Rattle.ss_run_serve.specs.Lending.{HaveComeBack}
 use Rattle.ss_run_serve.specs.Retiring.{CountsKeepers, HaveRetired}
 use Rattle.ss_run_serve.proofs.Lent.{back_more, none_back}
-use Rattle.ss_run_serve.proofs.Opened.{map_same}
 use Rattle.ss_run_serve.proofs.Retired.{counts_more, have_retired_more, none_counted, none_retired}
 use Rattle.ss_run_serve.proofs.retiring.retire_all.Goals as goal
+use Rattle.ss_text.proofs.Basics.{map_same}
 
 pub loop-uid-init : goal.loop-uid-init
 loop-uid-init g c = record {

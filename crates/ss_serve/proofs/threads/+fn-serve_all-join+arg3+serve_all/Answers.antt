@@ -13,8 +13,9 @@ use Rattle.ss_town.proofs.town.Town.TheSendSync as town
 use Rattle.ss_town.specs.Town.{uids_of, desks_of}
 use Rattle.ss_serve.specs.Crew.{IsReady}
 use Rattle.ss_serve.proofs.Crews.{all_end, all_last, all_front}
-use Rattle.ss_serve.proofs.Crossing.{worker_send, booked_send}
+use Rattle.ss_serve.proofs.Crossing.{worker_send}
 use Rattle.ss_serve.proofs.threads.+fn-serve_all-join+arg3+serve_all.Goals as goal
+use Rattle.ss_booked.proofs.Crossing.{booked_send}
 
 pub join-mine-requires-send-F : goal.join-mine-requires-send-F
 join-mine-requires-send-F g t c κs within = let r = c.requires-raw.1.1.1.1.1.1 in

@@ -8,8 +8,9 @@ use Rattle.crossbeam_channel.proofs.flavors.array.Rows.TheSendSync as rows
 use Rattle.crossbeam_channel.proofs.flavors.array.ruled.Receiving.TheSendSync as receiving
 use Rattle.ss_accept.proofs.channel.Job.TheSendSync as job
 use Rattle.ss_town.proofs.town.Town.TheSendSync as town
-use Rattle.ss_serve.proofs.Crossing.{worker_send, crew_send, booked_send}
+use Rattle.ss_serve.proofs.Crossing.{worker_send, crew_send}
 use Rattle.ss_serve.proofs.threads.run.Goals as goal
+use Rattle.ss_booked.proofs.Crossing.{booked_send}
 
 pub join_mut-requires-send-F : goal.join_mut-requires-send-F
 join_mut-requires-send-F g c κs within =

@@ -1,7 +1,8 @@
 use Rattle.std.proofs.Common.{[], ◌∷◌, sym, ap, ◌∙◌, take_all}
 use Rattle.ss_plan.specs.Written.{sheet, sheet_after}
-use Rattle.ss_sync.proofs.Putting.{after-none, after_more, apart_sorted}
+use Rattle.ss_sync.proofs.Putting.{after_more, apart_sorted}
 use Rattle.ss_sync.proofs.written.rows_after.Goals as goal
+use Rattle.ss_plan.proofs.Last.{after-none}
 
 pub loop-part-init : goal.loop-part-init
 loop-part-init c = λ x. c.in_ok-rows.ensures x ∙ sym (after-none c.args.stamp x (sheet x c.args.sheets.items))

@@ -1,7 +1,7 @@
 use Rattle.std.proofs.Common.{ap, sym, ◌∙◌}
 use Rattle.ss_outside.specs.Plans.{fault_count}
-use Rattle.ss_world.proofs.Stepping.{never-rose}
 use Rattle.ss_world.proofs.serving.ask.Goals as goal
+use Rattle.ss_account.proofs.Rising.{never-rose}
 
 pub unreachable-requires : goal.unreachable-requires
 unreachable-requires c =

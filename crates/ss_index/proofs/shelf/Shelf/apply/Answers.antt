@@ -1,9 +1,9 @@
 use Rattle.std.proofs.Common.{arith, filter}
 use Rattle.ss_bso.specs.Account.{is_alive}
 use Rattle.ss_index.specs.Shelved.{rows_in}
-use Rattle.ss_bso.proofs.Lists.{length-filter_le}
 use Rattle.ss_index.proofs.Dropping.{left_number, applied_is}
 use Rattle.ss_index.proofs.shelf.Shelf.apply.Goals as goal
+use Rattle.ss_text.proofs.Basics.{length-filter_le}
 
 pub change_rows-requires-clause-can : goal.change_rows-requires-clause-can
 change_rows-requires-clause-can c =

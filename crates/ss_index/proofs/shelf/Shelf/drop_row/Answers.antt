@@ -5,10 +5,11 @@ use Rattle.ss_bso.specs.Limits.{row_bytes}
 use Rattle.ss_bso.specs.Changes.{rows_but}
 use Rattle.ss_index.specs.Held.{has_id, rows_but_id}
 use Rattle.ss_index.specs.Shelved.{rows_in}
-use Rattle.ss_bso.proofs.Lists.{length-filter_le, sum_by-filter_le}
+use Rattle.ss_bso.proofs.Lists.{sum_by-filter_le}
 use Rattle.ss_index.proofs.Shelves.{edit_rows, edit_shelf, edited_none, shelf_len_within, shelf_total_within}
 use Rattle.ss_index.proofs.Changing.{room-kept}
 use Rattle.ss_index.proofs.shelf.Shelf.drop_row.Goals as goal
+use Rattle.ss_text.proofs.Basics.{length-filter_le}
 
 pub overflow_sub-len : goal.overflow_sub-len
 overflow_sub-len c =

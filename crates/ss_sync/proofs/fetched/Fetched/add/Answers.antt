@@ -3,8 +3,9 @@ use Rattle.std.proofs.lemmas.List.{nil_from_length}
 use Rattle.std.specs.Vec.Iter.{into_iter_items}
 use Rattle.ss_sync.specs.Rows.{ids_of}
 use Rattle.ss_sync.specs.Fetched.{are_apart}
-use Rattle.ss_sync.proofs.Fetching.{added_none, added_more, added_apart, added_twice, of_true, of_not}
+use Rattle.ss_sync.proofs.Fetching.{added_none, added_more, added_apart, added_twice, of_true}
 use Rattle.ss_sync.proofs.fetched.Fetched.add.Goals as goal
+use Rattle.ss_text.proofs.Basics.{of_not}
 
 pub loop-sheet-init : goal.loop-sheet-init
 loop-sheet-init c = record {

@@ -4,9 +4,10 @@ use Rattle.ss_tree.specs.declared.entries.Entry.{Entry}
 use Rattle.ss_tree.specs.Entries.{above, entry, move_fault, under}
 use Rattle.ss_tree.specs.declared.cells.Cell.{Cell}
 use Rattle.ss_tree.specs.Cells.{next_of, prev_of, link_of, seat_at, listing, Joins, Attaches, SameLinks, IsLinked}
-use Rattle.ss_tree.proofs.Changed.{holds_linked, move_parent, move_loose, has_parent, live_some, leave_places, moved, moved_entries, moved_kids, moved_ids, move_places}
+use Rattle.ss_tree.proofs.Changed.{holds_linked, move_parent, move_loose, has_parent, leave_places, moved, moved_entries, moved_kids, moved_ids, move_places}
 use Rattle.ss_tree.proofs.Hanging.{moved_hangs}
 use Rattle.ss_tree.proofs.trees.Tree.move_to.Goals as goal
+use Rattle.ss_text.proofs.Basics.{is_one}
 
 pub unreachable-requires : goal.unreachable-requires
 unreachable-requires c =
@@ -57,7 +58,7 @@ attach-requires-clause-parent c =
     let turned : List Cell = c.set_parent.new.cells in
     let same : SameLinks middle turned = c.set_parent.ensures.links in
     let seats : (j : ℕ) → seat_at turned j ≡ cond (j == k) (option_map (under q) (seat_at middle j)) (seat_at middle j) = rw c.number-3.ensures at c.set_parent.ensures.seats in
-    let live : (d : Entry) × (entry k (listing cells) ≡ Some d) = live_some (entry k (listing cells)) (rw c.self.view_is c.requires) in
+    let live : (d : Entry) × (entry k (listing cells) ≡ Some d) = is_one (entry k (listing cells)) (rw c.self.view_is c.requires) in
     let low : q < length cells = linked.kept.below q (move_parent (listing cells) k q b free) in
     rw c.number-4.ensures (omega (arith, same.long, joins.long))
 
@@ -76,7 +77,7 @@ attach-requires-clause-right c =
     let turned : List Cell = c.set_parent.new.cells in
     let same : SameLinks middle turned = c.set_parent.ensures.links in
     let seats : (j : ℕ) → seat_at turned j ≡ cond (j == k) (option_map (under q) (seat_at middle j)) (seat_at middle j) = rw c.number-3.ensures at c.set_parent.ensures.seats in
-    let live : (d : Entry) × (entry k (listing cells) ≡ Some d) = live_some (entry k (listing cells)) (rw c.self.view_is c.requires) in
+    let live : (d : Entry) × (entry k (listing cells) ≡ Some d) = is_one (entry k (listing cells)) (rw c.self.view_is c.requires) in
     rw c.link_of.ensures (move_places cells k p linked up middle joins q b turned live.0 live.1 free same seats).0
 
 pub attach-requires-clause-left : goal.attach-requires-clause-left
@@ -94,7 +95,7 @@ attach-requires-clause-left c =
     let turned : List Cell = c.set_parent.new.cells in
     let same : SameLinks middle turned = c.set_parent.ensures.links in
     let seats : (j : ℕ) → seat_at turned j ≡ cond (j == k) (option_map (under q) (seat_at middle j)) (seat_at middle j) = rw c.number-3.ensures at c.set_parent.ensures.seats in
-    let live : (d : Entry) × (entry k (listing cells) ≡ Some d) = live_some (entry k (listing cells)) (rw c.self.view_is c.requires) in
+    let live : (d : Entry) × (entry k (listing cells) ≡ Some d) = is_one (entry k (listing cells)) (rw c.self.view_is c.requires) in
     rw (c.number-4.ensures, c.link_of.ensures) (move_places cells k p linked up middle joins q b turned live.0 live.1 free same seats).1
 
 pub invariant_of-self : goal.invariant_of-self
@@ -112,7 +113,7 @@ invariant_of-self c =
     let turned : List Cell = c.set_parent.new.cells in
     let same : SameLinks middle turned = c.set_parent.ensures.links in
     let seats : (j : ℕ) → seat_at turned j ≡ cond (j == k) (option_map (under q) (seat_at middle j)) (seat_at middle j) = rw c.number-3.ensures at c.set_parent.ensures.seats in
-    let live : (d : Entry) × (entry k (listing cells) ≡ Some d) = live_some (entry k (listing cells)) (rw c.self.view_is c.requires) in
+    let live : (d : Entry) × (entry k (listing cells) ≡ Some d) = is_one (entry k (listing cells)) (rw c.self.view_is c.requires) in
     let new : List Cell = c.attach.new.cells in
     let attaches : Attaches turned new q k (link_of b) = rw (c.number-4.ensures, c.number-5.ensures, c.link_of.ensures) at c.attach.ensures in
     let whole = whole_slice c.self.inside.cells.len cells new (omega arith) (attaches.before_right.long ∙ (attaches.after_left.long ∙ (same.long ∙ joins.long))) in
@@ -133,7 +134,7 @@ returns-clause-entries c =
     let turned : List Cell = c.set_parent.new.cells in
     let same : SameLinks middle turned = c.set_parent.ensures.links in
     let seats : (j : ℕ) → seat_at turned j ≡ cond (j == k) (option_map (under q) (seat_at middle j)) (seat_at middle j) = rw c.number-3.ensures at c.set_parent.ensures.seats in
-    let live : (d : Entry) × (entry k (listing cells) ≡ Some d) = live_some (entry k (listing cells)) (rw c.self.view_is c.requires) in
+    let live : (d : Entry) × (entry k (listing cells) ≡ Some d) = is_one (entry k (listing cells)) (rw c.self.view_is c.requires) in
     let new : List Cell = c.attach.new.cells in
     let attaches : Attaches turned new q k (link_of b) = rw (c.number-4.ensures, c.number-5.ensures, c.link_of.ensures) at c.attach.ensures in
     let whole = whole_slice c.self.inside.cells.len cells new (omega arith) (attaches.before_right.long ∙ (attaches.after_left.long ∙ (same.long ∙ joins.long))) in
@@ -154,7 +155,7 @@ returns-clause-kids c =
     let turned : List Cell = c.set_parent.new.cells in
     let same : SameLinks middle turned = c.set_parent.ensures.links in
     let seats : (j : ℕ) → seat_at turned j ≡ cond (j == k) (option_map (under q) (seat_at middle j)) (seat_at middle j) = rw c.number-3.ensures at c.set_parent.ensures.seats in
-    let live : (d : Entry) × (entry k (listing cells) ≡ Some d) = live_some (entry k (listing cells)) (rw c.self.view_is c.requires) in
+    let live : (d : Entry) × (entry k (listing cells) ≡ Some d) = is_one (entry k (listing cells)) (rw c.self.view_is c.requires) in
     let new : List Cell = c.attach.new.cells in
     let attaches : Attaches turned new q k (link_of b) = rw (c.number-4.ensures, c.number-5.ensures, c.link_of.ensures) at c.attach.ensures in
     let whole = whole_slice c.self.inside.cells.len cells new (omega arith) (attaches.before_right.long ∙ (attaches.after_left.long ∙ (same.long ∙ joins.long))) in

@@ -1,10 +1,9 @@
 -- The script of a rehearsal: what two devices do, one after the other (this project's).
 use Rattle.std.specs.Prelude.{ℕ, zero, suc, ◌+◌, ◌*◌, ◌%◌, ◌==◌, List, [], ◌∷◌, ◌++◌, map, filter, codes}
-use Rattle.ss_client.specs.declared.summaries.Fetch.TheVariants.{Newer}
 use Rattle.ss_world.specs.declared.events.Edit.{Edit}
 use Rattle.ss_world.specs.declared.events.Edit.TheVariants as edit
 use Rattle.ss_world.specs.declared.events.Event.{Event}
-use Rattle.ss_world.specs.declared.events.Event.TheVariants.{Change, Deliver, Start}
+use Rattle.ss_world.specs.declared.events.Event.TheVariants.{Change}
 use Rattle.ss_script.specs.Draws.{drawn}
 use Rattle.ss_script.specs.Bookmarks.{bookmark, bookmark_id, new_title, root_of}
 
@@ -65,11 +64,3 @@ script items seed = filling items seed ++ (parting items ++ meeting)
 abbrev pub change_events : ℕ → ℕ → List Edit → List Event
 change_events now n [] = []
 change_events now n (edit ∷ edits) = Change n now edit ∷ change_events (now + 100) n edits
-
--- the events of a sync that makes so many requests, all of which come to the account: only what is newer is fetched
-abbrev pub deliveries : ℕ → ℕ → ℕ → List Event
-deliveries now n zero = []
-deliveries now n (suc count) = Deliver n now ∷ deliveries (now + 100) n count
-
-abbrev pub sync_events : ℕ → ℕ → ℕ → List Event
-sync_events now n count = Start n Newer ∷ deliveries now n count

@@ -89,6 +89,6 @@ abbrev pub begin_fault : StageView → List Part → Option StageFault
 begin_fault stage parts = if has_room stage then size_fault parts else Some TooManyBatches
 
 -- a call is answered by the fault that a rule gives; where none does, it is done or meets want of memory
-abbrev pub Answers : {X : Type 0} → Option StageFault → Result X StageFault → Type 0
-Answers None result = IfErr result (λ fault. fault ≡ Memory)
-Answers (Some rule) result = result ≡ Err rule
+abbrev pub FaultIs : {X : Type 0} → Option StageFault → Result X StageFault → Type 0
+FaultIs None result = IfErr result (λ fault. fault ≡ Memory)
+FaultIs (Some rule) result = result ≡ Err rule

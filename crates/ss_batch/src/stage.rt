@@ -4,7 +4,7 @@ ghost use Rattle.std.specs.Prelude.{All, AllPairs, option_copied, Ok, Err, ◌�
 ghost use Rattle.ss_bso.specs.Account.{is_open};
 ghost use Rattle.ss_bso.specs.Batches.{batches_elsewhere, batches_without};
 ghost use Rattle.ss_bso.specs.Limits.{part_bytes, payload_size};
-ghost use Rattle.ss_batch.specs.Stage.{Answers, IsGiven, IsOther, append_fault, appended, begin_fault, begun, has_number, has_room, most_counted, numbered, reached, shortened, size_fault};
+ghost use Rattle.ss_batch.specs.Stage.{FaultIs, IsGiven, IsOther, append_fault, appended, begin_fault, begun, has_number, has_room, most_counted, numbered, reached, shortened, size_fault};
 
 use crate::faults::StageFault;
 use ss_bso::limits::{BATCH_LIFE, MOST_BATCH_BYTES, MOST_BATCH_RECORDS, MOST_LIVE_BATCHES};
@@ -199,7 +199,7 @@ impl Stage {
         ensures number { IfOk result (λ number. number ≡ self.new.counter) }
         ensures ok { OnOk result (self.new ≡ begun self.old now collection.now parts.items) }
         ensures err { OnErr result (self.new ≡ self.old) }
-        ensures cause { Answers (begin_fault self.old parts.items) result }
+        ensures cause { FaultIs (begin_fault self.old parts.items) result }
     {
         if !self.has_room() {
             return Err(StageFault::TooManyBatches);
@@ -226,7 +226,7 @@ impl Stage {
     ) -> Result<(), StageFault>
         ensures ok { OnOk result (self.new ≡ appended self.old batch parts.items) }
         ensures err { OnErr result (self.new ≡ self.old) }
-        ensures cause { Answers (append_fault self.old batch collection.now parts.items) result }
+        ensures cause { FaultIs (append_fault self.old batch collection.now parts.items) result }
     {
         self.fits(batch, collection, parts.as_slice())?;
         let Some(place) = self.place(batch) else {

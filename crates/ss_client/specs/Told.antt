@@ -38,7 +38,7 @@ OnSend (answer.Done device summary) P = ⊤
 OnSend (answer.Stop device fault) P = ⊤
 
 -- where a request follows, fewer may follow it than before
-abbrev pub Nears : MachineView → Do → Type 0
-Nears m (answer.Send machine request) = to_follow machine.run machine.stage < to_follow m.run m.stage
-Nears m (answer.Done device summary) = ⊤
-Nears m (answer.Stop device fault) = ⊤
+abbrev pub ComesNearer : MachineView → Do → Type 0
+ComesNearer m (answer.Send machine request) = to_follow machine.run machine.stage < to_follow m.run m.stage
+ComesNearer m (answer.Done device summary) = ⊤
+ComesNearer m (answer.Stop device fault) = ⊤

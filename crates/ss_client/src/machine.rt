@@ -6,7 +6,7 @@ ghost use Rattle.ss_client.specs.Runs.{first_run, is_newer};
 ghost use Rattle.ss_client.specs.Asking.{ask, awaits};
 ghost use Rattle.ss_client.specs.Machine.{Follows, limits_at, page_at, ids_at, held_at, written_at};
 ghost use Rattle.ss_client.specs.Sound.{TellsOurs};
-ghost use Rattle.ss_client.specs.Told.{told, Says, CanSend, OnSend, Nears};
+ghost use Rattle.ss_client.specs.Told.{told, Says, CanSend, OnSend, ComesNearer};
 ghost use Rattle.ss_client.specs.declared.runs.Stage.TheVariants.{Asks};
 
 use crate::asking::asked;
@@ -192,7 +192,7 @@ impl Machine {
         requires { TellsOurs answer }
         ensures says { Says self.device (Follows self.device self.run self.stage answer) result }
         ensures sent { OnSend result CanSend }
-        ensures nearer { Nears self result }
+        ensures nearer { ComesNearer self result }
     {
         let Machine { device, run, stage } = self;
         let (run, stage) = match step(alloc, &device, run, stage, answer) {
@@ -215,7 +215,7 @@ impl Machine {
     pub fn next(self, alloc: Global, heard: &Heard) -> Do
         ensures says { Says self.device (Follows self.device self.run self.stage (answer_of (awaits self.stage) heard.now)) result }
         ensures sent { OnSend result CanSend }
-        ensures nearer { Nears self result }
+        ensures nearer { ComesNearer self result }
     {
         match hear(alloc, self.stage.awaits(), heard) {
             Ok(answer) => self.hear(alloc, answer),

@@ -31,15 +31,15 @@ IsMissed fault missed.Wire = fault ≡ faults.ReadFault
 IsMissed fault missed.Memory = fault ≡ faults.Memory
 
 -- a response was heard, or why none was: over the request's text, the bytes that came, and those that were written
-abbrev pub Answers : List ℕ → Result Heard Missed → List ℕ → List ℕ → Meanings → Meanings → Type 0
-Answers text (Ok heard) got sent link link' = (sent ≡ text) × Hears got heard [] × IsUnfaulted link link'
-Answers text (Err missed.Unread) got sent link link' = (sent ≡ text) × IsUnread got link' × IsUnfaulted link link'
-Answers text (Err missed.Wire) got sent link link' = Fails text got sent link link'
-Answers text (Err missed.Memory) got sent link link' = (((sent ≡ []) × (got ≡ [])) ⊎ (sent ≡ text)) × IsUnfaulted link link'
+abbrev pub ComesBack : List ℕ → Result Heard Missed → List ℕ → List ℕ → Meanings → Meanings → Type 0
+ComesBack text (Ok heard) got sent link link' = (sent ≡ text) × Hears got heard [] × IsUnfaulted link link'
+ComesBack text (Err missed.Unread) got sent link link' = (sent ≡ text) × IsUnread got link' × IsUnfaulted link link'
+ComesBack text (Err missed.Wire) got sent link link' = Fails text got sent link link'
+ComesBack text (Err missed.Memory) got sent link link' = (((sent ≡ []) × (got ≡ [])) ⊎ (sent ≡ text)) × IsUnfaulted link link'
 
 -- a request with this text was sent over a link, and this came of it
 pub record Asked (text : List ℕ) (heard : Result Heard Missed) (link link' : Meanings) : Type 0 where
   pub got : List ℕ
   pub sent : List ℕ
   pub moves : Moves got sent link link'
-  pub says : Answers text heard got sent link link'
+  pub says : ComesBack text heard got sent link link'

@@ -10,7 +10,7 @@ use Rattle.ss_device_file.specs.declared.faults.DeviceFault.TheVariants.{BadLine
 use Rattle.ss_device_file.specs.Lines.{is_ended, text_of}
 use Rattle.ss_device_file.specs.Places.{ArePlaced, IsAstray, IsShort, PlacedAfter, has_place, seats_left}
 use Rattle.ss_device_file.specs.Files.{AreAll, IsBadLine, IsFileOf, IsRefused, IsTold, IsUnseated, items_in}
-use Rattle.ss_device_file.proofs.Unique.{GoesOn, each_line, meet, no_further, no_more}
+use Rattle.ss_device_file.proofs.Unique.{LinesGoOn, each_line, meet, no_further, no_more}
 use Rattle.ss_text.proofs.Basics.{some_same, none_some}
 
 -- ---- the lines of a whole text
@@ -31,7 +31,7 @@ none_bad text n ms a b =
     ]
   where
     -- the lines in front of the bad one are all of them, and more of them than there are
-    back : GoesOn ms a.lines [] a.rest → ⊥
+    back : LinesGoOn ms a.lines [] a.rest → ⊥
     back g =
         let nil = front_nil (text_of g.more) a.rest g.text_is in
         let same : a.lines ≡ ms = sym (no_more ms a.lines (record { more = g.more; lines_are = g.lines_are; text_is = sym (append-nil (text_of g.more) ∙ nil.0) })) in

@@ -90,12 +90,12 @@ pub each_line : (ls : List Line) → AreLines ls → Each ls
 unfolding AreLines
 each_line ls h = each_after [] ls h
 
-pub record GoesOn (ls ms : List Line) (a b : List ℕ) : Type 0 where
+pub record LinesGoOn (ls ms : List Line) (a b : List ℕ) : Type 0 where
   pub more : List Line
   pub lines_are : ms ≡ ls ++ more
   pub text_is : a ≡ text_of more ++ b
 
-pub meet : (ls ms : List Line) (a b : List ℕ) → Each ls → Each ms → text_of ls ++ a ≡ text_of ms ++ b → GoesOn ls ms a b ⊎ GoesOn ms ls b a
+pub meet : (ls ms : List Line) (a b : List ℕ) → Each ls → Each ms → text_of ls ++ a ≡ text_of ms ++ b → LinesGoOn ls ms a b ⊎ LinesGoOn ms ls b a
 meet [] ms a b h k is = inl (record { more = ms; lines_are = refl; text_is = is })
 meet (l ∷ ls) [] a b h k is = inr (record { more = l ∷ ls; lines_are = refl; text_is = sym is })
 meet (l ∷ ls) (m ∷ ms) a b h k is =
@@ -117,7 +117,7 @@ unfolding AreLines
 next_of ls l ms h = come_split [] ls l ms h
 
 -- where none may come that the text goes on with, the lines go on no further
-pub no_further : (ls ms : List Line) (a b : List ℕ) → NoneComes ls a → AreLines ms → GoesOn ls ms a b → (ls ≡ ms) × (a ≡ b)
+pub no_further : (ls ms : List Line) (a b : List ℕ) → NoneComes ls a → AreLines ms → LinesGoOn ls ms a b → (ls ≡ ms) × (a ≡ b)
 no_further ls ms a b none h g = go g.more g.lines_are g.text_is
   where
     go : (more : List Line) → ms ≡ ls ++ more → a ≡ text_of more ++ b → (ls ≡ ms) × (a ≡ b)
@@ -127,7 +127,7 @@ no_further ls ms a b none h g = go g.more g.lines_are g.text_is
         absurd (none l (text_of more ++ b) n.0 n.1 (t ∙ append_assoc (line_text l) (text_of more) b))
 
 -- text to the end is gone with no further line
-pub no_more : (ls ms : List Line) → GoesOn ls ms [] [] → ls ≡ ms
+pub no_more : (ls ms : List Line) → LinesGoOn ls ms [] [] → ls ≡ ms
 no_more ls ms g = go g.more g.lines_are g.text_is
   where
     go : (more : List Line) → ms ≡ ls ++ more → [] ≡ text_of more ++ [] → ls ≡ ms

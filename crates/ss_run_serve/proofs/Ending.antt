@@ -36,7 +36,7 @@ use Rattle.ss_run_serve.specs.declared.stop.Stop.TheVariants as stops
 use Rattle.ss_run_serve.specs.Hosted.{Hosted, IsBegun, hosted, hosted_at, journal_in, left_by}
 use Rattle.ss_run_serve.specs.Retiring.{uids_in}
 use Rattle.ss_run_serve.specs.Terms.{IsLeft}
-use Rattle.ss_run_serve.specs.Once.{Follows, GoesOn, HasFailed, IsDone, IsLast, IsLost, IsOnce, IsUnheard, IsUntold, TookPlace}
+use Rattle.ss_run_serve.specs.Once.{Follows, TermsGoOn, HasFailed, IsDone, IsLast, IsLost, IsOnce, IsUnheard, IsUntold, TookPlace}
 use Rattle.ss_run_serve.proofs.Handed.{all_at, at_seen, contains_at, seen, seen_at, term_seen}
 use Rattle.ss_run_serve.proofs.Anew.{left_moved, left_themselves, left_zip}
 use Rattle.ss_run_serve.proofs.Progress.{IsFaulty, any_of, map_there, same_uids}

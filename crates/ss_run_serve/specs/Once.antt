@@ -27,8 +27,8 @@ abbrev pub HasFailed : ℕ × Hosted → Type 0
 HasFailed account = (account.1.fixed.faults ≢ 0) ⊎ (account.1.faults ≢ 0)
 
 -- a further term follows where the port has not ended
-abbrev pub GoesOn : Accepts → Option Stop → Type 0
-GoesOn port next = ((next ≡ None) × (port.ends ≡ 0)) ⊎ ((next ≡ Some stops.PortEnded) × (port.ends ≢ 0))
+abbrev pub TermsGoOn : Accepts → Option Stop → Type 0
+TermsGoOn port next = ((next ≡ None) × (port.ends ≡ 0)) ⊎ ((next ≡ Some stops.PortEnded) × (port.ends ≢ 0))
 
 -- what follows on how a term ended: where the port gave all its links and has not ended, a further term
 abbrev pub Follows : TermStop → Accepts → Option Stop → Type 0
@@ -36,8 +36,8 @@ Follows ended.Port port next = next ≡ Some stops.Port
 Follows ended.PortEnded port next = next ≡ Some stops.PortEnded
 Follows ended.Memory port next = next ≡ Some stops.Memory
 Follows (ended.Town fault) port next = next ≡ Some stops.Memory
-Follows ended.Connections port next = GoesOn port next
-Follows (ended.Full uid) port next = GoesOn port next
+Follows ended.Connections port next = TermsGoOn port next
+Follows (ended.Full uid) port next = TermsGoOn port next
 
 -- Why no term follows, by the port's counts: where one follows, the port gave all the links of a term and has not ended
 abbrev pub IsLast : ℕ → Accepts → Accepts → Option Stop → Type 0

@@ -47,10 +47,10 @@ IsOfTheReply (fault.Changing first second third fourth) = ⊥
 IsOfTheReply f = ⊤
 
 -- the run has ended, or is nearer to its end
-abbrev pub Nears : Rank → Next → Type 0
-Nears y (Send run stage) = IsLower (rank run.newer stage) y
-Nears y (Done device summary) = ⊤
-Nears y (Stop f) = IsOfTheReply f
+abbrev pub ComesBelow : Rank → Next → Type 0
+ComesBelow y (Send run stage) = IsLower (rank run.newer stage) y
+ComesBelow y (Done device summary) = ⊤
+ComesBelow y (Stop f) = IsOfTheReply f
 
 -- a run that goes on for ever, and gets the awaited status each time
 pub record GoesOnForEver (device : DeviceView) : Type 0 where

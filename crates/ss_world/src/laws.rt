@@ -19,7 +19,7 @@ ghost use Rattle.ss_serving.specs.Bookmarks.{Server, sheets_of};
 ghost use Rattle.ss_serving.specs.Asking.{told_by};
 ghost use Rattle.ss_world.specs.declared.events.Event.{Event};
 ghost use Rattle.ss_world.specs.declared.events.Event.TheVariants.{Deliver, LoseRequest, Anew, Reopen};
-ghost use Rattle.ss_world.specs.Ending.{GoesOnForEver, IsAwaited, IsDoneOrPlanned, Nears, rank};
+ghost use Rattle.ss_world.specs.Ending.{GoesOnForEver, IsAwaited, IsDoneOrPlanned, ComesBelow, rank};
 ghost use Rattle.ss_world.specs.Seats.{device_of};
 ghost use Rattle.ss_world.specs.Worlds.{Seat, Idle, Syncs, WorldView};
 ghost use Rattle.ss_world.specs.Happening.{Happens, Delivers, Step, Runs, last};
@@ -63,7 +63,7 @@ pub fn replies_are_understood()
 /// on for ever.
 pub fn machines_end()
     ensures nears { (device : DeviceView) (run : Run) (stage : Stage) (answer : Answer) (next : Next) → IsAwaited answer → Follows device run stage answer next
-        → Nears (rank run.newer stage) next }
+        → ComesBelow (rank run.newer stage) next }
     ensures ends { (device : DeviceView) → GoesOnForEver device → ⊥ }
 {}
 

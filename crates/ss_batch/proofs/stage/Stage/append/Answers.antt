@@ -3,7 +3,7 @@ use Rattle.std.specs.Prelude.{Err, slice_set}
 use Rattle.ss_bso.specs.declared.parts.Part.{Part}
 use Rattle.ss_bso.specs.declared.account.Staged.{Staged}
 use Rattle.ss_batch.specs.declared.faults.StageFault.TheVariants.{NotLive}
-use Rattle.ss_batch.specs.Stage.{Answers, AreNumbered, StageView, append_fault, has_number, more, reach, with_parts}
+use Rattle.ss_batch.specs.Stage.{FaultIs, AreNumbered, StageView, append_fault, has_number, more, reach, with_parts}
 use Rattle.ss_batch.proofs.Numbers.{IsAt, placed-in, unplaced-in, set-at, numbered-with_parts}
 use Rattle.ss_batch.proofs.stage.Stage.append.Goals as goal
 
@@ -12,7 +12,7 @@ returns-in_default-clause-cause c =
     let seen = c.args.self.now.batches in
     let none = unplaced-in c.args.batch seen c.place.result c.place.ensures (none-from c.place.result c.in_default.not-Some) in
     let why : append_fault c.args.self.now c.args.batch c.args.collection.now c.args.parts.items ≡ Some NotLive = ap (λ o. more c.args.parts.items (reach c.args.collection.now o)) none in
-    subst (λ o. Answers {X = Unit {0}} o (Err NotLive)) (sym why) refl
+    subst (λ o. FaultIs {X = Unit {0}} o (Err NotLive)) (sym why) refl
   where
     none-from : {X : Type 0} (o : Option X) → ((x : X) → o ≡ Some x → ⊥) → o ≡ None
     none-from None h = refl

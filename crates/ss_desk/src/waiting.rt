@@ -1,4 +1,5 @@
-// How a caller waits until its ticket is served: it looks for a while, and then it sleeps. No clause speaks of it.
+// How a caller waits until its ticket is served: it looks for a while, and then it sleeps. How long it looks depends on how the
+// callers before it fared: looks that end in a sleep cost processor time for nothing. No clause speaks of it.
 use std::hint::spin_loop;
 use std::sync::Wait;
 use std::sync::atomic::{AtomicU64, Ordering};
@@ -7,8 +8,17 @@ use std::thread::yield_now;
 // How often a caller looks before it leaves the processor to others between two looks.
 const SPINS: u32 = 64;
 
-// How often it looks before it sleeps.
+// How often it looks before it sleeps where turns are short.
 const LOOKS: u32 = 80;
+
+// How often it looks where the callers before it slept all the same.
+const FEW_LOOKS: u32 = 4;
+
+// After how many sleeps in a row callers look but a few times.
+const NAPS: u64 = 8;
+
+// One caller of so many looks for long in any case, so that the desk learns when turns become short again.
+const PROBES: u64 = 16;
 
 // At how many bells the callers of one desk sleep, so that the end of a turn mostly wakes the next caller alone.
 const BELLS: u64 = 8;
@@ -35,6 +45,9 @@ impl Bell {
 #[derive(Drop)]
 pub(crate) struct Bells {
     bells: [Bell; 8],
+
+    // How many callers that looked slept all the same, one after the other: up to NAPS.
+    naps: AtomicU64,
 }
 
 impl Bells {
@@ -50,6 +63,7 @@ impl Bells {
                 Bell::new(),
                 Bell::new(),
             ],
+            naps: AtomicU64::new(0),
         }
     }
 
@@ -57,7 +71,19 @@ impl Bells {
     pub(crate) fn waiter(&self, ticket: u64) -> Waiter<'_> {
         Waiter {
             bell: &self.bells[(ticket % BELLS) as usize],
+            naps: &self.naps,
+            most: self.looks(ticket),
             looks: 0,
+            sleeps: false,
+        }
+    }
+
+    // How often the caller with this ticket looks before it sleeps.
+    fn looks(&self, ticket: u64) -> u32 {
+        if ticket % PROBES == 0 || self.naps.load(Ordering::Relaxed) < NAPS {
+            LOOKS
+        } else {
+            FEW_LOOKS
         }
     }
 
@@ -76,7 +102,14 @@ impl Bells {
 #[derive(Drop)]
 pub(crate) struct Waiter<'a> {
     bell: &'a Bell,
+    naps: &'a AtomicU64,
+
+    // How often it looks before it sleeps.
+    most: u32,
     looks: u32,
+
+    // Whether it is counted among the sleepers.
+    sleeps: bool,
 }
 
 impl Waiter<'_> {
@@ -87,24 +120,31 @@ impl Waiter<'_> {
 
     /// What a caller does between two looks.
     pub(crate) fn pause<R: Wait>(&mut self, rt: &R, rings: u32) {
-        if self.looks > LOOKS {
+        if self.sleeps {
             self.bell.rings.park(rt, rings);
-            return;
-        }
-        if self.looks < SPINS {
-            spin_loop();
-        } else if self.looks < LOOKS {
-            yield_now();
-        } else {
+        } else if self.looks >= self.most {
             self.bell.sleepers.fetch_add(1, Ordering::SeqCst);
+            self.sleeps = true;
+        } else {
+            if self.looks < SPINS {
+                spin_loop();
+            } else {
+                yield_now();
+            }
+            self.looks += 1;
         }
-        self.looks += 1;
     }
 
     /// The last look saw that the ticket is served.
     pub(crate) fn end(self) {
-        if self.looks > LOOKS {
+        if self.sleeps {
             self.bell.sleepers.fetch_sub(1, Ordering::SeqCst);
+            let naps = self.naps.load(Ordering::Relaxed);
+            if naps < NAPS {
+                self.naps.store(naps + 1, Ordering::Relaxed);
+            }
+        } else if self.looks > 0 {
+            self.naps.store(0, Ordering::Relaxed);
         }
     }
 }

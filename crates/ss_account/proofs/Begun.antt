@@ -50,8 +50,6 @@ begun-back account left back collection parts valid e b =
     b ∙ ap (λ (a : Plain). with_stage a (record { counter = a.counter - 1; batches = batches_without a.counter a.batches })) e
     ∙ (λ i. record account { counter = counter i; batches = batches i })
 
--- an append, and what takes it back
-
 long-grown : (number : ℕ) (parts : List Part) (batch : Staged) → (batch.number == number) ≡ true → length parts ≤ length (grown number parts batch).parts
 long-grown number parts batch e =
     let whole : length (batch.parts ++ parts) ≡ length batch.parts + length parts = length-append batch.parts parts in

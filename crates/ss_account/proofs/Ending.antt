@@ -25,15 +25,11 @@ use Rattle.ss_index.proofs.Rising.{filter-each}
 abbrev pub OtherNumber : Staged → Staged → Type 0
 OtherNumber batch other = batch.number ≢ other.number
 
--- numbers
-
 -- filters
 
 each-all : {X : Type 0} (P : X → Type 0) → ((x : X) → P x) → (xs : List X) → Each P xs
 each-all P h [] = tt
 each-all P h (x ∷ xs) = (h x, each-all P h xs)
-
--- what each element has that a filter keeps
 
 any-append : {X : Type 0} (p : X → Bool) (xs ys : List X) → list_any p (xs ++ ys) ≡ (list_any p xs || list_any p ys)
 any-append p [] ys = refl

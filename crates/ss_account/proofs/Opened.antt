@@ -405,8 +405,6 @@ around : {X : Type 0} (xs : List X) (k : ℕ) (x : X) → k < length xs → x �
 around xs k x lt item =
     sym (take-append-drop k xs) ∙ ap (λ rest. take k xs ++ rest) (drop-cons xs k x lt ∙ (λ i. sym item i ∷ drop (sym (add-one k) i) xs))
 
--- one element more
-
 pub none-at : {X : Type 0} (b : List X → X → Bool) (xs : List X) (k : ℕ) (x : X) → k < length xs → x ≡ get_or xs k x → first_bad b (take k xs) ≡ None → b (take k xs) x ≡ false → first_bad b (take (k + 1) xs) ≡ None
 none-at b xs k x lt item none fine = ap (first_bad b) (take_push xs k x lt item) ∙ none-more b (take k xs) x none fine
 

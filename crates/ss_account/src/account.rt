@@ -1,4 +1,5 @@
-//! One account: it answers each request by the one-account API, and what a request changes is kept before it is answered.
+//! One account: it answers each request by the one-account API, and what a request changes is kept before it is
+//! answered.
 
 ghost use Rattle.std.specs.Prelude.{◌≡◌, ◌≤◌, false, true, IfOk, IfErr, IfSome};
 ghost use Rattle.ss_outside.specs.Causes.{Rose};
@@ -23,8 +24,8 @@ use ss_query::{Reply, Request};
 use std::alloc::{AllocError, Global};
 use std::marker::Model;
 
-/// One account: its rows, its collections, its batches and its clock, valid at every moment, and a keeper that holds it beyond
-/// the process. What was answered as done is kept; contracts see it as the plain account and the keeper.
+/// One account: its rows, its collections, its batches and its clock, valid at every moment, and a keeper that holds it
+/// beyond the process. What was answered as done is kept; contracts see it as the plain account and the keeper.
 #[derive(Drop)]
 pub struct Account<K: Keeper> {
     state: State,
@@ -44,18 +45,22 @@ impl<K: Keeper> Model for Account<K> {
 }
 
 impl<K: Keeper> Account<K> {
-    /// The account that a keeper holds, at the latest of the store's time and the begins of its batches; what has ended by then is
-    /// left out. The keeper comes back with why there is none: a collection, a row or a batch that is bad, by its number counted
-    /// from 1, collections first and batches last; that the keeper failed; or that memory is wanting. What the keeper holds is left.
+    /// The account that a keeper holds, at the latest of the store's time and the begins of its batches; what has ended
+    /// by then is left out. The keeper comes back with why there is none: a collection, a row or a batch that is bad,
+    /// by its number counted from 1, collections first and batches last; that the keeper failed; or that memory is
+    /// wanting. What the keeper holds is left.
     pub fn open(alloc: Global, keeper: K) -> Result<Account<K>, (K, OpenFault)>
-        ensures opened { IfOk result (λ account. IfSome (K.told keeper) (λ kept. SameAccount (opened kept) account.plain)) }
+        ensures opened { IfOk result (λ account. IfSome (K.told keeper)
+            (λ kept. SameAccount (opened kept) account.plain)) }
         ensures good { IfOk result (λ account. IfSome (K.told keeper) IsGood) }
         ensures begins { IfOk result (λ account. account.plain ≡ opened (kept_of account.plain)) }
         ensures valid { IfOk result (λ account. IsValid account.plain) }
         ensures kept { IfOk result (λ account. IsKeptBy (K.told account.keeper) account.plain) }
         ensures bad { IfErr result (λ refusal. IfSome (K.told keeper) (λ kept. IsFaultOf kept refusal.1)) }
-        ensures cause { IfErr result (λ refusal. refusal.1 ≡ OpenKeeper → Rose (K.keep_faults keeper) (K.keep_faults refusal.0)) }
-        ensures quiet { IfErr result (λ refusal. (refusal.1 ≡ OpenKeeper → ⊥) → K.keep_faults refusal.0 ≡ K.keep_faults keeper) }
+        ensures cause { IfErr result (λ refusal. refusal.1 ≡ OpenKeeper
+            → Rose (K.keep_faults keeper) (K.keep_faults refusal.0)) }
+        ensures quiet { IfErr result (λ refusal. (refusal.1 ≡ OpenKeeper → ⊥)
+            → K.keep_faults refusal.0 ≡ K.keep_faults keeper) }
         ensures left { IfOk result (λ account. K.told account.keeper ≡ K.told keeper) }
         ensures left_refused { IfErr result (λ refusal. K.told refusal.0 ≡ K.told keeper) }
         ensures faults { IfOk result (λ account. K.keep_faults account.keeper ≡ K.keep_faults keeper) }
@@ -71,8 +76,8 @@ impl<K: Keeper> Account<K> {
         }
     }
 
-    /// Reads the clock (hundredths of a second): the moment doesn't fall, and the rows and batches that have ended by then go.
-    /// It takes no memory, and the keeper isn't asked.
+    /// Reads the clock (hundredths of a second): the moment doesn't fall, and the rows and batches that have ended by
+    /// then go. It takes no memory, and the keeper isn't asked.
     pub fn tick(&mut self, now: u64)
         ensures account { self.new.plain ≡ tick self.old.plain now }
         ensures keeper { self.new.keeper ≡ self.old.keeper }
@@ -83,21 +88,26 @@ impl<K: Keeper> Account<K> {
         self.state.tick(now, &mut self.ledger.ended);
     }
 
-    /// Answers a request at a reading of the clock (hundredths of a second), by the one-account API. What it changes is kept
-    /// before it is answered: a write, a begin, an append and a commit that no rule refuses ask the keeper once, and what it then
-    /// tells is the account. Without memory (507), and where the keeper fails (503 "keeper"), the clock alone has moved.
+    /// Answers a request at a reading of the clock (hundredths of a second), by the one-account API. What it changes is
+    /// kept before it is answered: a write, a begin, an append and a commit that no rule refuses ask the keeper once,
+    /// and what it then tells is the account. Without memory (507), and where the keeper fails (503 "keeper"), the
+    /// clock alone has moved.
     pub fn step(&mut self, alloc: Global, now: u64, request: &Request) -> Reply
         requires { IsFitRequest request.now }
         ensures account { SameAccount (marked self.old.plain now request.now (mark_of result)).account self.new.plain }
         ensures reply { result ≡ (marked self.old.plain now request.now (mark_of result)).reply }
         ensures valid { IsValid self.new.plain }
         ensures kept { IsKeptBy (K.told self.new.keeper) self.new.plain }
-        ensures held { mark_of result ≡ Done → is_for_keeper (tick self.old.plain now) request.now ≡ true → IsHeldBy (K.told self.new.keeper) self.new.plain }
+        ensures held { mark_of result ≡ Done → is_for_keeper (tick self.old.plain now) request.now ≡ true
+            → IsHeldBy (K.told self.new.keeper) self.new.plain }
         ensures again { IfSome (K.told self.new.keeper) IsGood }
         ensures refused { (mark_of result ≡ Done → ⊥) → K.told self.new.keeper ≡ K.told self.old.keeper }
-        ensures unasked { is_for_keeper (tick self.old.plain now) request.now ≡ false → self.new.keeper ≡ self.old.keeper }
-        ensures cause { mark_of result ≡ KeeperMark → Rose (K.keep_faults self.old.keeper) (K.keep_faults self.new.keeper) }
-        ensures quiet { (mark_of result ≡ KeeperMark → ⊥) → K.keep_faults self.new.keeper ≡ K.keep_faults self.old.keeper }
+        ensures unasked { is_for_keeper (tick self.old.plain now) request.now ≡ false
+            → self.new.keeper ≡ self.old.keeper }
+        ensures cause { mark_of result ≡ KeeperMark → Rose (K.keep_faults self.old.keeper)
+            (K.keep_faults self.new.keeper) }
+        ensures quiet { (mark_of result ≡ KeeperMark → ⊥) → K.keep_faults self.new.keeper
+            ≡ K.keep_faults self.old.keeper }
         ensures faults { K.keep_faults self.old.keeper ≤ K.keep_faults self.new.keeper }
     {
         self.state.tick(now, &mut self.ledger.ended);

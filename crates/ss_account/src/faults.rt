@@ -13,18 +13,18 @@ pub enum OpenFault {
     #[error("the keeper refused")]
     Keeper,
 
-    /// The collection of this number, counted from 1, is the first that is doubled, is later than the store's time or comes
-    /// after 200,000 others.
+    /// The collection of this number, counted from 1, is the first that is doubled, is later than the store's time or
+    /// comes after 200,000 others.
     #[error("collection {n} is doubled, too late or one too many")]
     BadCollection { n: u64 },
 
-    /// The row of this number, counted from 1, is the first that is doubled, has no collection, is later than its collection,
-    /// or is the one with which the rows pass 134,217,728 payload bytes, or rows and collections 200,000.
+    /// The row of this number, counted from 1, is the first that is doubled, has no collection, is later than its
+    /// collection, or is the one with which the rows pass 134,217,728 payload bytes, or rows and collections 200,000.
     #[error("row {n} is doubled, without a collection, too late or one too many")]
     BadRow { n: u64 },
 
-    /// The batch of this number, counted from 1, is the first that is the fifth or later, has the number of one before it, the
-    /// number 0 or one that wasn't given out, or more than 20,000 records or 16,777,216 payload bytes.
+    /// The batch of this number, counted from 1, is the first that is the fifth or later, has the number of one before
+    /// it, the number 0 or one that wasn't given out, or more than 20,000 records or 16,777,216 payload bytes.
     #[error("batch {n} is one too many, doubled, of no number that was given out, or too large")]
     BadBatch { n: u64 },
 

@@ -60,7 +60,11 @@ pub(crate) fn per_collection(
     times: &[(Name, Stamp)],
     measure: Measure,
 ) -> Result<Vec<(Name, u64)>, AllocError>
-    ensures { IfOk result (λ numbers. numbers.items ≡ map (λ entry. (entry.0, counted measure (rows_of entry.0 (rows_in shelf.now)))) (by_name times.now)) }
+    ensures { IfOk result (λ numbers. numbers.items ≡ map (λ entry. (
+      entry.0,
+      counted measure
+          (rows_of entry.0 (rows_in shelf.now)),
+    )) (by_name times.now)) }
 {
     let ordered = by_name(alloc, times)?;
     let mut numbers = Vec::with_capacity(alloc, ordered.len())?;

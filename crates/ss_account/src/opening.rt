@@ -33,7 +33,9 @@ fn add_time(
     entry: &(Name, Stamp),
 ) -> Result<bool, AllocError>
     ensures first { IfOk result (λ is_first. is_first ≡ is_none (get bytes_eq times.old entry.now.0)) }
-    ensures times { OnOk result ((name : List ℕ) → get bytes_eq times.new name ≡ (if bytes_eq entry.now.0 name then or_else (get bytes_eq times.old name) (Some entry.now.1) else get bytes_eq times.old name)) }
+    ensures times { OnOk result ((name : List ℕ) → get bytes_eq times.new name
+        ≡ (if bytes_eq entry.now.0 name then or_else (get bytes_eq times.old name) (Some entry.now.1) else get bytes_eq
+        times.old name)) }
 {
     if times.contains_key(&entry.0) {
         return Ok(false);
@@ -75,7 +77,8 @@ fn times_of(
 
 /// Whether a row's collection isn't there, or has an earlier time than the row.
 fn is_astray(times: &HashMap<Name, Stamp>, row: &Row) -> bool
-    ensures { result ≡ not (option_map_or (λ time. nat_le row.now.modified time) (get bytes_eq times.now row.now.collection) false) }
+    ensures { result ≡ not (option_map_or (λ time. nat_le row.now.modified time)
+        (get bytes_eq times.now row.now.collection) false) }
 {
     match times.get(&row.collection) {
         Some(time) => row.modified.get() > time.get(),
@@ -96,7 +99,9 @@ fn place_of(row: &Row) -> Place<'_>
 /// Notes the place of a row, and tells whether it is the first there.
 fn add_place<'a>(places: &mut HashSet<Place<'a>>, row: &'a Row) -> Result<bool, AllocError>
     ensures first { IfOk result (λ is_first. is_first ≡ not (is_placed places.old.keys row.now.collection row.now.id)) }
-    ensures places { OnOk result ((collection id : List ℕ) → is_placed places.new.keys collection id ≡ ((bytes_eq collection row.now.collection && bytes_eq id row.now.id) || is_placed places.old.keys collection id)) }
+    ensures places { OnOk result ((collection id : List ℕ) → is_placed places.new.keys collection id
+        ≡ ((bytes_eq collection row.now.collection && bytes_eq id row.now.id) || is_placed places.old.keys collection
+        id)) }
 {
     let is_first = places.insert(place_of(row))?;
     Ok(is_first)
@@ -111,7 +116,8 @@ fn is_bad(
     collections: usize,
 ) -> bool
     ensures { (rows : List RowValue) → IsSize rows size
-        → result ≡ (not is_first || (not (option_map_or (λ time. nat_le row.now.modified time) (get bytes_eq times.now row.now.collection) false) || is_too_much rows collections)) }
+        → result ≡ (not is_first || (not (option_map_or (λ time. nat_le row.now.modified time)
+        (get bytes_eq times.now row.now.collection) false) || is_too_much rows collections)) }
 {
     !is_first || is_astray(times, row) || size.is_full(collections)
 }
@@ -157,7 +163,8 @@ fn is_numbered(batches: &[Staged], number: u64) -> bool
 
 /// Whether a batch of this number is one too many behind those before it, or has the number of one of them.
 fn is_crowded(before: &[Staged], number: u64) -> bool
-    ensures { result ≡ (nat_le most_live_batches (length before.now) || list_any (λ other. other.number == number) before.now) }
+    ensures { result ≡ (nat_le most_live_batches (length before.now) || list_any (λ other. other.number == number)
+        before.now) }
 {
     before.len() >= MOST_LIVE_BATCHES || is_numbered(before, number)
 }

@@ -96,7 +96,8 @@ pub(crate) fn prepare<K: Keeper>(alloc: Global, keeper: &mut K) -> Result<(State
 }
 
 impl State {
-    /// The account that what is kept stands for: its moment is the latest of the store's time and the begins of the batches.
+    /// The account that what is kept stands for: its moment is the latest of the store's time and the begins of the
+    /// batches.
     pub(crate) fn of(alloc: Global, kept: Kept) -> Result<State, AllocError>
         requires { IsGood kept }
         ensures account { IfOk result (λ state. SameAccount (plain_of kept) state) }
@@ -115,11 +116,13 @@ impl State {
         })
     }
 
-    /// Reads the clock: the moment doesn't fall, and what has ended by then goes. The numbers of the batches among that are noted.
+    /// Reads the clock: the moment doesn't fall, and what has ended by then goes. The numbers of the batches among that
+    /// are noted.
     pub(crate) fn tick(&mut self, now: u64, ended: &mut Ended)
         requires { length ended.old + length self.old.batches ≤ most_live_batches }
         ensures account { self.new ≡ tick self.old now }
-        ensures ended { ended.new ≡ ended.old ++ numbers_of (filter (λ batch. not (is_open self.new.moment batch)) self.old.batches) }
+        ensures ended { ended.new ≡ ended.old ++ numbers_of (filter (λ batch. not (is_open self.new.moment batch))
+            self.old.batches) }
     {
         self.moment = self.moment.max(Stamp::clamp(now));
         self.shelf.sweep(self.moment);
@@ -144,7 +147,8 @@ impl State {
 
     /// The time of a request's target; None where a GET or DELETE names no row.
     fn target_time(&self, request: &Request) -> Option<Stamp>
-        ensures { result ≡ (if misses_item self.now request.now then None else Some (target_time self.now request.now)) }
+        ensures { result ≡ (if misses_item self.now request.now then None else Some
+            (target_time self.now request.now)) }
     {
         match request {
             Request::Info { .. } | Request::DeleteAll { .. } => Some(self.store),
@@ -266,8 +270,10 @@ impl State {
         ensures time { IfOk result (λ time. time ≡ target_time self.now request.now) }
         ensures passes { OnOk result (refusal self.now request.now ≡ late_refusal self.now request.now) }
         ensures batch { OnOk result (batch_cause self.now request.now ≡ None) }
-        ensures reply { IfErr result (λ reply. reply ≡ (outcome self.now request.now (refusal self.now request.now)).reply) }
-        ensures account { OnErr result ((outcome self.now request.now (refusal self.now request.now)).account ≡ self.now) }
+        ensures reply { IfErr result (λ reply. reply ≡ (outcome self.now request.now
+            (refusal self.now request.now)).reply) }
+        ensures account { OnErr result ((outcome self.now request.now (refusal self.now request.now)).account
+            ≡ self.now) }
         ensures refused { OnErr result (is_none (refusal self.now request.now) ≡ false) }
     {
         let Some(time) = self.target_time(request) else {
@@ -293,8 +299,10 @@ impl State {
         requires swept { IsSwept self.old }
         requires told { IsKeptBesideBy ledger.old.ended (K.told ledger.old.keeper) self.old }
         requires fits { IsFitRequest request.now }
-        ensures reply { IfOk result (λ reply. reply ≡ (outcome self.old request.now (refusal self.old request.now)).reply) }
-        ensures account { OnOk result (SameAccount (outcome self.old request.now (refusal self.old request.now)).account self.new) }
+        ensures reply { IfOk result (λ reply. reply ≡ (outcome self.old request.now
+            (refusal self.old request.now)).reply) }
+        ensures account { OnOk result (SameAccount (outcome self.old request.now (refusal self.old request.now)).account
+            self.new) }
         ensures err { OnErr result (self.new ≡ self.old) }
         ensures cleared { is_for_keeper self.old request.now ≡ true → OnOk result (ledger.new.ended ≡ []) }
         ensures refused { OnErr result (K.told ledger.new.keeper ≡ K.told ledger.old.keeper) }
@@ -302,7 +310,8 @@ impl State {
         ensures cause { HasCause (K.keep_faults ledger.old.keeper) (K.keep_faults ledger.new.keeper) result }
         ensures unasked { is_for_keeper self.old request.now ≡ false → ledger.new ≡ ledger.old }
         ensures quiet { is_for_keeper self.old request.now ≡ false → self.new ≡ self.old }
-        ensures held { is_for_keeper self.old request.now ≡ true → OnOk result (IsHeldBy (K.told ledger.new.keeper) self.new) }
+        ensures held { is_for_keeper self.old request.now ≡ true → OnOk result
+            (IsHeldBy (K.told ledger.new.keeper) self.new) }
     {
         match self.admit(request) {
             Err(reply) => Ok(reply),
@@ -331,8 +340,10 @@ impl State {
         requires swept { IsSwept self.old }
         requires told { IsKeptBesideBy ledger.old.ended (K.told ledger.old.keeper) self.old }
         requires fits { IsFitRequest request.now }
-        ensures reply { IfOk result (λ reply. reply ≡ (outcome self.old request.now (late_refusal self.old request.now)).reply) }
-        ensures account { OnOk result (SameAccount (outcome self.old request.now (late_refusal self.old request.now)).account self.new) }
+        ensures reply { IfOk result (λ reply. reply ≡ (outcome self.old request.now
+            (late_refusal self.old request.now)).reply) }
+        ensures account { OnOk result (SameAccount (outcome self.old request.now
+            (late_refusal self.old request.now)).account self.new) }
         ensures err { OnErr result (self.new ≡ self.old) }
         ensures cleared { is_none (late_refusal self.old request.now) ≡ true → OnOk result (ledger.new.ended ≡ []) }
         ensures refused { OnErr result (K.told ledger.new.keeper ≡ K.told ledger.old.keeper) }
@@ -340,7 +351,8 @@ impl State {
         ensures cause { HasCause (K.keep_faults ledger.old.keeper) (K.keep_faults ledger.new.keeper) result }
         ensures unasked { is_none (late_refusal self.old request.now) ≡ false → ledger.new ≡ ledger.old }
         ensures quiet { is_none (late_refusal self.old request.now) ≡ false → self.new ≡ self.old }
-        ensures held { is_none (late_refusal self.old request.now) ≡ true → OnOk result (IsHeldBy (K.told ledger.new.keeper) self.new) }
+        ensures held { is_none (late_refusal self.old request.now) ≡ true
+            → OnOk result (IsHeldBy (K.told ledger.new.keeper) self.new) }
     {
         if self.store.get() == LAST {
             return Ok(self.refuse(503, None, Body::Said(Said::Clock)));
@@ -368,7 +380,8 @@ impl State {
         self.moment.max(Stamp::clamp(self.store.get() + 1))
     }
 
-    /// The write that a request asks for, at a stamp, and what is told of it; None where the account would pass its limits.
+    /// The write that a request asks for, at a stamp, and what is told of it; None where the account would pass its
+    /// limits.
     fn prepare(
         &self,
         alloc: Global,
@@ -380,7 +393,8 @@ impl State {
         requires batch { batch_cause self.now request.now ≡ None }
         requires valid { IsValid self.now }
         requires fits { IsFitRequest request.now }
-        ensures { IfOk result (λ found. Tells self.now stamp (effect self.now request.now) (body_of self.now request.now (stamp_in self.now)) found) }
+        ensures { IfOk result (λ found. Tells self.now stamp (effect self.now request.now)
+            (body_of self.now request.now (stamp_in self.now)) found) }
     {
         match request {
             Request::DeleteAll { .. } => Ok(Some((Pending::DropAll, Body::Gone(stamp)))),
@@ -433,7 +447,8 @@ impl State {
     ) -> Result<Option<Pending>, AllocError>
         requires valid { IsValid self.now }
         requires few { length ids.now ≤ most_rows_and_collections }
-        ensures { IfOk result (λ found. Settles self.now stamp (stamped self.now collection.now stamp (rows_without collection.now ids.now self.now.rows)) found) }
+        ensures { IfOk result (λ found. Settles self.now stamp (stamped self.now collection.now stamp
+            (rows_without collection.now ids.now self.now.rows)) found) }
     {
         let targets = Targets::of_ids(alloc, ids)?;
         if self.would_be_over(collection, &targets, &[]) {
@@ -455,7 +470,8 @@ impl State {
         stamp: Stamp,
     ) -> Result<Option<Pending>, AllocError>
         requires { IsValid self.now }
-        ensures { IfOk result (λ found. Settles self.now stamp (write self.now collection.now (one_part id.now fields.now) stamp) found) }
+        ensures { IfOk result (λ found. Settles self.now stamp (write self.now collection.now
+            (one_part id.now fields.now) stamp) found) }
     {
         let part = Part {
             id: id.copy(alloc)?,
@@ -473,7 +489,8 @@ impl State {
         stamp: Stamp,
     ) -> Result<Option<(Pending, Body)>, AllocError>
         requires { IsValid self.now }
-        ensures { IfOk result (λ found. Tells self.now stamp (write self.now collection.now records.now.parts stamp) (Posted stamp (ids_of records.now.parts) (first_failures records.now.failed)) found) }
+        ensures { IfOk result (λ found. Tells self.now stamp (write self.now collection.now records.now.parts stamp)
+            (Posted stamp (ids_of records.now.parts) (first_failures records.now.failed)) found) }
     {
         let told = told_of(alloc, records)?;
         let parts = records.parts.as_slice();
@@ -492,7 +509,8 @@ impl State {
     ) -> Result<Option<(Pending, Body)>, AllocError>
         requires live { IsLive self.now collection.now batch }
         requires valid { IsValid self.now }
-        ensures { IfOk result (λ found. Tells self.now stamp (committed self.now collection.now records.now.parts batch stamp) (Posted stamp (ids_of records.now.parts) (first_failures records.now.failed)) found) }
+        ensures { IfOk result (λ found. Tells self.now stamp (committed self.now collection.now records.now.parts batch
+            stamp) (Posted stamp (ids_of records.now.parts) (first_failures records.now.failed)) found) }
     {
         let told = told_of(alloc, records)?;
         let staged = self.staged_parts(batch, collection);
@@ -513,7 +531,8 @@ impl State {
     ) -> Result<Option<Pending>, AllocError>
         requires live { IfSome batch (λ number. IsSome (numbered number self.now.batches)) }
         requires valid { IsValid self.now }
-        ensures { IfOk result (λ found. Settles self.now stamp (without_batch batch (write self.now collection.now (first.now ++ more.now) stamp)) found) }
+        ensures { IfOk result (λ found. Settles self.now stamp (without_batch batch
+            (write self.now collection.now (first.now ++ more.now) stamp)) found) }
     {
         let targets = Targets::of_parts(alloc, first, more)?;
         let rows = made_rows(alloc, &self.shelf, collection, first, more, stamp)?;
@@ -533,7 +552,8 @@ impl State {
     fn would_be_over(&self, collection: &Name, targets: &Targets, made: &[Row]) -> bool
         requires valid { IsValid self.now }
         requires apart { Pairs OtherText targets.now }
-        ensures { (time : ℕ) → result ≡ is_over (stamped self.now collection.now time (rows_without collection.now targets.now self.now.rows ++ made.now)) }
+        ensures { (time : ℕ) → result ≡ is_over (stamped self.now collection.now time
+            (rows_without collection.now targets.now self.now.rows ++ made.now)) }
     {
         let collections = count_others(self.collections.as_slice(), collection) + 1;
         would_be_full(&self.shelf, collection, targets, made, collections)
@@ -709,7 +729,8 @@ impl State {
 
     /// What a keeper is told of the end of a batch.
     fn end_changes(&self, alloc: Global, ended: &Ended, number: u64) -> Result<Changes, AllocError>
-        ensures { IfOk result (λ changes. changes ≡ batch_changes self.now ended.now self.now.counter (EndChange number)) }
+        ensures { IfOk result (λ changes. changes ≡ batch_changes self.now ended.now self.now.counter
+            (EndChange number)) }
     {
         let counter = self.stage.counter();
         self.batch_changes(alloc, ended, counter, BatchChange::End { number })
@@ -728,8 +749,10 @@ impl State {
         requires valid { IsValid self.old }
         requires swept { IsSwept self.old }
         requires told { IsKeptBesideBy ledger.old.ended (K.told ledger.old.keeper) self.old }
-        ensures reply { IfOk result (λ reply. reply ≡ staged_reply self.old.moment time (self.old.counter + 1) records.now) }
-        ensures account { OnOk result (self.new ≡ with_stage self.old (begun (stage_of self.old) self.old.moment collection.now records.now.parts)) }
+        ensures reply { IfOk result (λ reply. reply ≡ staged_reply self.old.moment time (self.old.counter + 1)
+            records.now) }
+        ensures account { OnOk result (self.new ≡ with_stage self.old (begun (stage_of self.old) self.old.moment
+            collection.now records.now.parts)) }
         ensures err { OnErr result (self.new ≡ self.old) }
         ensures held { OnOk result (IsHeldBy (K.told ledger.new.keeper) self.new) }
         ensures cleared { OnOk result (ledger.new.ended ≡ []) }
@@ -759,7 +782,8 @@ impl State {
     ) -> Result<u64, AllocError>
         requires { begin_fault (stage_of self.old) parts.items ≡ None }
         ensures number { IfOk result (λ number. number ≡ self.old.counter + 1) }
-        ensures ok { OnOk result (self.new ≡ with_stage self.old (begun (stage_of self.old) self.old.moment collection.now parts.items)) }
+        ensures ok { OnOk result (self.new ≡ with_stage self.old (begun (stage_of self.old) self.old.moment
+            collection.now parts.items)) }
         ensures err { OnErr result (self.new ≡ self.old) }
     {
         match self.stage.begin(alloc, self.moment, collection, parts) {
@@ -772,12 +796,17 @@ impl State {
     /// Takes back the last begin.
     fn unbegin(&mut self)
         requires { IsSome (numbered self.old.counter self.old.batches) }
-        ensures { self.new ≡ with_stage self.old (record { counter = self.old.counter - 1; batches = batches_without self.old.counter self.old.batches }) }
+        ensures { self.new ≡ with_stage self.old (record {
+          counter = self.old.counter - 1;
+          batches = batches_without
+              self.old.counter self.old.batches;
+        }) }
     {
         self.stage.unbegin();
     }
 
-    /// Moves a copy of the parts to the end of a live batch, into which they fit, and takes them back where the keeper fails.
+    /// Moves a copy of the parts to the end of a live batch, into which they fit, and takes them back where the keeper
+    /// fails.
     fn append<K: Keeper>(
         &mut self,
         alloc: Global,
@@ -792,7 +821,8 @@ impl State {
         requires swept { IsSwept self.old }
         requires told { IsKeptBesideBy ledger.old.ended (K.told ledger.old.keeper) self.old }
         ensures reply { IfOk result (λ reply. reply ≡ staged_reply self.old.moment time batch records.now) }
-        ensures account { OnOk result (self.new ≡ with_stage self.old (appended (stage_of self.old) batch records.now.parts)) }
+        ensures account { OnOk result (self.new ≡ with_stage self.old (appended (stage_of self.old) batch
+            records.now.parts)) }
         ensures err { OnErr result (self.new ≡ self.old) }
         ensures held { OnOk result (IsHeldBy (K.told ledger.new.keeper) self.new) }
         ensures cleared { OnOk result (ledger.new.ended ≡ []) }
@@ -853,8 +883,12 @@ impl State {
         requires valid { IsValid self.old }
         requires swept { IsSwept self.old }
         requires told { IsKeptBesideBy ledger.old.ended (K.told ledger.old.keeper) self.old }
-        ensures reply { IfOk result (λ reply. reply ≡ plain_reply self.old.moment 200 (Some time) (Posted time (ids_of records.now.parts) (first_failures records.now.failed))) }
-        ensures account { OnOk result (self.new ≡ record self.old { batches = batches_without batch self.old.batches }) }
+        ensures reply { IfOk result (λ reply. reply ≡ plain_reply self.old.moment 200 (Some time)
+            (Posted time (ids_of records.now.parts) (first_failures records.now.failed))) }
+        ensures account { OnOk result (self.new ≡ record self.old {
+          batches = batches_without batch
+              self.old.batches;
+        }) }
         ensures err { OnErr result (self.new ≡ self.old) }
         ensures held { OnOk result (IsHeldBy (K.told ledger.new.keeper) self.new) }
         ensures cleared { OnOk result (ledger.new.ended ≡ []) }
@@ -959,7 +993,8 @@ impl State {
         query: &Query,
         time: Stamp,
     ) -> Result<Reply, AllocError>
-        ensures { IfOk result (λ reply. reply ≡ list_reply self.now.moment time (picked self.now collection.now query.now) query.now.full) }
+        ensures { IfOk result (λ reply. reply ≡ list_reply self.now.moment time
+            (picked self.now collection.now query.now) query.now.full) }
     {
         let Page { body, count, next } = page_of(alloc, &self.shelf, collection, query)?;
         Ok(Reply {

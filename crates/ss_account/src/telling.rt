@@ -124,9 +124,12 @@ pub(crate) fn page_of(
     collection: &Name,
     query: &Query,
 ) -> Result<Page, AllocError>
-    ensures body { IfOk result (λ page. page.body ≡ rows_body query.now.full (answer (rows_of collection.now (rows_in shelf.now)) query.now).rows) }
-    ensures count { IfOk result (λ page. page.count ≡ length (answer (rows_of collection.now (rows_in shelf.now)) query.now).rows) }
-    ensures next { IfOk result (λ page. page.next ≡ (answer (rows_of collection.now (rows_in shelf.now)) query.now).next) }
+    ensures body { IfOk result (λ page. page.body ≡ rows_body query.now.full
+        (answer (rows_of collection.now (rows_in shelf.now)) query.now).rows) }
+    ensures count { IfOk result (λ page. page.count ≡ length (answer (rows_of collection.now (rows_in shelf.now))
+        query.now).rows) }
+    ensures next { IfOk result (λ page. page.next ≡ (answer (rows_of collection.now (rows_in shelf.now))
+        query.now).next) }
 {
     page_counting::<Brand>(alloc, shelf, collection, query, Blank::new(1))
 }
@@ -141,9 +144,12 @@ fn page_counting<L: Ledger>(
     requires name { blank.name ≡ L.name }
     requires parts { blank.parts ≡ L.parts }
     requires some_part { 0 < blank.parts }
-    ensures body { IfOk result (λ page. page.body ≡ rows_body query.now.full (answer (rows_of collection.now (rows_in shelf.now)) query.now).rows) }
-    ensures count { IfOk result (λ page. page.count ≡ length (answer (rows_of collection.now (rows_in shelf.now)) query.now).rows) }
-    ensures next { IfOk result (λ page. page.next ≡ (answer (rows_of collection.now (rows_in shelf.now)) query.now).next) }
+    ensures body { IfOk result (λ page. page.body ≡ rows_body query.now.full
+        (answer (rows_of collection.now (rows_in shelf.now)) query.now).rows) }
+    ensures count { IfOk result (λ page. page.count ≡ length (answer (rows_of collection.now (rows_in shelf.now))
+        query.now).rows) }
+    ensures next { IfOk result (λ page. page.next ≡ (answer (rows_of collection.now (rows_in shelf.now))
+        query.now).next) }
 {
     let mut steps = Steps::<L>::new(blank);
     if query.full {

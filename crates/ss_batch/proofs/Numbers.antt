@@ -58,7 +58,7 @@ found-at p [] i d h = absurd h
 found-at p (x ∷ xs) zero d h = ap (λ v. cond v (Some x) (find p xs)) h
 found-at p (x ∷ xs) (suc i) d h = ap (λ v. cond v (Some x) (find p xs)) h.0 ∙ found-at p xs i d h.1
 
--- numbers that were given out, no two of them one
+-- ---- numbers that were given out, no two of them one
 
 other_number : (m n : ℕ) → m ≢ n → (n == m) ≡ false
 other_number m n other =

@@ -113,8 +113,8 @@ impl Stage {
         }
     }
 
-    /// These batches, of so many that were begun. Each number was given out, and no two batches have one number. It takes no
-    /// memory.
+    /// These batches, of so many that were begun. Each number was given out, and no two batches have one number. It
+    /// takes no memory.
     pub fn from_staged(counter: u64, batches: Vec<Staged>) -> Stage
         requires given { All (IsGiven counter) batches.items }
         requires apart { AllPairs IsOther batches.items }
@@ -269,10 +269,15 @@ impl Stage {
         self.batches.retain(|staged| is_open(staged, moment));
     }
 
-    /// Takes back the last begin: the batch whose number is the counter goes, and the counter falls by 1. It takes no memory.
+    /// Takes back the last begin: the batch whose number is the counter goes, and the counter falls by 1. It takes no
+    /// memory.
     pub fn unbegin(&mut self)
         requires { IsSome (numbered self.old.counter self.old.batches) }
-        ensures { self.new ≡ record { counter = self.old.counter - 1; batches = batches_without self.old.counter self.old.batches } }
+        ensures { self.new ≡ record {
+          counter = self.old.counter - 1;
+          batches = batches_without self.old.counter
+              self.old.batches;
+        } }
     {
         let last = self.counter;
         self.batches.retain(|staged| !has_number(staged, last));

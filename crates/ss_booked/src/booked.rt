@@ -29,16 +29,16 @@ pub struct Asked {
     pub request: Request,
 }
 
-/// What no call changes: the opening of the journal, the most entries, and the keeper's count of faults at the opening. It is for
-/// the proofs: no value of it is made.
+/// What no call changes: the opening of the journal, the most entries, and the keeper's count of faults at the opening.
+/// It is for the proofs: no value of it is made.
 pub struct Terms {
     pub opening: Plain,
     pub most: u32,
     pub faults: u64,
 }
 
-/// An account with the journal of what was asked of it. All of the journal's memory is taken at the opening, so that a call is
-/// never refused for want of it.
+/// An account with the journal of what was asked of it. All of the journal's memory is taken at the opening, so that a
+/// call is never refused for want of it.
 #[derive(Drop)]
 pub struct Booked<K: Keeper> {
     bound: Bound<K>,
@@ -49,7 +49,8 @@ pub struct Booked<K: Keeper> {
 impl<K: Keeper> Booked<K> {
     ghost use Rattle.ss_booked.specs.Booked.{account_of, journal_of, keeper_before};
 
-    /// Opens a journal for an account, with room for so many entries. Where memory is wanting the account comes back as it was.
+    /// Opens a journal for an account, with room for so many entries. Where memory is wanting the account comes back as
+    /// it was.
     pub fn open(
         alloc: Global,
         account: Account<K>,
@@ -66,9 +67,9 @@ impl<K: Keeper> Booked<K> {
         Ok(Booked { bound })
     }
 
-    /// Answers a request at a reading of the clock (hundredths of a second) and enters it, with the ticket of the call and the
-    /// number of the pass that made it. `Full` comes exactly where the journal has as many entries as it may have, or 67,108,864
-    /// bytes or more; then nothing changes and the request is dropped. To enter takes no memory.
+    /// Answers a request at a reading of the clock (hundredths of a second) and enters it, with the ticket of the call
+    /// and the number of the pass that made it. `Full` comes exactly where the journal has as many entries as it may
+    /// have, or 67,108,864 bytes or more; then nothing changes and the request is dropped. To enter takes no memory.
     pub fn call(
         &mut self,
         ticket: u64,
@@ -78,37 +79,45 @@ impl<K: Keeper> Booked<K> {
     ) -> Result<Reply, Full>
         requires fits { IsFitRequest request }
         requires above { All (λ entry. entry.ticket < ticket) (journal_of self.old).entries }
-        ensures entered { IfOk result (λ reply. journal_of self.new ≡ with_entry (journal_of self.old) (record { ticket = ticket; pass = pass; now = now; request = request; mark = mark_of reply })) }
-        ensures reply { IfOk result (λ reply. reply_at (journal_of self.new) (length (journal_of self.old).entries) ≡ Some reply) }
+        ensures entered { IfOk result (λ reply. journal_of self.new ≡ with_entry (journal_of self.old)
+            (record { ticket = ticket; pass = pass; now = now; request = request; mark = mark_of reply })) }
+        ensures reply { IfOk result (λ reply. reply_at (journal_of self.new) (length (journal_of self.old).entries)
+            ≡ Some reply) }
         ensures had_room { OnOk result (full_of (journal_of self.old) ≡ None) }
         ensures full { IfErr result (λ full. full_of (journal_of self.old) ≡ Some full) }
         ensures unentered { OnErr result (journal_of self.new ≡ journal_of self.old) }
         ensures untouched { OnErr result (account_of self.new ≡ account_of self.old) }
         ensures before { keeper_before self.new ≡ keeper_before self.old }
-        ensures cause { IfOk result (λ reply. mark_of reply ≡ KeeperMark → Rose (K.keep_faults (account_of self.old).keeper) (K.keep_faults (account_of self.new).keeper)) }
-        ensures quiet { IfOk result (λ reply. (mark_of reply ≡ KeeperMark → ⊥) → K.keep_faults (account_of self.new).keeper ≡ K.keep_faults (account_of self.old).keeper) }
+        ensures cause { IfOk result (λ reply. mark_of reply ≡ KeeperMark
+            → Rose (K.keep_faults (account_of self.old).keeper) (K.keep_faults (account_of self.new).keeper)) }
+        ensures quiet { IfOk result (λ reply. (mark_of reply ≡ KeeperMark → ⊥)
+            → K.keep_faults (account_of self.new).keeper ≡ K.keep_faults (account_of self.old).keeper) }
     {
         self.bound.call(ticket, pass, now, request)
     }
 
-    /// The journal, lent: it is legal and leaves the account. Since it was opened the keeper has failed at least as often as it
-    /// has entries that say so.
+    /// The journal, lent: it is legal and leaves the account. Since it was opened the keeper has failed at least as
+    /// often as it has entries that say so.
     pub fn journal(&self) -> &Journal
         ensures journal { result.now ≡ journal_of self.now }
         ensures legal { IsLegal (journal_of self.now) }
-        ensures leaves { SameAccount (account_after (journal_of self.now).opening (journal_of self.now).entries) (account_of self.now).plain }
-        ensures faults { RoseBy (keeper_marks (journal_of self.now).entries) (K.keep_faults (keeper_before self.now)) (K.keep_faults (account_of self.now).keeper) }
+        ensures leaves { SameAccount (account_after (journal_of self.now).opening (journal_of self.now).entries)
+            (account_of self.now).plain }
+        ensures faults { RoseBy (keeper_marks (journal_of self.now).entries) (K.keep_faults (keeper_before self.now))
+            (K.keep_faults (account_of self.now).keeper) }
     {
         self.bound.journal()
     }
 
-    /// Begins the journal again: the present account becomes its opening, and the entries go. Where memory is wanting nothing
-    /// changes.
+    /// Begins the journal again: the present account becomes its opening, and the entries go. Where memory is wanting
+    /// nothing changes.
     pub fn fold(&mut self) -> Result<(), AllocError>
         ensures account { account_of self.new ≡ account_of self.old }
         ensures opening { OnOk result (SameAccount (account_of self.old).plain (journal_of self.new).opening) }
-        ensures follows { OnOk result (SameAccount (account_after (journal_of self.old).opening (journal_of self.old).entries) (journal_of self.new).opening) }
-        ensures begun { OnOk result (journal_of self.new ≡ begun (journal_of self.new).opening (journal_of self.old).most) }
+        ensures follows { OnOk result (SameAccount (account_after (journal_of self.old).opening
+            (journal_of self.old).entries) (journal_of self.new).opening) }
+        ensures begun { OnOk result (journal_of self.new ≡ begun (journal_of self.new).opening
+            (journal_of self.old).most) }
         ensures before { OnOk result (keeper_before self.new ≡ (account_of self.old).keeper) }
         ensures unfolded { OnErr result (journal_of self.new ≡ journal_of self.old) }
         ensures as_before { OnErr result (keeper_before self.new ≡ keeper_before self.old) }
@@ -123,7 +132,8 @@ impl<K: Keeper> Booked<K> {
         ensures valid { IsValid result.plain }
         ensures kept { IsKeptBy (K.told result.keeper) result.plain }
         ensures again { IfSome (K.told result.keeper) IsGood }
-        ensures faults { RoseBy (keeper_marks (journal_of self).entries) (K.keep_faults (keeper_before self)) (K.keep_faults result.keeper) }
+        ensures faults { RoseBy (keeper_marks (journal_of self).entries) (K.keep_faults (keeper_before self))
+            (K.keep_faults result.keeper) }
     {
         let Booked { bound } = self;
         bound.unbind()

@@ -50,7 +50,8 @@ impl<K: Keeper> Model for Bound<K> {
 }
 
 impl<K: Keeper> Bound<K> {
-    /// Opens a journal for an account, with room for so many entries. Where memory is wanting the account comes back as it was.
+    /// Opens a journal for an account, with room for so many entries. Where memory is wanting the account comes back as
+    /// it was.
     pub(crate) fn open(
         alloc: Global,
         account: Account<K>,
@@ -91,16 +92,21 @@ impl<K: Keeper> Bound<K> {
     ) -> Result<Reply, Full>
         requires fits { IsFitRequest request }
         requires above { All (λ entry. entry.ticket < ticket) self.old.journal.entries }
-        ensures entered { IfOk result (λ reply. self.new.journal ≡ with_entry self.old.journal (record { ticket = ticket; pass = pass; now = now; request = request; mark = mark_of reply })) }
-        ensures reply { IfOk result (λ reply. reply_at self.new.journal (length self.old.journal.entries) ≡ Some reply) }
+        ensures entered { IfOk result (λ reply. self.new.journal ≡ with_entry self.old.journal
+            (record { ticket = ticket; pass = pass; now = now; request = request; mark = mark_of reply })) }
+        ensures reply { IfOk result (λ reply. reply_at self.new.journal (length self.old.journal.entries)
+            ≡ Some reply) }
         ensures had_room { OnOk result (full_of self.old.journal ≡ None) }
         ensures full { IfErr result (λ full. full_of self.old.journal ≡ Some full) }
         ensures unchanged { OnErr result (self.new ≡ self.old) }
         ensures before { self.new.before ≡ self.old.before }
-        ensures cause { IfOk result (λ reply. mark_of reply ≡ KeeperMark → Rose (K.keep_faults self.old.account.keeper) (K.keep_faults self.new.account.keeper)) }
-        ensures quiet { IfOk result (λ reply. (mark_of reply ≡ KeeperMark → ⊥) → K.keep_faults self.new.account.keeper ≡ K.keep_faults self.old.account.keeper) }
+        ensures cause { IfOk result (λ reply. mark_of reply ≡ KeeperMark
+            → Rose (K.keep_faults self.old.account.keeper) (K.keep_faults self.new.account.keeper)) }
+        ensures quiet { IfOk result (λ reply. (mark_of reply ≡ KeeperMark → ⊥)
+            → K.keep_faults self.new.account.keeper ≡ K.keep_faults self.old.account.keeper) }
         ensures legal { IsLegal self.new.journal }
-        ensures rose { RoseBy (keeper_marks self.new.journal.entries) (K.keep_faults self.new.before) (K.keep_faults self.new.account.keeper) }
+        ensures rose { RoseBy (keeper_marks self.new.journal.entries) (K.keep_faults self.new.before)
+            (K.keep_faults self.new.account.keeper) }
     {
         if let Some(full) = self.full() {
             return Err(full);
@@ -137,7 +143,8 @@ impl<K: Keeper> Bound<K> {
     /// The journal, lent, with what holds of the two.
     pub(crate) fn journal(&self) -> &Journal
         ensures journal { result.now ≡ self.now.journal }
-        ensures leaves { SameAccount (account_after self.now.journal.opening self.now.journal.entries) self.now.account.plain }
+        ensures leaves { SameAccount (account_after self.now.journal.opening self.now.journal.entries)
+            self.now.account.plain }
         ensures valid { IsValid self.now.account.plain }
         ensures kept { IsKeptBy (K.told self.now.account.keeper) self.now.account.plain }
         ensures again { IfSome (K.told self.now.account.keeper) IsGood }
@@ -149,12 +156,14 @@ impl<K: Keeper> Bound<K> {
     pub(crate) fn fold(&mut self) -> Result<(), AllocError>
         ensures account { self.new.account ≡ self.old.account }
         ensures opening { OnOk result (SameAccount self.old.account.plain self.new.journal.opening) }
-        ensures follows { OnOk result (SameAccount (account_after self.old.journal.opening self.old.journal.entries) self.new.journal.opening) }
+        ensures follows { OnOk result (SameAccount (account_after self.old.journal.opening self.old.journal.entries)
+            self.new.journal.opening) }
         ensures begun { OnOk result (self.new.journal ≡ begun self.new.journal.opening self.old.journal.most) }
         ensures before { OnOk result (self.new.before ≡ self.old.account.keeper) }
         ensures unchanged { OnErr result (self.new ≡ self.old) }
         ensures legal { IsLegal self.new.journal }
-        ensures rose { RoseBy (keeper_marks self.new.journal.entries) (K.keep_faults self.new.before) (K.keep_faults self.new.account.keeper) }
+        ensures rose { RoseBy (keeper_marks self.new.journal.entries) (K.keep_faults self.new.before)
+            (K.keep_faults self.new.account.keeper) }
     {
         let opening = self.account.plain(self.alloc)?;
         let before = Snapshot::of(self.account.keeper());

@@ -1,6 +1,7 @@
-//! An account with its journal: each call is entered, and its reply is the one-account API's at its place in the journal.
-//! It is a value for a desk, so callers in any number of threads may take turns on it. Its contracts: the journal is legal and
-//! leaves the account; a call is refused exactly where the journal is full; the keeper failed at least as often as the journal says.
+//! An account with its journal: each call is entered, and its reply is the one-account API's at its place in the
+//! journal. It is a value for a desk, so callers in any number of threads may take turns on it. Its contracts: the
+//! journal is legal and leaves the account; a call is refused exactly where the journal is full; the keeper failed at
+//! least as often as the journal says.
 #![tactic(auto)]
 
 mod booked;

@@ -1,4 +1,4 @@
--- That two rows have different places holds and_from ways.
+-- Two rows are apart whichever stands first.
 use Rattle.std.specs.Prelude.{◌≡◌, true, false, bytes_eq, refl}
 use Rattle.std.proofs.Common.{sym, ◌∙◌}
 use Rattle.ss_bso.specs.declared.rows.Row.{Row}
@@ -7,7 +7,7 @@ use Rattle.ss_bso.specs.Lists.{Apart}
 use Rattle.ss_text.proofs.Basics.{both_left, both_right, same_text, bytes_eq-same}
 use Rattle.std.proofs.lemmas.Bool.{and_from}
 
--- being apart goes and_from ways
+-- being apart goes both ways
 pub apart_flip : (x y : Row) → Apart x y → Apart y x
 apart_flip x y e =
     elim (is_at y.collection y.id x) as (λ v. is_at y.collection y.id x ≡ v → v ≡ false) [

@@ -57,7 +57,8 @@ impl Gathering {
     fn add(&mut self, alloc: Global, value: Value) -> Result<bool, AllocError>
         ensures found { IfOk result (λ found. found ≡ is_some (id_of (view value))) }
         ensures parts { OnOk result (Grows self.old.parts.items self.new.parts.items (part_of (Some (view value)))) }
-        ensures failed { OnOk result (Grows self.old.failed.items self.new.failed.items (failed_of (Some (view value)))) }
+        ensures failed { OnOk result (Grows self.old.failed.items self.new.failed.items
+            (failed_of (Some (view value)))) }
     {
         let id = match id_in(alloc, &value)? {
             Some(id) => id,

@@ -10,7 +10,8 @@ use ss_text::{Id, Name, Stamp};
 use std::alloc::{AllocError, Global};
 use std::marker::Model;
 
-/// What a keeper holds of an account: all but its moment. The counter is kept, so that no number of a batch comes again.
+/// What a keeper holds of an account: all but its moment. The counter is kept, so that no number of a batch comes
+/// again.
 #[derive(Drop, Debug)]
 pub struct Kept {
     pub rows: Rows,
@@ -286,7 +287,8 @@ pub struct Changes {
     /// What becomes of rows, one after the other, after whole collections were dropped.
     pub rows: RowChanges,
 
-    /// What becomes of collections: those that are dropped go before the rows are changed, those that are set come after.
+    /// What becomes of collections: those that are dropped go before the rows are changed, those that are set come
+    /// after.
     pub collections: CollectionChanges,
 
     /// The store's time from now on.

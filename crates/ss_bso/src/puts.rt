@@ -11,7 +11,8 @@ use std::alloc::{AllocError, Global};
 
 /// The payload that a part gives: its own, the old row's, or the empty text.
 fn payload_of(alloc: Global, field: &Field<Word>, old: Option<&Row>) -> Result<Word, AllocError>
-    ensures { IfOk result (λ text. text ≡ field_value field.now (option_map_or (λ row. row.payload) (option_copied old.entry) []) [] (λ given. given)) }
+    ensures { IfOk result (λ text. text ≡ field_value field.now (option_map_or (λ row. row.payload)
+        (option_copied old.entry) []) [] (λ given. given)) }
 {
     match (field, old) {
         (Field::Set(text), _) => text.copy(alloc),

@@ -95,7 +95,9 @@ impl Upload {
 }
 
 fn post_of(alloc: Global, upload: &Upload) -> Result<Request, AllocError>
-    ensures { IfOk result (λ request. request ≡ Post (codes "bookmarks") (record { parts = post_of upload.now; failed = [] }) (mode_of upload.now.batch (rest_of upload.now)) (IfUnmodified upload.now.time)) }
+    ensures { IfOk result (λ request. request ≡ Post (codes "bookmarks")
+        (record { parts = post_of upload.now; failed = [] }) (mode_of upload.now.batch (rest_of upload.now))
+        (IfUnmodified upload.now.time)) }
 {
     Ok(Request::Post {
         collection: bookmarks(alloc)?,
@@ -127,7 +129,8 @@ pub(crate) fn asked(
     run: &Run,
     stage: &Stage,
 ) -> Result<Request, AllocError>
-    ensures { IfOk result (λ request. request ≡ asked (record { device = device.now; run = run.now; stage = stage.now }) stage.now) }
+    ensures { IfOk result (λ request. request ≡ asked (record { device = device.now; run = run.now; stage = stage.now })
+        stage.now) }
 {
     match stage {
         Stage::Asks => Ok(Request::Info {

@@ -1,7 +1,7 @@
-//! The sync machine: what a device asks of a server, and what it does with each response until it is done.
-//! It fetches rows, merges them, sends the plan and gives the device as it is after the sync; it stands on ss_device, ss_sync,
-//! ss_hearing and ss_route. Its contract: each step is the definition's for every response, and until the run is done the
-//! device is as it was started.
+//! The sync machine: what a device asks of a server, and what it does with each response until it is done. It fetches
+//! rows, merges them, sends the plan and gives the device as it is after the sync; it stands on ss_device, ss_sync,
+//! ss_hearing and ss_route. Its contract: each step is the definition's for every response, and until the run is done
+//! the device is as it was started.
 #![tactic(auto)]
 
 mod asking;

@@ -186,8 +186,9 @@ impl Machine {
         (machine, request)
     }
 
-    /// What the machine does with an answer to its request: exactly what the definition has it do. A request that is sent
-    /// can be written, and fewer may follow it than before, so a run ends. A stop for want of memory may always come.
+    /// What the machine does with an answer to its request: exactly what the definition has it do. A request that is
+    /// sent can be written, and fewer may follow it than before, so a run ends. A stop for want of memory may always
+    /// come.
     pub fn hear(self, alloc: Global, answer: Answer) -> Do
         requires { TellsOurs answer }
         ensures says { Says self.device (Follows self.device self.run self.stage answer) result }
@@ -209,11 +210,12 @@ impl Machine {
         }
     }
 
-    /// What the machine does with the response to its request: exactly what the definition has it do with the answer that
-    /// the response is. A request that is sent can be written, and fewer may follow it than before, so a run ends. A stop for want of
-    /// memory may always come.
+    /// What the machine does with the response to its request: exactly what the definition has it do with the answer
+    /// that the response is. A request that is sent can be written, and fewer may follow it than before, so a run ends.
+    /// A stop for want of memory may always come.
     pub fn next(self, alloc: Global, heard: &Heard) -> Do
-        ensures says { Says self.device (Follows self.device self.run self.stage (answer_of (awaits self.stage) heard.now)) result }
+        ensures says { Says self.device (Follows self.device self.run self.stage
+            (answer_of (awaits self.stage) heard.now)) result }
         ensures sent { OnSend result CanSend }
         ensures nearer { ComesNearer self result }
     {

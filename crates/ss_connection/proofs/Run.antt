@@ -182,8 +182,6 @@ module _ (uids : List ℕ) (known known' : ℕ → Known) (more : KnowsMore know
         fewer = few_one;
       }
 
--- a fault that is answered is none of the source
-
 -- the next bytes have a fault
 pub record Faults (link link' : Meanings) (kept : Kept) (count : ℕ) (fault : MsgFault) : Type 0 where
   pub few : count < most_messages

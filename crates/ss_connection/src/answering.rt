@@ -30,8 +30,8 @@ fn term_is_full() -> Local
     }
 }
 
-/// Asks the account of a message that was read at a reading of the clock (hundredths of a second), where routing finds one. The
-/// response is made after the call, so that no other caller waits for it; `last` closes the connection.
+/// Asks the account of a message that was read at a reading of the clock (hundredths of a second), where routing finds
+/// one. The response is made after the call, so that no other caller waits for it; `last` closes the connection.
 pub(crate) fn answer<K: Keeper + Drop, R: Wait>(
     rt: &R,
     alloc: Global,
@@ -44,8 +44,10 @@ pub(crate) fn answer<K: Keeper + Drop, R: Wait>(
     requires of { AreOf (desks_of town.now) (passes_of passes.old) }
     ensures of { AreOf (desks_of town.now) (passes_of passes.new) }
     ensures more { SeeMore (passes_of passes.old) (passes_of passes.new) }
-    ensures says { SaysTurn (uids_of town.now) (known_by (passes_of passes.new)) message.now now last result.0 (bytes_of result.1) }
-    ensures enters { Enters (uids_of town.now) (passes_of passes.old) (passes_of passes.new) (record { now = now; turn = result.0 } ∷ []) }
+    ensures says { SaysTurn (uids_of town.now) (known_by (passes_of passes.new)) message.now now last result.0
+        (bytes_of result.1) }
+    ensures enters { Enters (uids_of town.now) (passes_of passes.old) (passes_of passes.new)
+        (record { now = now; turn = result.0 } ∷ []) }
 {
     let (uid, request, newlines) = match route(alloc, message) {
         Routed::Memory => return (Turn::Memory, Response::unread(now, last)),

@@ -44,9 +44,11 @@ fn end_of(fault: MsgFault) -> End
     }
 }
 
-/// Ends a connection whose next bytes have a fault: those that are no message are answered by a refusal, which takes a reading.
+/// Ends a connection whose next bytes have a fault: those that are no message are answered by a refusal, which takes a
+/// reading.
 fn stop<L: Sink, C: Clock>(alloc: Global, fault: MsgFault, link: &mut L, clock: &mut C) -> End
-    ensures { Stops result fault (L.Told.told link.old) (L.Told.told link.new) (C.coming clock.old) (C.coming clock.new) }
+    ensures { Stops result fault (L.Told.told link.old) (L.Told.told link.new) (C.coming clock.old)
+        (C.coming clock.new) }
 {
     let Some(local) = refused(fault) else {
         return end_of(fault);
@@ -58,9 +60,9 @@ fn stop<L: Sink, C: Clock>(alloc: Global, fault: MsgFault, link: &mut L, clock: 
     }
 }
 
-/// Answers the messages of a link, one reading of the clock and one turn each, until one of the connection's ends. The worker passes
-/// the gate with its own number and the number of the message, both from 0, after each message was read. The turns are added to those
-/// that are there. Nothing is said of how long a worker waits for its turn at an account.
+/// Answers the messages of a link, one reading of the clock and one turn each, until one of the connection's ends. The
+/// worker passes the gate with its own number and the number of the message, both from 0, after each message was read.
+/// The turns are added to those that are there. Nothing is said of how long a worker waits for its turn at an account.
 pub fn serve_connection<L: Source + Sink, C: Clock, K: Keeper + Drop, G: Gate, R: Wait>(
     rt: &R,
     alloc: Global,
@@ -73,16 +75,19 @@ pub fn serve_connection<L: Source + Sink, C: Clock, K: Keeper + Drop, G: Gate, R
     turns: &mut Vec<TurnNote>,
 ) -> End
     requires of { AreOf (desks_of town.now) (passes_of passes.old) }
-    // The passes still are of the town. They have seen more, and their numbers, books and covered numbers are as before.
+    // The passes still are of the town. They have seen more, and their numbers, books and covered numbers are as
+    // before.
     ensures of { AreOf (desks_of town.now) (passes_of passes.new) }
     ensures more { SeeMore (passes_of passes.old) (passes_of passes.new) }
     // Turns were added, and none was changed.
     ensures noted { Begins turns.old.items turns.new.items }
     // What was taken, what was written, and why it ended, over what the passes have then seen.
-    ensures served { Served (uids_of town.now) (known_by (passes_of passes.new)) result (L.Told.told link.old) (L.Told.told link.new)
+    ensures served { Served (uids_of town.now) (known_by (passes_of passes.new)) result (L.Told.told link.old)
+        (L.Told.told link.new)
         (C.coming clock.old) (C.coming clock.new) (added turns.old.items turns.new.items) }
     // The passes' new entries are those of the calls, in order, account by account.
-    ensures enters { Enters (uids_of town.now) (passes_of passes.old) (passes_of passes.new) (added turns.old.items turns.new.items) }
+    ensures enters { Enters (uids_of town.now) (passes_of passes.old) (passes_of passes.new)
+        (added turns.old.items turns.new.items) }
 {
     let Ok(mut buffer) = Buffer::new(alloc) else {
         return End::Memory;

@@ -38,7 +38,8 @@ pub enum End {
     /// The input ended inside a message, for which nothing was written.
     Cut,
 
-    /// What came is no message. At this reading of the clock (hundredths of a second) it was answered with 400, 411 or 413.
+    /// What came is no message. At this reading of the clock (hundredths of a second) it was answered with 400, 411 or
+    /// 413.
     BadMessage { now: u64 },
 
     /// A read of the link failed.

@@ -51,7 +51,8 @@ fn exchange<L: Source + Sink>(
 ) -> Turn
     requires asked { request.now ≡ ask machine }
     requires host { IsHost host.now }
-    ensures turns { Turns (record { uid = uid; host = host.now }) machine result (L.Told.told link.old) (L.Told.told link.new) }
+    ensures turns { Turns (record { uid = uid; host = host.now }) machine result (L.Told.told link.old)
+        (L.Told.told link.new) }
     ensures nearer { Brings machine result }
 {
     let number = machine.number();
@@ -66,8 +67,9 @@ fn exchange<L: Source + Sink>(
     }
 }
 
-/// Sends the requests of a machine over a link to an account's server, each after the response before, from the request whose
-/// reply it awaits. The host is the one that requests name. Until the run is done the device comes back as it was started.
+/// Sends the requests of a machine over a link to an account's server, each after the response before, from the request
+/// whose reply it awaits. The host is the one that requests name. Until the run is done the device comes back as it was
+/// started.
 pub fn converse<L: Source + Sink>(
     alloc: Global,
     machine: Machine,
@@ -79,7 +81,8 @@ pub fn converse<L: Source + Sink>(
     requires asked { request ≡ ask machine }
     requires host { IsHost host.now }
     // What went over the link, what the run does next, and why the link was left.
-    ensures talks { Talks (record { uid = uid; host = host.now }) machine result (L.Told.told link.old) (L.Told.told link.new) }
+    ensures talks { Talks (record { uid = uid; host = host.now }) machine result (L.Told.told link.old)
+        (L.Told.told link.new) }
     // Where another link is wanted, fewer requests may follow than before, so a run ends.
     ensures nearer { IsNearer machine result }
 {

@@ -1,6 +1,7 @@
-//! Terms of several workers over memory, as a program. Keepers that wait for each other's first commit are both answered; and the bytes
-//! of each link of a crowd are those that its turns' places give by the plain program over the journals that came back. It prints the
-//! same whatever the schedule. The program has no contract: its stored run is the test.
+//! Terms of several workers over memory, as a program. Keepers that wait for each other's first commit are both
+//! answered; and the bytes of each link of a crowd are those that its turns' places give by the plain program over the
+//! journals that came back. It prints the same whatever the schedule. The program has no contract: its stored run is
+//! the test.
 #![tactic(auto)]
 
 mod crowd;

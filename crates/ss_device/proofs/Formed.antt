@@ -50,8 +50,6 @@ item_formed es k p time i f text up item at folder is id fit small utf8 e ne h =
       record_utf8 = subst IsUtf8 (is ∙ (ap (λ (v : ItemView). record_of v f.id (kid_ids k es)) (sym item_is) ∙ sym (record_is es k p e f h up folder))) utf8;
     }
 
--- one of the first ones is one of those before, or the last
-
 -- a line more, or none
 pub line_next : (es : List Entry) (nodes : List ℕ) (i k : ℕ) (start old new : List ℕ) → i < length nodes → k ≡ get_or nodes i k → old ≡ start ++ node_lines es (take i nodes) → new ≡ old ++ node_line es k
     → new ≡ start ++ node_lines es (take (i + 1) nodes)

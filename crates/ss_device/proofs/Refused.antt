@@ -28,8 +28,6 @@ use Rattle.ss_device.proofs.Known.{has_is_node}
 use Rattle.ss_text.proofs.Basics.{or_false, or_true, same_text, bytes_eq-same, number_turned, some_same, none_some}
 use Rattle.ss_tree.proofs.Looked.{in_tree}
 
--- the tree has an item of an id where it has a node of it
-
 -- it has an item in its place there too
 pub node_there : (es : List Entry) (x : List ℕ) → is_some (node x (tree es)) ≡ is_some (node_of x es)
 node_there es x = sym (has_is_node x (tree es)) ∙ in_tree es x

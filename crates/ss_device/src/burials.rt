@@ -29,7 +29,8 @@ fn with_older(
     older: &BTreeMap<Id, Stamp>,
 ) -> Result<BTreeMap<Id, Stamp>, AllocError>
     requires { IsOrdered text_cmp graves }
-    ensures told { IfOk result (λ m. (y : List ℕ) → get text_cmp m y ≡ or_else (get text_cmp graves y) (get text_cmp older.now y)) }
+    ensures told { IfOk result (λ m. (y : List ℕ) → get text_cmp m y ≡ or_else (get text_cmp graves y)
+        (get text_cmp older.now y)) }
     ensures ordered { IfOk result (λ m. IsOrdered text_cmp m) }
 {
     let mut graves = graves;
@@ -48,7 +49,8 @@ pub(crate) fn buried(
     time: Stamp,
     older: &BTreeMap<Id, Stamp>,
 ) -> Result<BTreeMap<Id, Stamp>, AllocError>
-    ensures told { IfOk result (λ m. (y : List ℕ) → get text_cmp m y ≡ (if has y ids.now then Some time else get text_cmp older.now y)) }
+    ensures told { IfOk result (λ m. (y : List ℕ) → get text_cmp m y ≡
+        (if has y ids.now then Some time else get text_cmp older.now y)) }
     ensures ordered { IfOk result (λ m. IsOrdered text_cmp m) }
 {
     let graves = graves(alloc, ids, time)?;

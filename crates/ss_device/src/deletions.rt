@@ -29,7 +29,8 @@ pub(crate) struct Doomed {
 
 /// What goes with an item that is deleted.
 pub(crate) fn sentence(alloc: Global, tree: &Tree, id: &Id) -> Result<Doomed, EditFault>
-    ensures refused { MatchResult result (λ _. change_fault (tree_of tree.now) id.now ≡ None) (λ e. (e ≡ Memory) ⊎ (change_fault (tree_of tree.now) id.now ≡ Some e)) }
+    ensures refused { MatchResult result (λ _. change_fault (tree_of tree.now) id.now ≡ None) (λ e. (e ≡ Memory)
+        ⊎ (change_fault (tree_of tree.now) id.now ≡ Some e)) }
     ensures doomed { IfOk result (λ d. IsDoomed tree.now id.now d.nodes.items d.from d.content) }
 {
     if let Some(fault) = change_fault(tree, id) {
@@ -55,7 +56,8 @@ pub(crate) fn with_doomed(
     older: &BTreeMap<Id, Stamp>,
 ) -> Result<BTreeMap<Id, Stamp>, AllocError>
     requires { IsDoomed tree.now id.now doomed.now.nodes.items doomed.now.from doomed.now.content }
-    ensures told { IfOk result (λ m. (y : List ℕ) → get text_cmp m y ≡ (if is_within (tree_of tree.now) id.now y then Some time else get text_cmp older.now y)) }
+    ensures told { IfOk result (λ m. (y : List ℕ) → get text_cmp m y ≡
+        (if is_within (tree_of tree.now) id.now y then Some time else get text_cmp older.now y)) }
     ensures ordered { IfOk result (λ m. IsOrdered text_cmp m) }
 {
     let ids = ids_of(alloc, tree, id, &doomed.nodes)?;

@@ -60,7 +60,8 @@ impl Device {
         }
     }
 
-    /// The device as its file tells it: its tree; what was deleted since the last sync; and the rows and the time of that.
+    /// The device as its file tells it: its tree; what was deleted since the last sync; and the rows and the time of
+    /// that.
     pub fn restored(
         tree: Tree,
         dead: BTreeMap<Id, Stamp>,

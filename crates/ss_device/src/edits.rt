@@ -17,7 +17,8 @@ impl Device {
     /// Puts a new item last under a folder, at this reading of the clock in hundredths of a second. The item and the
     /// folder have that time, at most the last stamp, and the id isn't among the deleted any more.
     pub fn add(&mut self, alloc: Global, now: u64, parent: &Id, item: Item) -> Result<(), EditFault>
-        ensures refused { MatchResult result (λ _. add_fault (tree_of self.old.tree) parent.now item.id ≡ None) (λ e. (e ≡ Memory) ⊎ (add_fault (tree_of self.old.tree) parent.now item.id ≡ Some e)) }
+        ensures refused { MatchResult result (λ _. add_fault (tree_of self.old.tree) parent.now item.id
+            ≡ None) (λ e. (e ≡ Memory) ⊎ (add_fault (tree_of self.old.tree) parent.now item.id ≡ Some e)) }
         ensures added { OnOk result (IsAdded now parent.now item self.old self.new) }
         ensures unchanged { OnErr result (self.new ≡ self.old) }
     {
@@ -29,7 +30,8 @@ impl Device {
 
     /// Gives an item another title, and the time of this reading of the clock.
     pub fn rename(&mut self, alloc: Global, now: u64, id: &Id, title: &str) -> Result<(), EditFault>
-        ensures refused { MatchResult result (λ _. change_fault (tree_of self.old.tree) id.now ≡ None) (λ e. (e ≡ Memory) ⊎ (change_fault (tree_of self.old.tree) id.now ≡ Some e)) }
+        ensures refused { MatchResult result (λ _. change_fault (tree_of self.old.tree) id.now
+            ≡ None) (λ e. (e ≡ Memory) ⊎ (change_fault (tree_of self.old.tree) id.now ≡ Some e)) }
         ensures renamed { OnOk result (IsRenamed now id.now title.now self.old self.new) }
         ensures unchanged { OnErr result (self.new ≡ self.old) }
     {
@@ -45,7 +47,8 @@ impl Device {
         id: &Id,
         parent: &Id,
     ) -> Result<(), EditFault>
-        ensures refused { MatchResult result (λ _. move_fault (tree_of self.old.tree) id.now parent.now ≡ None) (λ e. (e ≡ Memory) ⊎ (move_fault (tree_of self.old.tree) id.now parent.now ≡ Some e)) }
+        ensures refused { MatchResult result (λ _. move_fault (tree_of self.old.tree) id.now parent.now
+            ≡ None) (λ e. (e ≡ Memory) ⊎ (move_fault (tree_of self.old.tree) id.now parent.now ≡ Some e)) }
         ensures moved { OnOk result (IsMoved now id.now parent.now self.old self.new) }
         ensures unchanged { OnErr result (self.new ≡ self.old) }
     {
@@ -56,7 +59,8 @@ impl Device {
     /// Deletes an item with all below it: each id is then among the deleted, with the time of this reading, which its
     /// folder has too.
     pub fn delete(&mut self, alloc: Global, now: u64, id: &Id) -> Result<(), EditFault>
-        ensures refused { MatchResult result (λ _. change_fault (tree_of self.old.tree) id.now ≡ None) (λ e. (e ≡ Memory) ⊎ (change_fault (tree_of self.old.tree) id.now ≡ Some e)) }
+        ensures refused { MatchResult result (λ _. change_fault (tree_of self.old.tree) id.now
+            ≡ None) (λ e. (e ≡ Memory) ⊎ (change_fault (tree_of self.old.tree) id.now ≡ Some e)) }
         ensures deleted { OnOk result (IsDeleted now id.now self.old self.new) }
         ensures unchanged { OnErr result (self.new ≡ self.old) }
     {

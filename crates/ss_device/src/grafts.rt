@@ -20,7 +20,8 @@ use std::alloc::{AllocError, Global};
 /// The content of an item that is there.
 pub(crate) fn content_of(alloc: Global, tree: &Tree, id: &Id) -> Result<Word, AllocError>
     requires { is_some (node id.now (tree_of tree.now)) ≡ true }
-    ensures content { IfOk result (λ content. (n : Placed) → node id.now (tree_of tree.now) ≡ Some n → n.content ≡ content) }
+    ensures content { IfOk result (λ content. (n : Placed) → node id.now (tree_of tree.now) ≡ Some n
+        → n.content ≡ content) }
     ensures fit { (n : Placed) → node id.now (tree_of tree.now) ≡ Some n → is_fit (item_of n) ≡ true }
 {
     let Some(at) = tree.find(id) else {
@@ -33,8 +34,10 @@ pub(crate) fn content_of(alloc: Global, tree: &Tree, id: &Id) -> Result<Word, Al
 pub fn revise(tree: &mut Tree, id: &Id, content: Word, time: Stamp)
     requires there { is_some (node id.now (tree_of tree.old)) ≡ true }
     requires inner { bytes_eq id.now places ≡ false }
-    requires fit { (n : Placed) → node id.now (tree_of tree.old) ≡ Some n → is_fit (record { id = n.id; kind = n.kind; content = content }) ≡ true }
-    ensures nodes { (y : List ℕ) → node y (tree_of tree.new) ≡ option_map (λ n. if bytes_eq n.id id.now then revised_node content time n else n) (node y (tree_of tree.old)) }
+    requires fit { (n : Placed) → node id.now (tree_of tree.old) ≡ Some n
+        → is_fit (record { id = n.id; kind = n.kind; content = content }) ≡ true }
+    ensures nodes { (y : List ℕ) → node y (tree_of tree.new) ≡ option_map
+        (λ n. if bytes_eq n.id id.now then revised_node content time n else n) (node y (tree_of tree.old)) }
     ensures kept { IsTree tree.new }
 {
     let Some(at) = tree.find(id) else {
@@ -50,7 +53,8 @@ pub(crate) fn touch(tree: &mut Tree, id: &Id, content: Word, time: Stamp)
     requires inner { bytes_eq id.now places ≡ false }
     requires content { (n : Placed) → node id.now (tree_of tree.old) ≡ Some n → n.content ≡ content }
     requires fit { (n : Placed) → node id.now (tree_of tree.old) ≡ Some n → is_fit (item_of n) ≡ true }
-    ensures nodes { (y : List ℕ) → node y (tree_of tree.new) ≡ option_map (stamped id.now time) (node y (tree_of tree.old)) }
+    ensures nodes { (y : List ℕ) → node y (tree_of tree.new) ≡ option_map (stamped id.now time)
+        (node y (tree_of tree.old)) }
     ensures kept { IsTree tree.new }
 {
     revise(tree, id, content, time);
@@ -98,8 +102,11 @@ pub fn insert(
     item: Item,
     time: Stamp,
 ) -> Result<(), EditFault>
-    ensures refused { MatchResult result (λ _. add_fault (tree_of tree.old) parent.now item.id ≡ None) (λ e. (e ≡ Memory) ⊎ (add_fault (tree_of tree.old) parent.now item.id ≡ Some e)) }
-    ensures nodes { OnOk result ((y : List ℕ) → node y (tree_of tree.new) ≡ (if bytes_eq y item.id then Some (new_node time parent.now item) else option_map (λ n. if bytes_eq n.id parent.now then with_child item.id n else n) (node y (tree_of tree.old)))) }
+    ensures refused { MatchResult result (λ _. add_fault (tree_of tree.old) parent.now item.id
+        ≡ None) (λ e. (e ≡ Memory) ⊎ (add_fault (tree_of tree.old) parent.now item.id ≡ Some e)) }
+    ensures nodes { OnOk result ((y : List ℕ) → node y (tree_of tree.new)
+        ≡ (if bytes_eq y item.id then Some (new_node time parent.now item) else option_map
+        (λ n. if bytes_eq n.id parent.now then with_child item.id n else n) (node y (tree_of tree.old)))) }
     ensures unchanged { OnErr result (tree.new ≡ tree.old) }
     ensures kept { IsTree tree.new }
 {
@@ -129,8 +136,10 @@ fn not_moved(fault: MoveFault) -> EditFault
 
 /// Moves an item to the end of a folder.
 pub(crate) fn relocate(tree: &mut Tree, id: &Id, parent: &Id) -> Result<(), EditFault>
-    ensures refused { MatchResult result (λ _. move_fault (tree_of tree.old) id.now parent.now ≡ None) (λ e. move_fault (tree_of tree.old) id.now parent.now ≡ Some e) }
-    ensures nodes { OnOk result ((y : List ℕ) → node y (tree_of tree.new) ≡ option_map (moved_only id.now parent.now) (node y (tree_of tree.old))) }
+    ensures refused { MatchResult result (λ _. move_fault (tree_of tree.old) id.now parent.now
+        ≡ None) (λ e. move_fault (tree_of tree.old) id.now parent.now ≡ Some e) }
+    ensures nodes { OnOk result ((y : List ℕ) → node y (tree_of tree.new)
+        ≡ option_map (moved_only id.now parent.now) (node y (tree_of tree.old))) }
     ensures unchanged { OnErr result (tree.new ≡ tree.old) }
     ensures kept { IsTree tree.new }
 {

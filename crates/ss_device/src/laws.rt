@@ -9,6 +9,7 @@ ghost use Rattle.ss_device.specs.Edits.{is_within};
 
 /// An item is told to be within another one exactly where some number of steps up leads from it to that one.
 pub fn within_is_exact()
-    ensures { (es : List Entry) → IsTree es → (x y : List ℕ) → has x (node_ids (tree es)) ≡ true → bytes_eq x places ≡ false → has y (node_ids (tree es)) ≡ true
+    ensures { (es : List Entry) → IsTree es → (x y : List ℕ) → has x (node_ids (tree es)) ≡ true
+        → bytes_eq x places ≡ false → has y (node_ids (tree es)) ≡ true
         → (is_within (tree es) x y ≡ true) ↔ ((k : ℕ) × (steps (parent_in (tree es)) k y ≡ x)) }
 {}

@@ -13,7 +13,8 @@ use std::alloc::{AllocError, Global};
 
 /// The nodes of the top and of all below it, in preorder.
 fn below(alloc: Global, tree: &Tree, top: Node) -> Result<Vec<Node>, AllocError>
-    ensures nodes { IfOk result (λ nodes. nodes.items ≡ filter (λ k. (top == k) || is_below tree.now top k) (preorder tree.now (length tree.now) 0)) }
+    ensures nodes { IfOk result (λ nodes. nodes.items ≡ filter (λ k. (top == k) || is_below tree.now top k)
+        (preorder tree.now (length tree.now) 0)) }
     ensures kept { OnOk result (IsTree tree.now) }
 {
     let walk = tree.walk(alloc)?;
@@ -63,7 +64,8 @@ pub(crate) fn remove_all(tree: &mut Tree, id: &Id, nodes: Vec<Node>)
     requires can { CanGo tree.old id.now nodes.items }
     requires there { is_some (node id.now (tree_of tree.old)) ≡ true }
     requires loose { is_fixed id.now ≡ false }
-    ensures nodes { (y : List ℕ) → node y (tree_of tree.new) ≡ (if is_within (tree_of tree.old) id.now y then None else option_map (left_node id.now) (node y (tree_of tree.old))) }
+    ensures nodes { (y : List ℕ) → node y (tree_of tree.new) ≡ (if is_within (tree_of tree.old) id.now y then None else
+        option_map (left_node id.now) (node y (tree_of tree.old))) }
     ensures kept { IsTree tree.new }
 {
     let _there = tree.find(id);

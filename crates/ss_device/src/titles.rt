@@ -72,7 +72,12 @@ fn plain_text(alloc: Global, members: Map<String, Value>) -> Result<Word, AllocE
 pub(crate) fn titled(alloc: Global, item: &Item, title: &str) -> Result<Word, AllocError>
     requires { bytes_eq item.now.id places ≡ false }
     ensures text { IfOk result (λ content. content ≡ titled title.now item.now.content) }
-    ensures fit { is_fit (record { id = item.now.id; kind = item.now.kind; content = titled title.now item.now.content }) ≡ true }
+    ensures fit { is_fit (record {
+      id = item.now.id;
+      kind = item.now.kind;
+      content = titled title.now
+          item.now.content;
+    }) ≡ true }
 {
     let _fit = item.id();
     let members = item.members(alloc)?;

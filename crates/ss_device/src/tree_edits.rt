@@ -24,7 +24,8 @@ pub(crate) fn add_to(
     parent: &Id,
     item: Item,
 ) -> Result<(), EditFault>
-    ensures refused { MatchResult result (λ _. add_fault (tree_of tree.old) parent.now item.id ≡ None) (λ e. (e ≡ Memory) ⊎ (add_fault (tree_of tree.old) parent.now item.id ≡ Some e)) }
+    ensures refused { MatchResult result (λ _. add_fault (tree_of tree.old) parent.now item.id
+        ≡ None) (λ e. (e ≡ Memory) ⊎ (add_fault (tree_of tree.old) parent.now item.id ≡ Some e)) }
     ensures same { OnOk result (IsSame (tree_of tree.new) (added time parent.now item (tree_of tree.old))) }
     ensures unchanged { OnErr result (tree.new ≡ tree.old) }
 {
@@ -41,8 +42,10 @@ pub(crate) fn add_to(
 fn titled_at(alloc: Global, tree: &Tree, id: &Id, title: &str) -> Result<Word, AllocError>
     requires there { is_some (node id.now (tree_of tree.now)) ≡ true }
     requires inner { bytes_eq id.now places ≡ false }
-    ensures content { IfOk result (λ content. (n : Placed) → node id.now (tree_of tree.now) ≡ Some n → titled title.now n.content ≡ content) }
-    ensures fit { (n : Placed) → node id.now (tree_of tree.now) ≡ Some n → is_fit (record { id = n.id; kind = n.kind; content = titled title.now n.content }) ≡ true }
+    ensures content { IfOk result (λ content. (n : Placed) → node id.now (tree_of tree.now) ≡ Some n
+        → titled title.now n.content ≡ content) }
+    ensures fit { (n : Placed) → node id.now (tree_of tree.now) ≡ Some n
+        → is_fit (record { id = n.id; kind = n.kind; content = titled title.now n.content }) ≡ true }
 {
     let Some(at) = tree.find(id) else {
         unreachable!();
@@ -58,7 +61,8 @@ pub(crate) fn rename_in(
     id: &Id,
     title: &str,
 ) -> Result<(), EditFault>
-    ensures refused { MatchResult result (λ _. change_fault (tree_of tree.old) id.now ≡ None) (λ e. (e ≡ Memory) ⊎ (change_fault (tree_of tree.old) id.now ≡ Some e)) }
+    ensures refused { MatchResult result (λ _. change_fault (tree_of tree.old) id.now ≡ None) (λ e. (e ≡ Memory)
+        ⊎ (change_fault (tree_of tree.old) id.now ≡ Some e)) }
     ensures same { OnOk result (IsSame (tree_of tree.new) (renamed time id.now title.now (tree_of tree.old))) }
     ensures unchanged { OnErr result (tree.new ≡ tree.old) }
 {
@@ -97,7 +101,8 @@ pub(crate) fn move_in(
     id: &Id,
     parent: &Id,
 ) -> Result<(), EditFault>
-    ensures refused { MatchResult result (λ _. move_fault (tree_of tree.old) id.now parent.now ≡ None) (λ e. (e ≡ Memory) ⊎ (move_fault (tree_of tree.old) id.now parent.now ≡ Some e)) }
+    ensures refused { MatchResult result (λ _. move_fault (tree_of tree.old) id.now parent.now
+        ≡ None) (λ e. (e ≡ Memory) ⊎ (move_fault (tree_of tree.old) id.now parent.now ≡ Some e)) }
     ensures same { OnOk result (IsSame (tree_of tree.new) (moved time id.now parent.now (tree_of tree.old))) }
     ensures unchanged { OnErr result (tree.new ≡ tree.old) }
 {

@@ -58,7 +58,8 @@ fn push_node(alloc: Global, out: &mut Vec<u8>, tree: &Tree, node: Node) -> Resul
 }
 
 fn push_nodes(alloc: Global, out: &mut Vec<u8>, tree: &Tree) -> Result<(), AllocError>
-    ensures lines { OnOk result (out.new.items ≡ out.old.items ++ node_lines tree.now (preorder tree.now (length tree.now) 0)) }
+    ensures lines { OnOk result (out.new.items ≡ out.old.items ++ node_lines tree.now
+        (preorder tree.now (length tree.now) 0)) }
     ensures valid { OnOk result (IsTree tree.now) }
     ensures formed { OnOk result (AreItems tree.now) }
 {
@@ -80,8 +81,8 @@ fn push_deaths(out: &mut Vec<u8>, dead: &BTreeMap<Id, Stamp>) -> Result<(), Allo
     Ok(())
 }
 
-/// The bytes of a device's file, in its second version (the format is this project's). What they say of ids, times and texts
-/// has its form, so that they are read as this device.
+/// The bytes of a device's file, in its second version (the format is this project's). What they say of ids, times and
+/// texts has its form, so that they are read as this device.
 #[tactic(auto, unfolding(crate::specs::Writing::device_text, crate::specs::Writing::device_line, crate::specs::Writing::end_line))]
 pub fn write_device(alloc: Global, device: &Device) -> Result<Vec<u8>, AllocError>
     ensures text { IfOk result (λ bytes. bytes.items ≡ device_text device.now) }

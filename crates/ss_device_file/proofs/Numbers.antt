@@ -23,8 +23,6 @@ time_again n h =
     all_three _ _ _ (Some (digits_value 10 (decimal n))) (le-leb 1 _ (decimal_nonempty n few)) (le-leb _ 12 (length-decimal-le 12 n (lit< tt) small few)) (decimal_digits n few)
     ∙ ap Some (decimal_is_IsNumeral n few).1
 
--- a time as text is read back
-
 fraction_small : (ds : List ℕ) → list_all is_ascii_digit ds ≡ true → hundredths ds < 100
 fraction_small [] h = lit< tt
 fraction_small (d ∷ []) h = let high = leb-true d 57 (and_parts (leb 48 d) (leb d 57) (and_parts (is_ascii_digit d) true h).0).1 in omega arith

@@ -25,7 +25,8 @@ pub(crate) fn place_of(text: &[u8], byte: u8) -> Option<usize>
 
 /// Cuts what stands behind the front of an item's line at its first comma.
 fn cut_inner(inner: &[u8]) -> Option<ItemCut<'_>>
-    ensures { (digits text : List ℕ) → NoComma digits → digits ++ codes "," ++ text ++ codes "]\n" ≡ inner.now → option_map digits_and_record result ≡ Some (digits, text) }
+    ensures { (digits text : List ℕ) → NoComma digits → digits ++ codes "," ++ text ++ codes "]\n" ≡ inner.now
+        → option_map digits_and_record result ≡ Some (digits, text) }
 {
     let comma = place_of(inner, b',')?;
     let text = &inner[comma + 1..];
@@ -47,7 +48,8 @@ pub(crate) fn is_of_item(line: &[u8]) -> bool
 
 /// The pieces of an item's line, with its newline.
 pub(crate) fn cut_item(line: &[u8]) -> Option<ItemCut<'_>>
-    ensures { (digits text : List ℕ) → NoComma digits → item_pieces digits text ≡ line.now → option_map digits_and_record result ≡ Some (digits, text) }
+    ensures { (digits text : List ℕ) → NoComma digits → item_pieces digits text ≡ line.now
+        → option_map digits_and_record result ≡ Some (digits, text) }
 {
     if line.len() < FRONT.len() {
         return None;

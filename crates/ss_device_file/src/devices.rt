@@ -32,7 +32,13 @@ fn join(
     requires deaths { AreById (dead_ids dead.entries) }
     requires by_id { AreById (row_ids mirror.items) }
     requires tree { HasRoots (tree_of tree) }
-    ensures joined { IfOk result (λ d. d ≡ record { tree = tree; dead = dead.entries; mirror = mirror.items; stamp = stamp }) }
+    ensures joined { IfOk result (λ d. d ≡ record {
+      tree = tree;
+      dead = dead.entries;
+      mirror = mirror.items;
+      stamp =
+          stamp;
+    }) }
     ensures found { OnOk result (lost_of mirror.items (tree_of tree) dead.entries ≡ None) }
     ensures lost { IfErr result (λ fault. IsLostBy (lost_of mirror.items (tree_of tree) dead.entries) fault) }
 {
@@ -54,9 +60,16 @@ fn put_together(
     requires rows { AreById (row_ids rows.items) }
     requires deaths { AreById (dead_ids deaths.items) }
     requires tree { HasRoots (tree_of tree) }
-    ensures joined { IfOk result (λ d. d ≡ record { tree = tree; dead = deaths.items; mirror = kept_rows version rows.items; stamp = synced_with version rows.items stamp }) }
+    ensures joined { IfOk result (λ d. d ≡ record {
+      tree = tree;
+      dead = deaths.items;
+      mirror = kept_rows version
+          rows.items;
+      stamp = synced_with version rows.items stamp;
+    }) }
     ensures found { OnOk result (lost_of (kept_rows version rows.items) (tree_of tree) deaths.items ≡ None) }
-    ensures lost { IfErr result (λ fault. IsLostBy (lost_of (kept_rows version rows.items) (tree_of tree) deaths.items) fault) }
+    ensures lost { IfErr result (λ fault. IsLostBy (lost_of (kept_rows version rows.items) (tree_of tree) deaths.items)
+        fault) }
 {
     let count = rows.len();
     let dead = as_map(alloc, deaths)?;

@@ -158,7 +158,8 @@ fn item_from(alloc: Global, time: Stamp, text: &str) -> Result<Option<ItemLine>,
 /// What a line says as an item's; perhaps it isn't written so.
 pub(crate) fn item_in(alloc: Global, line: &[u8]) -> Result<Option<ItemLine>, AllocError>
     ensures form { IfOk result (λ o. IfSome o IsItemLine) }
-    ensures all { IfOk result (λ o. (i : ItemLineView) → IsItemLine i → IsUtf8 (record_in i) → item_line i.time (record_in i) ≡ line.now → o ≡ Some i) }
+    ensures all { IfOk result (λ o. (i : ItemLineView) → IsItemLine i → IsUtf8 (record_in i)
+        → item_line i.time (record_in i) ≡ line.now → o ≡ Some i) }
 {
     let Some(cut) = cut_item(line) else {
         return Ok(None);

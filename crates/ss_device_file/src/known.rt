@@ -52,7 +52,8 @@ fn first_lost(
     dead: &BTreeMap<Id, Stamp>,
     rows: &[Sheet],
 ) -> Result<Option<Id>, AllocError>
-    ensures { IfOk result (λ id. id ≡ find (is_lost (tree_of built.now) (tree_of tree.now) dead.now.entries) (row_ids rows.now)) }
+    ensures { IfOk result (λ id. id ≡ find (is_lost (tree_of built.now) (tree_of tree.now) dead.now.entries)
+        (row_ids rows.now)) }
 {
     for row in rows {
         if is_lost(built, tree, dead, &row.id) {
@@ -70,7 +71,8 @@ pub(crate) fn lost(
     mirror: &[Sheet],
 ) -> Result<Option<Id>, AllocError>
     requires { AreById (row_ids mirror.now) }
-    ensures { IfOk result (λ id. id ≡ find (is_lost (built (rows_of mirror.now)) (tree_of tree.now) dead.now.entries) (row_ids mirror.now)) }
+    ensures { IfOk result (λ id. id ≡ find (is_lost (built (rows_of mirror.now)) (tree_of tree.now) dead.now.entries)
+        (row_ids mirror.now)) }
 {
     let built = build(alloc, mirror)?;
     first_lost(alloc, &built.tree, tree, dead, mirror)

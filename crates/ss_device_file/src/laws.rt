@@ -19,12 +19,15 @@ pub fn written_is_read()
 
 /// A file of a device is refused for want of memory alone.
 pub fn file_is_not_refused()
-    ensures { (text : List ℕ) (d : DeviceView) (fault : DeviceFault) → IsFileOf text d → IsRefused text fault → fault ≡ Memory }
+    ensures { (text : List ℕ) (d : DeviceView) (fault : DeviceFault) → IsFileOf text d → IsRefused text fault
+        → fault ≡ Memory }
 {}
 
-/// Want of memory aside, no text is refused for two causes: each refusal names the one line, or the one item, that it has to.
+/// Want of memory aside, no text is refused for two causes: each refusal names the one line, or the one item, that it
+/// has to.
 pub fn one_refusal()
-    ensures { (text : List ℕ) (one other : DeviceFault) → IsRefused text one → IsRefused text other → one ≢ Memory → other ≢ Memory → one ≡ other }
+    ensures { (text : List ℕ) (one other : DeviceFault) → IsRefused text one → IsRefused text other → one ≢ Memory
+        → other ≢ Memory → one ≡ other }
 {}
 
 /// Devices that are the same have one text, and a new one has these seven lines.
@@ -40,8 +43,11 @@ pub fn one_device()
 
 /// A text has one front of lines up to the end's, or it stops in one place, for want of memory aside.
 pub fn one_front()
-    ensures lines { (text : List ℕ) (f g : FrontView) → IsFront text f → IsFront text g → f.lines.items ≡ g.lines.items }
+    ensures lines { (text : List ℕ) (f g : FrontView) → IsFront text f → IsFront text g
+        → f.lines.items ≡ g.lines.items }
     ensures used { (text : List ℕ) (f g : FrontView) → IsFront text f → IsFront text g → f.used ≡ g.used }
-    ensures unstopped { (text : List ℕ) (f : FrontView) (fault : LinesFault) → IsFront text f → IsStopped text fault → fault ≡ NoRoom }
-    ensures stopped { (text : List ℕ) (one other : LinesFault) → IsStopped text one → IsStopped text other → one ≢ NoRoom → other ≢ NoRoom → one ≡ other }
+    ensures unstopped { (text : List ℕ) (f : FrontView) (fault : LinesFault) → IsFront text f → IsStopped text fault
+        → fault ≡ NoRoom }
+    ensures stopped { (text : List ℕ) (one other : LinesFault) → IsStopped text one → IsStopped text other
+        → one ≢ NoRoom → other ≢ NoRoom → one ≡ other }
 {}

@@ -1,7 +1,7 @@
-//! Reading a device's file: lines that people can read, exactly in the form in which they are written.
-//! It reads the lines, finds the items' places and gives the device; it stands on ss_device.
-//! Its contracts: exactly the files of the grammar are read, each as the device that it tells, and each refusal names the
-//! first line, or the first item, that is wrong.
+//! Reading a device's file: lines that people can read, exactly in the form in which they are written. It reads the
+//! lines, finds the items' places and gives the device; it stands on ss_device. Its contracts: exactly the files of the
+//! grammar are read, each as the device that it tells, and each refusal names the first line, or the first item, that
+//! is wrong.
 #![tactic(auto)]
 
 mod cuts;

@@ -47,7 +47,8 @@ fn step(
     line: &ItemLine,
 ) -> Result<bool, AllocError>
     ensures right { IfOk result (λ right. right ≡ comes_next (seats_on waiting.old.items) met.old.keys line.now) }
-    ensures seats { IfOk result (λ right. OnTrue right (seats_on waiting.new.items ≡ seats_behind (seats_on waiting.old.items) line.now)) }
+    ensures seats { IfOk result (λ right. OnTrue right (seats_on waiting.new.items
+        ≡ seats_behind (seats_on waiting.old.items) line.now)) }
     ensures met { IfOk result (λ right. OnTrue right (met.new.keys ≡ met.old.keys ++ line.now.item.id ∷ [])) }
 {
     let Some(next) = waiting.pop() else {

@@ -24,7 +24,7 @@ before-miss x z zs e = ap (λ b. take (cond (not b) (1 + prefix_len (λ y. not (
 pub count_test-cons : (b : Bool) (p : Id → Bool) (y : Id) (ys : List Id) → p y ≡ b → count_by p (y ∷ ys) ≡ cond b 1 0 + count_by p ys
 count_test-cons b p y ys e = sum_by-cons (λ z. cond (p z) 1 0) y ys ∙ ap (λ c. cond c 1 0 + count_by p ys) e
 
--- of elements that pass, as many stand before one as before another only where they are the bytes_eq
+-- of elements that pass, as many stand before one as before another only where they are the same
 rank_tells : (p : Id → Bool) (x y : Id) (xs : List Id) → has x xs ≡ true → has y xs ≡ true → p x ≡ true → p y ≡ true →
     count_by p (before_first (bytes_eq x) xs) ≡ count_by p (before_first (bytes_eq y) xs) → x ≡ y
 rank_tells p x y [] h k px py e = no_way (has x []) h (has-nil x)
@@ -51,8 +51,6 @@ rank_tells p x y (z ∷ zs) h k px py e = cases (cases_Bool (bytes_eq x z)) (cas
         let ex = ranks x a in
         let ey = ranks y b in
         more (further x a h) (further y b k) (omega arith)
-
--- what stands once in a list is in it
 
 pub has_from_once : (x : Id) (xs : List Id) → count_by (bytes_eq x) xs ≡ 1 → has x xs ≡ true
 has_from_once x xs e = elim (cases_Bool (has x xs)) [

@@ -23,7 +23,7 @@ count-none x (y ∷ ys) h = cases (cases_Bool (bytes_eq x y)) (cases_Bool (has x
     cases : (bytes_eq x y ≡ true) ⊎ (bytes_eq x y ≡ false) → (has x ys ≡ true) ⊎ (has x ys ≡ false) → (has x ys ≡ false → count_by (bytes_eq x) ys ≡ 0) → count_by (bytes_eq x) (y ∷ ys) ≡ 0
     cases (inl e) _ more = no_way (has x (y ∷ ys)) (has-head x y ys (same-true x y e)) h
     cases (inr e) (inl k) more = no_way (has x (y ∷ ys)) (has-tail x y ys k) h
-    cases (inr e) (inr k) more = count_test-cons false (bytes_eq x) y ys e ∙ ap (λ n. 0 + n) (more k)
+    cases (inr e) (inr k) more = count-cons false x y ys e ∙ ap (λ n. 0 + n) (more k)
 
 -- ---- look-ups
 

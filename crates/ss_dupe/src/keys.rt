@@ -20,7 +20,8 @@ fn push_line(
     name: &str,
 ) -> Result<(), AllocError>
     requires { members_have_float (members_view members.now.entries) ≡ false }
-    ensures { OnOk result (string_bytes key.new ≡ string_bytes key.old ++ member_line (members_view members.now.entries) name.now) }
+    ensures { OnOk result (string_bytes key.new ≡ string_bytes key.old
+        ++ member_line (members_view members.now.entries) name.now) }
 {
     key.push_str("\n")?;
     if let Some(value) = member(members, name) {
@@ -37,7 +38,8 @@ fn push_lines(
     kind: Kind,
 ) -> Result<(), AllocError>
     requires { members_have_float (members_view members.now.entries) ≡ false }
-    ensures { OnOk result (string_bytes key.new ≡ string_bytes key.old ++ flat_map (member_line (members_view members.now.entries)) (telling kind)) }
+    ensures { OnOk result (string_bytes key.new ≡ string_bytes key.old
+        ++ flat_map (member_line (members_view members.now.entries)) (telling kind)) }
 {
     match kind {
         Kind::Bookmark | Kind::Query => {

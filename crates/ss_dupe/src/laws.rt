@@ -15,18 +15,24 @@ ghost use Rattle.ss_dupe.specs.Renaming.{named, renamed};
 
 /// Of valid trees, whatever the mirror and the deleted ids are, no id stands in two pairs.
 pub fn no_id_is_in_two_pairs()
-    ensures one_remote { (m l r : List Placed) (x y : List Id) → IsValidTree l → IsValidTree r → (a b c : Id) → IsPair (sides m l r x y) a b → IsPair (sides m l r x y) a c → b ≡ c }
-    ensures one_local { (m l r : List Placed) (x y : List Id) → IsValidTree l → IsValidTree r → (a b c : Id) → IsPair (sides m l r x y) a c → IsPair (sides m l r x y) b c → a ≡ b }
-    ensures apart { (m l r : List Placed) (x y : List Id) → IsValidTree l → IsValidTree r → (a b c : Id) → IsPair (sides m l r x y) a b → IsPair (sides m l r x y) c a → ⊥ }
+    ensures one_remote { (m l r : List Placed) (x y : List Id) → IsValidTree l → IsValidTree r → (a b c : Id)
+        → IsPair (sides m l r x y) a b → IsPair (sides m l r x y) a c → b ≡ c }
+    ensures one_local { (m l r : List Placed) (x y : List Id) → IsValidTree l → IsValidTree r → (a b c : Id)
+        → IsPair (sides m l r x y) a c → IsPair (sides m l r x y) b c → a ≡ b }
+    ensures apart { (m l r : List Placed) (x y : List Id) → IsValidTree l → IsValidTree r → (a b c : Id)
+        → IsPair (sides m l r x y) a b → IsPair (sides m l r x y) c a → ⊥ }
 {}
 
 /// The local tree, with the remote ids for its paired items, is valid.
 pub fn renamed_trees_are_valid()
-    ensures { (m l r : List Placed) (x y : List Id) (pairs : List (Id × Id)) → IsValidTree l → IsValidTree r → ArePairs (sides m l r x y) pairs → IsValidTree (renamed (named pairs) l) }
+    ensures { (m l r : List Placed) (x y : List Id) (pairs : List (Id × Id)) → IsValidTree l → IsValidTree r
+        → ArePairs (sides m l r x y) pairs → IsValidTree (renamed (named pairs) l) }
 {}
 
 /// The keys of two items are equal exactly where the items are of one kind, and each member that tells items of that
 /// kind apart is the same in both, or absent in both.
 pub fn keys_tell_kinds_and_members()
-    ensures { (k l : Kind) (x y : Id) (ms ns : Members) → payload_members x ≡ Some ms → payload_members y ≡ Some ns → (key_of k x ≡ key_of l y) ↔ ((k ≡ l) × ((name : Id) → has name (telling k) ≡ true → get_member name ms ≡ get_member name ns)) }
+    ensures { (k l : Kind) (x y : Id) (ms ns : Members) → payload_members x ≡ Some ms → payload_members y ≡ Some ns
+        → (key_of k x ≡ key_of l y) ↔ ((k ≡ l) × ((name : Id) → has name (telling k) ≡ true
+        → get_member name ms ≡ get_member name ns)) }
 {}

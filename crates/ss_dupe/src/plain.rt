@@ -97,7 +97,8 @@ impl<'a> PlainTree<'a> {
 
     /// Adds an item in its place, in place of an earlier one of its id.
     pub fn put(&mut self, alloc: Global, seat: Seat<'a>) -> Result<(), AllocError>
-        ensures look { OnOk result ((x : Text) → look_of self.new x ≡ (if bytes_eq seat.entry.id x then Some (placed_at seat.entry) else look_of self.old x)) }
+        ensures look { OnOk result ((x : Text) → look_of self.new x ≡ (if bytes_eq seat.entry.id x then Some
+            (placed_at seat.entry) else look_of self.old x)) }
         ensures ids { OnOk result (AreIds self.old → AreIds self.new) }
     {
         let id = seat.id.copy(alloc)?;

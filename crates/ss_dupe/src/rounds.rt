@@ -22,8 +22,10 @@ use std::collections::{BTreeMap, HashMap};
 
 /// New items by what tells them apart.
 fn index_of(alloc: Global, news: Vec<New>) -> Result<HashMap<Mark, Id>, AllocError>
-    ensures found { IfOk result (λ index. (m : Sign) → (x : Text) → get same_mark index m ≡ Some x → HasNew m x news.items) }
-    ensures all { IfOk result (λ index. (m : Sign) → (x : Text) → HasNew m x news.items → is_some (get same_mark index m) ≡ true) }
+    ensures found { IfOk result (λ index. (m : Sign) → (x : Text) → get same_mark index m ≡ Some x
+        → HasNew m x news.items) }
+    ensures all { IfOk result (λ index. (m : Sign) → (x : Text) → HasNew m x news.items
+        → is_some (get same_mark index m) ≡ true) }
 {
     let mut index = HashMap::new(alloc);
     for new in news {
@@ -40,7 +42,8 @@ fn like_children(
     remote: &Id,
 ) -> Result<Vec<(Id, Id)>, AllocError>
     requires { AreShaped (view plains.now) }
-    ensures { IfOk result (λ pairs. (l : Text) → (r : Text) → (has_pair l r pairs.items ≡ true) ↔ AreAlike (view plains.now) l r local.now remote.now) }
+    ensures { IfOk result (λ pairs. (l : Text) → (r : Text) → (has_pair l r pairs.items
+        ≡ true) ↔ AreAlike (view plains.now) l r local.now remote.now) }
 {
     let index = index_of(alloc, news_of(alloc, plains, Side::Remote, remote)?)?;
     let mut pairs = Vec::new(alloc);
@@ -55,7 +58,8 @@ fn like_children(
 /// The ids that are in both trees, each as a pair with itself.
 fn shared(alloc: Global, plains: &Plains) -> Result<Vec<(Id, Id)>, AllocError>
     requires { AreIds plains.now.local }
-    ensures { IfOk result (λ pairs. (l : Text) → (r : Text) → has_pair l r pairs.items ≡ is_shared (view plains.now) l r) }
+    ensures { IfOk result (λ pairs. (l : Text) → (r : Text) → has_pair l r pairs.items
+        ≡ is_shared (view plains.now) l r) }
 {
     let mut pairs = Vec::new(alloc);
     for id in &plains.local.ids {
@@ -73,7 +77,8 @@ fn add(
     found: &mut BTreeMap<Id, Id>,
     next: &mut Vec<(Id, Id)>,
 ) -> Result<(), AllocError>
-    ensures next { OnOk result ((l : Text) → (r : Text) → has_pair l r next.new.items ≡ (has_pair l r next.old.items || has_pair l r pairs.items)) }
+    ensures next { OnOk result ((l : Text) → (r : Text) → has_pair l r next.new.items
+        ≡ (has_pair l r next.old.items || has_pair l r pairs.items)) }
     ensures found { OnOk result (Adds found.old found.new pairs.items) }
 {
     for (local, remote) in pairs {
@@ -91,7 +96,8 @@ fn round(
     found: &mut BTreeMap<Id, Id>,
 ) -> Result<Vec<(Id, Id)>, AllocError>
     requires { AreShaped (view plains.now) }
-    ensures next { IfOk result (λ next. (l : Text) → (r : Text) → (has_pair l r next.items ≡ true) ↔ ((p : Text) × (q : Text) × (has_pair p q current.now ≡ true) × AreAlike (view plains.now) l r p q)) }
+    ensures next { IfOk result (λ next. (l : Text) → (r : Text) → (has_pair l r next.items ≡ true) ↔ ((p : Text)
+        × (q : Text) × (has_pair p q current.now ≡ true) × AreAlike (view plains.now) l r p q)) }
     ensures found { IfOk result (λ next. Adds found.old found.new next.items) }
 {
     let mut next = Vec::new(alloc);

@@ -39,8 +39,8 @@ pub fn letters(alloc: Global, size: u64) -> anyhow::Result<String> {
     Ok("x".repeat(alloc, usize::try_from(size)?)?)
 }
 
-/// A body as a line has it, in which `¶` stands for a newline and `←` for CR. `%records FROM COUNT`, `%payload SIZE` and `%record SIZE`
-/// stand for long ones; the first moves on by its count where a line is repeated.
+/// A body as a line has it, in which `¶` stands for a newline and `←` for CR. `%records FROM COUNT`, `%payload SIZE`
+/// and `%record SIZE` stand for long ones; the first moves on by its count where a line is repeated.
 pub fn body(alloc: Global, text: &str, turn: u64) -> anyhow::Result<String> {
     let Some(made) = text.strip_prefix("%") else {
         return Ok(

@@ -1,6 +1,7 @@
 //! Exchanges over accounts that are kept, as a program: standard input has them, and standard output what is answered.
-//! Each exchange is played over a keeper in memory and over one in a database, whole and opened anew before each message; after each
-//! message all four must have answered alike and hold the same. The program has no contract: its stored run is the test.
+//! Each exchange is played over a keeper in memory and over one in a database, whole and opened anew before each
+//! message; after each message all four must have answered alike and hold the same. The program has no contract: its
+//! stored run is the test.
 #![tactic(auto)]
 
 mod bodies;

@@ -1,5 +1,6 @@
-//! Exchanges as text. A line `exchange TITLE` begins one; then come lines on what is kept at first, `failing CALL` and `once`; and
-//! then a line for each message, before which lines `field NAME: VALUE` tell its fields. `times COUNT` before a message repeats it.
+//! Exchanges as text. A line `exchange TITLE` begins one; then come lines on what is kept at first, `failing CALL` and
+//! `once`; and then a line for each message, before which lines `field NAME: VALUE` tell its fields. `times COUNT`
+//! before a message repeats it.
 
 use crate::bodies::{body, number};
 use crate::exchange::{Exchange, Timed};
@@ -9,8 +10,8 @@ use ss_http::{FieldLines, Message};
 use ss_text::Bytes;
 use std::alloc::Global;
 
-/// The message of a line: a reading, a method, a target behind the account's number or a whole one behind `=`, and a body. In the
-/// target `#` stands for the turn of a line that is repeated.
+/// The message of a line: a reading, a method, a target behind the account's number or a whole one behind `=`, and a
+/// body. In the target `#` stands for the turn of a line that is repeated.
 fn message(
     alloc: Global,
     line: &str,

@@ -29,8 +29,8 @@ pub enum Awaited {
 pub enum Answer {
     /// The limits of the server, each no greater than our own.
     Configured(Limits),
-    /// Rows, the offset of the next page, and the collection's time. A later page may say none, which is 0 here; it isn't
-    /// looked at.
+    /// Rows, the offset of the next page, and the collection's time. A later page may say none, which is 0 here; it
+    /// isn't looked at.
     Paged {
         rows: Sheets,
         next: Option<u32>,

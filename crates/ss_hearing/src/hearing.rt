@@ -109,8 +109,8 @@ fn understood(
     }
 }
 
-/// The answer that a response is to what was asked (SyncStorage API 1.5): the status is looked at first, then the body and
-/// the fields. One with the awaited status that isn't in the form of such a reply is `Unread` (this project).
+/// The answer that a response is to what was asked (SyncStorage API 1.5): the status is looked at first, then the body
+/// and the fields. One with the awaited status that isn't in the form of such a reply is `Unread` (this project).
 #[tactic(auto, unfolding(crate::specs::Hearing::answer_of))]
 pub fn hear(alloc: Global, awaited: Awaited, heard: &Heard) -> Result<Answer, AllocError>
     ensures { IfOk result (λ answer. answer ≡ answer_of awaited heard.now) }

@@ -77,7 +77,8 @@ fn failure_of(alloc: Global, value: &Value) -> Result<Option<Option<Id>>, AllocE
 
 /// Whether `success` is a list of ids.
 fn has_success(alloc: Global, value: &Value) -> Result<bool, AllocError>
-    ensures { IfOk result (λ fit. fit ≡ is_some (option_and_then ids_of (get (codes "success") (value_view value.now)))) }
+    ensures { IfOk result (λ fit. fit ≡ is_some (option_and_then ids_of
+        (get (codes "success") (value_view value.now)))) }
 {
     match value.get("success") {
         Some(list) => Ok(ids_of(alloc, list)?.is_some()),

@@ -13,8 +13,8 @@ use std::alloc::Global;
 use std::sync::Wait;
 use std::thread::Threads;
 
-/// The calls of a link from which a PUT comes in two pieces, and then a GET: two reads, a response, a read, a response, the read that
-/// finds the end; and one that is never made.
+/// The calls of a link from which a PUT comes in two pieces, and then a GET: two reads, a response, a read, a response,
+/// the read that finds the end; and one that is never made.
 pub const CALLS: u64 = 7;
 
 /// Messages that are refused as soon as their head is there.

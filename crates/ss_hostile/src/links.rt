@@ -27,7 +27,8 @@ pub fn bytes(alloc: Global, text: &str) -> Result<Vec<Vec<u8>>, AllocError> {
     Ok(pieces)
 }
 
-/// A link from which these pieces come. The call with this number fails, reads and writes counted together from 1; 0 is none.
+/// A link from which these pieces come. The call with this number fails, reads and writes counted together from 1; 0 is
+/// none.
 pub fn link(alloc: Global, pieces: Vec<Vec<u8>>, failing: u64) -> Result<MemLink, AllocError>
     ensures { IfOk result (λ link. IsUnused (link_tells link)) }
 {

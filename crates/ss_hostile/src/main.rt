@@ -1,6 +1,7 @@
-//! Hostile links, as a program: terms of one worker over account 7 in memory. A read or a write of a link fails, bytes are no message, a
-//! request is cut, a keeper's commit fails, a journal has no room. A line tells of each link how it ended, its turns (account and ticket)
-//! and what was written, with `|` for each end of a line. The program has no contract: its stored run is the test.
+//! Hostile links, as a program: terms of one worker over account 7 in memory. A read or a write of a link fails, bytes
+//! are no message, a request is cut, a keeper's commit fails, a journal has no room. A line tells of each link how it
+//! ended, its turns (account and ticket) and what was written, with `|` for each end of a line. The program has no
+//! contract: its stored run is the test.
 #![tactic(auto)]
 
 mod account;

@@ -73,5 +73,3 @@ number_again n h =
     let few : n < 2 ^ 64 = omega arith in
     all_three _ _ _ (Some (digits_value 10 (decimal n))) (le-leb 1 _ (decimal_nonempty n few)) (le-leb _ LENGTH_DIGITS (length-decimal-le LENGTH_DIGITS n (lit< tt) h few)) (decimal_digits n few)
     ∙ ap Some (decimal_is_IsNumeral n few).1
-
--- a time is read back

@@ -54,7 +54,8 @@ fn size_in(buf: &[u8], headers: &[HeaderSpan], status: u16) -> Option<u64>
 
 fn modified_in(buf: &[u8], headers: &[HeaderSpan]) -> Option<Stamp>
     requires { All (IsHeaderWithin (length buf.now)) headers.now }
-    ensures { result ≡ option_and_then stamp_of (first_named (codes "X-Last-Modified") (map (header_bytes buf.now) headers.now)) }
+    ensures { result ≡ option_and_then stamp_of (first_named (codes "X-Last-Modified")
+        (map (header_bytes buf.now) headers.now)) }
 {
     match find(buf, headers, "X-Last-Modified") {
         Some(span) => read_stamp(span.of(buf)),
@@ -64,7 +65,8 @@ fn modified_in(buf: &[u8], headers: &[HeaderSpan]) -> Option<Stamp>
 
 fn next_in(alloc: Global, buf: &[u8], headers: &[HeaderSpan]) -> Result<Option<Bytes>, AllocError>
     requires { All (IsHeaderWithin (length buf.now)) headers.now }
-    ensures { IfOk result (λ next. next ≡ first_named (codes "X-Weave-Next-Offset") (map (header_bytes buf.now) headers.now)) }
+    ensures { IfOk result (λ next. next ≡ first_named (codes "X-Weave-Next-Offset")
+        (map (header_bytes buf.now) headers.now)) }
 {
     match find(buf, headers, "X-Weave-Next-Offset") {
         Some(span) => Ok(Some(Bytes::from_slice(alloc, span.of(buf))?)),

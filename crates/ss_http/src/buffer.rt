@@ -96,8 +96,8 @@ impl Buffer {
     }
 }
 
-/// Moves the bytes from `start` to `end` to the front where no room is left behind them, and answers where they begin. Where they
-/// fit before themselves, no other byte is moved.
+/// Moves the bytes from `start` to `end` to the front where no room is left behind them, and answers where they begin.
+/// Where they fit before themselves, no other byte is moved.
 fn pack(bytes: &mut [u8], start: usize, end: usize) -> usize
     requires ordered { start ≤ end }
     requires within { end ≤ length bytes.old }
@@ -128,7 +128,8 @@ fn read_behind<S: Source>(
 ) -> Result<usize, ReadFault>
     requires ordered { start ≤ end }
     requires within { end < length bytes.old }
-    ensures kept { Brings (slice_range bytes.old start end) (slice_range bytes.new start (end + count_of result)) (S.Told.told source.old) (S.Told.told source.new) }
+    ensures kept { Brings (slice_range bytes.old start end) (slice_range bytes.new start (end + count_of result))
+        (S.Told.told source.old) (S.Told.told source.new) }
     ensures within { end + count_of result ≤ length bytes.new }
     ensures length { length bytes.new ≡ length bytes.old }
     ensures err { OnErr result (slice_range bytes.new start end ≡ slice_range bytes.old start end) }

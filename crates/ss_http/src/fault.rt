@@ -5,7 +5,8 @@ ghost use Rattle.ss_http.specs.Faults.{lasting};
 
 use thiserror::Error;
 
-/// Why no message was read. The faults from `BadHead` to `TooLarge` are answered by a response, and the connection ends.
+/// Why no message was read. The faults from `BadHead` to `TooLarge` are answered by a response, and the connection
+/// ends.
 #[derive(Clone, Copy, Debug, PartialEq, Eq, Error)]
 pub enum MsgFault {
     /// The input ended between messages.
@@ -46,8 +47,8 @@ pub enum MsgFault {
 }
 
 impl MsgFault {
-    /// The fault, where a further call gives it too; None for a failed read and for want of memory, after which the call
-    /// can be made again.
+    /// The fault, where a further call gives it too; None for a failed read and for want of memory, after which the
+    /// call can be made again.
     pub(crate) fn lasting(self) -> Option<MsgFault>
         ensures { result ≡ lasting self }
     {

@@ -20,7 +20,8 @@ pub(crate) fn is_same(a: &[u8], b: &[u8]) -> bool
 /// Where the value of the first field of that name lies.
 pub(crate) fn find(buf: &[u8], headers: &[HeaderSpan], name: &str) -> Option<Span>
     requires { All (IsHeaderWithin (length buf.now)) headers.now }
-    ensures value { option_map (span_bytes buf.now) result ≡ first_named name.now (map (header_bytes buf.now) headers.now) }
+    ensures value { option_map (span_bytes buf.now) result ≡ first_named name.now
+        (map (header_bytes buf.now) headers.now) }
     ensures within { IfSome result (IsWithin (length buf.now)) }
 {
     for header in headers {
@@ -58,8 +59,8 @@ fn all_agree(buf: &[u8], headers: &[HeaderSpan], size: u64) -> bool
     true
 }
 
-/// The length of the body that the fields announce: 0 without a `Content-Length`; None where one isn't 1 to 18 digits, or
-/// where two differ as numbers.
+/// The length of the body that the fields announce: 0 without a `Content-Length`; None where one isn't 1 to 18 digits,
+/// or where two differ as numbers.
 #[tactic(auto, unfolding(crate::specs::Fields::announced))]
 pub(crate) fn announced(buf: &[u8], headers: &[HeaderSpan]) -> Option<u64>
     requires { All (IsHeaderWithin (length buf.now)) headers.now }

@@ -32,8 +32,8 @@ fn read_byte<S: Source>(source: &mut S) -> Result<Option<u8>, ReadFault>
     }
 }
 
-/// Reads to the next line end, or until as many bytes came as a head may have: before that no head becomes whole. A byte at
-/// a time, so that none behind the head is taken.
+/// Reads to the next line end, or until as many bytes came as a head may have: before that no head becomes whole. A
+/// byte at a time, so that none behind the head is taken.
 fn read_line<S: Source>(head: &mut Vec<u8>, source: &mut S) -> Result<(), HeardFault>
     requires headless { HasNoResponse head.old.items }
     requires short { length head.old.items < HEAD_ROOM }
@@ -155,7 +155,8 @@ fn read_body<S: Source>(
 
 /// Reads a response, and no byte behind it. After a fault the bytes that were read are dropped.
 pub fn read_response<S: Source>(alloc: Global, source: &mut S) -> Result<Heard, HeardFault>
-    ensures takes { (got : List ℕ) × HasRead got (S.Told.told source.old) (S.Told.told source.new) × Hearing result got }
+    ensures takes { (got : List ℕ) × HasRead got (S.Told.told source.old) (S.Told.told source.new)
+        × Hearing result got }
     ensures ended { IfErr result (λ e. EndsHearing e (S.Told.told source.new)) }
     ensures cause { MatchResult result
         (λ _. (S.Told.told source.new).read_faults ≡ (S.Told.told source.old).read_faults)

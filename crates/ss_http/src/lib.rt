@@ -1,7 +1,7 @@
 //! Messages over HTTP/1.1, from both ends: a server reads messages and writes responses, a client the other way round.
-//! Heads are read by httparse's grammar; a body has as many bytes as its `Content-Length` says.
-//! Its contracts: exactly the next message or response is taken however the input is cut, each refusal has its cause, and what
-//! is written is the definition's bytes.
+//! Heads are read by httparse's grammar; a body has as many bytes as its `Content-Length` says. Its contracts: exactly
+//! the next message or response is taken however the input is cut, each refusal has its cause, and what is written is
+//! the definition's bytes.
 #![tactic(auto)]
 
 mod answer;

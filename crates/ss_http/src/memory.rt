@@ -73,7 +73,8 @@ pub fn memory_response_len(moment: Stamp, last: bool) -> usize
     BEFORE.len() + stamp + BEHIND.len() + close + BODY.len()
 }
 
-/// The response that says that no memory was found: 507 with the body `"memory"`, in the first `memory_response_len` bytes.
+/// The response that says that no memory was found: 507 with the body `"memory"`, in the first `memory_response_len`
+/// bytes.
 pub fn memory_response(moment: Stamp, last: bool) -> [u8; 256]
     ensures { take (length (memory_response moment last)) result ≡ memory_response moment last }
 {

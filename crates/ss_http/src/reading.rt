@@ -55,7 +55,8 @@ fn read_head<S: Source>(
     ensures stop { buffer.new.stop ≡ buffer.old.stop }
     ensures bytes { Brings buffer.old.bytes buffer.new.bytes (S.Told.told source.old) (S.Told.told source.new) }
     ensures head { IfOk result (λ head. IsHeadAt buffer.new.bytes head) }
-    ensures ready { IsDecided buffer.old.bytes → (buffer.new ≡ buffer.old) × (S.Told.told source.new ≡ S.Told.told source.old) }
+    ensures ready { IsDecided buffer.old.bytes → (buffer.new ≡ buffer.old)
+        × (S.Told.told source.new ≡ S.Told.told source.old) }
     ensures fault { IfErr result (λ e. IsMessageFault e buffer.new.bytes) }
     ensures ended { IfErr result (λ e. EndsWith e (S.Told.told source.new)) }
     ensures cause { MatchResult result
@@ -82,7 +83,8 @@ fn fill_to<S: Source>(buffer: &mut Buffer, source: &mut S, size: usize) -> Resul
     ensures stop { buffer.new.stop ≡ buffer.old.stop }
     ensures bytes { Brings buffer.old.bytes buffer.new.bytes (S.Told.told source.old) (S.Told.told source.new) }
     ensures enough { OnOk result (size ≤ length buffer.new.bytes) }
-    ensures ready { size ≤ length buffer.old.bytes → (buffer.new ≡ buffer.old) × (S.Told.told source.new ≡ S.Told.told source.old) }
+    ensures ready { size ≤ length buffer.old.bytes → (buffer.new ≡ buffer.old)
+        × (S.Told.told source.new ≡ S.Told.told source.old) }
     ensures fault { IfErr result (λ e. IsShort e size buffer.new.bytes) }
     ensures ended { IfErr result (λ e. EndsWith e (S.Told.told source.new)) }
     ensures cause { MatchResult result
@@ -110,9 +112,12 @@ fn read_whole<S: Source>(
 ) -> Result<(Message, usize), MsgFault>
     ensures stop { buffer.new.stop ≡ buffer.old.stop }
     ensures bytes { Brings buffer.old.bytes buffer.new.bytes (S.Told.told source.old) (S.Told.told source.new) }
-    ensures whole { IfOk result (λ r. (r.1 ≤ length buffer.new.bytes) × ReadsMessage buffer.new.bytes r.0 (drop r.1 buffer.new.bytes)) }
-    ensures ready { (m : Message) (rest : List ℕ) → ReadsMessage buffer.old.bytes m rest → S.Told.told source.new ≡ S.Told.told source.old }
-    ensures refused { IfErr result (λ e. IsRefusal e → IsDecided buffer.old.bytes → S.Told.told source.new ≡ S.Told.told source.old) }
+    ensures whole { IfOk result (λ r. (r.1 ≤ length buffer.new.bytes) × ReadsMessage buffer.new.bytes r.0
+        (drop r.1 buffer.new.bytes)) }
+    ensures ready { (m : Message) (rest : List ℕ) → ReadsMessage buffer.old.bytes m rest
+        → S.Told.told source.new ≡ S.Told.told source.old }
+    ensures refused { IfErr result (λ e. IsRefusal e → IsDecided buffer.old.bytes
+        → S.Told.told source.new ≡ S.Told.told source.old) }
     ensures fault { IfErr result (λ e. IsMessageFault e buffer.new.bytes) }
     ensures ended { IfErr result (λ e. EndsWith e (S.Told.told source.new)) }
     ensures cause { MatchResult result
@@ -153,12 +158,14 @@ pub fn read_message<S: Source>(
 ) -> Result<Message, MsgFault>
     ensures again { IfSome buffer.old.stop (λ fault. (result ≡ Err fault) × (buffer.new ≡ buffer.old)
         × (S.Told.told source.new ≡ S.Told.told source.old)) }
-    ensures takes { IfNone buffer.old.stop ((got : List ℕ) × HasRead got (S.Told.told source.old) (S.Told.told source.new)
+    ensures takes { IfNone buffer.old.stop ((got : List ℕ) × HasRead got (S.Told.told source.old)
+        (S.Told.told source.new)
         × ReadsNext result (buffer.old.bytes ++ got) buffer.new) }
     // A message that is kept whole is given without a read.
     ensures ready { IfNone buffer.old.stop ((m : Message) (rest : List ℕ) → ReadsMessage buffer.old.bytes m rest
         → S.Told.told source.new ≡ S.Told.told source.old) }
-    // A message whose head is refused is refused without a read where the head is kept whole, or as many bytes are kept as it may have.
+    // A message whose head is refused is refused without a read where the head is kept whole, or as many bytes are kept
+    // as it may have.
     ensures refused { IfNone buffer.old.stop (IfErr result (λ e. IsRefusal e → IsDecided buffer.old.bytes
         → S.Told.told source.new ≡ S.Told.told source.old)) }
     ensures ended { IfNone buffer.old.stop (IfErr result (λ e. EndsWith e (S.Told.told source.new))) }

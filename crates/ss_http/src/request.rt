@@ -30,7 +30,8 @@ fn push_cond(out: &mut Vec<u8>, cond: &Cond) -> Result<(), AllocError>
 
 #[tactic(auto, unfolding(crate::specs::Fields::lines))]
 fn push_content(out: &mut Vec<u8>, body: Option<&[u8]>) -> Result<(), AllocError>
-    ensures { OnOk result (out.new.items ≡ out.old.items ++ lines (content_fields (option_map (λ body. body.now) body.entry))) }
+    ensures { OnOk result (out.new.items ≡ out.old.items ++ lines (content_fields
+        (option_map (λ body. body.now) body.entry))) }
 {
     match body {
         None => Ok(()),
@@ -47,7 +48,8 @@ fn push_fields(
     cond: &Cond,
     body: Option<&[u8]>,
 ) -> Result<(), AllocError>
-    ensures { OnOk result (out.new.items ≡ out.old.items ++ lines (request_fields host.now cond.now (option_map (λ body. body.now) body.entry))) }
+    ensures { OnOk result (out.new.items ≡ out.old.items ++ lines (request_fields host.now cond.now
+        (option_map (λ body. body.now) body.entry))) }
 {
     push_line(out, "Host", host)?;
     push_cond(out, cond)?;
@@ -74,9 +76,9 @@ fn head_lines(
     Ok(head)
 }
 
-/// Appends a request: its first line, `Host`, the condition's field, the type and length of a body, an empty line and the body.
-/// Without memory for it `out` stays as it was. A server reads it as a message where the method is a token, the
-/// target is UTF-8 without blanks, the host has visible bytes alone, and each and the body are within their limits.
+/// Appends a request: its first line, `Host`, the condition's field, the type and length of a body, an empty line and
+/// the body. Without memory for it `out` stays as it was. A server reads it as a message where the method is a token,
+/// the target is UTF-8 without blanks, the host has visible bytes alone, and each and the body are within their limits.
 #[tactic(auto, unfolding(crate::specs::Requests::request_text))]
 pub fn push_request(
     alloc: Global,

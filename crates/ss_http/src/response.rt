@@ -98,7 +98,8 @@ fn push_body_fields(out: &mut Vec<u8>, head: &ResponseHead, size: usize) -> Resu
 
 #[tactic(auto, unfolding(crate::specs::Fields::lines))]
 fn push_connection(out: &mut Vec<u8>, last: bool) -> Result<(), AllocError>
-    ensures { OnOk result (out.new.items ≡ out.old.items ++ lines (field_if (codes "Connection") (if last then Some (codes "close") else None))) }
+    ensures { OnOk result (out.new.items ≡ out.old.items ++ lines (field_if (codes "Connection")
+        (if last then Some (codes "close") else None))) }
 {
     if last {
         push_line(out, "Connection", "close")
@@ -142,8 +143,8 @@ fn head_lines(alloc: Global, head: &ResponseHead, size: usize) -> Result<Vec<u8>
     Ok(out)
 }
 
-/// The response with this head and body. The head is put before the body where that lies, so that a body isn't copied where
-/// there is room behind it.
+/// The response with this head and body. The head is put before the body where that lies, so that a body isn't copied
+/// where there is room behind it.
 pub fn into_response(
     alloc: Global,
     head: &ResponseHead,

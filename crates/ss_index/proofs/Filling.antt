@@ -31,8 +31,6 @@ in_time_sorted rows up =
     let far = sorted_far (λ (a b : Row). is_lt (nat_cmp a.modified b.modified)) (ranks_by nat_cmp_total (λ (row : Row). row.modified)) rows up in
     Pairs-from_AllPairs NoLater rows (λ i j d lt within. ge_from_not_lt (get_or rows j d).modified (get_or rows i d).modified (far i j d (omega arith) within))
 
--- being apart goes and_from ways
-
 -- how far the filling has come: the rows that are in, and those to come
 pub record Filled (all inside rest : List Row) : Type 0 where
   pub same : Reordered all (inside ++ rest)

@@ -193,7 +193,8 @@ impl Drawer {
         }
     }
 
-    /// Takes the rows out that have ended by a moment, and gives a moment before which no other ends. It takes no memory.
+    /// Takes the rows out that have ended by a moment, and gives a moment before which no other ends. It takes no
+    /// memory.
     pub(crate) fn sweep(&mut self, moment: Stamp) -> u64
         ensures rows { self.new.rows ≡ filter (is_alive moment) self.old.rows }
         ensures spare { self.old.spare ≤ self.new.spare }
@@ -268,7 +269,8 @@ impl Drawer {
         id: &Id,
         query: &Query,
     ) -> Result<(), AllocError>
-        ensures { OnOk result (map (λ row. row.now) found.new.items ≡ map (λ row. row.now) found.old.items ++ picked query.now self.now.rows before.now id.now) }
+        ensures { OnOk result (map (λ row. row.now) found.new.items ≡ map (λ row. row.now) found.old.items
+            ++ picked query.now self.now.rows before.now id.now) }
     {
         if is_named(before, id) {
             return Ok(());
@@ -287,7 +289,8 @@ impl Drawer {
         query: &Query,
     ) -> Result<Vec<&'a Row>, AllocError>
         requires { Pairs OtherId self.now.rows }
-        ensures { IfOk result (λ found. Reordered (filter (is_asked query.now) (filter (λ row. is_among ids.now row.id) self.now.rows)) (map (λ row. row.now) found.items)) }
+        ensures { IfOk result (λ found. Reordered (filter (is_asked query.now)
+            (filter (λ row. is_among ids.now row.id) self.now.rows)) (map (λ row. row.now) found.items)) }
     {
         let mut found = Vec::new(alloc);
         for (i, id) in ids.iter().enumerate() {
@@ -296,16 +299,17 @@ impl Drawer {
         Ok(found)
     }
 
-    /// Rows, lent in some order, over which the answer of a query is the answer over all rows: by ids those alone, and a page in
-    /// the order of time takes the rows up to its end. Without `ids` it follows at most one link for each row above the query's
-    /// `newer`.
+    /// Rows, lent in some order, over which the answer of a query is the answer over all rows: by ids those alone, and
+    /// a page in the order of time takes the rows up to its end. Without `ids` it follows at most one link for each row
+    /// above the query's `newer`.
     pub(crate) fn found<'a, L: Ledger>(
         &'a self,
         alloc: Global,
         query: &Query,
         steps: &mut Steps<L>,
     ) -> Result<Vec<&'a Row>, AllocError>
-        ensures answer { IfOk result (λ found. answer_of (map (λ row. row.now) found.items) query.now ≡ answer self.now.rows query.now) }
+        ensures answer { IfOk result (λ found. answer_of (map (λ row. row.now) found.items) query.now
+            ≡ answer self.now.rows query.now) }
         ensures steps { steps.new ≤ steps.old + count_by (is_above query.now.newer) self.now.rows }
     {
         match &query.ids {

@@ -1,5 +1,5 @@
-//! A shelf of rows: one account's rows in maps and chains, so that a row is found by its id at once, and what is newer by
-//! walking from the end.
+//! A shelf of rows: one account's rows in maps and chains, so that a row is found by its id at once, and what is newer
+//! by walking from the end.
 #![tactic(auto)]
 
 mod drawer;

@@ -147,8 +147,8 @@ impl Shelf {
         }
     }
 
-    /// The answer of a query over the rows of a collection (SyncStorage API 1.5). Only the rows of the page are copied. Without
-    /// `ids` it follows at most one link for each row above the query's `newer`.
+    /// The answer of a query over the rows of a collection (SyncStorage API 1.5). Only the rows of the page are copied.
+    /// Without `ids` it follows at most one link for each row above the query's `newer`.
     pub fn select<L: Ledger>(
         &self,
         alloc: Global,
@@ -157,7 +157,8 @@ impl Shelf {
         steps: &mut Steps<L>,
     ) -> Result<Picked, AllocError>
         ensures answer { IfOk result (λ picked. picked ≡ answer (rows_of collection.now (rows_in self.now)) query.now) }
-        ensures steps { steps.new ≤ steps.old + count_by (is_above query.now.newer) (rows_of collection.now (rows_in self.now)) }
+        ensures steps { steps.new ≤ steps.old + count_by (is_above query.now.newer)
+            (rows_of collection.now (rows_in self.now)) }
     {
         answer_found(alloc, self.found(alloc, collection, query, steps)?, query)
     }
@@ -170,8 +171,10 @@ impl Shelf {
         query: &Query,
         steps: &mut Steps<L>,
     ) -> Result<PickedIds, AllocError>
-        ensures answer { IfOk result (λ picked. picked ≡ picked_ids (answer (rows_of collection.now (rows_in self.now)) query.now)) }
-        ensures steps { steps.new ≤ steps.old + count_by (is_above query.now.newer) (rows_of collection.now (rows_in self.now)) }
+        ensures answer { IfOk result (λ picked. picked ≡ picked_ids (answer (rows_of collection.now (rows_in self.now))
+            query.now)) }
+        ensures steps { steps.new ≤ steps.old + count_by (is_above query.now.newer)
+            (rows_of collection.now (rows_in self.now)) }
     {
         ids_found(alloc, self.found(alloc, collection, query, steps)?, query)
     }
@@ -184,8 +187,10 @@ impl Shelf {
         query: &Query,
         steps: &mut Steps<L>,
     ) -> Result<Vec<&'a Row>, AllocError>
-        ensures answer { IfOk result (λ found. answer_of (map (λ row. row.now) found.items) query.now ≡ answer (rows_of collection.now (rows_in self.now)) query.now) }
-        ensures steps { steps.new ≤ steps.old + count_by (is_above query.now.newer) (rows_of collection.now (rows_in self.now)) }
+        ensures answer { IfOk result (λ found. answer_of (map (λ row. row.now) found.items) query.now
+            ≡ answer (rows_of collection.now (rows_in self.now)) query.now) }
+        ensures steps { steps.new ≤ steps.old + count_by (is_above query.now.newer)
+            (rows_of collection.now (rows_in self.now)) }
     {
         match self.drawers.get(collection) {
             Some(drawer) => drawer.found(alloc, query, steps),
@@ -225,7 +230,8 @@ impl Shelf {
         i: usize,
         numbers: &mut Vec<(Name, u64)>,
     ) -> Result<(), AllocError>
-        ensures { OnOk result (numbers.new.items ≡ numbers.old.items ++ entries_of measure (option_to_list (slice_get self.now i))) }
+        ensures { OnOk result (numbers.new.items ≡ numbers.old.items ++ entries_of measure
+            (option_to_list (slice_get self.now i))) }
     {
         match self.drawers.get_index(i) {
             Some((name, drawer)) => measure.note(alloc, numbers, name, drawer),
@@ -262,7 +268,8 @@ impl Shelf {
         rows: &mut Vec<Row>,
         steps: &mut Steps<L>,
     ) -> Result<(), AllocError>
-        ensures { OnOk result (Reordered (rows.old.items ++ rows_in (option_to_list (slice_get self.now i))) rows.new.items) }
+        ensures { OnOk result (Reordered (rows.old.items ++ rows_in (option_to_list (slice_get self.now i)))
+            rows.new.items) }
     {
         match self.drawers.get_index(i) {
             Some((_, drawer)) => drawer.copy_rows(alloc, rows, steps),
@@ -277,7 +284,8 @@ impl Shelf {
         requires last { Each (λ other. other.modified ≤ row.modified) (rows_of row.collection (rows_in self.old)) }
         requires len { length (rows_in self.old) < 2 ^ 32 - 1 }
         ensures rows { Reordered (rows_in self.new) (row_changed (rows_in self.old) (Put row)) }
-        ensures room { (collection : List ℕ) → spare_of collection self.old ≤ spare_of collection self.new + cond (bytes_eq collection row.collection) 1 0 }
+        ensures room { (collection : List ℕ) → spare_of collection self.old
+            ≤ spare_of collection self.new + cond (bytes_eq collection row.collection) 1 0 }
     {
         let ends = end_of(&row);
         match self.drawers.get_mut(&row.collection) {
@@ -315,7 +323,8 @@ impl Shelf {
         requires key { HasKey change }
         requires can { CanChange self.old (change_of change ∷ []) }
         ensures rows { Reordered (rows_in self.new) (row_changed (rows_in self.old) (change_of change)) }
-        ensures room { (collection : List ℕ) → spare_of collection self.old ≤ spare_of collection self.new + puts_in collection (change_of change ∷ []) }
+        ensures room { (collection : List ℕ) → spare_of collection self.old
+            ≤ spare_of collection self.new + puts_in collection (change_of change ∷ []) }
     {
         match change {
             ReadyRow::Put { key, row } => self.put_row(key, row),
@@ -443,12 +452,13 @@ impl Shelf {
         self.ends = ends;
     }
 
-    /// Takes the rows of one drawer out that have ended by a moment, and gives a moment before which no other of its rows ends. It
-    /// takes no memory.
+    /// Takes the rows of one drawer out that have ended by a moment, and gives a moment before which no other of its
+    /// rows ends. It takes no memory.
     fn sweep_drawer(&mut self, i: usize, moment: Stamp) -> u64
         ensures rows { filter (is_alive moment) (rows_in self.new) ≡ filter (is_alive moment) (rows_in self.old) }
         ensures alive { AliveTo moment i self.old → AliveTo moment (i + 1) self.new }
-        ensures ends { (least : ℕ) → least ≤ result → HoldsTo (Outlives least) i self.old → HoldsTo (Outlives least) (i + 1) self.new }
+        ensures ends { (least : ℕ) → least ≤ result → HoldsTo (Outlives least) i self.old
+            → HoldsTo (Outlives least) (i + 1) self.new }
         ensures number { length self.new ≡ length self.old }
         ensures room { (name : List ℕ) → spare_of name self.old ≤ spare_of name self.new }
     {
@@ -519,10 +529,11 @@ impl Shelf {
         }
     }
 
-    /// Whether each row that changes put is no earlier than those of its collection and than those that they put before, so that
-    /// `prepare` takes them.
+    /// Whether each row that changes put is no earlier than those of its collection and than those that they put
+    /// before, so that `prepare` takes them.
     pub fn is_in_time(&self, changes: &Changes) -> bool
-        ensures { IsTrue result → InTime (rows_left (dropped_names changes.now.collections) (filter (is_alive changes.now.moment) (rows_in self.now))) changes.now.rows }
+        ensures { IsTrue result → InTime (rows_left (dropped_names changes.now.collections)
+            (filter (is_alive changes.now.moment) (rows_in self.now))) changes.now.rows }
     {
         let mut time = 0;
         for change in changes.rows.as_slice() {
@@ -559,7 +570,8 @@ impl Shelf {
     /// Takes all the memory of changes, and leaves the rows. Where memory runs out no collection is left without a row.
     pub fn prepare(&mut self, alloc: Global, changes: &Changes) -> Result<Ready, AllocError>
         requires number { length (rows_in self.old) + length changes.now.rows < 2 ^ 32 - 1 }
-        requires times { InTime (rows_left (dropped_names changes.now.collections) (filter (is_alive changes.now.moment) (rows_in self.old))) changes.now.rows }
+        requires times { InTime (rows_left (dropped_names changes.now.collections)
+            (filter (is_alive changes.now.moment) (rows_in self.old))) changes.now.rows }
         ensures rows { rows_in self.new ≡ rows_in self.old }
         ensures ready { IfOk result (λ ready. IsReady ready changes.now self.new) }
         ensures refused { OnErr result (NoneEmpty self.new) }
@@ -576,7 +588,8 @@ impl Shelf {
     /// Takes all the memory of changes, and leaves the rows.
     fn ready(&mut self, alloc: Global, changes: &Changes) -> Result<Ready, AllocError>
         requires number { length (rows_in self.old) + length changes.now.rows < 2 ^ 32 - 1 }
-        requires times { InTime (rows_left (dropped_names changes.now.collections) (filter (is_alive changes.now.moment) (rows_in self.old))) changes.now.rows }
+        requires times { InTime (rows_left (dropped_names changes.now.collections)
+            (filter (is_alive changes.now.moment) (rows_in self.old))) changes.now.rows }
         ensures rows { rows_in self.new ≡ rows_in self.old }
         ensures ready { IfOk result (λ ready. IsReady ready changes.now self.new) }
     {
@@ -598,12 +611,13 @@ impl Shelf {
         self.tidy();
     }
 
-    /// Makes the changes that are ready: rows that have ended go, collections are dropped, and then rows are changed. It takes
-    /// no memory.
+    /// Makes the changes that are ready: rows that have ended go, collections are dropped, and then rows are changed.
+    /// It takes no memory.
     pub fn apply(&mut self, ready: Ready)
         requires { CanApply ready self.old }
         ensures applied { Reordered (rows_in self.new) (applied ready (rows_in self.old)) }
-        ensures changed { (kept : Kept) (changes : Changes) → IsReady ready changes self.old → kept.rows ≡ rows_in self.old → Reordered (rows_in self.new) (changed kept changes).rows }
+        ensures changed { (kept : Kept) (changes : Changes) → IsReady ready changes self.old
+            → kept.rows ≡ rows_in self.old → Reordered (rows_in self.new) (changed kept changes).rows }
         ensures dropped { 0 < length ready.dropped.items → NoneEmpty self.new }
     {
         let Ready {

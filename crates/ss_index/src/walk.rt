@@ -29,7 +29,8 @@ pub(crate) fn note<'a>(
     row: &'a Row,
     query: &Query,
 ) -> Result<(), AllocError>
-    ensures { OnOk result (map (λ row. row.now) found.new.items ≡ map (λ row. row.now) found.old.items ++ filter (is_asked query.now) (row.now ∷ [])) }
+    ensures { OnOk result (map (λ row. row.now) found.new.items ≡ map (λ row. row.now) found.old.items
+        ++ filter (is_asked query.now) (row.now ∷ [])) }
 {
     if asks_for(query, row) {
         found.push(row)?;
@@ -37,8 +38,8 @@ pub(crate) fn note<'a>(
     Ok(())
 }
 
-/// Whether so many rows are more than come before a page's end, and the next row is of another time: this one is earlier than
-/// the other.
+/// Whether so many rows are more than come before a page's end, and the next row is of another time: this one is
+/// earlier than the other.
 fn is_past(end: Option<u64>, found: usize, earlier: Stamp, later: Stamp) -> bool
     ensures { result ≡ (nat_lt earlier later && is_past end found) }
 {
@@ -48,8 +49,8 @@ fn is_past(end: Option<u64>, found: usize, earlier: Stamp, later: Stamp) -> bool
     }
 }
 
-/// The rows that a query asks for, lent, from the last to the first: all, or enough for a page that ends so. It follows no link
-/// before the last row that is not above the query's `newer`.
+/// The rows that a query asks for, lent, from the last to the first: all, or enough for a page that ends so. It follows
+/// no link before the last row that is not above the query's `newer`.
 pub(crate) fn walk<'a, L: Ledger>(
     alloc: Global,
     rows: &'a Chain<Row>,
@@ -58,7 +59,8 @@ pub(crate) fn walk<'a, L: Ledger>(
     steps: &mut Steps<L>,
 ) -> Result<Vec<&'a Row>, AllocError>
     requires { Pairs NoLater (values_of rows.now.nodes) }
-    ensures rows { IfOk result (λ found. Enough Later end (filter (is_asked query.now) (reverse (values_of rows.now.nodes))) (map (λ row. row.now) found.items)) }
+    ensures rows { IfOk result (λ found. Enough Later end (filter (is_asked query.now)
+        (reverse (values_of rows.now.nodes))) (map (λ row. row.now) found.items)) }
     ensures steps { steps.new ≤ steps.old + count_by (is_above query.now.newer) (values_of rows.now.nodes) }
 {
     let mut found = Vec::new(alloc);
@@ -92,7 +94,8 @@ pub(crate) fn walk_ahead<'a, L: Ledger>(
 ) -> Result<Vec<&'a Row>, AllocError>
     requires times { Pairs NoLater (values_of rows.now.nodes) }
     requires newer { query.now.newer ≡ None }
-    ensures rows { IfOk result (λ found. Enough Earlier end (filter (is_asked query.now) (values_of rows.now.nodes)) (map (λ row. row.now) found.items)) }
+    ensures rows { IfOk result (λ found. Enough Earlier end (filter (is_asked query.now) (values_of rows.now.nodes))
+        (map (λ row. row.now) found.items)) }
     ensures steps { steps.new ≤ steps.old + count_by (is_above query.now.newer) (values_of rows.now.nodes) }
 {
     let mut found = Vec::new(alloc);
@@ -123,8 +126,8 @@ fn page_end(query: &Query) -> Option<u64>
     }
 }
 
-/// Rows that a query asks for, lent, over which its answer is the answer over all rows: a page in the order of time takes the rows
-/// up to its end. It follows at most one link for each row above the query's `newer`.
+/// Rows that a query asks for, lent, over which its answer is the answer over all rows: a page in the order of time
+/// takes the rows up to its end. It follows at most one link for each row above the query's `newer`.
 pub(crate) fn walked<'a, L: Ledger>(
     alloc: Global,
     rows: &'a Chain<Row>,
@@ -133,7 +136,8 @@ pub(crate) fn walked<'a, L: Ledger>(
 ) -> Result<Vec<&'a Row>, AllocError>
     requires times { Pairs NoLater (values_of rows.now.nodes) }
     requires apart { Pairs OtherId (values_of rows.now.nodes) }
-    ensures answer { IfOk result (λ found. answer_of (map (λ row. row.now) found.items) query.now ≡ answer (values_of rows.now.nodes) query.now) }
+    ensures answer { IfOk result (λ found. answer_of (map (λ row. row.now) found.items) query.now
+        ≡ answer (values_of rows.now.nodes) query.now) }
     ensures steps { steps.new ≤ steps.old + count_by (is_above query.now.newer) (values_of rows.now.nodes) }
 {
     match query.sort {

@@ -30,7 +30,8 @@ impl<S: Alter + Drop> Model for SqlKeeper<S> {
 }
 
 impl SqlKeeper {
-    /// Opens the database at a path, or makes it where there is no file or an empty one. One keeper at a time has a file.
+    /// Opens the database at a path, or makes it where there is no file or an empty one. One keeper at a time has a
+    /// file.
     pub fn open(rt: &HostRuntime, path: &str) -> Result<SqlKeeper, SqlFault>
         ensures count { IfOk result (λ keeper. keeper ≡ 0) }
         ensures cause { IfErr result HasVersion }
@@ -43,8 +44,8 @@ impl SqlKeeper {
 }
 
 impl<S: Alter + Drop> SqlKeeper<S> {
-    /// Takes the database of a connection. One without tables gets them; one with tables of version 1 gets those of version 2,
-    /// and one with tables of another version is refused.
+    /// Takes the database of a connection. One without tables gets them; one with tables of version 1 gets those of
+    /// version 2, and one with tables of another version is refused.
     pub fn adopt(mut connection: Connection<S>) -> Result<SqlKeeper<S>, SqlFault>
         ensures count { IfOk result (λ keeper. keeper ≡ 0) }
         ensures cause { IfErr result HasVersion }

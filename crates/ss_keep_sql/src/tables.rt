@@ -1,11 +1,11 @@
 //! The tables of an account's database.
 //!
-//! `about` has one row: the version of the tables, the time of the last write to the store, that of the last deletion, and
-//! the counter of batches. `collections` has the collections with the time of each one's last write, and `rows` the stored
-//! records. `batches` has the batches that aren't committed yet, and `parts` their parts, each at its place in its batch,
-//! counted from 1: of each field whether it is given, and then its value, or NULL where it is cleared. Times are hundredths
-//! of a second since 1970. `counter`, `expires` and the numbers of batches are numbers without sign: from 2^63 on they stand
-//! as the number less 2^64.
+//! `about` has one row: the version of the tables, the time of the last write to the store, that of the last deletion,
+//! and the counter of batches. `collections` has the collections with the time of each one's last write, and `rows` the
+//! stored records. `batches` has the batches that aren't committed yet, and `parts` their parts, each at its place in
+//! its batch, counted from 1: of each field whether it is given, and then its value, or NULL where it is cleared. Times
+//! are hundredths of a second since 1970. `counter`, `expires` and the numbers of batches are numbers without sign:
+//! from 2^63 on they stand as the number less 2^64.
 //!
 //! Version 1 has no batches. Its tables are those of version 2 without `batches` and `parts`.
 
@@ -56,8 +56,8 @@ fn found<S: Alter>(transaction: &mut Transaction<'_, S>) -> Result<i64, Error> {
     Ok(found)
 }
 
-/// The version of the tables that was found. A database without tables gets them first, and one of version 1 is then made one of
-/// version 2: all of it or nothing.
+/// The version of the tables that was found. A database without tables gets them first, and one of version 1 is then
+/// made one of version 2: all of it or nothing.
 pub(crate) fn ready<S: Alter>(connection: &mut Connection<S>) -> Result<i64, Error> {
     if !connection.is_autocommit() {
         return Err(IN_TRANSACTION);

@@ -1,7 +1,7 @@
 //! What was committed is loaded again. The commits are told in short, parted by bars. A row that is put is
-//! `collection/id=payload`, with `^sortindex` and `~expiry` where it has them, and a payload `*` is 2 MB of text; a row that is
-//! dropped is `collection/id`; `collection/#count` puts so many rows. A collection that is set is `name@time`, one that is dropped
-//! `name`.
+//! `collection/id=payload`, with `^sortindex` and `~expiry` where it has them, and a payload `*` is 2 MB of text; a row
+//! that is dropped is `collection/id`; `collection/#count` puts so many rows. A collection that is set is `name@time`,
+//! one that is dropped `name`.
 
 use crate::faults::SqlFault;
 use crate::keeper::SqlKeeper;
@@ -121,8 +121,8 @@ fn time_changes(alloc: Global, words: &str) -> Result<CollectionChanges, Fail> {
     Ok(CollectionChanges::new(changes))
 }
 
-/// A part: `id` says nothing of its fields, `id!` clears them, and `id=payload` sets the payload and, with `^sortindex` and
-/// `~ttl`, those too.
+/// A part: `id` says nothing of its fields, `id!` clears them, and `id=payload` sets the payload and, with `^sortindex`
+/// and `~ttl`, those too.
 fn part(alloc: Global, text: &str) -> Result<Part, Fail> {
     if let Some((id, _)) = text.split_once('!') {
         return Ok(Part {
@@ -204,9 +204,10 @@ const MANY: u64 = 4;
 /// The commit that a database of version 1 holds.
 const OLD: u64 = 5;
 
-/// The rows, the collections and the batches of a commit. The first has texts that SQL could trip over, and numbers at their
-/// ends; some of its rows have ended by the second, and the third drops a collection that it makes anew, and which has ids and
-/// batches that stay. Fields of parts are kept, cleared and set. The fourth begins a batch with the number of one that it ends.
+/// The rows, the collections and the batches of a commit. The first has texts that SQL could trip over, and numbers at
+/// their ends; some of its rows have ended by the second, and the third drops a collection that it makes anew, and
+/// which has ids and batches that stay. Fields of parts are kept, cleared and set. The fourth begins a batch with the
+/// number of one that it ends.
 fn told(number: u64) -> (&'static str, &'static str, &'static str) {
     match number {
         0 => (

@@ -131,7 +131,8 @@ pub(crate) fn batches_after(
     batches: &Batches,
     commits: &[Changes],
 ) -> Result<Batches, AllocError>
-    ensures { IfOk result (λ after. after ≡ fold (λ held commit. batches_changed held commit.batches) batches.now commits.now) }
+    ensures { IfOk result (λ after. after ≡ fold (λ held commit. batches_changed held commit.batches) batches.now
+        commits.now) }
 {
     let mut held = batches.copy(alloc)?.into_vec();
     for commit in commits {

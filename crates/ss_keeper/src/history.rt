@@ -13,8 +13,8 @@ use std::marker::Model;
 /// What a row, a part, a collection or a commit counts beside its payload, in bytes.
 const BESIDES: u64 = 256;
 
-/// What is kept after the changes of commits. They stand beside what was kept before them until they weigh as much; then they
-/// are made to it together. So a commit costs time in the size of its changes, and not of what is kept.
+/// What is kept after the changes of commits. They stand beside what was kept before them until they weigh as much;
+/// then they are made to it together. So a commit costs time in the size of its changes, and not of what is kept.
 #[derive(Drop, Debug)]
 pub(crate) struct History {
     before: Kept,

@@ -1,5 +1,5 @@
-//! Keepers: what holds an account's rows, collections, times and batches beyond the process that serves it.
-//! Their contracts: a commit is whole or not at all, what is loaded is what the keeper tells, and the count of faults rises
+//! Keepers: what holds an account's rows, collections, times and batches beyond the process that serves it. Their
+//! contracts: a commit is whole or not at all, what is loaded is what the keeper tells, and the count of faults rises
 //! where a fault is answered and nowhere else. Of those in memory it is said which calls fail.
 #![tactic(auto)]
 

@@ -55,8 +55,10 @@ fn edit(
     row_edits: RowEdits<'_>,
     time_edits: TimeEdits<'_>,
 ) -> Result<(), AllocError>
-    ensures rows { OnOk result (rows.new.items ≡ filter (leaves row_edits.entry) rows.old.items ++ row_edits.entry.puts.items) }
-    ensures times { OnOk result (times.new.items ≡ filter (λ entry. leaves_time time_edits.entry entry.0) times.old.items ++ time_edits.entry.times.items) }
+    ensures rows { OnOk result (rows.new.items ≡ filter (leaves row_edits.entry) rows.old.items
+        ++ row_edits.entry.puts.items) }
+    ensures times { OnOk result (times.new.items ≡ filter (λ entry. leaves_time time_edits.entry entry.0)
+        times.old.items ++ time_edits.entry.times.items) }
     ensures same_rows { OnErr result (rows.new.items ≡ rows.old.items) }
     ensures same_times { OnErr result (times.new.items ≡ times.old.items) }
 {
@@ -84,8 +86,8 @@ fn set_about(kept: &mut Kept, commits: &[Changes])
     }
 }
 
-/// Makes the changes of commits to what is kept, one after the other. All memory is taken before anything changes; after an Err
-/// it is as before. The time is in the size of what is kept and of the changes together.
+/// Makes the changes of commits to what is kept, one after the other. All memory is taken before anything changes;
+/// after an Err it is as before. The time is in the size of what is kept and of the changes together.
 pub(crate) fn make(alloc: Global, kept: &mut Kept, commits: &[Changes]) -> Result<(), AllocError>
     ensures made { OnOk result (kept.new ≡ after_commits kept.old commits.now) }
     ensures same { OnErr result (kept.new ≡ kept.old) }

@@ -13,8 +13,8 @@ use ss_outside::{Faults, Never, Numbered};
 use std::alloc::Global;
 use std::marker::Model;
 
-/// What is kept, in memory; it is told. A call of `load` or `commit` fails by its plan, and no other call answers a fault. A
-/// commit takes time in the size of its changes, and not of what is kept.
+/// What is kept, in memory; it is told. A call of `load` or `commit` fails by its plan, and no other call answers a
+/// fault. A commit takes time in the size of its changes, and not of what is kept.
 #[derive(Drop, Debug)]
 pub struct KeeperUnder<F: Faults + Drop> {
     history: History,

@@ -21,7 +21,8 @@ fn note_drop<'a>(
     names: &mut HashSet<&'a Name>,
     change: &'a CollectionChange,
 ) -> Result<(), AllocError>
-    ensures { OnOk result ((name : List ℕ) → is_named names.new name ≡ (drops name change.now || is_named names.old name)) }
+    ensures { OnOk result ((name : List ℕ) → is_named names.new name ≡
+        (drops name change.now || is_named names.old name)) }
 {
     if let CollectionChange::Drop { name } = change {
         let _added = names.insert(name)?;
@@ -34,7 +35,8 @@ pub(crate) fn note_drops<'a>(
     names: &mut HashSet<&'a Name>,
     changes: &'a [CollectionChange],
 ) -> Result<(), AllocError>
-    ensures { OnOk result ((name : List ℕ) → is_named names.new name ≡ (list_any (drops name) changes.now || is_named names.old name)) }
+    ensures { OnOk result ((name : List ℕ) → is_named names.new name ≡
+        (list_any (drops name) changes.now || is_named names.old name)) }
 {
     for change in changes {
         note_drop(names, change)?;

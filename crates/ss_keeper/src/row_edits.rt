@@ -33,7 +33,8 @@ fn place_of(change: &RowChange) -> Place<'_>
 
 /// Notes the place of a change.
 fn touch<'a>(touched: &mut HashSet<Place<'a>>, change: &'a RowChange) -> Result<(), AllocError>
-    ensures { OnOk result ((row : Row) → is_held touched.new row ≡ (touches row change.now || is_held touched.old row)) }
+    ensures { OnOk result ((row : Row) → is_held touched.new row ≡ (touches row change.now || is_held touched.old
+        row)) }
 {
     let _added = touched.insert(place_of(change))?;
     Ok(())
@@ -49,8 +50,9 @@ fn later_of(noted: Option<Stamp>, moment: Stamp) -> Option<Stamp>
     }
 }
 
-/// What commits come to for rows: when rows must be alive, which collections go, which places are touched, and which rows are
-/// put there in the end. They are gathered from the last commit to the first, and the rows that are put stand in that order.
+/// What commits come to for rows: when rows must be alive, which collections go, which places are touched, and which
+/// rows are put there in the end. They are gathered from the last commit to the first, and the rows that are put stand
+/// in that order.
 #[derive(Drop)]
 pub(crate) struct RowEdits<'a> {
     moment: Option<Stamp>,
@@ -90,7 +92,8 @@ impl<'a> RowEdits<'a> {
 
     /// Takes a copy of the row that is put, unless it goes again.
     fn push_put(&mut self, alloc: Global, change: &RowChange) -> Result<(), AllocError>
-        ensures puts { OnOk result (reverse self.new.puts.items ≡ with_put (leaves self.old) change.now (reverse self.old.puts.items)) }
+        ensures puts { OnOk result (reverse self.new.puts.items ≡ with_put (leaves self.old) change.now
+            (reverse self.old.puts.items)) }
         ensures same { OnOk result ((row : Row) → leaves self.new row ≡ leaves self.old row) }
     {
         match change {
@@ -102,8 +105,10 @@ impl<'a> RowEdits<'a> {
 
     /// Gathers a change before those that were gathered.
     fn add_change(&mut self, alloc: Global, change: &'a RowChange) -> Result<(), AllocError>
-        ensures puts { OnOk result (reverse self.new.puts.items ≡ with_put (leaves self.old) change.now (reverse self.old.puts.items)) }
-        ensures leaves { OnOk result ((row : Row) → leaves self.new row ≡ (not (touches row change.now) && leaves self.old row)) }
+        ensures puts { OnOk result (reverse self.new.puts.items ≡ with_put (leaves self.old) change.now
+            (reverse self.old.puts.items)) }
+        ensures leaves { OnOk result ((row : Row) → leaves self.new row
+            ≡ (not (touches row change.now) && leaves self.old row)) }
     {
         self.push_put(alloc, change)?;
         touch(&mut self.touched, change)?;
@@ -112,8 +117,10 @@ impl<'a> RowEdits<'a> {
 
     /// Gathers the changes of a commit's rows before those that were gathered.
     fn add_changes(&mut self, alloc: Global, changes: &'a [RowChange]) -> Result<(), AllocError>
-        ensures puts { OnOk result (reverse self.new.puts.items ≡ filter (leaves self.old) (last_puts changes.now) ++ reverse self.old.puts.items) }
-        ensures leaves { OnOk result ((row : Row) → leaves self.new row ≡ (not (is_touched changes.now row) && leaves self.old row)) }
+        ensures puts { OnOk result (reverse self.new.puts.items ≡ filter (leaves self.old) (last_puts changes.now)
+            ++ reverse self.old.puts.items) }
+        ensures leaves { OnOk result ((row : Row) → leaves self.new row
+            ≡ (not (is_touched changes.now row) && leaves self.old row)) }
     {
         let mut at = changes.len();
         'changes: while at > 0 {
@@ -125,8 +132,10 @@ impl<'a> RowEdits<'a> {
 
     /// Gathers a commit before those that were gathered.
     fn add(&mut self, alloc: Global, commit: &'a Changes) -> Result<(), AllocError>
-        ensures puts { OnOk result (reverse self.new.puts.items ≡ filter (leaves self.old) (last_puts commit.now.rows) ++ reverse self.old.puts.items) }
-        ensures leaves { OnOk result ((row : Row) → leaves self.new row ≡ (spares commit.now row && leaves self.old row)) }
+        ensures puts { OnOk result (reverse self.new.puts.items ≡ filter (leaves self.old) (last_puts commit.now.rows)
+            ++ reverse self.old.puts.items) }
+        ensures leaves { OnOk result ((row : Row) → leaves self.new row
+            ≡ (spares commit.now row && leaves self.old row)) }
     {
         self.add_changes(alloc, commit.rows.as_slice())?;
         note_drops(&mut self.dropped, commit.collections.as_slice())?;

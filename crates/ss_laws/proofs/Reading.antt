@@ -190,7 +190,7 @@ rows_written-reordered collection parts time rows others r places =
     subst (λ more. Reordered (rows_without collection (ids_of parts) rows ++ filter_map (made collection parts time rows) (ids_of parts)) (rows_without collection (ids_of parts) others ++ more)) made_eq
     (reordered-append_right (filter_map (made collection parts time rows) (ids_of parts)) (reordered-filter (λ row. not (bytes_eq row.collection collection && is_among (ids_of parts) row.id)) r))
 
--- one part: the row of its place goes, and the row that it makes comes at the end
+-- ---- one part: the row of its place goes, and the row that it makes comes at the end
 
 -- the rows with one in its place
 abbrev pub with_row : Row → List Row → List Row

@@ -53,7 +53,8 @@ impl Model for Journal {
 }
 
 impl Journal {
-    /// A journal without entries. The memory for `most` of them is taken here. Where it is wanting the opening comes back.
+    /// A journal without entries. The memory for `most` of them is taken here. Where it is wanting the opening comes
+    /// back.
     pub fn new(alloc: Global, opening: Plain, most: u32) -> Result<Journal, (Plain, AllocError)>
         ensures begun { IfOk result (λ journal. journal ≡ begun opening most) }
         ensures returned { IfErr result (λ refused. refused.0 ≡ opening) }

@@ -34,7 +34,8 @@ pub fn stamp_law()
 
 /// A request that is no write changes nothing but what the clock does, and perhaps the batches.
 pub fn quiet_law()
-    ensures { (account : Plain) (now : ℕ) (request : Request) → is_write (tick account now) request ≡ false → QuietLaw account now request }
+    ensures { (account : Plain) (now : ℕ) (request : Request) → is_write (tick account now) request ≡ false
+        → QuietLaw account now request }
 {}
 
 /// A request whose status is neither 200 nor 202 leaves what the clock leaves.
@@ -53,13 +54,15 @@ pub fn same_law()
 /// A commit is answered 200 exactly where its condition holds, its batch is live, the parts fit, and neither the
 /// clock's end nor the account's limits refuse its write.
 pub fn commit_law()
-    ensures { (account : Plain) (now : ℕ) (collection : List ℕ) (records : Records) (number : ℕ) (cond : Cond) → CommitLaw account now collection records number cond }
+    ensures { (account : Plain) (now : ℕ) (collection : List ℕ) (records : Records) (number : ℕ) (cond : Cond)
+        → CommitLaw account now collection records number cond }
 {}
 
 /// A valid account stays valid, whatever the clock says and whatever is asked.
 pub fn validity_law()
     ensures tick { (account : Plain) (now : ℕ) → IsValid account → IsValid (tick account now) }
-    ensures api { (account : Plain) (now : ℕ) (request : Request) → IsValid account → IsFitRequest request → IsValid (api account now request).account }
+    ensures api { (account : Plain) (now : ℕ) (request : Request) → IsValid account → IsFitRequest request
+        → IsValid (api account now request).account }
 {}
 
 /// The reply at a place of a journal depends on the opening and on the entries up to that place alone, and each
@@ -67,22 +70,26 @@ pub fn validity_law()
 pub fn journal_law()
     ensures alone { (one other : Journal) (place : ℕ) → one.opening ≡ other.opening
         → take (place + 1) one.entries ≡ take (place + 1) other.entries → reply_at one place ≡ reply_at other place }
-    ensures valid { (journal : Journal) (place : ℕ) → IsLegal journal → IsValid (account_after journal.opening (take place journal.entries)) }
+    ensures valid { (journal : Journal) (place : ℕ) → IsLegal journal → IsValid
+        (account_after journal.opening (take place journal.entries)) }
 {}
 
 /// The order of an account's rows, collections and batches shows in no reply, and accounts that are the same but for
 /// that order stay so. Validity doesn't depend on it.
 pub fn order_law()
-    ensures api { (account other : Plain) (now : ℕ) (request : Request) → IsValid account → SameAccount account other → SameOutcome (api account now request) (api other now request) }
+    ensures api { (account other : Plain) (now : ℕ) (request : Request) → IsValid account → SameAccount account other
+        → SameOutcome (api account now request) (api other now request) }
     ensures valid { (account other : Plain) → IsValid account → SameAccount account other → IsValid other }
 {}
 
 /// A write of a list makes each row of that row's parts alone, in list order, and leaves every other row. Two lists
 /// that are written one after the other make what both make as one list, but for the order of the rows.
 pub fn write_law()
-    ensures rows { (collection : List ℕ) (parts : List Part) (time : ℕ) (rows : List Row) → WriteLaw collection parts time rows }
+    ensures rows { (collection : List ℕ) (parts : List Part) (time : ℕ) (rows : List Row)
+        → WriteLaw collection parts time rows }
     ensures joined { (account : Plain) (collection : List ℕ) (parts more : List Part) (time : ℕ) → IsValid account
-        → Reordered (rows_written collection (parts ++ more) time account.rows) (rows_written collection more time (rows_written collection parts time account.rows)) }
+        → Reordered (rows_written collection (parts ++ more) time account.rows)
+        (rows_written collection more time (rows_written collection parts time account.rows)) }
 {}
 
 /// The replies of a journal don't depend on the order of its opening's lists.
@@ -91,7 +98,8 @@ pub fn journal_order_law()
         → reply_at journal place ≡ reply_at (record journal { opening = other }) place }
 {}
 
-/// The rows of an answer, before the page is cut from them, are those that were asked for, in the order that was asked for.
+/// The rows of an answer, before the page is cut from them, are those that were asked for, in the order that was asked
+/// for.
 pub fn sort_law()
     ensures { (sort : Sort) (rows : List Row) → SortLaw sort rows }
 {}

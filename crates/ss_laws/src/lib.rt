@@ -1,6 +1,6 @@
-//! The laws of the one-account API, and journals as data: what no change of an account's body touches.
-//! Its contracts: each law holds of every account, request and list, as the contract of a function that does nothing. A legal
-//! journal passes through valid accounts, and the reply at each of its places is told by the opening and the entries up to it.
+//! The laws of the one-account API, and journals as data: what no change of an account's body touches. Its contracts:
+//! each law holds of every account, request and list, as the contract of a function that does nothing. A legal journal
+//! passes through valid accounts, and the reply at each of its places is told by the opening and the entries up to it.
 #![tactic(auto)]
 
 mod journal;

@@ -48,7 +48,8 @@ fn push_children(
     from: &[Id],
     children: &mut Vec<Word>,
 ) -> Result<(), AllocError>
-    ensures { OnOk result (children.new.items ≡ children.old.items ++ filter (is_under (view plains.now) (get bytes_eq finals.now) parent.now) from.now) }
+    ensures { OnOk result (children.new.items ≡ children.old.items ++ filter
+        (is_under (view plains.now) (get bytes_eq finals.now) parent.now) from.now) }
 {
     for id in from {
         if is_under(plains, finals, parent, id) {
@@ -69,7 +70,8 @@ fn children_on<'p>(plains: &'p Plains<'_>, side: Side, id: &Id) -> &'p [Id]
     }
 }
 
-/// The children of an item on the side whose list is taken, then those on the other side, as far as they have this parent.
+/// The children of an item on the side whose list is taken, then those on the other side, as far as they have this
+/// parent.
 #[tactic(auto, unfolding(crate::specs::Merged::listed))]
 fn children_of(
     alloc: Global,
@@ -77,7 +79,8 @@ fn children_of(
     finals: &HashMap<Id, Id>,
     id: &Id,
 ) -> Result<Words, AllocError>
-    ensures { IfOk result (λ children. children ≡ filter (is_under (view plains.now) (get bytes_eq finals.now) id.now) (listed (view plains.now) id.now)) }
+    ensures { IfOk result (λ children. children ≡ filter (is_under (view plains.now) (get bytes_eq finals.now) id.now)
+        (listed (view plains.now) id.now)) }
 {
     let side = side_of(plains, Part::Children, id);
     let other = children_on(plains, side.other(), id);
@@ -98,7 +101,11 @@ fn children_of(
 fn item_of(alloc: Global, plains: &Plains, id: &Id) -> Result<Item, AllocError>
     requires shaped { AreShaped (view plains.now) }
     requires survives { survives (view plains.now) id.now ≡ true }
-    ensures { IfOk result (λ item. item ≡ record { id = id.now; kind = (content_of (view plains.now) id.now).kind; content = (content_of (view plains.now) id.now).content }) }
+    ensures { IfOk result (λ item. item ≡ record {
+      id = id.now;
+      kind = (content_of (view plains.now) id.now).kind;
+      content = (content_of (view plains.now) id.now).content;
+    }) }
 {
     let seat = content_of(plains, id);
     let content = seat.item.content().copy(alloc)?;
@@ -151,7 +158,8 @@ pub(crate) fn claims_of(
     ids: &[Id],
 ) -> Result<Vec<Claim>, AllocError>
     requires { AreShaped (view plains.now) }
-    ensures { IfOk result (λ claims. claims.items ≡ map (claim_by (view plains.now) (get bytes_eq finals.now)) (filter (survives (view plains.now)) ids.now)) }
+    ensures { IfOk result (λ claims. claims.items ≡ map (claim_by (view plains.now) (get bytes_eq finals.now))
+        (filter (survives (view plains.now)) ids.now)) }
 {
     let mut claims = Vec::new(alloc);
     for id in ids {

@@ -19,8 +19,10 @@ fn add_id(
     seen: &mut HashSet<Id>,
     ids: &mut Vec<Id>,
 ) -> Result<(), AllocError>
-    ensures ids { OnOk result (ids.new.items ≡ (if contains_by (bytes_eq id.now) seen.old then ids.old.items else ids.old.items ++ id.now ∷ [])) }
-    ensures seen { OnOk result ((x : Text) → contains_by (bytes_eq x) seen.new ≡ (bytes_eq id.now x || contains_by (bytes_eq x) seen.old)) }
+    ensures ids { OnOk result (ids.new.items ≡ (if contains_by (bytes_eq id.now) seen.old then ids.old.items else
+        ids.old.items ++ id.now ∷ [])) }
+    ensures seen { OnOk result ((x : Text) → contains_by (bytes_eq x) seen.new
+        ≡ (bytes_eq id.now x || contains_by (bytes_eq x) seen.old)) }
 {
     if seen.contains(id) {
         return Ok(());
@@ -51,7 +53,8 @@ fn add_ids(
 pub(crate) fn all_ids(alloc: Global, plains: &Plains) -> Result<Vec<Id>, AllocError>
     requires local { AreIds plains.now.local }
     requires remote { AreIds plains.now.remote }
-    ensures { IfOk result (λ ids. (all : List Text) → Apart all → ((x : Text) → has x all ≡ (is_in (view plains.now).local x || is_in (view plains.now).remote x)) → ids.items ≡ by_id all) }
+    ensures { IfOk result (λ ids. (all : List Text) → Apart all → ((x : Text)
+        → has x all ≡ (is_in (view plains.now).local x || is_in (view plains.now).remote x)) → ids.items ≡ by_id all) }
 {
     let mut seen = HashSet::new(alloc);
     let mut ids = Vec::new(alloc);

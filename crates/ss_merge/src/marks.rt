@@ -35,7 +35,8 @@ fn walk(
     requires one { has id.now ids.now ≡ true }
     requires marks { AreMarks way.now ids.now (get bytes_eq marks.old) }
     requires empty { path.old.items ≡ [] }
-    ensures { IfOk result (λ goal. Walked way.now ids.now (get bytes_eq marks.old) (get bytes_eq marks.new) path.new.items id.now goal) }
+    ensures { IfOk result (λ goal. Walked way.now ids.now (get bytes_eq marks.old) (get bytes_eq marks.new)
+        path.new.items id.now goal) }
 {
     let mut at = id;
     for step in 0..ids.len() {
@@ -84,7 +85,8 @@ fn mark(
     requires marks { AreMarks way.now ids.now (get bytes_eq marks.old) }
     ensures marks { OnOk result (AreMarks way.now ids.now (get bytes_eq marks.new)) }
     ensures one { OnOk result (is_some (get bytes_eq marks.new id.now) ≡ true) }
-    ensures kept { OnOk result ((x : Text) → is_some (get bytes_eq marks.old x) ≡ true → is_some (get bytes_eq marks.new x) ≡ true) }
+    ensures kept { OnOk result ((x : Text) → is_some (get bytes_eq marks.old x) ≡ true
+        → is_some (get bytes_eq marks.new x) ≡ true) }
 {
     let mut path = Vec::new(alloc);
     let near = walk(alloc, way, ids, id, marks, &mut path)?;
@@ -102,7 +104,8 @@ pub(crate) fn nearest_of(
 ) -> Result<HashMap<Id, Option<Id>>, AllocError>
     requires shape { HasShape way.now }
     requires inside { StaysIn way.now ids.now }
-    ensures { IfOk result (λ marks. (x : Text) → has x ids.now ≡ true → get bytes_eq marks x ≡ Some (nearest_on way.now (length ids.now) x)) }
+    ensures { IfOk result (λ marks. (x : Text) → has x ids.now ≡ true → get bytes_eq marks x
+        ≡ Some (nearest_on way.now (length ids.now) x)) }
 {
     let mut marks = HashMap::new(alloc);
     for id in ids {

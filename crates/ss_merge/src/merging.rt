@@ -61,11 +61,14 @@ fn tree_of(alloc: Global, plains: &Plains, ids: &[Id]) -> Result<Tree, AllocErro
 pub fn merge(alloc: Global, sides: &Sides) -> Result<Merged, AllocError>
     ensures tree { IfOk result (λ m. IsSame (tree m.tree) (merged_tree m.renamed.items sides.now)) }
     ensures valid { IfOk result (λ m. IsValidTree (tree m.tree)) }
-    ensures survivors { IfOk result (λ m. (x : Text) → (has x (node_ids (tree m.tree)) ≡ true) ↔ ((x ≡ places) ⊎ (survives (paired m.renamed.items sides.now) x ≡ true))) }
+    ensures survivors { IfOk result (λ m. (x : Text) → (has x (node_ids (tree m.tree)) ≡ true) ↔ ((x ≡ places)
+        ⊎ (survives (paired m.renamed.items sides.now) x ≡ true))) }
     ensures from { IfOk result (λ m. m.from.items ≡ origins (paired m.renamed.items sides.now) m.tree) }
     ensures from_once { IfOk result (λ m. Apart (map (λ p. p.0) m.from.items)) }
-    ensures from_all { IfOk result (λ m. (x : Text) → has x (map (λ p. p.0) m.from.items) ≡ (has x (node_ids (tree m.tree)) && not (is_places x))) }
-    ensures gone { IfOk result (λ m. m.gone ≡ gone_of (paired m.renamed.items sides.now) (all_ids m.renamed.items sides.now)) }
+    ensures from_all { IfOk result (λ m. (x : Text) → has x (map (λ p. p.0) m.from.items)
+        ≡ (has x (node_ids (tree m.tree)) && not (is_places x))) }
+    ensures gone { IfOk result (λ m. m.gone ≡ gone_of (paired m.renamed.items sides.now)
+        (all_ids m.renamed.items sides.now)) }
     ensures renamed { IfOk result (λ m. ArePairs (asked sides.now) m.renamed.items) }
 {
     let paired = read_paired(alloc, sides)?;

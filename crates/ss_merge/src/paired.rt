@@ -69,7 +69,8 @@ fn rename_seat<'a>(
     names: &HashMap<Id, Id>,
     seat: Seat<'a>,
 ) -> Result<Seat<'a>, AllocError>
-    ensures { IfOk result (λ named. placed_at named ≡ renamed_item (by_map (get bytes_eq names.now)) (placed_at seat.entry)) }
+    ensures { IfOk result (λ named. placed_at named ≡ renamed_item (by_map (get bytes_eq names.now))
+        (placed_at seat.entry)) }
 {
     let Seat {
         id,
@@ -95,8 +96,10 @@ fn move_seat<'a>(
     rest: &mut HashMap<Id, Seat<'a>>,
     named: &mut HashMap<Id, Seat<'a>>,
 ) -> Result<(), AllocError>
-    ensures rest { OnOk result ((x : Text) → get bytes_eq rest.new x ≡ (if bytes_eq id.now x then None else get bytes_eq rest.old x)) }
-    ensures named { OnOk result (TakesIn (by_map (get bytes_eq names.now)) id.now (look_by (get bytes_eq rest.old)) (look_by (get bytes_eq named.old)) (look_by (get bytes_eq named.new))) }
+    ensures rest { OnOk result ((x : Text) → get bytes_eq rest.new x ≡
+        (if bytes_eq id.now x then None else get bytes_eq rest.old x)) }
+    ensures named { OnOk result (TakesIn (by_map (get bytes_eq names.now)) id.now (look_by (get bytes_eq rest.old))
+        (look_by (get bytes_eq named.old)) (look_by (get bytes_eq named.new))) }
 {
     match rest.remove_entry(id) {
         Some((key, seat)) => {
@@ -117,7 +120,8 @@ fn rename_seats<'a>(
 ) -> Result<HashMap<Id, Seat<'a>>, AllocError>
     requires ids { (x : Text) → has x ids.now ≡ is_in (look_by (get bytes_eq seats)) x }
     requires names { AreNames (look_by (get bytes_eq seats)) (by_map (get bytes_eq names.now)) }
-    ensures { IfOk result (λ named. IsRenamed (look_by (get bytes_eq seats.entry)) (by_map (get bytes_eq names.now)) (look_by (get bytes_eq named))) }
+    ensures { IfOk result (λ named. IsRenamed (look_by (get bytes_eq seats.entry)) (by_map (get bytes_eq names.now))
+        (look_by (get bytes_eq named))) }
 {
     let mut rest = seats;
     let mut named = HashMap::new(alloc);
@@ -135,7 +139,8 @@ fn rename<'a>(
 ) -> Result<PlainTree<'a>, AllocError>
     requires ids { AreIds plain }
     requires names { AreNames (look_of plain) (by_map (get bytes_eq names.now)) }
-    ensures looks { IfOk result (λ named. IsRenamed (look_of plain.entry) (by_map (get bytes_eq names.now)) (look_of named)) }
+    ensures looks { IfOk result (λ named. IsRenamed (look_of plain.entry) (by_map (get bytes_eq names.now))
+        (look_of named)) }
     ensures ids { IfOk result AreIds }
 {
     let PlainTree { seats, ids } = plain;
@@ -144,7 +149,8 @@ fn rename<'a>(
     Ok(PlainTree { seats, ids })
 }
 
-/// The sides of a merge, read out, in which the local items of the duplicate pairs have the remote ids, and these pairs.
+/// The sides of a merge, read out, in which the local items of the duplicate pairs have the remote ids, and these
+/// pairs.
 #[derive(Drop)]
 pub(crate) struct Paired<'a> {
     pub(crate) plains: Plains<'a>,

@@ -61,14 +61,16 @@ fn folders_of(alloc: Global, plains: &Plains, ids: &[Id]) -> Result<Folders, All
 
 /// The nearest folder on the side whose parent is taken.
 fn chosen<'m>(plains: &Plains, folders: &'m Folders, id: &Id) -> Option<&'m Id>
-    ensures { option_map (λ p. p.now) result ≡ folder_on folders.now (side_of (view plains.now) same_parent id.now) id.now }
+    ensures { option_map (λ p. p.now) result ≡ folder_on folders.now (side_of (view plains.now) same_parent id.now)
+        id.now }
 {
     folder_on(folders, side_of(plains, Part::Parent, id), id)
 }
 
 /// The nearest folder in the remote tree, or in the local one of an item that isn't remote.
 fn fallback<'m>(plains: &Plains, folders: &'m Folders, id: &Id) -> Option<&'m Id>
-    ensures { option_map (λ p. p.now) result ≡ folder_on folders.now (if is_in (view plains.now).remote id.now then Remote else Local) id.now }
+    ensures { option_map (λ p. p.now) result ≡ folder_on folders.now (if is_in (view plains.now).remote id.now then
+        Remote else Local) id.now }
 {
     let side = if plains.remote.has(id) {
         Side::Remote
@@ -85,7 +87,8 @@ fn link(
     id: &Id,
     parent: Option<&Id>,
 ) -> Result<(), AllocError>
-    ensures { OnOk result ((x : Text) → get bytes_eq found.new x ≡ (if bytes_eq id.now x then or_else (option_map (λ p. p.now) parent.entry) (get bytes_eq found.old x) else get bytes_eq found.old x)) }
+    ensures { OnOk result ((x : Text) → get bytes_eq found.new x ≡ (if bytes_eq id.now x then or_else
+        (option_map (λ p. p.now) parent.entry) (get bytes_eq found.old x) else get bytes_eq found.old x)) }
 {
     if let Some(parent) = parent {
         found.insert(id.copy(alloc)?, parent.copy(alloc)?)?;
@@ -119,7 +122,8 @@ fn final_of<'m>(
     roots: &HashMap<Id, Option<Id>>,
     id: &Id,
 ) -> Option<&'m Id>
-    ensures { option_map (λ p. p.now) result ≡ final_by (view plains.now) folders.now (get bytes_eq chosen.now) (is_root id.now || is_some (unwrap_or (get bytes_eq roots.now id.now) None)) id.now }
+    ensures { option_map (λ p. p.now) result ≡ final_by (view plains.now) folders.now (get bytes_eq chosen.now)
+        (is_root id.now || is_some (unwrap_or (get bytes_eq roots.now id.now) None)) id.now }
 {
     if is_root(id) || found(roots, id).is_some() {
         chosen.get(id)

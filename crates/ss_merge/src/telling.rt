@@ -21,7 +21,8 @@ use std::alloc::{AllocError, Global};
 /// Whether an item is remote and doesn't survive.
 #[tactic(auto, unfolding(ss_dupe::specs::Looks::is_places))]
 fn is_gone(plains: &Plains, id: &Id) -> bool
-    ensures { result ≡ (is_in (view plains.now).remote id.now && not (is_places id.now || survives (view plains.now) id.now)) }
+    ensures { result ≡ (is_in (view plains.now).remote id.now && not (is_places id.now || survives (view plains.now)
+        id.now)) }
 {
     plains.remote.has(id) && !(is_places(id) || survives(plains, id))
 }
@@ -56,7 +57,8 @@ fn origin_of(plains: &Plains, id: &Id) -> Origin
 fn walk_ids(alloc: Global, tree: &Tree) -> Result<Vec<Id>, AllocError>
     ensures ids { IfOk result (λ ids. ids.items ≡ walk_ids tree.now) }
     ensures once { IfOk result (λ ids. Apart ids.items) }
-    ensures all { IfOk result (λ ids. (x : Text) → has x ids.items ≡ (has x (node_ids (by_ids tree.now)) && not (is_places x))) }
+    ensures all { IfOk result (λ ids. (x : Text) → has x ids.items ≡ (has x (node_ids (by_ids tree.now)) && not
+        (is_places x))) }
 {
     let nodes = tree.walk(alloc)?;
     let mut ids = Vec::with_capacity(alloc, nodes.len())?;
@@ -78,7 +80,8 @@ pub(crate) fn origins(
 ) -> Result<Vec<(Id, Origin)>, AllocError>
     ensures from { IfOk result (λ from. from.items ≡ origins (view plains.now) tree.now) }
     ensures once { IfOk result (λ from. Apart (map (λ p. p.0) from.items)) }
-    ensures all { IfOk result (λ from. (x : Text) → has x (map (λ p. p.0) from.items) ≡ (has x (node_ids (by_ids tree.now)) && not (is_places x))) }
+    ensures all { IfOk result (λ from. (x : Text) → has x (map (λ p. p.0) from.items)
+        ≡ (has x (node_ids (by_ids tree.now)) && not (is_places x))) }
 {
     let ids = walk_ids(alloc, tree)?;
     let mut from = Vec::with_capacity(alloc, ids.len())?;

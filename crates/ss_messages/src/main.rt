@@ -1,5 +1,6 @@
-//! Messages, responses and what a client hears as a program: standard input has a case in each line, and standard output what it
-//! tells. The cases are the worked bytes of ss_http and ss_hearing. The program has no contract: its stored run is the test.
+//! Messages, responses and what a client hears as a program: standard input has a case in each line, and standard
+//! output what it tells. The cases are the worked bytes of ss_http and ss_hearing. The program has no contract: its
+//! stored run is the test.
 #![tactic(auto)]
 
 mod messages;

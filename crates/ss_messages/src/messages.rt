@@ -1,7 +1,8 @@
-//! Cases of reading messages. Each tells the messages one after the other: the first line, the fields, the body, and whether the
-//! connection ends; or the fault, and where it stands again. What is kept is told behind a message, a failed read, and an input that
-//! ends inside a message.
-//! - `message TEXT` is read whole, and again cut after every byte; so is `long N`, a head of N bytes whose one field fills it, and
+//! Cases of reading messages. Each tells the messages one after the other: the first line, the fields, the body, and
+//! whether the connection ends; or the fault, and where it stands again. What is kept is told behind a message, a
+//! failed read, and an input that ends inside a message.
+//! - `message TEXT` is read whole, and again cut after every byte; so is `long N`, a head of N bytes whose one field
+//!   fills it, and
 //!   `wide N`, a head of N fields.
 //! - `pieces [FAILING ..], [PIECE ..]` is read piece by piece, where the reads with those numbers fail, counted from 1.
 //! - `field NAME, TEXT` tells the value of the first field of that name in the first message.

@@ -1,5 +1,6 @@
-//! Cases of ss_hearing: `hear AWAITED STATUS MODIFIED NEXT BODY` tells the answer in a reply to what is awaited, with its status, its
-//! time in hundredths of a second, the offset of the next page, and its body. A dash stands for no time, and for no offset.
+//! Cases of ss_hearing: `hear AWAITED STATUS MODIFIED NEXT BODY` tells the answer in a reply to what is awaited, with
+//! its status, its time in hundredths of a second, the offset of the next page, and its body. A dash stands for no
+//! time, and for no offset.
 
 use anyhow::bail;
 use ss_hearing::{Awaited, hear};

@@ -1,5 +1,6 @@
-//! Cases of requests: `request OBJECT` tells the bytes that a client sends, and how they stand behind others. The object has `method`,
-//! `target`, `host`, perhaps a condition `modified` or `unmodified` in hundredths of a second, and perhaps `body`.
+//! Cases of requests: `request OBJECT` tells the bytes that a client sends, and how they stand behind others. The
+//! object has `method`, `target`, `host`, perhaps a condition `modified` or `unmodified` in hundredths of a second, and
+//! perhaps `body`.
 
 use crate::reading::{number_of, quoted, text_of, values};
 use anyhow::bail;

@@ -1,9 +1,11 @@
 //! Cases of responses:
-//! - `response HEAD` is written: its head is an object of `status`, `moment`, `modified`, `count`, `next`, `allow`, `newlines` and `last`,
+//! - `response HEAD` is written: its head is an object of `status`, `moment`, `modified`, `count`, `next`, `allow`,
+//!   `newlines` and `last`,
 //!   with times in hundredths of a second, and `body`. It is told how it stands behind other bytes, and whether it is the same where its
 //!   body is moved.
 //! - `memory MOMENT, LAST` tells the response that is there without memory, and its size.
-//! - `heard TEXT` tells what a client hears, one response after the other, and the fault at the end; it is read whole, and again cut
+//! - `heard TEXT` tells what a client hears, one response after the other, and the fault at the end; it is read whole,
+//!   and again cut
 //!   after every byte. `heard TEXT, N` is read whole, and the read with that number fails, counted from 1.
 
 use crate::reading::{add, ending, is_so, number_in, number_of, quoted, text_in, text_of, values};

@@ -93,8 +93,6 @@ seat_place es t k seat q = cases (entry k es) refl q
           fit = λ g d r. let one : e ≡ d = some_same (sym h ∙ r) in ap (λ (w : Entry). is_fit w.item) (sym one) ∙ (ap (λ n. is_fit (item_of n)) same ∙ g);
         }
 
--- the tree has an item of an id where it has a node of it
-
 -- ---- one part more
 
 puts-append : (f : List ℕ → Option (List ℕ)) (xs ys : List (List ℕ)) → puts f (xs ++ ys) ≡ puts f xs ++ puts f ys
@@ -141,8 +139,6 @@ puts_next f xs i x p old new lt is due so more =
 pub due_is : (t : List Placed) (rs : Readings) (x : List ℕ) (n : Placed) (reading : Option Reading) (due : Option (List ℕ)) → node x t ≡ Some n → reading ≡ reading_at x rs → due ≡ record_due n reading → due ≡ record_for t rs x
 unfolding record_for
 due_is t rs x n reading due q r d = d ∙ (ap (record_due n) r ∙ sym (ap (option_and_then (λ m. record_due m (reading_at x rs))) q))
-
--- what stands in one more
 
 -- ---- the first part that passes a limit
 

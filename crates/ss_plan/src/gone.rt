@@ -50,7 +50,8 @@ pub(crate) fn tombstones(
     tree: &Tree,
     readings: &[(Id, Reading)],
 ) -> Result<Vec<Part>, AllocError>
-    ensures { IfOk result (λ parts. parts.items ≡ puts (λ x. Some (tombstone_of x)) (gone (tree_of tree.now) readings.now)) }
+    ensures { IfOk result (λ parts. parts.items ≡ puts (λ x. Some (tombstone_of x))
+        (gone (tree_of tree.now) readings.now)) }
 {
     let ids = gone(alloc, tree, readings)?;
     let mut parts = Vec::with_capacity(alloc, ids.len())?;

@@ -14,7 +14,8 @@ pub(crate) fn known<'a>(
     alloc: Global,
     readings: &'a [(Id, Reading)],
 ) -> Result<HashMap<Id, &'a Reading>, AllocError>
-    ensures { IfOk result (λ known. (x : List ℕ) → option_map (λ r. r.now) (get bytes_eq known x) ≡ reading_at x readings.now) }
+    ensures { IfOk result (λ known. (x : List ℕ) → option_map (λ r. r.now) (get bytes_eq known x)
+        ≡ reading_at x readings.now) }
 {
     let mut known = HashMap::new(alloc);
     let mut at = readings.len();

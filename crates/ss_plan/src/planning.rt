@@ -30,7 +30,8 @@ pub fn changes(
     readings: &[(Id, Reading)],
 ) -> Result<Vec<Part>, AllocError>
     ensures parts { IfOk result (λ parts. parts.items ≡ plan tree.now readings.now) }
-    ensures stand { IfOk result (λ parts. (sheets after : List Sheet) (stamp : ℕ) → told (rows_of sheets) ≡ readings.now → IsWritten sheets parts.items stamp after → HasItsRows (tree_of tree.now) (rows_of after)) }
+    ensures stand { IfOk result (λ parts. (sheets after : List Sheet) (stamp : ℕ) → told (rows_of sheets) ≡ readings.now
+        → IsWritten sheets parts.items stamp after → HasItsRows (tree_of tree.now) (rows_of after)) }
 {
     let upserts = records(alloc, tree, readings)?;
     let removals = tombstones(alloc, tree, readings)?;
@@ -48,8 +49,11 @@ pub fn plan(
     limits: &Limits,
 ) -> Result<Vec<Part>, PlanFault>
     ensures parts { IfOk result (λ parts. parts.items ≡ plan tree.now built.now.readings.items) }
-    ensures refused { MatchResult result (λ parts. refusal limits.now (plan tree.now built.now.readings.items) ≡ None) (λ e. (e ≡ Memory) ⊎ (refusal limits.now (plan tree.now built.now.readings.items) ≡ Some e)) }
-    ensures stand { IfOk result (λ parts. (sheets after : List Sheet) (stamp : ℕ) → told (rows_of sheets) ≡ built.now.readings.items → IsWritten sheets parts.items stamp after → HasItsRows (tree_of tree.now) (rows_of after)) }
+    ensures refused { MatchResult result (λ parts. refusal limits.now (plan tree.now built.now.readings.items)
+        ≡ None) (λ e. (e ≡ Memory) ⊎ (refusal limits.now (plan tree.now built.now.readings.items) ≡ Some e)) }
+    ensures stand { IfOk result (λ parts. (sheets after : List Sheet) (stamp : ℕ)
+        → told (rows_of sheets) ≡ built.now.readings.items → IsWritten sheets parts.items stamp after
+        → HasItsRows (tree_of tree.now) (rows_of after)) }
 {
     let parts = changes(alloc, tree, &built.readings)?;
     match refusal(alloc, limits, &parts)? {

@@ -81,7 +81,8 @@ pub(crate) fn records(
     tree: &Tree,
     readings: &[(Id, Reading)],
 ) -> Result<Vec<Part>, AllocError>
-    ensures parts { IfOk result (λ parts. parts.items ≡ puts (record_for (tree_of tree.now) readings.now) (order tree.now)) }
+    ensures parts { IfOk result (λ parts. parts.items ≡ puts (record_for (tree_of tree.now) readings.now)
+        (order tree.now)) }
     ensures fit { OnOk result ((k : ℕ) (e : Entry) → entry k tree.now ≡ Some e → is_fit e.item ≡ true) }
     ensures kept { OnOk result (IsTree tree.now) }
 {

@@ -50,7 +50,8 @@ fn body_bytes(alloc: Global, part: &Part) -> Result<u64, AllocError>
 
 /// The first part whose payload has more bytes than these.
 fn large_record(alloc: Global, most: u64, parts: &[Part]) -> Result<Option<PlanFault>, AllocError>
-    ensures { IfOk result (λ fault. fault ≡ option_map (λ p. RecordTooLarge p.id (payload_bytes p)) (first_over payload_bytes most parts.now)) }
+    ensures { IfOk result (λ fault. fault ≡ option_map (λ p. RecordTooLarge p.id (payload_bytes p))
+        (first_over payload_bytes most parts.now)) }
 {
     for part in parts {
         let n = payload_bytes(part);
@@ -64,7 +65,8 @@ fn large_record(alloc: Global, most: u64, parts: &[Part]) -> Result<Option<PlanF
 
 /// The first part that makes a body of more bytes than these alone.
 fn large_body(alloc: Global, most: u64, parts: &[Part]) -> Result<Option<PlanFault>, AllocError>
-    ensures { IfOk result (λ fault. fault ≡ option_map (λ p. BodyTooLarge p.id (body_bytes p)) (first_over body_bytes most parts.now)) }
+    ensures { IfOk result (λ fault. fault ≡ option_map (λ p. BodyTooLarge p.id (body_bytes p))
+        (first_over body_bytes most parts.now)) }
 {
     for part in parts {
         let n = body_bytes(alloc, part)?;
@@ -90,7 +92,8 @@ fn total_bytes(parts: &[Part]) -> u64
 
 /// Why these parts aren't sent as they are many, or large together.
 fn too_much(limits: &Limits, parts: &[Part]) -> Option<PlanFault>
-    ensures { result ≡ or_else (option_map TooManyRecords (over limits.now.max_total_records (length parts.now))) (option_map TooManyBytes (over limits.now.max_total_bytes (total_bytes parts.now))) }
+    ensures { result ≡ or_else (option_map TooManyRecords (over limits.now.max_total_records (length parts.now)))
+        (option_map TooManyBytes (over limits.now.max_total_bytes (total_bytes parts.now))) }
 {
     let count = parts.len() as u64;
     if limits.max_total_records < count {

@@ -33,7 +33,8 @@ fn children_of(alloc: Global, tree: &Tree, node: Node) -> Result<Vec<Id>, AllocE
 
 /// The id of the node above.
 fn parent_of(alloc: Global, tree: &Tree, node: Node) -> Result<Option<Id>, AllocError>
-    ensures { IfOk result (λ id. id ≡ option_and_then (λ p. option_map (λ f. f.item.id) (entry p tree.now)) (above tree.now node)) }
+    ensures { IfOk result (λ id. id ≡ option_and_then (λ p. option_map (λ f. f.item.id) (entry p tree.now))
+        (above tree.now node)) }
 {
     match tree.parent(node) {
         Some(parent) => Ok(Some(tree.item(parent).id().copy(alloc)?)),

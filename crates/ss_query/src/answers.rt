@@ -73,7 +73,8 @@ fn compare(sort: Sort, row: &Row, other: &Row) -> Ordering
 
 /// The rows in the order that is asked for.
 fn in_order(mut found: Vec<&Row>, sort: Sort) -> Result<Vec<&Row>, AllocError>
-    ensures { IfOk result (λ ordered. map (λ row. row.now) ordered.items ≡ sorted (comes_before sort) (map (λ row. row.now) found.entry.items)) }
+    ensures { IfOk result (λ ordered. map (λ row. row.now) ordered.items
+        ≡ sorted (comes_before sort) (map (λ row. row.now) found.entry.items)) }
 {
     found.sort_by(|row, other| compare(sort, row, other))?;
     Ok(found)
@@ -133,7 +134,8 @@ pub fn answer_found(alloc: Global, found: Vec<&Row>, query: &Query) -> Result<Pi
 
 /// The ids alone of that answer. No payload is copied.
 pub fn ids_found(alloc: Global, found: Vec<&Row>, query: &Query) -> Result<PickedIds, AllocError>
-    ensures { IfOk result (λ picked. picked ≡ picked_ids (answer_of (map (λ row. row.now) found.entry.items) query.now)) }
+    ensures { IfOk result (λ picked. picked ≡ picked_ids (answer_of (map (λ row. row.now) found.entry.items)
+        query.now)) }
 {
     let ordered = in_order(found, query.sort)?;
     let page = page(ordered.as_slice(), query.offset, query.limit);

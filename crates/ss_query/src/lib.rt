@@ -1,6 +1,6 @@
-//! Requests and replies of one account as data, and the queries of a collection.
-//! It reads the text of a query and answers a query over a list of rows.
-//! Its contracts: a query is read exactly or refused with its first fault, and its answer is one expression over the list.
+//! Requests and replies of one account as data, and the queries of a collection. It reads the text of a query and
+//! answers a query over a list of rows. Its contracts: a query is read exactly or refused with its first fault, and its
+//! answer is one expression over the list.
 #![tactic(auto)]
 
 mod answers;

@@ -1,6 +1,6 @@
-//! The site of the system, the trusted edge of a server: links over TCP, a database of SQLite for each account, and the clock of the
-//! system. It stands above the terms that serve links, since it takes their reports.
-//! Its contract, on `RealSite`: that of a site, where faults and links are counted, and no content is told.
+//! The site of the system, the trusted edge of a server: links over TCP, a database of SQLite for each account, and the
+//! clock of the system. It stands above the terms that serve links, since it takes their reports. Its contract, on
+//! `RealSite`: that of a site, where faults and links are counted, and no content is told.
 #![tactic(auto)]
 
 mod account_file;

@@ -23,8 +23,8 @@ use std::marker::Model;
 use std::net::Net;
 use std::time::Clock;
 
-/// Ports over TCP, a database of SQLite for each account, `<folder>/<uid>.db`, and the clock of the system. The folder is made
-/// where it isn't there. What it is told of a term it drops.
+/// Ports over TCP, a database of SQLite for each account, `<folder>/<uid>.db`, and the clock of the system. The folder
+/// is made where it isn't there. What it is told of a term it drops.
 #[derive(Drop)]
 pub struct RealSite<'a, N: Net + Clock> {
     // The ports and the clocks of the system.
@@ -236,7 +236,8 @@ impl<'a, N: Net + Clock> Site for RealSite<'a, N> {
         reports: Vec<LinkReport<TcpLink<'a, N>>>,
         journals: &[(u32, &Journal)],
     ) -> Result<(), SiteFault>
-        ensures added { OnOk result (AddsTerm reports.entry.items journals.now (no_terms reports.entry.items) (no_terms reports.entry.items)) }
+        ensures added { OnOk result (AddsTerm reports.entry.items journals.now (no_terms reports.entry.items)
+            (no_terms reports.entry.items)) }
         ensures refused { OnErr result (no_terms reports.entry.items ≡ no_terms reports.entry.items) }
         ensures cause { HasCause result self.old.counts self.new.counts }
         ensures lent { self.new.lent ≡ self.old.lent }

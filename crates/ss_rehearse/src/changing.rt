@@ -22,7 +22,8 @@ pub(crate) fn add_all(
     requires few { items ≤ 15000 }
     requires early { now ≤ 1000000000 }
     requires idle { AreIdle world.old }
-    ensures changed { IfOk result (λ next. (steps : List Step) × IsChanged 0 now world.old (additions items seed) steps world.new next) }
+    ensures changed { IfOk result (λ next. (steps : List Step) × IsChanged 0 now world.old (additions items seed) steps
+        world.new next) }
     ensures early { IfOk result (λ next. next ≤ now + 1500000) }
     ensures idle { OnOk result (AreIdle world.new) }
 {
@@ -48,7 +49,8 @@ pub(crate) fn rename_some(
     requires few { items ≤ 15000 }
     requires early { now ≤ 1000000000 }
     requires idle { AreIdle world.old }
-    ensures changed { IfOk result (λ next. (steps : List Step) × IsChanged 1 now world.old (renamings items) steps world.new next) }
+    ensures changed { IfOk result (λ next. (steps : List Step) × IsChanged 1 now world.old (renamings items) steps
+        world.new next) }
     ensures early { IfOk result (λ next. next ≤ now + 1500000) }
     ensures idle { OnOk result (AreIdle world.new) }
 {
@@ -75,7 +77,8 @@ pub(crate) fn move_some(
     requires few { items ≤ 15000 }
     requires early { now ≤ 1000000000 }
     requires idle { AreIdle world.old }
-    ensures changed { IfOk result (λ next. (steps : List Step) × IsChanged 0 now world.old (moves items) steps world.new next) }
+    ensures changed { IfOk result (λ next. (steps : List Step) × IsChanged 0 now world.old (moves items) steps world.new
+        next) }
     ensures early { IfOk result (λ next. next ≤ now + 1500000) }
     ensures idle { OnOk result (AreIdle world.new) }
 {

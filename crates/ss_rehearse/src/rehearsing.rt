@@ -29,7 +29,8 @@ fn tree_of(world: &World, device: u32) -> &Tree
 /// What is told of the devices' trees, and of the POSTs of each sync.
 fn told(alloc: Global, world: &World, posts: &[u64]) -> Result<Vec<u8>, AllocError>
     requires idle { AreIdle world.now }
-    ensures { IfOk result (λ text. text.items ≡ summary_text posts.now (summary_of (tree_at 0 world.now) (tree_at 1 world.now))) }
+    ensures { IfOk result (λ text. text.items ≡ summary_text posts.now
+        (summary_of (tree_at 0 world.now) (tree_at 1 world.now))) }
 {
     let summary = summary_of(alloc, tree_of(world, 0), tree_of(world, 1))?;
     summary_text(alloc, posts, &summary)
@@ -49,7 +50,8 @@ struct Filled {
 fn fill(alloc: Global, world: &mut World, items: u64, seed: u64) -> Result<Filled, AllocError>
     requires few { items ≤ 15000 }
     requires idle { AreIdle world.old }
-    ensures played { IfOk result (λ filled. ArePlayed world.old 100 (filling items seed) (filled.first ∷ filled.second ∷ []) world.new filled.next) }
+    ensures played { IfOk result (λ filled. ArePlayed world.old 100 (filling items seed) (filled.first ∷ filled.second
+        ∷ []) world.new filled.next) }
     ensures early { IfOk result (λ filled. filled.next ≤ 30000000) }
     ensures idle { OnOk result (AreIdle world.new) }
 {
@@ -90,7 +92,8 @@ struct Met {
 fn meet(alloc: Global, world: &mut World, now: u64) -> Result<Met, AllocError>
     requires early { now ≤ 40000000 }
     requires idle { AreIdle world.old }
-    ensures played { IfOk result (λ met. ArePlayed world.old now meeting (met.first ∷ met.second ∷ met.third ∷ []) world.new met.next) }
+    ensures played { IfOk result (λ met. ArePlayed world.old now meeting (met.first ∷ met.second ∷ met.third
+        ∷ []) world.new met.next) }
     ensures idle { OnOk result (AreIdle world.new) }
 {
     let first = sync(alloc, world, 0, now)?;
@@ -104,10 +107,11 @@ fn meet(alloc: Global, world: &mut World, now: u64) -> Result<Met, AllocError>
     })
 }
 
-/// The lines of the summary of a rehearsal with so many bookmarks, at most 15,000, which are drawn from a seed. Over a new account the
-/// first of two new devices gets the bookmarks, and both sync; the second renames each third of them, and the first moves each second one
-/// to the end of `menu`; and the first, the second and again the first sync. Each sync fetches what is newer alone. The clock reads 100
-/// hundredths of a second at the first change, and 100 more at each further change and request.
+/// The lines of the summary of a rehearsal with so many bookmarks, at most 15,000, which are drawn from a seed. Over a
+/// new account the first of two new devices gets the bookmarks, and both sync; the second renames each third of them,
+/// and the first moves each second one to the end of `menu`; and the first, the second and again the first sync. Each
+/// sync fetches what is newer alone. The clock reads 100 hundredths of a second at the first change, and 100 more at
+/// each further change and request.
 pub fn rehearse(alloc: Global, items: u64, seed: u64) -> Result<Vec<u8>, AllocError>
     requires few { items ≤ 15000 }
     ensures summary { IfOk result (λ text. IsSummary items seed text.items) }

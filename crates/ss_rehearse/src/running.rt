@@ -34,16 +34,17 @@ fn write_summary<T: Sink>(alloc: Global, items: u64, seed: u64, output: &mut T) 
     }
 }
 
-/// Runs the words `rehearse N S`, and answers the status: 0 where the summary was written; 1 where the words don't ask it; 3 where the
-/// output failed; 8 without memory. Unless the status is 0 or 3 nothing is written. What `err` is told is for people, and nothing is said
-/// of it.
+/// Runs the words `rehearse N S`, and answers the status: 0 where the summary was written; 1 where the words don't ask
+/// it; 3 where the output failed; 8 without memory. Unless the status is 0 or 3 nothing is written. What `err` is told
+/// is for people, and nothing is said of it.
 pub fn run_rehearsal<T: Sink, E: Sink>(
     alloc: Global,
     words: &[String],
     output: &mut T,
     err: &mut E,
 ) -> u8
-    ensures { Runs (map (λ word. string_bytes word) words.now) result (T.Told.told output.old) (T.Told.told output.new) }
+    ensures { Runs (map (λ word. string_bytes word) words.now) result (T.Told.told output.old)
+        (T.Told.told output.new) }
 {
     let command = match read_command(alloc, words) {
         Ok(command) => command,

@@ -72,7 +72,8 @@ pub(crate) fn sync(
 ) -> Result<Synced, AllocError>
     requires early { now ≤ 1100000000 }
     requires idle { AreIdle world.old }
-    ensures synced { IfOk result (λ synced. (steps : List Step) × IsSynced device now world.old steps synced.posts world.new synced.next) }
+    ensures synced { IfOk result (λ synced. (steps : List Step) × IsSynced device now world.old steps synced.posts
+        world.new synced.next) }
     ensures early { IfOk result (λ synced. synced.next ≤ now + 10502500) }
     ensures idle { OnOk result (AreIdle world.new) }
 {

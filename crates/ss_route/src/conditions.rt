@@ -24,7 +24,8 @@ fn condition_of(
     modified: Option<&[u8]>,
     unmodified: Option<&[u8]>,
 ) -> Result<Cond, Stop>
-    ensures { Settles result (condition_of gets (option_map (λ value. value.now) modified.entry) (option_map (λ value. value.now) unmodified.entry)) }
+    ensures { Settles result (condition_of gets (option_map (λ value. value.now) modified.entry)
+        (option_map (λ value. value.now) unmodified.entry)) }
 {
     match (modified, unmodified) {
         (None, None) => Ok(Cond::Free),

@@ -13,20 +13,24 @@ ghost use Rattle.ss_route.specs.Sending.{IsHost, IsSent, IsTyped, IsReadable, me
 ghost use Rattle.ss_route.specs.declared.routed.Routed.TheVariants.{Ask};
 ghost use Rattle.ss_route.specs.Wire.{IsReply, HasReason, IsHeardWhole, wire, heard_of};
 
-/// Where the status of a reply has a reason, and its body has at most 536,870,912 bytes, a client that reads its response
-/// hears it, whatever follows.
+/// Where the status of a reply has a reason, and its body has at most 536,870,912 bytes, a client that reads its
+/// response hears it, whatever follows.
 pub fn replies_are_heard()
-    ensures { (reply : Reply) (newlines last : Bool) (rest : List ℕ) → IsReply reply → HasReason reply.status → IsHeardWhole reply newlines
+    ensures { (reply : Reply) (newlines last : Bool) (rest : List ℕ) → IsReply reply → HasReason reply.status
+        → IsHeardWhole reply newlines
         → Hears (wire reply newlines last ++ rest) (heard_of reply newlines last) rest }
 {}
 
-/// A request that is sent, to a host of 1 to 1,030 visible bytes: its bytes are read as its message, whatever follows, and its
-/// message is routed to this account and this request. It is one that is sent where the account's number is at least 1, an offset
-/// is at most 999,999,999, a batch's number is from 1 to 999,999,999,999 and a body has at most 2,101,248 bytes.
+/// A request that is sent, to a host of 1 to 1,030 visible bytes: its bytes are read as its message, whatever follows,
+/// and its message is routed to this account and this request. It is one that is sent where the account's number is at
+/// least 1, an offset is at most 999,999,999, a batch's number is from 1 to 999,999,999,999 and a body has at most
+/// 2,101,248 bytes.
 pub fn requests_are_routed()
-    ensures read { (uid : ℕ) (host : List ℕ) (request : Request) (rest : List ℕ) → uid ≤ 4294967295 → IsHost host → IsTyped request → IsSent request
+    ensures read { (uid : ℕ) (host : List ℕ) (request : Request) (rest : List ℕ) → uid ≤ 4294967295 → IsHost host
+        → IsTyped request → IsSent request
         → IsReadable request → ReadsMessage (request_sent uid host request ++ rest) (message_of uid host request) rest }
-    ensures routed { (uid : ℕ) (host : List ℕ) (request : Request) → 1 ≤ uid → uid ≤ 4294967295 → IsTyped request → IsSent request → IsFitRequest request
+    ensures routed { (uid : ℕ) (host : List ℕ) (request : Request) → 1 ≤ uid → uid ≤ 4294967295 → IsTyped request
+        → IsSent request → IsFitRequest request
         → IsReadable request → routed (message_of uid host request) ≡ Ask uid request false }
 {}
 

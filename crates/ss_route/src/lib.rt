@@ -1,7 +1,7 @@
-//! Routes, and the bytes of responses and of a client's requests (SyncStorage API 1.5).
-//! It says what a message asks of which account, or the first rule that refuses it; and it writes the response to a reply.
-//! Its contracts: routing is the definition's function of the message, a response is the definition's bytes, and both are
-//! read back as they were meant.
+//! Routes, and the bytes of responses and of a client's requests (SyncStorage API 1.5). It says what a message asks of
+//! which account, or the first rule that refuses it; and it writes the response to a reply. Its contracts: routing is
+//! the definition's function of the message, a response is the definition's bytes, and both are read back as they were
+//! meant.
 #![tactic(auto)]
 
 mod asked;

@@ -49,7 +49,8 @@ fn is_true(value: &str) -> bool
 
 /// Whether a POST commits.
 fn commits_in(batch: &Option<String>, commit: &Option<String>) -> Result<bool, Stop>
-    ensures { Settles result (commits_in (option_map (λ text. string_bytes text) batch.now) (option_map (λ text. string_bytes text) commit.now)) }
+    ensures { Settles result (commits_in (option_map (λ text. string_bytes text) batch.now)
+        (option_map (λ text. string_bytes text) commit.now)) }
 {
     match (batch, commit) {
         (_, None) => Ok(false),

@@ -120,7 +120,8 @@ fn push_batch(alloc: Global, target: &mut String, batch: u64) -> Result<(), Allo
 }
 
 fn push_commit(alloc: Global, target: &mut String, batch: u64) -> Result<(), AllocError>
-    ensures { OnOk result (string_bytes target.new ≡ string_bytes target.old ++ (codes "?batch=" ++ token batch ++ codes "&commit=true")) }
+    ensures { OnOk result (string_bytes target.new ≡ string_bytes target.old
+        ++ (codes "?batch=" ++ token batch ++ codes "&commit=true")) }
 {
     push_batch(alloc, target, batch)?;
     target.push_str("&commit=true")?;
@@ -191,8 +192,8 @@ fn condition_of(request: &Request) -> Cond
     }
 }
 
-/// The bytes of a request: for the limits of the server, for a page of the bookmarks, all or those newer than a time, for the
-/// list of their ids, or to upload bookmarks.
+/// The bytes of a request: for the limits of the server, for a page of the bookmarks, all or those newer than a time,
+/// for the list of their ids, or to upload bookmarks.
 pub fn write_request(
     alloc: Global,
     uid: u32,

@@ -9,7 +9,8 @@ use ss_query::{Body, QueryFault, Request, Said};
 use ss_text::Bytes;
 use std::alloc::AllocError;
 
-/// What a message is told that no account is asked for: a status with its error body and, with 405, the allowed methods.
+/// What a message is told that no account is asked for: a status with its error body and, with 405, the allowed
+/// methods.
 #[derive(Drop, Debug)]
 pub struct Local {
     pub status: u16,

@@ -128,7 +128,8 @@ fn put_sortindex(out: &mut Vec<u8>, sortindex: Option<i32>) -> Result<(), AllocE
 /// Texts with a comma before each.
 #[tactic(auto, using(crate::proofs::Appending::append_append))]
 fn put_tail<E: Element>(out: &mut Vec<u8>, elements: &[E]) -> Result<(), AllocError>
-    ensures { OnOk result (out.new.items ≡ out.old.items ++ (flat_map (λ element. codes "," ++ E.text element) elements.now)) }
+    ensures { OnOk result (out.new.items ≡ out.old.items ++ (flat_map (λ element. codes ","
+        ++ E.text element) elements.now)) }
 {
     for element in elements {
         put(out, b",")?;
@@ -227,7 +228,8 @@ fn in_kilobytes(alloc: Global, usage: &[(Name, u64)]) -> Result<Vec<InKilobytes<
 }
 
 fn put_usage(alloc: Global, out: &mut Vec<u8>, usage: &[(Name, u64)]) -> Result<(), AllocError>
-    ensures { OnOk result (out.new.items ≡ out.old.items ++ (object_text (map (λ entry. member_text entry.0 (kilobytes_text entry.1)) usage.now))) }
+    ensures { OnOk result (out.new.items ≡ out.old.items ++ (object_text
+        (map (λ entry. member_text entry.0 (kilobytes_text entry.1)) usage.now))) }
 {
     let members = in_kilobytes(alloc, usage)?;
     put_object(out, members.as_slice())
@@ -235,7 +237,8 @@ fn put_usage(alloc: Global, out: &mut Vec<u8>, usage: &[(Name, u64)]) -> Result<
 
 #[tactic(auto, using(crate::proofs::Appending::append_append))]
 fn put_quota(out: &mut Vec<u8>, used: u64) -> Result<(), AllocError>
-    ensures { OnOk result (out.new.items ≡ out.old.items ++ (codes "[" ++ kilobytes_text used ++ codes "," ++ kilobytes_text most_payload_bytes ++ codes "]")) }
+    ensures { OnOk result (out.new.items ≡ out.old.items ++ (codes "[" ++ kilobytes_text used ++ codes ","
+        ++ kilobytes_text most_payload_bytes ++ codes "]")) }
 {
     put(out, b"[")?;
     put_kilobytes(out, used)?;
@@ -352,7 +355,8 @@ fn put_posted(
     success: &Ids,
     failed: &Failures,
 ) -> Result<(), AllocError>
-    ensures { OnOk result (out.new.items ≡ out.old.items ++ (codes "{\"modified\":" ++ stamp_text modified ++ records_text success.now failed.now)) }
+    ensures { OnOk result (out.new.items ≡ out.old.items ++ (codes "{\"modified\":" ++ stamp_text modified
+        ++ records_text success.now failed.now)) }
 {
     put_modified(out, modified)?;
     put_records(out, success, failed)
@@ -366,7 +370,8 @@ fn put_staged(
     success: &Ids,
     failed: &Failures,
 ) -> Result<(), AllocError>
-    ensures { OnOk result (out.new.items ≡ out.old.items ++ (codes "{\"batch\":\"" ++ token batch ++ codes "\"" ++ records_text success.now failed.now)) }
+    ensures { OnOk result (out.new.items ≡ out.old.items ++ (codes "{\"batch\":\"" ++ token batch ++ codes "\""
+        ++ records_text success.now failed.now)) }
 {
     put_batch(alloc, out, batch)?;
     put_records(out, success, failed)

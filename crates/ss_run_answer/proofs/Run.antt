@@ -27,8 +27,6 @@ use Rattle.ss_run_answer.specs.declared.answer.Ending.TheVariants as endings
 use Rattle.ss_run_answer.specs.Turns.{Asked, asks, told, asked, Course, entered, unread, IsCourseOf, left_by, response_to, Turn, AreTurns, closes, account_after, responses, IsRefused, refusal_response, IsReading, AreReadings, GoesOn, Answered, IsTurn, WasSent, WasCut, Progress, ending_of, Refuses, refusal, Stops, most_messages}
 use Rattle.ss_route.proofs.Quiet.{quiet}
 
--- a count that stands at 0 never rose
-
 -- one turn more
 pub courses_further : (uid : ℕ) (turns : List Turn) (t : Turn) → AreTurns uid turns → IsCourseOf t.course (asked uid t.message) → AreTurns uid (turns ++ t ∷ [])
 courses_further uid [] t are one = (one, tt)
@@ -274,8 +272,6 @@ ended_cut uid at input input' input2 output output' output2 coming coming' comin
       faults = same ∙ p.read_faults;
       fewer = no_more_turns p.turns t count p.count_is more;
     }
-
--- a fault that is answered is none of the source
 
 -- the refused bytes of a run
 abbrev refused_for : {fault : MsgFault} {at : Option ℕ} {count : ℕ} {coming coming' : Option (List ℕ)} → (refuses : Refuses fault at count coming coming') → (rest : List ℕ) → IsMessageFault fault rest → IsRefused rest (refusal refuses)

@@ -167,7 +167,8 @@ fn stop<T: Sink, C: Clock>(
 ) -> Ending
     requires first { IfSome at (λ first. first ≤ 999999999999) }
     requires count { count ≤ MOST }
-    ensures stops { Stops result fault at count (T.Told.told output.old) (T.Told.told output.new) (C.coming clock.old) (C.coming clock.new) }
+    ensures stops { Stops result fault at count (T.Told.told output.old) (T.Told.told output.new) (C.coming clock.old)
+        (C.coming clock.new) }
     ensures unread { IfSome at (λ _. clock.new ≡ clock.old) }
 {
     let Some(local) = refused(fault) else {
@@ -180,8 +181,8 @@ fn stop<T: Sink, C: Clock>(
     }
 }
 
-/// Answers the messages of the input for one account, from a fresh one on. The clock counts upwards from the first reading that
-/// is given (hundredths of a second), or is the one that is handed in.
+/// Answers the messages of the input for one account, from a fresh one on. The clock counts upwards from the first
+/// reading that is given (hundredths of a second), or is the one that is handed in.
 pub fn answer<S: Source, T: Sink, C: Clock>(
     alloc: Global,
     command: AnswerCommand,

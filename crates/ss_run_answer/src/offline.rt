@@ -8,10 +8,11 @@ use ss_outside::{Clock, Sink, Source};
 use ss_words::{Command, WordsFault, read_command};
 use std::alloc::Global;
 
-/// Runs the command that the words ask, and answers its status: 0 where the input was read to its end, or to a message that
-/// asks to close; 1 where the words ask nothing, or another command; 2 and 3 where the input and the output failed;
-/// 4 where the input ended inside a message; 5 where what came is no message and was answered so; 6 after 1,000,000 messages; 8
-/// where no memory was found for the run itself. With `--at` the clock that is handed in is not read.
+/// Runs the command that the words ask, and answers its status: 0 where the input was read to its end, or to a message
+/// that asks to close; 1 where the words ask nothing, or another command; 2 and 3 where the input and the output
+/// failed; 4 where the input ended inside a message; 5 where what came is no message and was answered so; 6 after
+/// 1,000,000 messages; 8 where no memory was found for the run itself. With `--at` the clock that is handed in is not
+/// read.
 pub fn run_offline<S: Source, T: Sink, C: Clock>(
     alloc: Global,
     words: &[String],

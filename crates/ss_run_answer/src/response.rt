@@ -50,7 +50,8 @@ impl Response {
         Response::of(render_local(alloc, local, moment, last), moment, last)
     }
 
-    /// The response to a message that was not read for want of memory, at a reading of the clock (hundredths of a second).
+    /// The response to a message that was not read for want of memory, at a reading of the clock (hundredths of a
+    /// second).
     pub fn unread(now: u64, last: bool) -> Response
         ensures { bytes_of result ≡ memory_response (clamped now) last }
     {

@@ -67,7 +67,8 @@ pub(crate) fn apply(
     change: Change,
     device: &mut Device,
 ) -> Result<(), EditFault>
-    ensures refused { MatchResult result (λ _. fault_in change (tree_of device.old.tree) ≡ None) (λ e. (e ≡ Memory) ⊎ (fault_in change (tree_of device.old.tree) ≡ Some e)) }
+    ensures refused { MatchResult result (λ _. fault_in change (tree_of device.old.tree) ≡ None) (λ e. (e ≡ Memory)
+        ⊎ (fault_in change (tree_of device.old.tree) ≡ Some e)) }
     ensures changed { OnOk result (IsChanged now change device.old device.new) }
 {
     match change {

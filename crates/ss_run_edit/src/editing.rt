@@ -80,8 +80,8 @@ fn time_of<C: Clock>(at: Option<u64>, clock: &mut C) -> u64
     }
 }
 
-/// Writes a new device, or the device of the input as an action changes it. Without a time in the words the clock is read once, before the
-/// input; for a new device neither is read.
+/// Writes a new device, or the device of the input as an action changes it. Without a time in the words the clock is
+/// read once, before the input; for a new device neither is read.
 pub fn edit<S: Source, T: Sink, C: Clock>(
     alloc: Global,
     command: EditCommand,

@@ -21,7 +21,8 @@ fn read_piece<S: Source>(
 ) -> Result<usize, Ending>
     requires { 0 < length piece.old }
     ensures room { length piece.new ≡ length piece.old }
-    ensures got { IfOk result (λ count. Gets text.old.items text.new.items count (S.Told.told input.old) (S.Told.told input.new)) }
+    ensures got { IfOk result (λ count. Gets text.old.items text.new.items count (S.Told.told input.old)
+        (S.Told.told input.new)) }
     ensures unread { IfErr result (λ ending. IsUnread ending (S.Told.told input.old) (S.Told.told input.new)) }
 {
     let count = match input.read(piece) {

@@ -45,7 +45,8 @@ fn content_of(alloc: Global, members: Map<String, Value>) -> Result<Word, AllocE
 
 /// The content of a new bookmark.
 fn bookmark_content(alloc: Global, title: &str, uri: &str) -> Result<Word, AllocError>
-    ensures { IfOk result (λ text. text ≡ compact_text (object (member (codes "bmkUri") (string uri.now) (member (codes "title") (string title.now) no_members)))) }
+    ensures { IfOk result (λ text. text ≡ compact_text (object (member (codes "bmkUri") (string uri.now)
+        (member (codes "title") (string title.now) no_members)))) }
 {
     let members = with_member(alloc, Map::new(alloc), "title", text(alloc, title)?)?;
     content_of(
@@ -56,7 +57,8 @@ fn bookmark_content(alloc: Global, title: &str, uri: &str) -> Result<Word, Alloc
 
 /// The content of a new folder.
 fn folder_content(alloc: Global, title: &str) -> Result<Word, AllocError>
-    ensures { IfOk result (λ text. text ≡ compact_text (object (member (codes "title") (string title.now) no_members))) }
+    ensures { IfOk result (λ text. text ≡ compact_text (object (member (codes "title") (string title.now)
+        no_members))) }
 {
     content_of(
         alloc,

@@ -96,7 +96,8 @@ fn merged(alloc: Global, text: &[u8]) -> Result<Vec<u8>, Ending>
 
 /// Reads a device's file with remote rows behind it, and writes what their merge comes to.
 pub fn merge<S: Source, T: Sink>(alloc: Global, input: &mut S, output: &mut T) -> Ending
-    ensures { Merges result (S.Told.told input.old) (S.Told.told input.new) (T.Told.told output.old) (T.Told.told output.new) }
+    ensures { Merges result (S.Told.told input.old) (S.Told.told input.new) (T.Told.told output.old)
+        (T.Told.told output.new) }
 {
     let text = match read_input(alloc, input) {
         Ok(text) => text,

@@ -53,7 +53,8 @@ fn as_row(alloc: Global, back: &[u8]) -> Result<Vec<u8>, AllocError>
 
 /// What stands in a line behind the tag of a remote row.
 fn behind_tag(line: &[u8]) -> Option<&[u8]>
-    ensures { MatchOption result ((back : List ℕ) → line.now ≢ codes "[\"remote\",\"" ++ back) (λ back. line.now ≡ codes "[\"remote\",\"" ++ back.now) }
+    ensures { MatchOption result ((back : List ℕ) → line.now ≢ codes "[\"remote\",\"" ++ back) (λ back. line.now
+        ≡ codes "[\"remote\",\"" ++ back.now) }
 {
     line.strip_prefix(REMOTE)
 }

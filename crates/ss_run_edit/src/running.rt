@@ -24,10 +24,11 @@ fn tell<E: Sink>(alloc: Global, err: &mut E, ending: &Ending) -> u8
     ending.status()
 }
 
-/// Runs the words `edit ACTION ..` and `merge`, and answers the status: 0 where all was written; 1 where the words ask neither, or an
-/// item that can't be, and nothing is read or written; 2 and 3 where the input and the output failed; 4 where the input ended too
-/// early; 5 where a line, a place of an item or the edit is refused; 6 where the input has more than 268,435,456 bytes; 8 without
-/// memory. Unless the status is 0 or 3 nothing is written. What `err` is told is for people, and nothing is said of it.
+/// Runs the words `edit ACTION ..` and `merge`, and answers the status: 0 where all was written; 1 where the words ask
+/// neither, or an item that can't be, and nothing is read or written; 2 and 3 where the input and the output failed; 4
+/// where the input ended too early; 5 where a line, a place of an item or the edit is refused; 6 where the input has
+/// more than 268,435,456 bytes; 8 without memory. Unless the status is 0 or 3 nothing is written. What `err` is told is
+/// for people, and nothing is said of it.
 pub fn run_device_command<S: Source, T: Sink, C: Clock, E: Sink>(
     alloc: Global,
     words: &[String],

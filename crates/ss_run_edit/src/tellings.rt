@@ -134,7 +134,8 @@ pub(crate) fn merge_text(
     merged: &Merged,
     parts: usize,
 ) -> Result<Vec<u8>, AllocError>
-    ensures { IfOk result (λ out. out.items ≡ merge_text (by_ids merged.now.tree) merged.now.from.items merged.now.renamed.items merged.now.gone parts) }
+    ensures { IfOk result (λ out. out.items ≡ merge_text (by_ids merged.now.tree) merged.now.from.items
+        merged.now.renamed.items merged.now.gone parts) }
 {
     let mut out = Vec::new(alloc);
     push_items(&mut out, &merged.tree, &merged.from)?;

@@ -7,7 +7,6 @@ use Rattle.std.proofs.lemmas.List.Elements.{All-cons, All-contains, All-contains
 use Rattle.std.proofs.lemmas.List.Sorted.{Contains-permutation, IsPermutation-sym}
 use Rattle.ss_laws.specs.declared.journal.Entry.{Entry}
 use Rattle.ss_laws.specs.Journals.{account_after}
-use Rattle.ss_text.specs.Texts.{Reordered}
 use Rattle.ss_text.specs.Texts.Reordered.{chain}
 use Rattle.ss_bso.specs.declared.account.Plain.{Plain}
 use Rattle.ss_bso.specs.declared.changes.Kept.{Kept}
@@ -17,8 +16,6 @@ use Rattle.ss_bso.proofs.Reordering.{reordered-filter, same-through, same-self}
 use Rattle.ss_account.specs.Keeping.{IsKept}
 use Rattle.ss_run_serve.specs.Hosted.{Hosted, IsBegun, left_by}
 use Rattle.ss_run_serve.specs.Terms.{BeginsAnew, IsLeft}
-
-}
 
 begins_itself : (account : ℕ × Hosted) → IsBegun account.1 → BeginsAnew account account
 begins_itself account begun = record {

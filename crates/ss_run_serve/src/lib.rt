@@ -1,7 +1,7 @@
-//! A server that people run: the accounts of a site are opened, served term after term until the port or the words end it, and
-//! given back. It stands between the words of the command and the terms that serve links.
-//! Its contract, on `run_serve`: what each term did that the site is told, that what is kept is the account after the last one, and
-//! the cause of each status.
+//! A server that people run: the accounts of a site are opened, served term after term until the port or the words end
+//! it, and given back. It stands between the words of the command and the terms that serve links. Its contract, on
+//! `run_serve`: what each term did that the site is told, that what is kept is the account after the last one, and the
+//! cause of each status.
 #![tactic(auto)]
 
 mod lines;

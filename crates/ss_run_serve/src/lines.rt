@@ -1,4 +1,5 @@
-//! What a server tells an operator: lines of which no contract speaks. A line that can't be made or written is passed over.
+//! What a server tells an operator: lines of which no contract speaks. A line that can't be made or written is passed
+//! over.
 
 use crate::stop::Stop;
 use ss_connection::{End, Turn};

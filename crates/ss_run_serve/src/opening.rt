@@ -39,11 +39,13 @@ fn open_kept<X: Site>(
 ) -> Result<Account<X::Keeper>, Stop>
     requires entry { IsEntry folder.now uid (X.Keeper.told keeper) (X.kept site.old) }
     requires fresh { X.Keeper.keep_faults keeper ≡ 0 }
-    ensures opened { IfOk result (λ account. (entries : Entries) → X.kept site.old ≡ Some entries → SameAccount (opened (entries folder.now uid)) account.plain) }
+    ensures opened { IfOk result (λ account. (entries : Entries) → X.kept site.old ≡ Some entries
+        → SameAccount (opened (entries folder.now uid)) account.plain) }
     ensures entry { IfOk result (λ account. IsEntry folder.now uid (X.Keeper.told account.keeper) (X.kept site.old)) }
     ensures fresh { IfOk result (λ account. X.Keeper.keep_faults account.keeper ≡ 0) }
     ensures unchanged { OnOk result ((X.counts site.new ≡ X.counts site.old) × (X.kept site.new ≡ X.kept site.old)) }
-    ensures refused { IfErr result (IsUnopened folder.now (X.kept site.old) (X.counts site.old) (X.counts site.new) uid) }
+    ensures refused { IfErr result (IsUnopened folder.now (X.kept site.old) (X.counts site.old) (X.counts site.new)
+        uid) }
     ensures as_before { OnErr result (AreAsBefore (X.kept site.old) (X.kept site.new)) }
     ensures counted { CountsFaults (X.counts site.old) (X.counts site.new) }
     ensures terms { X.terms site.new ≡ X.terms site.old }
@@ -90,16 +92,19 @@ fn begin<X: Site>(
     }
 }
 
-/// Opens an account of a site: its keeper, the account that it holds, and a journal. Where that fails its keeper is retired.
+/// Opens an account of a site: its keeper, the account that it holds, and a journal. Where that fails its keeper is
+/// retired.
 fn open_account<X: Site>(
     alloc: Global,
     site: &mut X,
     folder: &str,
     uid: u32,
 ) -> Result<Booked<X::Keeper>, Stop>
-    ensures opened { IfOk result (λ b. IsOpened folder.now (X.kept site.old) (uid, hosted X.Keeper.told X.Keeper.keep_faults b)) }
+    ensures opened { IfOk result (λ b. IsOpened folder.now (X.kept site.old)
+        (uid, hosted X.Keeper.told X.Keeper.keep_faults b)) }
     ensures unchanged { OnOk result ((X.counts site.new ≡ X.counts site.old) × (X.kept site.new ≡ X.kept site.old)) }
-    ensures refused { IfErr result (IsUnopened folder.now (X.kept site.old) (X.counts site.old) (X.counts site.new) uid) }
+    ensures refused { IfErr result (IsUnopened folder.now (X.kept site.old) (X.counts site.old) (X.counts site.new)
+        uid) }
     ensures as_before { OnErr result (AreAsBefore (X.kept site.old) (X.kept site.new)) }
     ensures counted { CountsFaults (X.counts site.old) (X.counts site.new) }
     ensures terms { X.terms site.new ≡ X.terms site.old }
@@ -126,9 +131,11 @@ pub(crate) fn open_accounts<X: Site>(
     uids: &[u32],
 ) -> Result<Vec<(u32, Booked<X::Keeper>)>, Stop>
     ensures uids { IfOk result (λ accounts. map (λ account. account.0) accounts.items ≡ uids.now) }
-    ensures opened { IfOk result (λ accounts. All (IsOpened folder.now (X.kept site.old)) (map (hosted_at X.Keeper.told X.Keeper.keep_faults) accounts.items)) }
+    ensures opened { IfOk result (λ accounts. All (IsOpened folder.now (X.kept site.old))
+        (map (hosted_at X.Keeper.told X.Keeper.keep_faults) accounts.items)) }
     ensures unchanged { OnOk result ((X.counts site.new ≡ X.counts site.old) × (X.kept site.new ≡ X.kept site.old)) }
-    ensures refused { IfErr result (λ stop. RefusesOne folder.now (X.kept site.old) (X.counts site.old) (X.counts site.new) uids.now stop) }
+    ensures refused { IfErr result (λ stop. RefusesOne folder.now (X.kept site.old) (X.counts site.old)
+        (X.counts site.new) uids.now stop) }
     ensures as_before { OnErr result (AreAsBefore (X.kept site.old) (X.kept site.new)) }
     ensures counted { CountsFaults (X.counts site.old) (X.counts site.new) }
     ensures terms { X.terms site.new ≡ X.terms site.old }

@@ -12,8 +12,10 @@ use ss_site::Site;
 
 /// Gives the keeper of an account back to its site. It takes no memory.
 fn retire<X: Site>(site: &mut X, folder: &str, uid: u32, booked: Booked<X::Keeper>)
-    ensures entry { HasRetired folder.now uid (X.Keeper.told (account_of booked).keeper) (X.kept site.old) (X.kept site.new) }
-    ensures counted { CountsKeeper (X.Keeper.keep_faults (account_of booked).keeper) (X.counts site.old) (X.counts site.new) }
+    ensures entry { HasRetired folder.now uid (X.Keeper.told (account_of booked).keeper) (X.kept site.old)
+        (X.kept site.new) }
+    ensures counted { CountsKeeper (X.Keeper.keep_faults (account_of booked).keeper) (X.counts site.old)
+        (X.counts site.new) }
     ensures stands { Stands (hosted X.Keeper.told X.Keeper.keep_faults booked) }
     ensures terms { X.terms site.new ≡ X.terms site.old }
     ensures returned { IsBack (X.lent site.old) (X.lent site.new) }
@@ -28,9 +30,12 @@ pub(crate) fn retire_all<X: Site>(
     folder: &str,
     accounts: Vec<(u32, Booked<X::Keeper>)>,
 )
-    ensures entries { HaveRetired folder.now (map (hosted_at X.Keeper.told X.Keeper.keep_faults) accounts.items) (X.kept site.old) (X.kept site.new) }
-    ensures counted { CountsKeepers (map (hosted_at X.Keeper.told X.Keeper.keep_faults) accounts.items) (X.counts site.old) (X.counts site.new) }
-    ensures stand { All (λ account. Stands account.1) (map (hosted_at X.Keeper.told X.Keeper.keep_faults) accounts.items) }
+    ensures entries { HaveRetired folder.now (map (hosted_at X.Keeper.told X.Keeper.keep_faults) accounts.items)
+        (X.kept site.old) (X.kept site.new) }
+    ensures counted { CountsKeepers (map (hosted_at X.Keeper.told X.Keeper.keep_faults) accounts.items)
+        (X.counts site.old) (X.counts site.new) }
+    ensures stand { All (λ account. Stands account.1) (map (hosted_at X.Keeper.told X.Keeper.keep_faults)
+        accounts.items) }
     ensures terms { X.terms site.new ≡ X.terms site.old }
     ensures returned { HaveComeBack (length accounts.items) (X.lent site.old) (X.lent site.new) }
 {

@@ -15,10 +15,11 @@ use std::alloc::Global;
 use std::sync::Wait;
 use std::thread::Threads;
 
-/// Serves the accounts that the words ask for, from what a site keeps, and answers the status: 0 where the port ended or as many terms
-/// were served as was asked; 1 where the words ask for no server; 2 where a call of the site failed, or a keeper while its account was
-/// opened; 3 where the port failed; 4 where what is kept of an account is bad; 8 where no memory was found outside a reply. Every
-/// keeper that the site gave is given back to it, and the port is shut. What `err` is told is for people, and nothing is said of it.
+/// Serves the accounts that the words ask for, from what a site keeps, and answers the status: 0 where the port ended
+/// or as many terms were served as was asked; 1 where the words ask for no server; 2 where a call of the site failed,
+/// or a keeper while its account was opened; 3 where the port failed; 4 where what is kept of an account is bad; 8
+/// where no memory was found outside a reply. Every keeper that the site gave is given back to it, and the port is
+/// shut. What `err` is told is for people, and nothing is said of it.
 pub fn run_serve<X, G, T, R>(
     rt: &R,
     alloc: Global,
@@ -36,7 +37,8 @@ where
     T: Sink,
     R: Threads + Wait + Sync,
     ensures runs { Runs X.Port.Link.Told.told X.Port.Link.closed (map (λ word. string_bytes word) words.now) result
-        (record { counts = X.counts site.old; terms = X.terms site.old; kept = X.kept site.old }) (record { counts = X.counts site.new; terms = X.terms site.new; kept = X.kept site.new }) }
+        (record { counts = X.counts site.old; terms = X.terms site.old; kept = X.kept site.old })
+        (record { counts = X.counts site.new; terms = X.terms site.new; kept = X.kept site.new }) }
     // Every keeper and port that the site gave came back to it, whatever the status.
     ensures returned { AllAreBack (X.lent site.old) (X.lent site.new) }
     // It listens at the address of the words, and nowhere else.

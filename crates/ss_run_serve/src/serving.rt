@@ -66,8 +66,10 @@ where
     T: Sink,
     R: Threads + Wait + Sync,
     requires range { HasRange (Serve command.now) }
-    requires begun { All (λ account. IsBegun account.1) (map (hosted_at X.Keeper.told X.Keeper.keep_faults) accounts.items) }
-    ensures came { CameTo X.Port.Link.Told.told X.Port.Link.closed (map (hosted_at X.Keeper.told X.Keeper.keep_faults) accounts.items) command.now.workers command.now.connections command.now.terms
+    requires begun { All (λ account. IsBegun account.1) (map (hosted_at X.Keeper.told X.Keeper.keep_faults)
+        accounts.items) }
+    ensures came { CameTo X.Port.Link.Told.told X.Port.Link.closed (map (hosted_at X.Keeper.told X.Keeper.keep_faults)
+        accounts.items) command.now.workers command.now.connections command.now.terms
         (X.terms site.old) (X.terms site.new) (X.counts site.old) (X.counts site.new) (map (hosted_at X.Keeper.told X.Keeper.keep_faults) result.0.items) result.1 }
     ensures kept { X.kept site.new ≡ X.kept site.old }
     ensures returned { AllAreBack (X.lent site.old) (X.lent site.new) }
@@ -107,7 +109,8 @@ where
     R: Threads + Wait + Sync,
     requires range { HasRange (Serve command.now) }
     ensures served { IsServed X.Port.Link.Told.told X.Port.Link.closed command.now result
-        (record { counts = X.counts site.old; terms = X.terms site.old; kept = X.kept site.old }) (record { counts = X.counts site.new; terms = X.terms site.new; kept = X.kept site.new }) }
+        (record { counts = X.counts site.old; terms = X.terms site.old; kept = X.kept site.old })
+        (record { counts = X.counts site.new; terms = X.terms site.new; kept = X.kept site.new }) }
     ensures returned { AllAreBack (X.lent site.old) (X.lent site.new) }
     ensures listens { ListensAt command.now.address (X.lent site.old) (X.lent site.new) }
 {

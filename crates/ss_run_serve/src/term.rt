@@ -36,7 +36,8 @@ fn journals_of<K: Keeper>(
     alloc: Global,
     accounts: &[(u32, Booked<K>)],
 ) -> Result<Vec<(u32, &Journal)>, AllocError>
-    ensures { IfOk result (λ journals. map {B = ℕ × Journal} (λ journal. (journal.0, journal.1.now)) journals.items ≡ map {B = ℕ × Journal} (λ account. (account.0, journal_of account.1)) accounts.now) }
+    ensures { IfOk result (λ journals. map {B = ℕ × Journal} (λ journal. (journal.0, journal.1.now)) journals.items
+        ≡ map {B = ℕ × Journal} (λ account. (account.0, journal_of account.1)) accounts.now) }
 {
     let mut journals = Vec::new(alloc);
     for (uid, booked) in accounts {
@@ -54,7 +55,12 @@ fn tell<X: Site>(
 ) -> Result<(), Stop>
 where
     X::Report: Drop,
-    ensures told { OnOk result (HasAdded (record { reports = reports.items; journals = map {B = ℕ × Journal} (λ account. (account.0, journal_of account.1)) accounts.now }) (X.terms site.old) (X.terms site.new)) }
+    ensures told { OnOk result (HasAdded (record {
+      reports = reports.items;
+      journals = map {B = ℕ
+          × Journal} (λ account. (account.0, journal_of account.1)) accounts.now;
+    }) (X.terms site.old)
+        (X.terms site.new)) }
     ensures counts { OnOk result (X.counts site.new ≡ X.counts site.old) }
     ensures untold { IfErr result (λ stop. IsUntold (X.counts site.old) (X.counts site.new) stop) }
     ensures terms { OnErr result (X.terms site.new ≡ X.terms site.old) }
@@ -84,7 +90,8 @@ fn stop_after<P: Port>(ended: TermStop, port: &Watched<P>) -> Option<Stop>
     }
 }
 
-/// One term: the accounts are served, and the site is told what came of it. Why no further term begins comes with what is handed back.
+/// One term: the accounts are served, and the site is told what came of it. Why no further term begins comes with what
+/// is handed back.
 pub(crate) fn serve_once<X, G, T, R>(
     rt: &R,
     alloc: Global,
@@ -106,8 +113,10 @@ where
     requires clocks { (0 < vec_len crew.clocks) × (vec_len crew.clocks ≤ 16) }
     requires connections { connections ≤ 1000 }
     requires bare { AreBare (λ b. (journal_of b).entries) crew.accounts.items }
-    requires begun { All (λ account. IsBegun account.1) (map (hosted_at X.Keeper.told X.Keeper.keep_faults) crew.accounts.items) }
-    ensures once { IsOnce X.Port.Link.Told.told X.Port.Link.closed (map (hosted_at X.Keeper.told X.Keeper.keep_faults) crew.accounts.items)
+    requires begun { All (λ account. IsBegun account.1) (map (hosted_at X.Keeper.told X.Keeper.keep_faults)
+        crew.accounts.items) }
+    ensures once { IsOnce X.Port.Link.Told.told X.Port.Link.closed (map (hosted_at X.Keeper.told X.Keeper.keep_faults)
+        crew.accounts.items)
         (map (hosted_at X.Keeper.told X.Keeper.keep_faults) result.0.accounts.items) (map X.Clock.coming crew.clocks.items) (map X.Clock.coming result.0.clocks.items)
         (X.terms site.old) (X.terms site.new) (X.counts site.old) (X.counts site.new) connections (X.Port.counts (port_in port.old)) (X.Port.counts (port_in port.new)) result.1 }
     ensures kept { X.kept site.new ≡ X.kept site.old }

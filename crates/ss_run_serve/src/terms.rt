@@ -24,16 +24,20 @@ use std::thread::Threads;
 
 /// Folds the journal of an account, so that it begins anew.
 fn fold<K: Keeper>(account: &mut (u32, Booked<K>)) -> Result<(), AllocError>
-    ensures folded { OnOk result (BeginsAnew (hosted_at K.told K.keep_faults account.old) (hosted_at K.told K.keep_faults account.new)) }
-    ensures same { SameKeeper (hosted_at K.told K.keep_faults account.old) (hosted_at K.told K.keep_faults account.new) }
+    ensures folded { OnOk result (BeginsAnew (hosted_at K.told K.keep_faults account.old)
+        (hosted_at K.told K.keep_faults account.new)) }
+    ensures same { SameKeeper (hosted_at K.told K.keep_faults account.old)
+        (hosted_at K.told K.keep_faults account.new) }
 {
     account.1.fold()
 }
 
 /// Folds the journal of each account. Where memory is wanting some are folded and others not.
 fn fold_all<K: Keeper>(accounts: &mut [(u32, Booked<K>)]) -> Result<(), AllocError>
-    ensures folded { OnOk result (AllZip BeginsAnew (map (hosted_at K.told K.keep_faults) accounts.old) (map (hosted_at K.told K.keep_faults) accounts.new)) }
-    ensures same { AllZip SameKeeper (map (hosted_at K.told K.keep_faults) accounts.old) (map (hosted_at K.told K.keep_faults) accounts.new) }
+    ensures folded { OnOk result (AllZip BeginsAnew (map (hosted_at K.told K.keep_faults) accounts.old)
+        (map (hosted_at K.told K.keep_faults) accounts.new)) }
+    ensures same { AllZip SameKeeper (map (hosted_at K.told K.keep_faults) accounts.old)
+        (map (hosted_at K.told K.keep_faults) accounts.new) }
 {
     for account in accounts.iter_mut() {
         fold(account)?;
@@ -41,8 +45,8 @@ fn fold_all<K: Keeper>(accounts: &mut [(u32, Booked<K>)]) -> Result<(), AllocErr
     Ok(())
 }
 
-/// Serves terms one after the other until the server stops, and folds the journals between two. The accounts come back, and why it
-/// stopped.
+/// Serves terms one after the other until the server stops, and folds the journals between two. The accounts come back,
+/// and why it stopped.
 pub(crate) fn serve_terms<X, G, T, R>(
     rt: &R,
     alloc: Global,
@@ -64,9 +68,11 @@ where
     requires clocks { (0 < vec_len crew.clocks) × (vec_len crew.clocks ≤ 16) }
     requires connections { command.now.connections ≤ 1000 }
     requires terms { command.now.terms ≤ 999999999999 }
-    requires begun { All (λ account. IsBegun account.1) (map (hosted_at X.Keeper.told X.Keeper.keep_faults) crew.accounts.items) }
+    requires begun { All (λ account. IsBegun account.1) (map (hosted_at X.Keeper.told X.Keeper.keep_faults)
+        crew.accounts.items) }
     requires idle { X.Port.counts (port_in port.old) ≡ idle_port }
-    ensures course { Course X.Port.Link.Told.told X.Port.Link.closed (map (hosted_at X.Keeper.told X.Keeper.keep_faults) crew.accounts.items) (map X.Clock.coming crew.clocks.items)
+    ensures course { Course X.Port.Link.Told.told X.Port.Link.closed (map (hosted_at X.Keeper.told X.Keeper.keep_faults)
+        crew.accounts.items) (map X.Clock.coming crew.clocks.items)
         command.now.connections command.now.terms (X.terms site.old) (X.terms site.new) (X.counts site.old) (X.counts site.new) (X.Port.counts (port_in port.new))
         (map (hosted_at X.Keeper.told X.Keeper.keep_faults) result.0.items) result.1 }
     ensures kept { X.kept site.new ≡ X.kept site.old }

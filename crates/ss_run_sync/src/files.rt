@@ -30,7 +30,8 @@ fn device_in(alloc: Global, file: &Option<Vec<u8>>) -> Result<Device, Trouble>
 
 /// The device of the file with this name.
 pub(crate) fn load<S: Store>(alloc: Global, name: &str, store: &mut S) -> Result<Device, Trouble>
-    ensures { Loads name.now result (S.held store.old) (S.held store.new) (S.store_faults store.old) (S.store_faults store.new) }
+    ensures { Loads name.now result (S.held store.old) (S.held store.new) (S.store_faults store.old)
+        (S.store_faults store.new) }
 {
     match store.load(alloc, name) {
         Ok(file) => device_in(alloc, &file),
@@ -39,7 +40,8 @@ pub(crate) fn load<S: Store>(alloc: Global, name: &str, store: &mut S) -> Result
     }
 }
 
-/// Makes the device the file with this name. Its bytes and the line that is printed then are made before anything is saved.
+/// Makes the device the file with this name. Its bytes and the line that is printed then are made before anything is
+/// saved.
 pub(crate) fn save<S: Store>(
     alloc: Global,
     name: &str,
@@ -47,7 +49,8 @@ pub(crate) fn save<S: Store>(
     summary: &Summary,
     store: &mut S,
 ) -> Report
-    ensures { Saves name.now device.now summary.now result (S.held store.old) (S.held store.new) (S.store_faults store.old) (S.store_faults store.new) }
+    ensures { Saves name.now device.now summary.now result (S.held store.old) (S.held store.new)
+        (S.store_faults store.old) (S.store_faults store.new) }
 {
     let Ok(bytes) = write_device(alloc, device) else {
         return Report::Short(Trouble::Memory);

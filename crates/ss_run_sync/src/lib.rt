@@ -1,7 +1,7 @@
-//! A device's sync with an account of a server: the command `sync`.
-//! It reads the device's file, sends the machine's requests over as many links as it takes, saves the device and says in one
-//! line how it went; it stands on ss_converse, ss_device_file and ss_words. Its contract: what was dialled, written, read and
-//! saved, the line that was printed, and the cause of the status.
+//! A device's sync with an account of a server: the command `sync`. It reads the device's file, sends the machine's
+//! requests over as many links as it takes, saves the device and says in one line how it went; it stands on
+//! ss_converse, ss_device_file and ss_words. Its contract: what was dialled, written, read and saved, the line that was
+//! printed, and the cause of the status.
 #![tactic(auto)]
 
 mod files;

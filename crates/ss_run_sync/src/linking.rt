@@ -77,8 +77,10 @@ fn over<D: Dial>(
     requires host { IsHost host.now }
     requires unused { IsUnused (D.Link.Told.told link) }
     ensures nearer { IsNearer machine result }
-    ensures leg { (asked : Option (List Address)) → IsBehind (record { host = server.now.host; port = server.now.port }) asked (D.asked dial.old)
-        → IsLeg (record { uid = server.now.uid; host = host.now }) machine result (D.dial_faults dial.old) (D.dial_faults dial.new) (D.hung dial.old) (D.hung dial.new)
+    ensures leg { (asked : Option (List Address)) → IsBehind (record { host = server.now.host; port = server.now.port })
+        asked (D.asked dial.old)
+        → IsLeg (record { uid = server.now.uid; host = host.now }) machine result (D.dial_faults dial.old)
+        (D.dial_faults dial.new) (D.hung dial.old) (D.hung dial.new)
         (record { host = server.now.host; port = server.now.port }) asked (D.asked dial.new) }
 {
     let mut link = link;
@@ -99,7 +101,8 @@ fn over_link<D: Dial>(
     requires asked { request ≡ ask machine }
     requires host { IsHost host.now }
     ensures nearer { IsNearer machine result }
-    ensures leg { IsLeg (record { uid = server.now.uid; host = host.now }) machine result (D.dial_faults dial.old) (D.dial_faults dial.new) (D.hung dial.old) (D.hung dial.new)
+    ensures leg { IsLeg (record { uid = server.now.uid; host = host.now }) machine result (D.dial_faults dial.old)
+        (D.dial_faults dial.new) (D.hung dial.old) (D.hung dial.new)
         (record { host = server.now.host; port = server.now.port }) (D.asked dial.old) (D.asked dial.new) }
 {
     match dial.dial(server.host.as_str(), server.port) {
@@ -119,7 +122,8 @@ pub(crate) fn over_links<D: Dial>(
 ) -> Came
     requires asked { request ≡ ask machine }
     requires host { IsHost host.now }
-    ensures { IsRun (record { uid = server.now.uid; host = host.now }) machine result (D.dial_faults dial.old) (D.dial_faults dial.new) (D.hung dial.old) (D.hung dial.new)
+    ensures { IsRun (record { uid = server.now.uid; host = host.now }) machine result (D.dial_faults dial.old)
+        (D.dial_faults dial.new) (D.hung dial.old) (D.hung dial.new)
         (record { host = server.now.host; port = server.now.port }) (D.asked dial.old) (D.asked dial.new) }
 {
     let mut machine = machine;

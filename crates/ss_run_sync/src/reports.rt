@@ -77,7 +77,8 @@ impl Report {
 
     /// Prints the line, and answers the status.
     pub(crate) fn print<T: Sink>(&self, output: &mut T) -> u8
-        ensures { Prints (status_told self.now) (line_told self.now) result (T.Told.told output.old) (T.Told.told output.new) }
+        ensures { Prints (status_told self.now) (line_told self.now) result (T.Told.told output.old)
+            (T.Told.told output.new) }
     {
         match write_all(output, self.line()) {
             Ok(()) => self.status(),

@@ -51,8 +51,22 @@ fn sync<D: Dial, S: Store>(
 ) -> Report
     requires { HasHost command.now.server }
     ensures { Went command.now result
-        (record { asked = D.asked dial.old; hung = D.hung dial.old; dial_faults = D.dial_faults dial.old; held = S.held store.old; store_faults = S.store_faults store.old })
-        (record { asked = D.asked dial.new; hung = D.hung dial.new; dial_faults = D.dial_faults dial.new; held = S.held store.new; store_faults = S.store_faults store.new }) }
+        (record {
+          asked = D.asked dial.old;
+          hung = D.hung dial.old;
+          dial_faults = D.dial_faults dial.old;
+          held = S.held
+              store.old;
+          store_faults = S.store_faults store.old;
+        })
+        (record {
+          asked = D.asked dial.new;
+          hung = D.hung dial.new;
+          dial_faults = D.dial_faults dial.new;
+          held = S.held
+              store.new;
+          store_faults = S.store_faults store.new;
+        }) }
 {
     let Ok(host) = host_named(alloc, &command.server) else {
         return Report::Short(Trouble::Memory);
@@ -88,8 +102,22 @@ fn run<D: Dial, S: Store, T: Sink>(
     output: &mut T,
 ) -> u8
     ensures { Runs (map (λ word. string_bytes word) words.now) result
-        (record { asked = D.asked dial.old; hung = D.hung dial.old; dial_faults = D.dial_faults dial.old; held = S.held store.old; store_faults = S.store_faults store.old })
-        (record { asked = D.asked dial.new; hung = D.hung dial.new; dial_faults = D.dial_faults dial.new; held = S.held store.new; store_faults = S.store_faults store.new })
+        (record {
+          asked = D.asked dial.old;
+          hung = D.hung dial.old;
+          dial_faults = D.dial_faults dial.old;
+          held = S.held
+              store.old;
+          store_faults = S.store_faults store.old;
+        })
+        (record {
+          asked = D.asked dial.new;
+          hung = D.hung dial.new;
+          dial_faults = D.dial_faults dial.new;
+          held = S.held
+              store.new;
+          store_faults = S.store_faults store.new;
+        })
         (T.Told.told output.old) (T.Told.told output.new) }
 {
     let command = match read_command(alloc, words) {
@@ -103,11 +131,11 @@ fn run<D: Dial, S: Store, T: Sink>(
     sync(alloc, &command, dial, store).print(output)
 }
 
-/// Runs the words `sync URL FILE [--newer]`, prints one line of how it went, and answers the status: 0 where the device was synced
-/// and saved; 1 where the words ask no sync, and nothing is done or printed; 2 where a dial or a link failed; 3 where the server
-/// refused a request, 4 where something changed four times, 5 where the plan is beyond the server's limits, 9 where a reply can't
-/// be read; 6 where the file is no device's file; 7 where it could not be read or written; 8 without memory; 10 where the line could
-/// not be printed.
+/// Runs the words `sync URL FILE [--newer]`, prints one line of how it went, and answers the status: 0 where the device
+/// was synced and saved; 1 where the words ask no sync, and nothing is done or printed; 2 where a dial or a link
+/// failed; 3 where the server refused a request, 4 where something changed four times, 5 where the plan is beyond the
+/// server's limits, 9 where a reply can't be read; 6 where the file is no device's file; 7 where it could not be read
+/// or written; 8 without memory; 10 where the line could not be printed.
 pub fn run_sync<D: Dial, S: Store, T: Sink>(
     alloc: Global,
     words: &[String],
@@ -117,17 +145,59 @@ pub fn run_sync<D: Dial, S: Store, T: Sink>(
 ) -> u8
     // What was dialled, sent, heard, saved and printed.
     ensures runs { Runs (map (λ word. string_bytes word) words.now) result
-        (record { asked = D.asked dial.old; hung = D.hung dial.old; dial_faults = D.dial_faults dial.old; held = S.held store.old; store_faults = S.store_faults store.old })
-        (record { asked = D.asked dial.new; hung = D.hung dial.new; dial_faults = D.dial_faults dial.new; held = S.held store.new; store_faults = S.store_faults store.new })
+        (record {
+          asked = D.asked dial.old;
+          hung = D.hung dial.old;
+          dial_faults = D.dial_faults dial.old;
+          held = S.held
+              store.old;
+          store_faults = S.store_faults store.old;
+        })
+        (record {
+          asked = D.asked dial.new;
+          hung = D.hung dial.new;
+          dial_faults = D.dial_faults dial.new;
+          held = S.held
+              store.new;
+          store_faults = S.store_faults store.new;
+        })
         (T.Told.told output.old) (T.Told.told output.new) }
     // What went over all links together: the requests of the machine for the responses that came.
     ensures joined { Joined (map (λ word. string_bytes word) words.now)
-        (record { asked = D.asked dial.old; hung = D.hung dial.old; dial_faults = D.dial_faults dial.old; held = S.held store.old; store_faults = S.store_faults store.old })
-        (record { asked = D.asked dial.new; hung = D.hung dial.new; dial_faults = D.dial_faults dial.new; held = S.held store.new; store_faults = S.store_faults store.new }) }
+        (record {
+          asked = D.asked dial.old;
+          hung = D.hung dial.old;
+          dial_faults = D.dial_faults dial.old;
+          held = S.held
+              store.old;
+          store_faults = S.store_faults store.old;
+        })
+        (record {
+          asked = D.asked dial.new;
+          hung = D.hung dial.new;
+          dial_faults = D.dial_faults dial.new;
+          held = S.held
+              store.new;
+          store_faults = S.store_faults store.new;
+        }) }
     // Which count rose, by the status.
     ensures causes { Causes result
-        (record { asked = D.asked dial.old; hung = D.hung dial.old; dial_faults = D.dial_faults dial.old; held = S.held store.old; store_faults = S.store_faults store.old })
-        (record { asked = D.asked dial.new; hung = D.hung dial.new; dial_faults = D.dial_faults dial.new; held = S.held store.new; store_faults = S.store_faults store.new })
+        (record {
+          asked = D.asked dial.old;
+          hung = D.hung dial.old;
+          dial_faults = D.dial_faults dial.old;
+          held = S.held
+              store.old;
+          store_faults = S.store_faults store.old;
+        })
+        (record {
+          asked = D.asked dial.new;
+          hung = D.hung dial.new;
+          dial_faults = D.dial_faults dial.new;
+          held = S.held
+              store.new;
+          store_faults = S.store_faults store.new;
+        })
         (T.Told.told output.old) (T.Told.told output.new) }
     // Only a sync that is done changes a file.
     ensures kept { result ≢ 0 → result ≢ 10 → S.held store.new ≡ S.held store.old }

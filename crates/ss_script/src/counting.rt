@@ -31,7 +31,8 @@ fn begins_with_r(text: &str) -> bool
 
 /// The title among the members of a content.
 fn title_in(members: &Map<String, Value>) -> Option<&str>
-    ensures { option_map (λ title. title.now) result ≡ option_and_then string_of (get_member (codes "title") (members_view members.now.entries)) }
+    ensures { option_map (λ title. title.now) result ≡ option_and_then string_of
+        (get_member (codes "title") (members_view members.now.entries)) }
 {
     match member(members, "title") {
         Some(title) => string_of(title),

@@ -1,6 +1,6 @@
-//! The bookmarks of a rehearsal, and its summary.
-//! A rehearsal's bookmarks follow from a number and a seed, and its summary tells what became of two devices' trees; it stands on
-//! ss_record and ss_tree. Its contracts: each bookmark is the definition's, and each line tells what the trees have.
+//! The bookmarks of a rehearsal, and its summary. A rehearsal's bookmarks follow from a number and a seed, and its
+//! summary tells what became of two devices' trees; it stands on ss_record and ss_tree. Its contracts: each bookmark is
+//! the definition's, and each line tells what the trees have.
 #![tactic(auto)]
 
 mod bookmarks;

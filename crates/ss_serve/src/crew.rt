@@ -20,7 +20,8 @@ use std::alloc::Global;
 use std::mem::replace;
 use std::snapshot::Snapshot;
 
-/// A worker with the upper halves of the numbers, and room for so many reports. Where memory is wanting nothing changes.
+/// A worker with the upper halves of the numbers, and room for so many reports. Where memory is wanting nothing
+/// changes.
 pub(crate) fn recruit<L: Closable + Drop, C: Clock + Drop, K: Keeper + Drop>(
     alloc: Global,
     town: &Town<Booked<K>>,
@@ -37,13 +38,18 @@ pub(crate) fn recruit<L: Closable + Drop, C: Clock + Drop, K: Keeper + Drop>(
     requires seat { IsSeatAt (sends_on sender.now) place.old }
     requires parts { 1 < (view place.old).parts }
     ensures of { AreOf (desks_of town.now) (passes_of passes.new) }
-    ensures start { IfOk result (λ w. (i : ℕ) → i < length (passes_of passes.new) → IsStart (number + 1) (view_at (passes_of passes.new) i)) }
+    ensures start { IfOk result (λ w. (i : ℕ) → i < length (passes_of passes.new)
+        → IsStart (number + 1) (view_at (passes_of passes.new) i)) }
     ensures long { length (passes_of passes.new) ≡ length (passes_of passes.old) }
     ensures fixed { fixed_at (passes_of passes.new) ≡ fixed_at (passes_of passes.old) }
-    ensures ready { IfOk result (λ w. IsReady L.Told.told L.closed C.coming (uids_of town.now) (desks_of town.now) (sends_on sender.now) w) }
-    ensures signed { IfOk result (λ w. (w.number ≡ number) × (connections ≤ vec_capacity w.reports) × (C.coming w.start.value ≡ C.coming clock) × (fixed_at (passes_of w.passes) ≡ fixed_at (passes_of passes.old))) }
+    ensures ready { IfOk result (λ w. IsReady L.Told.told L.closed C.coming (uids_of town.now) (desks_of town.now)
+        (sends_on sender.now) w) }
+    ensures signed { IfOk result (λ w. (w.number ≡ number) × (connections ≤ vec_capacity w.reports)
+        × (C.coming w.start.value ≡ C.coming clock) × (fixed_at (passes_of w.passes)
+        ≡ fixed_at (passes_of passes.old))) }
     ensures none { IfOk result (λ w. w.reports.items ≡ []) }
-    ensures place { IfOk result (λ w. view place.new ≡ tally ((view place.old).parts - 1) (view place.old).put (view place.old).taken) }
+    ensures place { IfOk result (λ w. view place.new ≡ tally ((view place.old).parts - 1) (view place.old).put
+        (view place.old).taken) }
     ensures seat { IsSeatAt (sends_on sender.now) place.new }
     ensures returned { IfErr result (λ c. c ≡ clock) }
     ensures unchanged { OnErr result (passes.new ≡ passes.old) }
@@ -90,10 +96,12 @@ pub(crate) fn recruit_all<L: Closable + Drop, C: Clock + Drop, K: Keeper + Drop>
     ensures seat { IsSeatAt (sends_on sender.now) place.new }
     ensures parts { (view place.new).parts + length jobs.new.items ≡ 32 }
     ensures idle { ((view place.new).put ≡ 0) × ((view place.new).taken ≡ 0) }
-    ensures ready { All (λ w. IsReady L.Told.told L.closed C.coming (uids_of town.now) (desks_of town.now) (sends_on sender.now) w) jobs.new.items }
+    ensures ready { All (λ w. IsReady L.Told.told L.closed C.coming (uids_of town.now) (desks_of town.now)
+        (sends_on sender.now) w) jobs.new.items }
     ensures signed { Signed connections (fixed_at (passes_of passes.old)) (map (sign C.coming) jobs.new.items) }
     ensures none { count_reports jobs.new.items ≡ 0 }
-    ensures starts { starts (map (sign C.coming) jobs.new.items) ++ map C.coming clocks.new.items ≡ map C.coming clocks.old.items }
+    ensures starts { starts (map (sign C.coming) jobs.new.items) ++ map C.coming clocks.new.items
+        ≡ map C.coming clocks.old.items }
     ensures count { vec_len jobs.new + vec_len clocks.new ≡ vec_len clocks.old }
     ensures all { result ≡ true → clocks.new.items ≡ [] }
 {
@@ -128,9 +136,11 @@ fn lay_down<L: Closable + Drop, C: Clock + Drop, K: Keeper + Drop>(
     worker: &mut Worker<L, C, Booked<K>>,
 )
     requires seat { IsSeatAt (sends_on sender.now) place.old }
-    requires ready { IsReady L.Told.told L.closed C.coming (uids_of town.now) (desks_of town.now) (sends_on sender.now) worker.old }
+    requires ready { IsReady L.Told.told L.closed C.coming (uids_of town.now) (desks_of town.now) (sends_on sender.now)
+        worker.old }
     ensures seat { IsSeatAt (sends_on sender.now) place.new }
-    ensures view { view place.new ≡ tally ((view place.old).parts + 1) (view place.old).put ((view place.old).taken + length worker.old.reports.items) }
+    ensures view { view place.new ≡ tally ((view place.old).parts + 1) (view place.old).put
+        ((view place.old).taken + length worker.old.reports.items) }
     ensures worked { HasWorked L.Told.told L.closed C.coming (uids_of town.now) (desks_of town.now) worker.new }
     ensures sign { sign C.coming worker.new ≡ sign C.coming worker.old }
     ensures reports { worker.new.reports ≡ worker.old.reports }
@@ -148,10 +158,13 @@ pub(crate) fn lay_all_down<L: Closable + Drop, C: Clock + Drop, K: Keeper + Drop
     mut crew: Vec<Worker<L, C, Booked<K>>>,
 ) -> Vec<Worker<L, C, Booked<K>>>
     requires seat { IsSeatAt (sends_on sender.now) place.old }
-    requires ready { All (λ w. IsReady L.Told.told L.closed C.coming (uids_of town.now) (desks_of town.now) (sends_on sender.now) w) crew.items }
+    requires ready { All (λ w. IsReady L.Told.told L.closed C.coming (uids_of town.now) (desks_of town.now)
+        (sends_on sender.now) w) crew.items }
     ensures seat { IsSeatAt (sends_on sender.now) place.new }
-    ensures view { view place.new ≡ tally ((view place.old).parts + length crew.items) (view place.old).put ((view place.old).taken + count_reports crew.items) }
-    ensures worked { All (λ w. HasWorked L.Told.told L.closed C.coming (uids_of town.now) (desks_of town.now) w) result.items }
+    ensures view { view place.new ≡ tally ((view place.old).parts + length crew.items) (view place.old).put
+        ((view place.old).taken + count_reports crew.items) }
+    ensures worked { All (λ w. HasWorked L.Told.told L.closed C.coming (uids_of town.now) (desks_of town.now) w)
+        result.items }
     ensures signs { map (sign C.coming) result.items ≡ map (sign C.coming) crew.items }
     ensures count { count_reports result.items ≡ count_reports crew.items }
     ensures room { vec_capacity result ≡ vec_capacity crew }

@@ -36,13 +36,16 @@ fn gather<L: Closable + Drop, C: Clock + Drop, K: Keeper + Drop>(
     clocks: &mut Vec<C>,
 )
     requires of { AreOf (desks_of town.now) (passes_of passes.old) }
-    requires crew { Have L.Told.told L.closed C.coming (uids_of town.now) (desks_of town.now) (passes_of passes.old) crew.items }
-    requires whole { (i : ℕ) → i < length (uids_of town.now) → IsWhole (length crew.items) (view_at (passes_of passes.old) i) }
+    requires crew { Have L.Told.told L.closed C.coming (uids_of town.now) (desks_of town.now) (passes_of passes.old)
+        crew.items }
+    requires whole { (i : ℕ) → i < length (uids_of town.now) → IsWhole (length crew.items)
+        (view_at (passes_of passes.old) i) }
     requires none { (reports.old.items ≡ []) × (clocks.old.items ≡ []) }
     requires room { count_reports crew.items ≤ vec_capacity reports.old }
     requires clocks { vec_len crew ≤ vec_capacity clocks.old }
     ensures of { AreOf (desks_of town.now) (passes_of passes.new) }
-    ensures gathered { Gathered (length (uids_of town.now)) (passes_of passes.old) crew.items [] (passes_of passes.new) reports.new.items (reverse clocks.new.items) }
+    ensures gathered { Gathered (length (uids_of town.now)) (passes_of passes.old) crew.items [] (passes_of passes.new)
+        reports.new.items (reverse clocks.new.items) }
     ensures room { vec_capacity clocks.new ≡ vec_capacity clocks.old }
 {
     while let Some(worker) = crew.pop() {
@@ -76,7 +79,8 @@ pub(crate) fn finish<L: Closable + Drop, C: Clock + Drop, K: Keeper + Drop>(
     requires room { count_reports crew.items ≤ vec_capacity reports }
     requires clocks { vec_len crew ≤ vec_capacity clocks }
     ensures handed { AreHanded (λ b. terms_of K.keep_faults b) (uids_of town) (passes_of passes) result.0.items }
-    ensures served { AreServed (λ b. terms_of K.keep_faults b) (λ b. (journal_of b).entries) (λ b. K.keep_faults (account_of b).keeper) L.Told.told L.closed
+    ensures served { AreServed (λ b. terms_of K.keep_faults b) (λ b. (journal_of b).entries)
+        (λ b. K.keep_faults (account_of b).keeper) L.Told.told L.closed
         result.0.items result.1.items (starts (map (sign C.coming) crew.items)) (map C.coming result.2.items) }
     ensures count { length result.1.items ≡ count_reports crew.items }
     ensures clocks { length result.2.items ≡ length crew.items }

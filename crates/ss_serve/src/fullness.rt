@@ -62,7 +62,8 @@ fn and_one<L, K: Keeper>(
     account: &(u32, Booked<K>),
     reports: &[LinkReport<L>],
 ) -> Option<u32>
-    ensures { (b : Bool) × Decided b (IsNamed (λ b. (journal_of b).entries) reports.now account.now) × OneMore b found account.now.0 result }
+    ensures { (b : Bool) × Decided b (IsNamed (λ b. (journal_of b).entries) reports.now account.now)
+        × OneMore b found account.now.0 result }
 {
     if !is_named(account, reports) {
         return found;

@@ -19,7 +19,8 @@ pub struct LinkReport<L> {
     pub end: End,
 }
 
-/// Why a term ended (this project). Where several reasons hold, the first in this order is given: `Port`, `Full`, `PortEnded`, `Connections`.
+/// Why a term ended (this project). Where several reasons hold, the first in this order is given: `Port`, `Full`,
+/// `PortEnded`, `Connections`.
 #[derive(Drop, Debug, Clone, Copy, PartialEq, Eq)]
 pub enum TermStop {
     /// The port gave as many links as were wanted.
@@ -28,8 +29,8 @@ pub enum TermStop {
     /// The port ended.
     PortEnded,
 
-    /// A turn was refused for want of room in this account's journal, which is full; it is the smallest such uid. The port had ended, or had
-    /// given as many links as were wanted.
+    /// A turn was refused for want of room in this account's journal, which is full; it is the smallest such uid. The
+    /// port had ended, or had given as many links as were wanted.
     Full { uid: u32 },
 
     /// The port failed.

@@ -31,10 +31,12 @@ fn serve_rest<L: Closable + Drop, C: Clock + Drop, K: Keeper + Drop, G: Gate, R:
     requires seat { IsSeatAt (receives_on receiver.now) place.old }
     requires whole { (view place.old).parts ≡ 32 }
     requires worked { HasWorked L.Told.told L.closed C.coming (uids_of town.now) (desks_of town.now) worker.old }
-    requires room { (view place.old).put + vec_len worker.old.reports ≤ vec_capacity worker.old.reports + (view place.old).taken }
+    requires room { (view place.old).put + vec_len worker.old.reports ≤ vec_capacity worker.old.reports +
+        (view place.old).taken }
     ensures worked { HasWorked L.Told.told L.closed C.coming (uids_of town.now) (desks_of town.now) worker.new }
     ensures sign { sign C.coming worker.new ≡ sign C.coming worker.old }
-    ensures count { vec_len worker.new.reports + (view place.old).taken ≡ vec_len worker.old.reports + (view place.old).put }
+    ensures count { vec_len worker.new.reports + (view place.old).taken
+        ≡ vec_len worker.old.reports + (view place.old).put }
 {
     for _ in rt.forever() {
         match receiver.try_recv_as::<Take<L>, R>(rt, place) {
@@ -88,12 +90,14 @@ pub(crate) fn serve_all_left<
     requires seat { IsSeatAt (receives_on receiver.now) place.old }
     requires whole { (view place.old).parts ≡ 32 }
     requires some { 0 < length crew.old.items }
-    requires worked { All (λ w. HasWorked L.Told.told L.closed C.coming (uids_of town.now) (desks_of town.now) w) crew.old.items }
+    requires worked { All (λ w. HasWorked L.Told.told L.closed C.coming (uids_of town.now) (desks_of town.now) w)
+        crew.old.items }
     requires least { All (λ w. connections ≤ vec_capacity w.reports) crew.old.items }
     requires taken { (view place.old).taken ≡ count_reports crew.old.items }
     requires room { (view place.old).put + vec_len left ≤ connections }
     requires unused { AreUnused L.Told.told left.items }
-    ensures worked { All (λ w. HasWorked L.Told.told L.closed C.coming (uids_of town.now) (desks_of town.now) w) crew.new.items }
+    ensures worked { All (λ w. HasWorked L.Told.told L.closed C.coming (uids_of town.now) (desks_of town.now) w)
+        crew.new.items }
     ensures signs { map (sign C.coming) crew.new.items ≡ map (sign C.coming) crew.old.items }
     ensures count { count_reports crew.new.items ≡ (view place.old).put + vec_len left }
 {

@@ -38,7 +38,8 @@ pub(crate) fn room_for<L: Closable + Drop, C: Drop, T: Journaled>(
     ensures left { IfOk result (λ r. (r.left.items ≡ []) × (connections ≤ vec_capacity r.left)) }
     ensures reports { IfOk result (λ r. (r.reports.items ≡ []) × (connections ≤ vec_capacity r.reports)) }
     ensures clocks { IfOk result (λ r. (r.clocks.items ≡ []) × (workers ≤ vec_capacity r.clocks)) }
-    ensures channel { IfOk result (λ r. (receives_on r.receiver ≡ sends_on r.sender) × IsSeatAt (sends_on r.sender) r.place × (view r.place ≡ tally 32 0 0)) }
+    ensures channel { IfOk result (λ r. (receives_on r.receiver ≡ sends_on r.sender)
+        × IsSeatAt (sends_on r.sender) r.place × (view r.place ≡ tally 32 0 0)) }
 {
     let jobs = Vec::with_capacity(alloc, workers)?;
     let done = Vec::with_capacity(alloc, workers)?;

@@ -80,7 +80,8 @@ fn end_unserved<L: Closable + Drop, C: Clock + Drop, K: Keeper + Drop>(
     requires of { AreOf (desks_of town) (passes_of passes) }
     requires start { AreLeft 0 (passes_of passes) (passes_of passes) }
     ensures handed { AreHanded (λ b. terms_of K.keep_faults b) (uids_of town) (passes_of passes) result.accounts.items }
-    ensures served { AreServed (λ b. terms_of K.keep_faults b) (λ b. (journal_of b).entries) (λ b. K.keep_faults (account_of b).keeper) L.Told.told L.closed
+    ensures served { AreServed (λ b. terms_of K.keep_faults b) (λ b. (journal_of b).entries)
+        (λ b. K.keep_faults (account_of b).keeper) L.Told.told L.closed
         result.accounts.items result.links.items (map C.coming clocks.items) (map C.coming result.clocks.items) }
     ensures none { result.links.items ≡ [] }
     ensures ended { result.ended ≡ TermStop.Memory }
@@ -112,7 +113,8 @@ fn end_early<L: Closable + Drop, C: Clock + Drop, K: Keeper + Drop>(
     requires unserved { count_reports crew.items ≡ 0 }
     requires room { vec_len crew + vec_len others ≤ vec_capacity served }
     ensures handed { AreHanded (λ b. terms_of K.keep_faults b) (uids_of town) (passes_of passes) result.accounts.items }
-    ensures served { AreServed (λ b. terms_of K.keep_faults b) (λ b. (journal_of b).entries) (λ b. K.keep_faults (account_of b).keeper) L.Told.told L.closed
+    ensures served { AreServed (λ b. terms_of K.keep_faults b) (λ b. (journal_of b).entries)
+        (λ b. K.keep_faults (account_of b).keeper) L.Told.told L.closed
         result.accounts.items result.links.items (starts (map (sign C.coming) crew.items) ++ map C.coming others.items) (map C.coming result.clocks.items) }
     ensures none { length result.links.items ≡ 0 }
     ensures ended { result.ended ≡ TermStop.Memory }
@@ -144,11 +146,13 @@ fn end_served<L: Closable + Drop, C: Clock + Drop, K: Keeper + Drop>(
     requires room { count_reports crew.items ≤ vec_capacity reports }
     requires clocks { vec_len crew ≤ vec_capacity clocks }
     ensures handed { AreHanded (λ b. terms_of K.keep_faults b) (uids_of town) (passes_of passes) result.accounts.items }
-    ensures served { AreServed (λ b. terms_of K.keep_faults b) (λ b. (journal_of b).entries) (λ b. K.keep_faults (account_of b).keeper) L.Told.told L.closed
+    ensures served { AreServed (λ b. terms_of K.keep_faults b) (λ b. (journal_of b).entries)
+        (λ b. K.keep_faults (account_of b).keeper) L.Told.told L.closed
         result.accounts.items result.links.items (starts (map (sign C.coming) crew.items)) (map C.coming result.clocks.items) }
     ensures count { length result.links.items ≡ count_reports crew.items }
     ensures open { IsOpenStop result.ended }
-    ensures full { FullSays (λ b. terms_of K.keep_faults b) (λ b. (journal_of b).entries) result.accounts.items result.links.items result.ended }
+    ensures full { FullSays (λ b. terms_of K.keep_faults b) (λ b. (journal_of b).entries) result.accounts.items
+        result.links.items result.ended }
     ensures cause { (n : ℕ) (old new : Accepts) → HasCause stopped n old new → HasEnded result.ended n old new }
 {
     let (accounts, links, clocks) = finish(town, passes, crew, reports, clocks);
@@ -189,9 +193,11 @@ fn serve_links<
     requires room { connections ≤ vec_capacity front.left }
     requires done { (vec_len crew.done + vec_len crew.jobs ≤ vec_capacity crew.done) × (crew.done.items ≡ []) }
     requires some { (0 < length crew.jobs.items) × (length crew.jobs.items ≤ 16) }
-    requires jobs { All (λ w. IsReady L.Told.told L.closed C.coming (uids_of town.now) (desks_of town.now) (sends_on sender.now) w) crew.jobs.items }
+    requires jobs { All (λ w. IsReady L.Told.told L.closed C.coming (uids_of town.now) (desks_of town.now)
+        (sends_on sender.now) w) crew.jobs.items }
     requires least { All (λ w. connections ≤ vec_capacity w.reports) crew.jobs.items }
-    ensures worked { All (λ w. HasWorked L.Told.told L.closed C.coming (uids_of town.now) (desks_of town.now) w) result.0.items }
+    ensures worked { All (λ w. HasWorked L.Told.told L.closed C.coming (uids_of town.now) (desks_of town.now) w)
+        result.0.items }
     ensures signs { map (sign C.coming) result.0.items ≡ map (sign C.coming) crew.jobs.items }
     ensures given { HasGiven 0 (count_reports result.0.items) connections (P.counts port.old) (P.counts port.new) }
     ensures cause { HasCause result.1 connections (P.counts port.old) (P.counts port.new) }
@@ -254,12 +260,15 @@ fn run_in<
     requires left { (room.left.items ≡ []) × (connections ≤ vec_capacity room.left) }
     requires reports { (room.reports.items ≡ []) × (connections ≤ vec_capacity room.reports) }
     requires served { (room.clocks.items ≡ []) × (vec_len clocks ≤ vec_capacity room.clocks) }
-    requires channel { (receives_on room.receiver ≡ sends_on room.sender) × IsSeatAt (sends_on room.sender) room.place × (view room.place ≡ tally 32 0 0) }
+    requires channel { (receives_on room.receiver ≡ sends_on room.sender) × IsSeatAt (sends_on room.sender) room.place
+        × (view room.place ≡ tally 32 0 0) }
     ensures handed { AreHanded (λ b. terms_of K.keep_faults b) (uids_of town) (passes_of passes) result.accounts.items }
-    ensures served { AreServed (λ b. terms_of K.keep_faults b) (λ b. (journal_of b).entries) (λ b. K.keep_faults (account_of b).keeper) L.Told.told L.closed
+    ensures served { AreServed (λ b. terms_of K.keep_faults b) (λ b. (journal_of b).entries)
+        (λ b. K.keep_faults (account_of b).keeper) L.Told.told L.closed
         result.accounts.items result.links.items (map C.coming clocks.items) (map C.coming result.clocks.items) }
     ensures open { IsOpenStop result.ended }
-    ensures full { FullSays (λ b. terms_of K.keep_faults b) (λ b. (journal_of b).entries) result.accounts.items result.links.items result.ended }
+    ensures full { FullSays (λ b. terms_of K.keep_faults b) (λ b. (journal_of b).entries) result.accounts.items
+        result.links.items result.ended }
     ensures given { GivenBy (length result.links.items) (P.counts port.old).links (P.counts port.new).links }
     ensures few { length result.links.items ≤ connections }
     ensures cause { HasEnded result.ended connections (P.counts port.old) (P.counts port.new) }
@@ -324,10 +333,12 @@ fn run_term<
     requires of { AreOf (desks_of town) (passes_of passes) }
     requires start { AreLeft 0 (passes_of passes) (passes_of passes) }
     ensures handed { AreHanded (λ b. terms_of K.keep_faults b) (uids_of town) (passes_of passes) result.accounts.items }
-    ensures served { AreServed (λ b. terms_of K.keep_faults b) (λ b. (journal_of b).entries) (λ b. K.keep_faults (account_of b).keeper) L.Told.told L.closed
+    ensures served { AreServed (λ b. terms_of K.keep_faults b) (λ b. (journal_of b).entries)
+        (λ b. K.keep_faults (account_of b).keeper) L.Told.told L.closed
         result.accounts.items result.links.items (map C.coming clocks.items) (map C.coming result.clocks.items) }
     ensures open { IsOpenStop result.ended }
-    ensures full { FullSays (λ b. terms_of K.keep_faults b) (λ b. (journal_of b).entries) result.accounts.items result.links.items result.ended }
+    ensures full { FullSays (λ b. terms_of K.keep_faults b) (λ b. (journal_of b).entries) result.accounts.items
+        result.links.items result.ended }
     ensures given { GivenBy (length result.links.items) (P.counts port.old).links (P.counts port.new).links }
     ensures few { length result.links.items ≤ connections }
     ensures cause { HasEnded result.ended connections (P.counts port.old) (P.counts port.new) }
@@ -348,9 +359,9 @@ fn run_term<
     }
 }
 
-/// A term: a worker for each clock, in a thread of its own where one can be started, answers the links that the port gives, up to so many,
-/// over the desks of these accounts. Where no thread can be started the caller serves the links itself. A worker's number is its
-/// clock's place, from 0. Nothing is said of progress, fairness or time.
+/// A term: a worker for each clock, in a thread of its own where one can be started, answers the links that the port
+/// gives, up to so many, over the desks of these accounts. Where no thread can be started the caller serves the links
+/// itself. A worker's number is its clock's place, from 0. Nothing is said of progress, fairness or time.
 pub fn serve_term<
     L: Closable + Drop + Send,
     P: Port<Link = L>,
@@ -371,10 +382,12 @@ pub fn serve_term<
     requires connections { connections ≤ 1000 }
     requires bare { AreBare (λ b. (journal_of b).entries) accounts.items }
     // What comes back, and what the reports say of it.
-    ensures says { TermSays (λ b. terms_of K.keep_faults b) (λ b. (journal_of b).entries) (λ b. K.keep_faults (account_of b).keeper) L.Told.told L.closed
+    ensures says { TermSays (λ b. terms_of K.keep_faults b) (λ b. (journal_of b).entries)
+        (λ b. K.keep_faults (account_of b).keeper) L.Told.told L.closed
         accounts.items result.accounts.items result.links.items (map C.coming clocks.items) (map C.coming result.clocks.items) result.ended }
     // Which account was full.
-    ensures full { FullSays (λ b. terms_of K.keep_faults b) (λ b. (journal_of b).entries) result.accounts.items result.links.items result.ended }
+    ensures full { FullSays (λ b. terms_of K.keep_faults b) (λ b. (journal_of b).entries) result.accounts.items
+        result.links.items result.ended }
     // There are as many reports as the port gave links, and at most as many as were wanted.
     ensures given { GivenBy (length result.links.items) (P.counts port.old).links (P.counts port.new).links }
     ensures few { length result.links.items ≤ connections }

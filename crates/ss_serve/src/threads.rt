@@ -53,8 +53,10 @@ fn serve_all<
 ) -> Vec<Worker<L, C, Booked<K>>>
     requires room { vec_len done + vec_len jobs ≤ vec_capacity done }
     requires none { done.items ≡ [] }
-    requires jobs { All (λ w. IsReady L.Told.told L.closed C.coming (uids_of town.now) (desks_of town.now) (receives_on receiver.now) w) jobs.items }
-    ensures all { All (λ w. IsReady L.Told.told L.closed C.coming (uids_of town.now) (desks_of town.now) (receives_on receiver.now) w) result.items }
+    requires jobs { All (λ w. IsReady L.Told.told L.closed C.coming (uids_of town.now) (desks_of town.now)
+        (receives_on receiver.now) w) jobs.items }
+    ensures all { All (λ w. IsReady L.Told.told L.closed C.coming (uids_of town.now) (desks_of town.now)
+        (receives_on receiver.now) w) result.items }
     ensures signs { map (sign C.coming) result.items ≡ map (sign C.coming) jobs.items }
     ensures len { vec_len result ≡ vec_len jobs }
     ensures room { vec_capacity result ≡ vec_capacity done }
@@ -65,12 +67,19 @@ fn serve_all<
     let (mine, mut rest) = join(
         rt,
         || -> Worker<L, C, Booked<K>>
-            requires { IsReady L.Told.told L.closed C.coming (uids_of town.now) (desks_of town.now) (receives_on receiver.now) job }
-            ensures { IsReady L.Told.told L.closed C.coming (uids_of town.entry.now) (desks_of town.entry.now) (receives_on receiver.entry.now) result × (sign C.coming result ≡ sign C.coming job) }
+            requires { IsReady L.Told.told L.closed C.coming (uids_of town.now) (desks_of town.now)
+                (receives_on receiver.now) job }
+            ensures { IsReady L.Told.told L.closed C.coming (uids_of town.entry.now) (desks_of town.entry.now)
+                (receives_on receiver.entry.now) result × (sign C.coming result ≡ sign C.coming job) }
         { work(rt, alloc, gate, town, receiver, job) },
         || -> Vec<Worker<L, C, Booked<K>>>
-            requires { IsSync R.row × IsSync G.row × (vec_len done + vec_len jobs ≤ vec_capacity done) × (done.items ≡ []) × All (λ w. IsReady L.Told.told L.closed C.coming (uids_of town.now) (desks_of town.now) (receives_on receiver.now) w) jobs.items }
-            ensures { All (λ w. IsReady L.Told.told L.closed C.coming (uids_of town.entry.now) (desks_of town.entry.now) (receives_on receiver.entry.now) w) result.items × (map (sign C.coming) result.items ≡ map (sign C.coming) jobs.items) × (vec_len result ≡ vec_len jobs) × (vec_capacity result ≡ vec_capacity done) }
+            requires { IsSync R.row × IsSync G.row × (vec_len done + vec_len jobs ≤ vec_capacity done)
+                × (done.items ≡ []) × All (λ w. IsReady L.Told.told L.closed C.coming (uids_of town.now)
+                (desks_of town.now) (receives_on receiver.now) w) jobs.items }
+            ensures { All (λ w. IsReady L.Told.told L.closed C.coming (uids_of town.entry.now) (desks_of town.entry.now)
+                (receives_on receiver.entry.now) w) result.items × (map (sign C.coming) result.items
+                ≡ map (sign C.coming) jobs.items) × (vec_len result ≡ vec_len jobs)
+                × (vec_capacity result ≡ vec_capacity done) }
         { serve_all(rt, alloc, gate, town, receiver, jobs, done) },
     );
     rest.push_reserved(mine);
@@ -92,8 +101,12 @@ fn begin<
     receiver: &RuledReceiver<Job<L>, Tally, Links<L>>,
     crew: &mut Option<Crew<L, C, Booked<K>>>,
 ) -> Vec<Worker<L, C, Booked<K>>>
-    requires { MatchOption crew.old ⊥ (λ c. (vec_len c.done + vec_len c.jobs ≤ vec_capacity c.done) × (c.done.items ≡ []) × All (λ w. IsReady L.Told.told L.closed C.coming (uids_of town.now) (desks_of town.now) (receives_on receiver.now) w) c.jobs.items) }
-    ensures { MatchOption crew.old ⊥ (λ c. All (λ w. IsReady L.Told.told L.closed C.coming (uids_of town.now) (desks_of town.now) (receives_on receiver.now) w) result.items × (map (sign C.coming) result.items ≡ map (sign C.coming) c.jobs.items)) }
+    requires { MatchOption crew.old ⊥ (λ c. (vec_len c.done + vec_len c.jobs ≤ vec_capacity c.done)
+        × (c.done.items ≡ []) × All (λ w. IsReady L.Told.told L.closed C.coming (uids_of town.now) (desks_of town.now)
+        (receives_on receiver.now) w) c.jobs.items) }
+    ensures { MatchOption crew.old ⊥ (λ c. All (λ w. IsReady L.Told.told L.closed C.coming (uids_of town.now)
+        (desks_of town.now) (receives_on receiver.now) w) result.items
+        × (map (sign C.coming) result.items ≡ map (sign C.coming) c.jobs.items)) }
 {
     let Some(Crew { jobs, done }) = crew.take() else {
         unreachable!()
@@ -116,7 +129,8 @@ fn accept_in_front<L: Closable + Drop, P: Port<Link = L>, R: Wait>(
     ensures seat { IsSeatAt (sends_on sender.now) front.new.place }
     ensures parts { (view front.new.place).parts ≡ (view front.old.place).parts }
     ensures taken { (view front.new.place).taken ≡ (view front.old.place).taken }
-    ensures given { HasGiven ((view front.old.place).put + vec_len front.old.left) ((view front.new.place).put + vec_len front.new.left) connections (P.counts port.old) (P.counts port.new) }
+    ensures given { HasGiven ((view front.old.place).put + vec_len front.old.left)
+        ((view front.new.place).put + vec_len front.new.left) connections (P.counts port.old) (P.counts port.new) }
     ensures left { AreUnused L.Told.told front.new.left.items }
     ensures cause { HasCause result connections (P.counts port.old) (P.counts port.new) }
 {
@@ -131,8 +145,8 @@ fn accept_in_front<L: Closable + Drop, P: Port<Link = L>, R: Wait>(
     )
 }
 
-/// The workers in threads of their own, while this thread accepts links. Where no thread can be made links are accepted first, and then
-/// this thread is each worker in turn.
+/// The workers in threads of their own, while this thread accepts links. Where no thread can be made links are accepted
+/// first, and then this thread is each worker in turn.
 pub(crate) fn run<
     L: Closable + Drop + Send,
     P: Port<Link = L>,
@@ -158,27 +172,42 @@ pub(crate) fn run<
     requires left { AreUnused L.Told.told front.old.left.items }
     requires room { vec_len front.old.left + connections ≤ vec_capacity front.old.left }
     requires done { (vec_len crew.done + vec_len crew.jobs ≤ vec_capacity crew.done) × (crew.done.items ≡ []) }
-    requires jobs { All (λ w. IsReady L.Told.told L.closed C.coming (uids_of town.now) (desks_of town.now) (receives_on receiver.now) w) crew.jobs.items }
+    requires jobs { All (λ w. IsReady L.Told.told L.closed C.coming (uids_of town.now) (desks_of town.now)
+        (receives_on receiver.now) w) crew.jobs.items }
     ensures seat { IsSeatAt (sends_on sender.now) front.new.place }
     ensures parts { (view front.new.place).parts ≡ (view front.old.place).parts }
     ensures taken { (view front.new.place).taken ≡ (view front.old.place).taken }
-    ensures given { HasGiven ((view front.old.place).put + vec_len front.old.left) ((view front.new.place).put + vec_len front.new.left) connections (P.counts port.old) (P.counts port.new) }
+    ensures given { HasGiven ((view front.old.place).put + vec_len front.old.left)
+        ((view front.new.place).put + vec_len front.new.left) connections (P.counts port.old) (P.counts port.new) }
     ensures left { AreUnused L.Told.told front.new.left.items }
     ensures cause { HasCause result.1 connections (P.counts port.old) (P.counts port.new) }
-    ensures all { All (λ w. IsReady L.Told.told L.closed C.coming (uids_of town.now) (desks_of town.now) (receives_on receiver.now) w) result.0.items }
+    ensures all { All (λ w. IsReady L.Told.told L.closed C.coming (uids_of town.now) (desks_of town.now)
+        (receives_on receiver.now) w) result.0.items }
     ensures signs { map (sign C.coming) result.0.items ≡ map (sign C.coming) crew.jobs.items }
 {
     let mut waiting = Some(crew);
     let mut first = move || -> Vec<Worker<L, C, Booked<K>>>
-        requires { MatchOption waiting ⊥ (λ c. (vec_len c.done + vec_len c.jobs ≤ vec_capacity c.done) × (c.done.items ≡ []) × All (λ w. IsReady L.Told.told L.closed C.coming (uids_of town.now) (desks_of town.now) (receives_on receiver.now) w) c.jobs.items) }
-        ensures { MatchOption waiting.entry ⊥ (λ c. All (λ w. IsReady L.Told.told L.closed C.coming (uids_of town.entry.now) (desks_of town.entry.now) (receives_on receiver.entry.now) w) result.items × (map (sign C.coming) result.items ≡ map (sign C.coming) c.jobs.items)) }
+        requires { MatchOption waiting ⊥ (λ c. (vec_len c.done + vec_len c.jobs ≤ vec_capacity c.done)
+            × (c.done.items ≡ []) × All (λ w. IsReady L.Told.told L.closed C.coming (uids_of town.now)
+            (desks_of town.now) (receives_on receiver.now) w) c.jobs.items) }
+        ensures { MatchOption waiting.entry ⊥ (λ c. All (λ w. IsReady L.Told.told L.closed C.coming
+            (uids_of town.entry.now) (desks_of town.entry.now) (receives_on receiver.entry.now) w) result.items
+            × (map (sign C.coming) result.items ≡ map (sign C.coming) c.jobs.items)) }
     { begin(rt, alloc, gate, town, receiver, &mut waiting) };
     join_mut(
         rt,
         &mut first,
         &mut || -> Stopped
-            requires { IsSeatAt (sends_on sender.now) front.now.place × (0 < (view front.now.place).parts) × AreUnused L.Told.told front.now.left.items × (vec_len front.now.left + connections ≤ vec_capacity front.now.left) }
-            ensures { IsSeatAt (sends_on sender.entry.now) front.exit.now.place × ((view front.exit.now.place).parts ≡ (view front.entry.now.place).parts) × ((view front.exit.now.place).taken ≡ (view front.entry.now.place).taken) × HasGiven ((view front.entry.now.place).put + vec_len front.entry.now.left) ((view front.exit.now.place).put + vec_len front.exit.now.left) connections (P.counts port.entry.now) (P.counts port.exit.now) × AreUnused L.Told.told front.exit.now.left.items × HasCause result connections (P.counts port.entry.now) (P.counts port.exit.now) }
+            requires { IsSeatAt (sends_on sender.now) front.now.place × (0 < (view front.now.place).parts)
+                × AreUnused L.Told.told front.now.left.items × (vec_len front.now.left + connections
+                ≤ vec_capacity front.now.left) }
+            ensures { IsSeatAt (sends_on sender.entry.now) front.exit.now.place
+                × ((view front.exit.now.place).parts ≡ (view front.entry.now.place).parts)
+                × ((view front.exit.now.place).taken ≡ (view front.entry.now.place).taken)
+                × HasGiven ((view front.entry.now.place).put + vec_len front.entry.now.left)
+                ((view front.exit.now.place).put + vec_len front.exit.now.left) connections (P.counts port.entry.now)
+                (P.counts port.exit.now) × AreUnused L.Told.told front.exit.now.left.items
+                × HasCause result connections (P.counts port.entry.now) (P.counts port.exit.now) }
         { accept_in_front(rt, port, sender, front, connections, workers) },
     )
 }

@@ -78,8 +78,10 @@ pub(crate) fn work<L: Closable + Drop, C: Clock + Drop, K: Keeper + Drop, G: Gat
     receiver: &RuledReceiver<Job<L>, Tally, Links<L>>,
     mut worker: Worker<L, C, Booked<K>>,
 ) -> Worker<L, C, Booked<K>>
-    requires { IsReady L.Told.told L.closed C.coming (uids_of town.now) (desks_of town.now) (receives_on receiver.now) worker }
-    ensures ready { IsReady L.Told.told L.closed C.coming (uids_of town.now) (desks_of town.now) (receives_on receiver.now) result }
+    requires { IsReady L.Told.told L.closed C.coming (uids_of town.now) (desks_of town.now) (receives_on receiver.now)
+        worker }
+    ensures ready { IsReady L.Told.told L.closed C.coming (uids_of town.now) (desks_of town.now)
+        (receives_on receiver.now) result }
     ensures sign { sign C.coming result ≡ sign C.coming worker }
 {
     for _ in rt.forever() {

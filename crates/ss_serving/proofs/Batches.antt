@@ -56,8 +56,6 @@ one_number (first ∷ batches) p batch other (inl h) (inr g) e = absurd (among_e
 one_number (first ∷ batches) p batch other (inr h) (inl g) e = absurd (among_each (OtherNumber first) batch batches p.0 h (ap (λ (b : Staged). b.number) (sym g) ∙ sym e))
 one_number (first ∷ batches) p batch other (inr h) (inr g) e = one_number batches p.1 batch other h g e
 
--- a batch with more parts, or the same
-
 pub collection_grown : (number : ℕ) (parts : List Part) (batch : Staged) → (grown number parts batch).collection ≡ batch.collection
 collection_grown number parts batch =
     elim (batch.number == number) as (λ v. let left : Staged = cond v (record batch { parts = batch.parts ++ parts }) batch in left.collection ≡ batch.collection) [ true ↦ refl | false ↦ refl ]

@@ -4,13 +4,13 @@ use Rattle.std.proofs.lemmas.Bool.{and_parts, leb-true, lt-ltb, not-true, eqb-fa
 use Rattle.std.proofs.lemmas.List.Sums.{AllPass-from_list_all}
 use Rattle.std.proofs.lemmas.List.Folds.{list_all-append}
 use Rattle.std.specs.List.{list_all, AllByRecursion}
+use Rattle.std.specs.Char.{is_ascii_digit}
 use Rattle.base64.specs.Rfc4648.{encode_symbols}
 use Rattle.base64.specs.Engines.{url_safe_no_pad}
 use Rattle.json.specs.Print.{escape}
 use Rattle.json.proofs.Printed.Strings.{escape_byte_plain}
 use Rattle.json.proofs.Printed.Utf8.{are_ascii, IsUtf8-are_ascii}
 use Rattle.ss_route.specs.Posts.{token}
-use Rattle.ss_route.proofs.Tokens.{few_bytes}
 use Rattle.ss_text.proofs.StampTexts.{decimal_digits}
 
 abbrev letters : List ℕ
@@ -41,9 +41,20 @@ symbols_are_mild (a ∷ b ∷ c ∷ rest) h =
     all_append (get_or letters (a / 4) 0 ∷ get_or letters (a % 4 * 16 + b / 16) 0 ∷ get_or letters (b % 16 * 4 + c / 64) 0 ∷ get_or letters (c % 64) 0 ∷ []) (encode_symbols letters rest)
     (ap₂ (λ s t. s && t) first last) (symbols_are_mild rest h.1.1.1)
 
+-- the digits of a number are bytes
+decimal_bytes : (n : ℕ) → n < 2 ^ 64 → AllByRecursion (λ b. b < 256) (decimal n)
+decimal_bytes n h = digits (decimal n) (decimal_digits n h)
+  where
+    digits : (xs : List ℕ) → list_all is_ascii_digit xs ≡ true → AllByRecursion (λ b. b < 256) xs
+    digits [] h = tt
+    digits (x ∷ xs) h =
+        let parts = and_parts (is_ascii_digit x) (list_all is_ascii_digit xs) h in
+        let high = leb-true x 57 (and_parts (leb 48 x) (leb x 57) parts.0).1 in
+        (omega arith, digits xs parts.1)
+
 token_is_mild : (n : ℕ) → n < 2 ^ 64 → list_all is_mild (token n) ≡ true
 unfolding token
-token_is_mild n h = ap (list_all is_mild) (append-nil (encode_symbols letters (decimal n))) ∙ symbols_are_mild (decimal n) (few_bytes (decimal n) (decimal_digits n h))
+token_is_mild n h = ap (list_all is_mild) (append-nil (encode_symbols letters (decimal n))) ∙ symbols_are_mild (decimal n) (decimal_bytes n h)
 
 escape_mild : (xs : List ℕ) → list_all is_mild xs ≡ true → escape xs ≡ xs
 escape_mild [] h = refl

@@ -33,8 +33,7 @@ use Rattle.ss_serving.specs.Typed.{IsTypedRow}
 use Rattle.ss_serving.proofs.JsonNumbers.{signed_is_utf8, IsNumber-stamp}
 use Rattle.ss_serving.proofs.Bodies.{items_of, members_of, sortindex_json, row_json, rows_json, ids_json, failure_json, failed_json, records_json, posted_json, staged_json, limits_json}
 use Rattle.ss_serving.proofs.Clean.{IsClean, AreClean, HasClean}
-use Rattle.ss_route.proofs.Tokens.{three_tests}
-use Rattle.ss_text.proofs.StampTexts.{decimal_is_utf8, decimal_digits, stamp_is_utf8, stamp_again}
+use Rattle.ss_text.proofs.StampTexts.{all_three, decimal_is_utf8, decimal_digits, stamp_is_utf8, stamp_again}
 
 -- ---- rows
 
@@ -196,7 +195,7 @@ unfolding number_of
 short_back n small =
     let few : n < 2 ^ 64 = omega arith in
     let nine : n < 10 ^ 9 = omega arith in
-    three_tests _ _ _ (Some (digits_value 10 (decimal n))) (le-leb 1 _ (decimal_nonempty n few)) (le-leb _ 9 (length-decimal-le 9 n (lit< tt) nine few)) (decimal_digits n few)
+    all_three _ _ _ (Some (digits_value 10 (decimal n))) (le-leb 1 _ (decimal_nonempty n few)) (le-leb _ 9 (length-decimal-le 9 n (lit< tt) nine few)) (decimal_digits n few)
     ∙ ap Some (decimal_is_IsNumeral n few).1
 
 too_long : (a b c : Bool) (x : Option ℕ) → b ≡ false → cond (a && b && c) x None ≡ None

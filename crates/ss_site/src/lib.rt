@@ -1,6 +1,6 @@
-//! Sites: where a server's links, keepers and clocks come from and go back to, and what it tells of each of its terms. One in
-//! memory, where all of it is told; and keepers and ports that count, of which any site can be made.
-//! Their contracts: what a call gave or kept where that is told, and that a fault is answered only where a count rose.
+//! Sites: where a server's links, keepers and clocks come from and go back to, and what it tells of each of its terms.
+//! One in memory, where all of it is told; and keepers and ports that count, of which any site can be made. Their
+//! contracts: what a call gave or kept where that is told, and that a fault is answered only where a count rose.
 #![tactic(auto)]
 
 mod counted_keeper;

@@ -24,8 +24,8 @@ pub struct KeptTerm<T> {
     pub journals: Vec<(u32, Journal)>,
 }
 
-/// A site in memory. It gives its ports in order; past the last one a call of `listen` is a fault. It tells what is kept as long
-/// as keepers come back to the folder and uid of which they came, and all terms.
+/// A site in memory. It gives its ports in order; past the last one a call of `listen` is a fault. It tells what is
+/// kept as long as keepers come back to the folder and uid of which they came, and all terms.
 #[derive(Drop)]
 pub struct MemSite<T> {
     // From the last one to the next one.
@@ -46,9 +46,9 @@ pub struct MemSite<T> {
 }
 
 impl<T> MemSite<T> {
-    /// A site that gives these ports and clocks that count from `first`, and keeps these entries: of several under one folder and
-    /// uid the first counts, and where there is none a fresh one is kept. The calls of `listen`, `keeper` and `ended` with the
-    /// numbers `failing` fail, counted together from 1.
+    /// A site that gives these ports and clocks that count from `first`, and keeps these entries: of several under one
+    /// folder and uid the first counts, and where there is none a fresh one is kept. The calls of `listen`, `keeper`
+    /// and `ended` with the numbers `failing` fail, counted together from 1.
     pub fn new(
         alloc: Global,
         mut ports: Vec<MemPort>,
@@ -83,7 +83,8 @@ impl<T> MemSite<T> {
         })
     }
 
-    /// The same site, whose calls of `listen`, `keeper` and `ended` with the numbers `wanting` find no memory, unless they fail.
+    /// The same site, whose calls of `listen`, `keeper` and `ended` with the numbers `wanting` find no memory, unless
+    /// they fail.
     pub fn without_memory(mut self, wanting: Vec<u64>) -> MemSite<T>
         ensures counts { site_counts result ≡ site_counts self }
         ensures lent { site_lent result ≡ site_lent self }
@@ -238,7 +239,8 @@ impl<T: Drop> Site for MemSite<T> {
         reports: Vec<T>,
         journals: &[(u32, &Journal)],
     ) -> Result<(), SiteFault>
-        ensures added { OnOk result (AddsTerm {R = T} reports.items journals.now (site_terms self.old) (site_terms self.new)) }
+        ensures added { OnOk result (AddsTerm {R = T} reports.items journals.now (site_terms self.old)
+            (site_terms self.new)) }
         ensures refused { OnErr result (site_terms self.new ≡ site_terms self.old) }
         ensures cause { HasCause result (site_counts self.old) (site_counts self.new) }
         ensures lent { site_lent self.new ≡ site_lent self.old }

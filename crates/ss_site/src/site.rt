@@ -60,7 +60,8 @@ pub trait Site {
         ensures terms { terms self.new ≡ terms self.old }
         ensures kept { kept self.new ≡ kept self.old };
 
-    /// Takes the keeper of an account back: what it tells is the entry from now on. That it came back is counted, and that it had failed.
+    /// Takes the keeper of an account back: what it tells is the entry from now on. That it came back is counted, and
+    /// that it had failed.
     fn retire(&mut self, folder: &str, uid: u32, keeper: Self::Keeper)
         ensures entry { HasRetired folder.now uid (Self.Keeper.told keeper) (kept self.old) (kept self.new) }
         ensures counted { CountsKeeper (Self.Keeper.keep_faults keeper) (counts self.old) (counts self.new) }

@@ -92,7 +92,11 @@ impl Table {
         uid: u32,
         kept: Kept,
     ) -> Result<(), AllocError>
-        ensures added { IfOk result (λ _. self.new ≡ self.old ++ record { folder = string_bytes folder; uid = uid; kept = kept } ∷ []) }
+        ensures added { IfOk result (λ _. self.new ≡ self.old ++ record {
+          folder = string_bytes folder;
+          uid = uid;
+          kept = kept;
+        } ∷ []) }
         ensures refused { OnErr result (self.new ≡ self.old) }
     {
         match self.entries.push(Entry::new(folder, uid, kept, alloc)) {
@@ -142,7 +146,8 @@ impl Table {
 
     /// Makes what a keeper holds the entry, where there is one.
     pub(crate) fn put(&mut self, folder: &str, uid: u32, keeper: CountedKeeper<MemKeeper>) -> bool
-        ensures { IsTrue result → IsWith folder.now uid (keeper_in keeper).kept (entries_of self.old) (entries_of self.new) }
+        ensures { IsTrue result → IsWith folder.now uid (keeper_in keeper).kept (entries_of self.old)
+            (entries_of self.new) }
     {
         match self.place_of(folder, uid) {
             Some(at) => {

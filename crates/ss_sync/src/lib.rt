@@ -1,7 +1,7 @@
-//! The steps of a sync that know no device: the rows that were fetched, the tree that a merge makes of them, the POSTs in which
-//! its plan is sent, and the rows that it leaves; it stands on ss_merge, ss_plan and ss_route.
-//! Its contracts: no id is fetched twice, the tree is the merge's definition, each POST is as full as the limits allow, and
-//! the rows are those after the plan, by id.
+//! The steps of a sync that know no device: the rows that were fetched, the tree that a merge makes of them, the POSTs
+//! in which its plan is sent, and the rows that it leaves; it stands on ss_merge, ss_plan and ss_route. Its contracts:
+//! no id is fetched twice, the tree is the merge's definition, each POST is as full as the limits allow, and the rows
+//! are those after the plan, by id.
 #![tactic(auto)]
 
 mod fetched;

@@ -50,7 +50,8 @@ fn object_bytes(alloc: Global, part: &Part) -> Result<u64, AllocError>
 
 /// Whether numbers are within the limits of one POST.
 fn are_within(limits: &Limits, records: usize, payloads: u128, body: u128) -> bool
-    ensures { result ≡ (nat_le records limits.now.max_post_records && (nat_le payloads limits.now.max_post_bytes && nat_le body limits.now.max_request_bytes)) }
+    ensures { result ≡ (nat_le records limits.now.max_post_records && (nat_le payloads limits.now.max_post_bytes &&
+        nat_le body limits.now.max_request_bytes)) }
 {
     records as u64 <= limits.max_post_records
         && payloads <= u128::from(limits.max_post_bytes)

@@ -40,7 +40,8 @@ fn gathered(alloc: Global, mut sheets: Vec<Sheet>) -> Result<BTreeMap<Id, Told>,
 
 /// The payload that a part leaves.
 fn payload_after(alloc: Global, old: Option<&Told>, field: &Field<Word>) -> Result<Word, AllocError>
-    ensures { IfOk result (λ payload. payload ≡ field_value field.now (option_map_or (λ t. t.now.payload) old.entry []) [] (λ text. text)) }
+    ensures { IfOk result (λ payload. payload ≡ field_value field.now (option_map_or (λ t. t.now.payload) old.entry [])
+        [] (λ text. text)) }
 {
     match (field, old) {
         (Field::Set(text), _) => text.copy(alloc),
@@ -106,8 +107,8 @@ fn into_sheets(alloc: Global, rows: BTreeMap<Id, Told>) -> Result<Vec<Sheet>, Al
     Ok(sheets)
 }
 
-/// The rows after these parts were put with one stamp, by id: each id that a part names has the row that its parts make of
-/// the old one, and each other id the row that it had.
+/// The rows after these parts were put with one stamp, by id: each id that a part names has the row that its parts make
+/// of the old one, and each other id the row that it had.
 pub fn rows_after(
     alloc: Global,
     sheets: Vec<Sheet>,

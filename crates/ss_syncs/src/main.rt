@@ -1,6 +1,6 @@
-//! Syncs of devices with an account in memory, as a program: standard input has them, and standard output how they went.
-//! Each sync is a run of the command `sync` over a dial, links and files in memory, and a real account makes the replies. The program
-//! has no contract: its stored run is the test.
+//! Syncs of devices with an account in memory, as a program: standard input has them, and standard output how they
+//! went. Each sync is a run of the command `sync` over a dial, links and files in memory, and a real account makes the
+//! replies. The program has no contract: its stored run is the test.
 #![tactic(auto)]
 
 mod devices;

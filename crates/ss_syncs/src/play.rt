@@ -121,7 +121,8 @@ impl Play {
         }
     }
 
-    /// In the next sync the call with this number fails, of dials, of links (all calls, or writes alone), of the store or of the output.
+    /// In the next sync the call with this number fails, of dials, of links (all calls, or writes alone), of the store
+    /// or of the output.
     pub fn fail(&mut self, kind: &str, number: u64) -> anyhow::Result<()> {
         let mut failing = Vec::new(self.alloc);
         failing.push(number)?;

@@ -1,18 +1,23 @@
-//! Scripts, a line for each step; words stand between single spaces. A line `# TITLE` begins anew, with a server that holds nothing, no
-//! files, and a clock at 10.00. These say what is there:
+//! Scripts, a line for each step; words stand between single spaces. A line `# TITLE` begins anew, with a server that
+//! holds nothing, no files, and a clock at 10.00. These say what is there:
 //! - `clock N`: what the server's clock reads, in hundredths of a second. `empty`: the server holds nothing any more.
 //! - `closes`: each response is its link's last. `meddles N`: before each of N POSTs another device puts a record.
-//! - `response N body TEXT`, `response N long SIZE`, `response N cut`: what comes in the place of the N-th response of a sync; `responses again`:
+//! - `response N body TEXT`, `response N long SIZE`, `response N cut`: what comes in the place of the N-th response of
+//!   a sync; `responses again`:
 //!   nothing does.
-//! - `device NAME N TITLE`: the file of a new device with N bookmarks; `letters NAME N`: with one, whose title has N letters; `line NAME LINE`:
+//! - `device NAME N TITLE`: the file of a new device with N bookmarks; `letters NAME N`: with one, whose title has N
+//!   letters; `line NAME LINE`:
 //!   one more line of a file; `rename NAME N OLD NEW TIME`: a file's N-th bookmark has another title since that time.
-//! - `fail KIND N`: the N-th call fails in the next sync: a `dial`, a call of a `link`, a `write` to one, a call of the `store`, or a `print`.
+//! - `fail KIND N`: the N-th call fails in the next sync: a `dial`, a call of a `link`, a `write` to one, a call of the
+//!   `store`, or a `print`.
 //!
 //! And these do something, and tell it:
-//! - `sync URL NAME ..` runs the command with these words; `each KIND sync URL NAME ..` lets each call fail, with an empty server each time,
+//! - `sync URL NAME ..` runs the command with these words; `each KIND sync URL NAME ..` lets each call fail, with an
+//!   empty server each time,
 //!   and leaves the files.
 //! - `asked` tells what the last sync asked; `ask METHOD TARGET` asks the server something.
-//! - `items NAME ID` tells the items whose ids begin so, as a file has them, and `same NAME NAME` whether two files have the same.
+//! - `items NAME ID` tells the items whose ids begin so, as a file has them, and `same NAME NAME` whether two files
+//!   have the same.
 
 use crate::each;
 use crate::play::Play;
@@ -24,8 +29,8 @@ fn number(text: &str) -> anyhow::Result<u64> {
     Ok(text.parse::<u64>()?)
 }
 
-/// Says what is there: the server's clock (hundredths of a second) and how it serves, devices' files, and which call of the next sync fails.
-/// Answers whether the line was one of these.
+/// Says what is there: the server's clock (hundredths of a second) and how it serves, devices' files, and which call of
+/// the next sync fails. Answers whether the line was one of these.
 fn prepare(alloc: Global, play: &mut Play, words: &[&str]) -> anyhow::Result<bool> {
     match words {
         ["clock", now] => play.set_clock(number(now)?),

@@ -19,7 +19,8 @@ pub trait Answers {
     fn answer(&mut self, alloc: Global, request: Vec<u8>) -> Option<Answer>;
 }
 
-/// The far end of links: a server, and which calls of links fail, reads and writes counted together, and writes by themselves.
+/// The far end of links: a server, and which calls of links fail, reads and writes counted together, and writes by
+/// themselves.
 #[derive(Drop)]
 pub struct Far<A: Answers + Drop> {
     pub server: A,

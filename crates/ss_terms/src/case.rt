@@ -1,5 +1,6 @@
-//! A case as its line tells it: `most=ENTRIES` of a journal, `connections=LINKS` of a term, which call of the keepers, the port, the
-//! site or a link `fails`, and the texts that come from each link, with `/` between two links. Behind ` -- ` are a server's words.
+//! A case as its line tells it: `most=ENTRIES` of a journal, `connections=LINKS` of a term, which call of the keepers,
+//! the port, the site or a link `fails`, and the texts that come from each link, with `/` between two links. Behind `
+//! -- ` are a server's words.
 
 use crate::texts::{Texts, number};
 use anyhow::bail;

@@ -1,7 +1,8 @@
-//! Connections, terms, servers and what they stand on, as a program: standard input has the cases, a line each, and standard output
-//! what came of them. `text NAME "..."` names a text. A line `connection` serves links one after the other over one town, `term` a
-//! port over two accounts, `server` a site, of which `status` tells only the status and how many terms there were. It prints the
-//! same whatever the schedule. The program has no contract: its stored run is the test.
+//! Connections, terms, servers and what they stand on, as a program: standard input has the cases, a line each, and
+//! standard output what came of them. `text NAME "..."` names a text. A line `connection` serves links one after the
+//! other over one town, `term` a port over two accounts, `server` a site, of which `status` tells only the status and
+//! how many terms there were. It prints the same whatever the schedule. The program has no contract: its stored run is
+//! the test.
 #![tactic(auto)]
 
 mod accounts;

@@ -16,8 +16,8 @@ use std::thread::Threads;
 
 type Terms = MemSite<LinkReport<MemLink>>;
 
-/// What is kept at first: of this account in the folder `f` a collection that is later than its store, which can't be opened; of 0
-/// nothing.
+/// What is kept at first: of this account in the folder `f` a collection that is later than its store, which can't be
+/// opened; of 0 nothing.
 fn kept_of(alloc: Global, uid: u32) -> anyhow::Result<Vec<(String, u32, Kept)>> {
     if uid == 0 {
         return Ok(Vec::new(alloc));

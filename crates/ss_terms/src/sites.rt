@@ -1,5 +1,5 @@
-//! A site in memory that gives keepers. Its line has which call `fails`, entries as `FOLDER:UID:STORE` with the time of the store,
-//! and behind ` -- ` the keepers that are asked for, as `FOLDER:UID`.
+//! A site in memory that gives keepers. Its line has which call `fails`, entries as `FOLDER:UID:STORE` with the time of
+//! the store, and behind ` -- ` the keepers that are asked for, as `FOLDER:UID`.
 
 use crate::texts::number;
 use anyhow::bail;

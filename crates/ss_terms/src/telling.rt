@@ -1,5 +1,5 @@
-//! What is told of a link that was served: how it ended, whether it is closed, its turns and what was written, with `|` for each end
-//! of a line.
+//! What is told of a link that was served: how it ended, whether it is closed, its turns and what was written, with `|`
+//! for each end of a line.
 
 use anyhow::bail;
 use ss_connection::{End, Turn, TurnNote};

@@ -72,8 +72,8 @@ impl Texts {
         bail!("no text has this name")
     }
 
-    /// Adds the pieces of a word: `NAME` a text, `bytes:NAME` its bytes one by one, `cut:COUNT:NAME` so many of its first bytes, and
-    /// `letters:COUNT` so many letters `a`; `none` has none.
+    /// Adds the pieces of a word: `NAME` a text, `bytes:NAME` its bytes one by one, `cut:COUNT:NAME` so many of its
+    /// first bytes, and `letters:COUNT` so many letters `a`; `none` has none.
     pub fn add_pieces(
         &self,
         alloc: Global,

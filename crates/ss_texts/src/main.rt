@@ -1,6 +1,6 @@
-//! Texts, records, streams and words as a program: standard input has a case in each line, and standard output what it tells.
-//! The cases are the worked values of ss_text, ss_outside, ss_record and ss_words. The program has no contract: its stored run is
-//! the test.
+//! Texts, records, streams and words as a program: standard input has a case in each line, and standard output what it
+//! tells. The cases are the worked values of ss_text, ss_outside, ss_record and ss_words. The program has no contract:
+//! its stored run is the test.
 #![tactic(auto)]
 
 mod outside;

@@ -1,9 +1,12 @@
 //! Cases of ss_outside. The reads and writes that are to fail are told by their numbers, counted from 1:
-//! - `source [FAILING ..], [PIECE ..], N` is read N times, each time into a new buffer of four bytes; so is `sure-source [PIECE ..], N`,
+//! - `source [FAILING ..], [PIECE ..], N` is read N times, each time into a new buffer of four bytes; so is
+//!   `sure-source [PIECE ..], N`,
 //!   which never fails, and `standard-source TEXT, N`, which stands over a reader.
-//! - `sink ROOM, [FAILING ..], [STEP ..]` and `sure-sink ROOM, [STEP ..]` tell after each step what was written, `write TEXT` by one
+//! - `sink ROOM, [FAILING ..], [STEP ..]` and `sure-sink ROOM, [STEP ..]` tell after each step what was written, `write
+//!   TEXT` by one
 //!   write and `all TEXT` whole; `standard-sink TEXT` tells what a writer gets.
-//! - `clock [READING ..], N` and `count-clock FIRST, N` are read N times; `system-clock now` tells whether its reading can be one.
+//! - `clock [READING ..], N` and `count-clock FIRST, N` are read N times; `system-clock now` tells whether its reading
+//!   can be one.
 
 use crate::reading::{add, list_in, number_in, numbers_in, quoted, text_in, texts_in, values};
 use anyhow::bail;
@@ -143,7 +146,8 @@ fn count_clock(alloc: Global, values: &Value) -> anyhow::Result<String> {
     told_readings(alloc, &mut clock, number_in(values, 1)?)
 }
 
-/// Whether the reading of the system's clock lies between September 2020 and the last stamp, in the year 2286; or else the reading.
+/// Whether the reading of the system's clock lies between September 2020 and the last stamp, in the year 2286; or else
+/// the reading.
 pub fn told_system(rt: &HostRuntime) -> anyhow::Result<String> {
     let now = SystemClock::new(rt).now();
     if 160_000_000_000 < now && now < 999_999_999_999 {

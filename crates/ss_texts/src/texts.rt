@@ -1,8 +1,10 @@
-//! Cases of ss_text. Behind `decimals` and `backslashes` stands a text as it is, or a number, and behind the others a JSON string, a
-//! number or a list:
-//! - `decimals TEXT` tells how many decimals it has, and how it is wrapped, marked and unmarked again; `backslashes N` the same of a
+//! Cases of ss_text. Behind `decimals` and `backslashes` stands a text as it is, or a number, and behind the others a
+//! JSON string, a number or a list:
+//! - `decimals TEXT` tells how many decimals it has, and how it is wrapped, marked and unmarked again; `backslashes N`
+//!   the same of a
 //!   string of so many with a decimal inside and one behind it, by numbers of bytes; `decimal TEXT` whether it is one.
-//! - `stamp TEXT` is read, in hundredths of a second, and `hundredths N` is printed; `text TEXT` is escaped behind a colon, and
+//! - `stamp TEXT` is read, in hundredths of a second, and `hundredths N` is printed; `text TEXT` is escaped behind a
+//!   colon, and
 //!   `lines TEXT` is cut.
 //! - `id`, `name`, `ids`, `word` and `bytes` are made and copied.
 

@@ -302,7 +302,8 @@ fn folded_line(alloc: Global, mut booked: Booked<SureKeeper>, now: u64) -> anyho
     Ok(format!(in alloc; "\n  after a fold {:?}", status?)?)
 }
 
-/// What is told of calls at an account with room for so many entries, at a reading of the clock (hundredths of a second).
+/// What is told of calls at an account with room for so many entries, at a reading of the clock (hundredths of a
+/// second).
 fn tell<R: Threads + Wait + Sync>(
     rt: &R,
     alloc: Global,

@@ -1,6 +1,7 @@
-//! Turns, as a program: standard input has the cases, a line each, and standard output what came of them. Threads take turns at a
-//! counter with a journal; passes are split; uids make a town or don't; calls go to the account of their uid; and threads call an
-//! account with its journal. It prints the same whatever the schedule. The program has no contract: its stored run is the test.
+//! Turns, as a program: standard input has the cases, a line each, and standard output what came of them. Threads take
+//! turns at a counter with a journal; passes are split; uids make a town or don't; calls go to the account of their
+//! uid; and threads call an account with its journal. It prints the same whatever the schedule. The program has no
+//! contract: its stored run is the test.
 #![tactic(auto)]
 
 ghost use Rattle.std.specs.Thread.{IsSync};

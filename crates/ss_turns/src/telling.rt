@@ -26,7 +26,8 @@ pub fn counted(alloc: Global, counter: &Counter) -> Result<String, AllocError> {
     )
 }
 
-/// The additions of a pass: how many, what they come to, and how many have the ticket and the total that the pass was replied.
+/// The additions of a pass: how many, what they come to, and how many have the ticket and the total that the pass was
+/// replied.
 #[derive(Clone, Copy)]
 struct Tally {
     count: u64,

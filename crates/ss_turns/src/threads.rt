@@ -78,7 +78,8 @@ fn add_in_four<R: Threads + Wait + Sync>(
     (pass, [a, b, c, d])
 }
 
-/// The counter after two threads added `count` numbers each, what they were replied, and what one more addition is answered.
+/// The counter after two threads added `count` numbers each, what they were replied, and what one more addition is
+/// answered.
 fn counted_by_two<R: Threads + Wait + Sync>(
     rt: &R,
     alloc: Global,

@@ -148,7 +148,8 @@ fn action_named<'a>(
     words: &[&'a str],
 ) -> Result<Action, WordsFault<'a>>
     ensures ok { IfOk result (λ action. action_named name.now (map (λ word. word.now) words.now) ≡ Some action) }
-    ensures refused { IfErr result (λ fault. IsRefused fault → action_named name.now (map (λ word. word.now) words.now) ≡ None) }
+    ensures refused { IfErr result (λ fault. IsRefused fault → action_named name.now (map (λ word. word.now) words.now)
+        ≡ None) }
 {
     match name {
         "new" => new_in(words),

@@ -25,7 +25,8 @@ pub struct AnswerCommand {
     /// The account's number.
     pub uid: u32,
 
-    /// The first reading of the clock, in hundredths of a second, from which it counts upwards; None is the clock that is handed in.
+    /// The first reading of the clock, in hundredths of a second, from which it counts upwards; None is the clock that
+    /// is handed in.
     pub at: Option<u64>,
 }
 
@@ -178,9 +179,11 @@ fn serve_words<'a>(
     requires workers { (1 ≤ sizes.workers) × (sizes.workers ≤ 16) }
     requires connections { (1 ≤ sizes.connections) × (sizes.connections ≤ 1000) }
     requires terms { sizes.terms ≤ 999999999999 }
-    ensures ok { IfOk result (λ command. serve_words sizes.workers sizes.connections sizes.terms (map (λ word. word.now) words.now) ≡ Some command) }
+    ensures ok { IfOk result (λ command. serve_words sizes.workers sizes.connections sizes.terms
+        (map (λ word. word.now) words.now) ≡ Some command) }
     ensures range { IfOk result HasRange }
-    ensures refused { IfErr result (λ fault. IsRefused fault → serve_words sizes.workers sizes.connections sizes.terms (map (λ word. word.now) words.now) ≡ None) }
+    ensures refused { IfErr result (λ fault. IsRefused fault → serve_words sizes.workers sizes.connections sizes.terms
+        (map (λ word. word.now) words.now) ≡ None) }
 {
     match words {
         [address, folder, uids @ ..] => Ok(Command::Serve(ServeCommand {
@@ -257,7 +260,8 @@ fn has_address(command: &Command) -> bool
 fn read_named<'a>(alloc: Global, name: Name, words: &'a [String]) -> Result<Command, WordsFault<'a>>
     ensures range { IfOk result HasRange }
     ensures ok { IfOk result (λ command. AsksOf name (map (λ word. string_bytes word) words.now) command) }
-    ensures refused { IfErr result (λ fault. IsRefused fault → (command : Command) → AsksOf name (map (λ word. string_bytes word) words.now) command → ⊥) }
+    ensures refused { IfErr result (λ fault. IsRefused fault → (command : Command)
+        → AsksOf name (map (λ word. string_bytes word) words.now) command → ⊥) }
 {
     let line = match read_line(alloc, name, words) {
         Ok(line) => line,
@@ -281,7 +285,8 @@ fn read_named<'a>(alloc: Global, name: Name, words: &'a [String]) -> Result<Comm
 pub fn read_command<'a>(alloc: Global, words: &'a [String]) -> Result<Command, WordsFault<'a>>
     ensures range { IfOk result HasRange }
     ensures asks { IfOk result (λ command. Asks (map (λ word. string_bytes word) words.now) command) }
-    ensures refused { IfErr result (λ fault. IsRefused fault → (command : Command) → Asks (map (λ word. string_bytes word) words.now) command → ⊥) }
+    ensures refused { IfErr result (λ fault. IsRefused fault → (command : Command)
+        → Asks (map (λ word. string_bytes word) words.now) command → ⊥) }
 {
     match words {
         [] => Err(WordsFault::missing(Cause::NoCommand)),

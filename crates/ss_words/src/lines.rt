@@ -93,8 +93,10 @@ impl<'a> Line<'a> {
         word: &'a str,
         value: Option<&'a str>,
     ) -> Result<Place, WordsFault<'a>>
-        ensures ok { IfOk result (λ place. taken self.old option (has_value option) (option_copied value.entry) ≡ Some (at place self.new)) }
-        ensures refused { IfErr result (λ fault. IsRefused fault → taken self.old option (has_value option) (option_copied value.entry) ≡ None) }
+        ensures ok { IfOk result (λ place. taken self.old option (has_value option) (option_copied value.entry)
+            ≡ Some (at place self.new)) }
+        ensures refused { IfErr result (λ fault. IsRefused fault → taken self.old option (has_value option)
+            (option_copied value.entry) ≡ None) }
     {
         match (option.has_value(), value) {
             (true, None) => Ok(Place::Value(option)),
@@ -112,8 +114,10 @@ impl<'a> Line<'a> {
 
     /// Takes a word that begins with a dash.
     fn take_dashed(&mut self, name: Name, word: &'a str) -> Result<Place, WordsFault<'a>>
-        ensures ok { IfOk result (λ place. dashed name self.old word.now (option_of (key_of word.now)) ≡ Some (at place self.new)) }
-        ensures refused { IfErr result (λ fault. IsRefused fault → dashed name self.old word.now (option_of (key_of word.now)) ≡ None) }
+        ensures ok { IfOk result (λ place. dashed name self.old word.now (option_of (key_of word.now))
+            ≡ Some (at place self.new)) }
+        ensures refused { IfErr result (λ fault. IsRefused fault → dashed name self.old word.now
+            (option_of (key_of word.now)) ≡ None) }
     {
         let (key, value) = cut(word);
         match OptionName::read(key) {
@@ -177,7 +181,8 @@ pub(crate) fn read_line<'a>(
     words: &'a [String],
 ) -> Result<Line<'a>, WordsFault<'a>>
     ensures ok { IfOk result (λ line. IsLine name (map (λ word. string_bytes word) words.now) line) }
-    ensures refused { IfErr result (λ fault. IsRefused fault → (line : Line) → IsLine name (map (λ word. string_bytes word) words.now) line → ⊥) }
+    ensures refused { IfErr result (λ fault. IsRefused fault → (line : Line)
+        → IsLine name (map (λ word. string_bytes word) words.now) line → ⊥) }
 {
     let mut line = Line::new(alloc);
     let mut place = Place::Between;

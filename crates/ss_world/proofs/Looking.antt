@@ -107,8 +107,6 @@ apart-filter test (s ∷ rows) a = by (apart-filter test rows (Apart-tail s.id (
     by rest true = Apart-cons s.id (ids_of (filter test rows)) none rest
     by rest false = rest
 
--- the front of a list of ids that stand apart
-
 pub apart-take : (n : ℕ) (rows : List Sheet) → Apart (ids_of rows) → Apart (ids_of (take n rows))
 apart-take n rows a = Apart-left (ids_of (take n rows)) (ids_of (drop n rows)) (subst Apart (ap ids_of (sym (take-append-drop n rows)) ∙ ids-append (take n rows) (drop n rows)) a)
 

@@ -127,5 +127,3 @@ reopened w server after seats is r = subst (λ x. Reopened x (world after seats)
 pub both : {X E P Q R : Type 0} (r : Result X E) → (P → Q → R) → OnOk r P → OnOk r Q → OnOk r R
 both (Ok x) f p q = f p q
 both (Err e) f p q = tt
-
--- a count that stands at 0 didn't rise

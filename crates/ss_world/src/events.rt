@@ -76,8 +76,10 @@ fn are_within(parts: &[Part]) -> bool
 
 /// Whether records are within the limits of one POST.
 fn are_of_one_post(records: &Records) -> bool
-    ensures fit { result ≡ true → (length records.now.parts + length records.now.failed ≤ most_post_records) × (part_bytes records.now.parts ≤ most_post_bytes) }
-    ensures unfit { result ≡ false → length records.now.parts + length records.now.failed ≤ most_post_records → part_bytes records.now.parts ≤ most_post_bytes → ⊥ }
+    ensures fit { result ≡ true → (length records.now.parts + length records.now.failed ≤ most_post_records)
+        × (part_bytes records.now.parts ≤ most_post_bytes) }
+    ensures unfit { result ≡ false → length records.now.parts + length records.now.failed ≤ most_post_records
+        → part_bytes records.now.parts ≤ most_post_bytes → ⊥ }
 {
     let parts = records.parts.as_slice();
     let good = parts.len() as u64;

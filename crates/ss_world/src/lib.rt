@@ -1,6 +1,6 @@
 //! A world: one account with its keeper, and devices that sync their bookmarks with it, whatever is lost between them.
-//! It stands on the account as ss_serving shows it and on the machine of ss_client. Its contract: no device reads half of
-//! another's upload, and after every event the bookmarks stand for one valid tree.
+//! It stands on the account as ss_serving shows it and on the machine of ss_client. Its contract: no device reads half
+//! of another's upload, and after every event the bookmarks stand for one valid tree.
 #![tactic(auto)]
 
 mod events;

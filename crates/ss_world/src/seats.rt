@@ -226,8 +226,10 @@ pub(crate) fn edit_at(
     now: u64,
     change: &Edit,
 ) -> Result<(), WorldFault>
-    ensures changed { OnOk result ((seat : Seat) × (slice_get seats.old.items n ≡ Some seat) × Changes now change.now seats.old.items n seats.new.items) }
-    ensures refused { IfErr result (λ e. (e ≡ fault.Memory) ⊎ (at_device seats.old.items n (change_fault n change.now) ≡ Some e)) }
+    ensures changed { OnOk result ((seat : Seat) × (slice_get seats.old.items n ≡ Some seat)
+        × Changes now change.now seats.old.items n seats.new.items) }
+    ensures refused { IfErr result (λ e. (e ≡ fault.Memory) ⊎ (at_device seats.old.items n (change_fault n change.now)
+        ≡ Some e)) }
     ensures left { OnErr result (seats.new.items ≡ seats.old.items) }
 {
     match seats.get_mut(n as usize) {

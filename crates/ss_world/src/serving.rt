@@ -97,8 +97,8 @@ fn told(alloc: Global, account: &mut Account<SureKeeper>) -> Result<Kept, AllocE
     }
 }
 
-/// The account is opened anew with what its keeper tells, and the old one is given up. It is refused for want of memory alone,
-/// since what the keeper of an account tells can be opened; then the account is as before.
+/// The account is opened anew with what its keeper tells, and the old one is given up. It is refused for want of memory
+/// alone, since what the keeper of an account tells can be opened; then the account is as before.
 pub(crate) fn reopen(alloc: Global, account: &mut Account<SureKeeper>) -> Result<(), AllocError>
     requires { IsGood (server_of account.old).kept }
     ensures reopens { OnOk result (Reopens (server_of account.old) (server_of account.new)) }

@@ -159,7 +159,8 @@ fn said_by(alloc: Global, awaited: Awaited, reply: &Reply) -> Result<Answer, All
     }
 }
 
-/// What a reply says to a client that awaits this, the status first. The limits that it tells, if it tells any, are ours.
+/// What a reply says to a client that awaits this, the status first. The limits that it tells, if it tells any, are
+/// ours.
 #[tactic(auto, unfolding(ss_serving::specs::Asking::told_by))]
 pub(crate) fn tell(alloc: Global, awaited: Awaited, reply: &Reply) -> Result<Answer, AllocError>
     ensures told { IfOk result (λ answer. answer ≡ told_by awaited reply.now) }

@@ -61,8 +61,8 @@ fn seated(alloc: Global, devices: Vec<Device>) -> Result<Vec<Seat>, AllocError>
 }
 
 impl World {
-    /// The account of what is kept, with these devices, none of which syncs. It isn't opened exactly where a collection, a row or a
-    /// batch is bad, or where memory is wanting.
+    /// The account of what is kept, with these devices, none of which syncs. It isn't opened exactly where a
+    /// collection, a row or a batch is bad, or where memory is wanting.
     pub fn new(alloc: Global, devices: Vec<Device>, kept: Kept) -> Result<World, OpenFault>
         ensures opened { IfOk result (λ world. SameAccount (opened kept) world.server.account) }
         ensures valid { IfOk result (λ world. IsValid world.server.account) }
@@ -71,7 +71,8 @@ impl World {
         ensures devices { IfOk result (λ world. world.seats ≡ map Seat.Idle devices.items) }
         ensures bad { IfErr result (IsFaultOf kept) }
         ensures quiet { IfErr result (λ fault. fault ≡ OpenKeeper → ⊥) }
-        ensures reached { IfOk result (λ world. (trusts : ℕ → Bool) → IsOpenable trusts world → IsReached trusts world) }
+        ensures reached { IfOk result (λ world. (trusts : ℕ → Bool) → IsOpenable trusts world
+            → IsReached trusts world) }
     {
         let seats = seated(alloc, devices)?;
         let keeper = SureKeeper::new(kept);
@@ -205,19 +206,22 @@ impl World {
         }
     }
 
-    /// What an event makes of the world, by the definition of each. What others ask has to be within the limits of one request.
-    /// A fault tells the first cause for which the event is refused, and the world is as before; or it tells that memory was
-    /// wanting. From a world that events led to from an opening the bookmarks stand for one valid tree then: the one before, or the
-    /// merged one where the event was the last POST of a device that came to the account.
+    /// What an event makes of the world, by the definition of each. What others ask has to be within the limits of one
+    /// request. A fault tells the first cause for which the event is refused, and the world is as before; or it tells
+    /// that memory was wanting. From a world that events led to from an opening the bookmarks stand for one valid tree
+    /// then: the one before, or the merged one where the event was the last POST of a device that came to the account.
     pub fn step(&mut self, alloc: Global, happening: &Event) -> Result<(), WorldFault>
         requires { IsFitEvent happening.now }
         ensures happens { OnOk result (Happens self.old happening.now self.new) }
         ensures permitted { OnOk result (fault_of self.old happening.now ≡ None) }
         ensures refused { IfErr result (Fails self.old happening.now self.new) }
         ensures passed { IfErr result (λ e. (e ≡ fault.Memory → ⊥) → Happens self.old happening.now self.new) }
-        ensures promised { (trusts : ℕ → Bool) → IsReached trusts self.old → IsTrusted trusts happening.now → Promised trusts self.old happening.now self.new }
-        ensures understood { OnOk result ((trusts : ℕ → Bool) → IsReached trusts self.old → IsWellDelivered self.old happening.now self.new) }
-        ensures fetched { OnOk result ((trusts : ℕ → Bool) (r : IsReached trusts self.old) → IsWholeFetch trusts self.old r happening.now self.new) }
+        ensures promised { (trusts : ℕ → Bool) → IsReached trusts self.old → IsTrusted trusts happening.now
+            → Promised trusts self.old happening.now self.new }
+        ensures understood { OnOk result ((trusts : ℕ → Bool) → IsReached trusts self.old
+            → IsWellDelivered self.old happening.now self.new) }
+        ensures fetched { OnOk result ((trusts : ℕ → Bool) (r : IsReached trusts self.old)
+            → IsWholeFetch trusts self.old r happening.now self.new) }
     {
         self.happen(alloc, happening)
     }

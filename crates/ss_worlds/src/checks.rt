@@ -124,8 +124,8 @@ fn is_reached(alloc: Global, items: &Items) -> Result<bool, AllocError> {
     Ok(queue.len() == items.len())
 }
 
-/// Whether rows stand for one valid tree: there is none, or each is a tombstone or an item, the roots are there, each folder lists just
-/// the items that name it as their parent, and all of them hang below the roots.
+/// Whether rows stand for one valid tree: there is none, or each is a tombstone or an item, the roots are there, each
+/// folder lists just the items that name it as their parent, and all of them hang below the roots.
 pub fn is_one_tree(alloc: Global, rows: &ById) -> Result<bool, AllocError> {
     let mut items = BTreeMap::new(alloc);
     for (_, row) in rows.iter() {

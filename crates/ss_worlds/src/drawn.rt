@@ -1,4 +1,5 @@
-//! Lists of drawn events: edits, syncs, lost requests and replies, devices and servers that are started anew, and other requests.
+//! Lists of drawn events: edits, syncs, lost requests and replies, devices and servers that are started anew, and other
+//! requests.
 
 use crate::checks::is_of_device;
 use crate::draws::Draw;

@@ -1,5 +1,6 @@
-//! Worlds of devices that sync with one account, as a program: worked ones, a long upload over a server that is started anew after each
-//! request, and lists of drawn events with a plain check after each. The program has no contract: its stored run is the test.
+//! Worlds of devices that sync with one account, as a program: worked ones, a long upload over a server that is started
+//! anew after each request, and lists of drawn events with a plain check after each. The program has no contract: its
+//! stored run is the test.
 #![tactic(auto)]
 
 mod checks;

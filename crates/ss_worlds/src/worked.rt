@@ -36,7 +36,8 @@ pub fn tell(alloc: Global, world: &World, n: u32) -> anyhow::Result<String> {
     )?)
 }
 
-/// Delivers a device's requests, each a hundredth of a second after the one before, until it is idle, at most 100; what it asked.
+/// Delivers a device's requests, each a hundredth of a second after the one before, until it is idle, at most 100; what
+/// it asked.
 pub fn finish(alloc: Global, world: &mut World, n: u32, from: u64) -> anyhow::Result<String> {
     let mut deliveries: u64 = 0;
     let mut uploads: u64 = 0;

@@ -38,8 +38,6 @@ absorbed a false h = and_false a
 pub filter-absorb : {X : Type 0} (p q : X → Bool) (xs : List X) → ((x : X) → p x ≡ true → q x ≡ true) → filter p (filter q xs) ≡ filter p xs
 filter-absorb p q xs h = filter-both p q xs ∙ filter_agree (λ x. q x && p x) p (λ x. absorbed (q x) (p x) (h x)) xs
 
--- texts
-
 -- whether a row has the place of one of those
 abbrev pub is_covered : List Row → Row → Bool
 is_covered made row = list_any (λ (new : Row). is_at new.collection new.id row) made

@@ -35,8 +35,6 @@ pulled {X} p (y ∷ xs) x e n =
       | false ↦ (λ t is. chain (head y (pulled p xs x is n.1)) (swapped y x (filter (λ z. not (p z)) xs)))
     ] refl e
 
--- no element passes where none is found
-
 -- the rows of other places
 abbrev others_than : List ℕ → List ℕ → List Row → List Row
 others_than collection id rows = filter (λ row. not (is_at collection id row)) rows

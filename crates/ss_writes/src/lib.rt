@@ -1,6 +1,6 @@
-//! What a request makes of an account's rows, collections and batches, before it is done: the rows that its parts make, the write
-//! that is ready, what a keeper is told of it, and how large rows are.
-//! Its contracts: each is the definition's, in `specs/Pending.antt` and in ss_bso's `Write`.
+//! What a request makes of an account's rows, collections and batches, before it is done: the rows that its parts make,
+//! the write that is ready, what a keeper is told of it, and how large rows are. Its contracts: each is the
+//! definition's, in `specs/Pending.antt` and in ss_bso's `Write`.
 #![tactic(auto)]
 
 mod editing;

@@ -109,7 +109,8 @@ fn push_ends_of(
     batches: &[Staged],
     collection: &Name,
 ) -> Result<(), AllocError>
-    ensures { OnOk result (changes.new.items ≡ changes.old.items ++ map EndChange (numbers_of (filter (λ batch. bytes_eq batch.collection collection.now) batches.now))) }
+    ensures { OnOk result (changes.new.items ≡ changes.old.items ++ map EndChange
+        (numbers_of (filter (λ batch. bytes_eq batch.collection collection.now) batches.now))) }
 {
     for staged in batches {
         if staged.collection == *collection {

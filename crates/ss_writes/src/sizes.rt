@@ -47,7 +47,8 @@ impl Size {
 
     /// The size with a row that was found, or without.
     fn with_found(self, found: Option<&Row>) -> Size
-        ensures { (old : List RowValue) → IsSize old self → IsSize (old ++ option_to_list (option_copied found.entry)) result }
+        ensures { (old : List RowValue) → IsSize old self → IsSize (old
+            ++ option_to_list (option_copied found.entry)) result }
     {
         match found {
             Some(row) => self.with(row),
@@ -127,7 +128,8 @@ pub fn would_be_full(
     requires number { length (rows_in shelf.now) ≤ most_counted }
     requires bytes { row_bytes (rows_in shelf.now) < most_counted }
     requires targets { Pairs OtherText targets.now }
-    ensures { result ≡ is_too_much (rows_without collection.now targets.now (rows_in shelf.now) ++ made.now) collections }
+    ensures { result ≡ is_too_much (rows_without collection.now targets.now (rows_in shelf.now)
+        ++ made.now) collections }
 {
     let gone = Size::named(shelf, collection, targets);
     let added = Size::of(made);

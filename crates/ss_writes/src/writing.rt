@@ -26,7 +26,8 @@ fn add_failure(
     first: &mut Vec<(Id, Reason)>,
     failure: &(Id, Reason),
 ) -> Result<(), AllocError>
-    ensures { OnOk result (first.new.items ≡ (if list_any (λ other. bytes_eq other.0 failure.now.0) first.old.items then first.old.items else first.old.items ++ failure.now ∷ [])) }
+    ensures { OnOk result (first.new.items ≡ (if list_any (λ other. bytes_eq other.0 failure.now.0) first.old.items then
+        first.old.items else first.old.items ++ failure.now ∷ [])) }
 {
     if !has_failed(first.as_slice(), &failure.0) {
         first.push((failure.0.copy(alloc)?, failure.1))?;
@@ -57,7 +58,8 @@ fn put_part(
     part: &Part,
     stamp: Stamp,
 ) -> Result<(), AllocError>
-    ensures { OnOk result (made.new.entries ≡ with_row collection.now (λ id. row_at collection.now id (rows_in shelf.now)) stamp made.old.entries part.now) }
+    ensures { OnOk result (made.new.entries ≡ with_row collection.now (λ id. row_at collection.now id
+        (rows_in shelf.now)) stamp made.old.entries part.now) }
 {
     let old = match made.get(&part.id) {
         Some(row) => Some(row),
@@ -76,7 +78,8 @@ fn put_parts(
     parts: &[Part],
     stamp: Stamp,
 ) -> Result<(), AllocError>
-    ensures { OnOk result (made.new.entries ≡ fold (with_row collection.now (λ id. row_at collection.now id (rows_in shelf.now)) stamp) made.old.entries parts.now) }
+    ensures { OnOk result (made.new.entries ≡ fold (with_row collection.now
+        (λ id. row_at collection.now id (rows_in shelf.now)) stamp) made.old.entries parts.now) }
 {
     for part in parts {
         put_part(alloc, made, shelf, collection, part, stamp)?;
@@ -91,8 +94,8 @@ fn into_rows(alloc: Global, made: IndexMap<Id, Row>) -> Result<Vec<Row>, AllocEr
     made.into_values().collect(alloc)
 }
 
-/// The rows that parts and then further parts make of those of a shelf, one for each id, in the order of the ids: one pass over
-/// the parts.
+/// The rows that parts and then further parts make of those of a shelf, one for each id, in the order of the ids: one
+/// pass over the parts.
 pub fn made_rows(
     alloc: Global,
     shelf: &Shelf,
@@ -101,7 +104,9 @@ pub fn made_rows(
     more: &[Part],
     stamp: Stamp,
 ) -> Result<Vec<Row>, AllocError>
-    ensures { IfOk result (λ made. made.items ≡ filter_map (λ id. put_all collection.now (parts_of id (first.now ++ more.now)) stamp (row_at collection.now id (rows_in shelf.now))) (ids_of (first.now ++ more.now))) }
+    ensures { IfOk result (λ made. made.items ≡ filter_map (λ id. put_all collection.now
+        (parts_of id (first.now ++ more.now)) stamp (row_at collection.now id (rows_in shelf.now)))
+        (ids_of (first.now ++ more.now))) }
 {
     let mut made = IndexMap::new(alloc);
     put_parts(alloc, &mut made, shelf, collection, first, stamp)?;

@@ -81,7 +81,8 @@ fn explain_trouble(rt: &impl Eprint, command: &ServeCommand, trouble: Trouble) {
     };
 }
 
-/// Says on standard error why the words ask for no server, or what failed at its site. Why it stopped was told as it did.
+/// Says on standard error why the words ask for no server, or what failed at its site. Why it stopped was told as it
+/// did.
 pub fn explain_serve(rt: &impl Eprint, alloc: Global, words: &[String], trouble: Option<Trouble>) {
     match (read_command(alloc, words), trouble) {
         (Ok(Command::Serve(command)), Some(trouble)) => explain_trouble(rt, &command, trouble),

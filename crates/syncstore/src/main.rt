@@ -1,6 +1,6 @@
-//! `syncstore`: a storage server with the behaviour of Mozilla's SyncStorage API 1.5.
-//! The words name the command: a server of accounts that are kept in files, recorded messages that are answered, a device that syncs
-//! or is edited, a rehearsal of two. Its contracts, on the calls that `main` makes: `run_serve`, `run_offline`, `run_sync`,
+//! `syncstore`: a storage server with the behaviour of Mozilla's SyncStorage API 1.5. The words name the command: a
+//! server of accounts that are kept in files, recorded messages that are answered, a device that syncs or is edited, a
+//! rehearsal of two. Its contracts, on the calls that `main` makes: `run_serve`, `run_offline`, `run_sync`,
 //! `run_device_command` and `run_rehearsal`.
 #![tactic(auto)]
 

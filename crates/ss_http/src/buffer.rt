@@ -1,12 +1,13 @@
 //! The bytes between a source and its messages.
 
-ghost use Rattle.std.specs.Prelude.{◌≡◌, ◌≤◌, ◌<◌, ◌+◌, ◌-◌, slice_range, [], None, Some, length, drop, IfOk, OnErr};
+ghost use Rattle.std.specs.Prelude.{◌≡◌, ◌≤◌, ◌<◌, ◌+◌, ◌-◌, slice_range, [], None, Some, length, drop, vec_capacity, IfOk, OnErr};
+ghost use Rattle.ss_http.specs.declared.limits.TheConstants.{ROOM};
 ghost use Rattle.ss_outside.specs.Causes.{RisesOnErr};
 ghost use Rattle.ss_outside.specs.Told.{EndsAt};
 ghost use Rattle.ss_http.specs.Buffers.{Kept, Brings, count_of};
 
 use crate::fault::MsgFault;
-use crate::limits::ROOM;
+use crate::limits::{FIRST_ROOM, ROOM};
 use ss_outside::{ReadFault, Source};
 use std::alloc::{AllocError, Global};
 use std::marker::Model;
@@ -14,6 +15,7 @@ use std::marker::Model;
 /// Bytes that were read and belong to no message yet, and why no message will come any more, if so.
 #[derive(Drop)]
 pub struct Buffer {
+    // In memory for `ROOM` of them, of which only those are touched that reads have come to.
     bytes: Vec<u8>,
     start: usize,
     end: usize,
@@ -21,7 +23,7 @@ pub struct Buffer {
 }
 
 impl Model for Buffer {
-    ghost use Rattle.std.specs.Prelude.{◌≡◌, ◌≤◌, slice_range, length};
+    ghost use Rattle.std.specs.Prelude.{◌≤◌, slice_range, length, vec_capacity};
     ghost use Rattle.ss_http.specs.Buffers.{Kept};
     ghost use Rattle.ss_http.specs.declared.limits.TheConstants.{ROOM};
 
@@ -29,7 +31,8 @@ impl Model for Buffer {
 
     ghost view = { λ buffer. record { bytes = slice_range buffer.bytes.items buffer.start buffer.end; stop = buffer.stop } };
 
-    ghost invariant = { λ buffer. (buffer.start ≤ buffer.end) × (buffer.end ≤ length buffer.bytes.items) × (length buffer.bytes.items ≡ ROOM) };
+    ghost invariant = { λ buffer. (buffer.start ≤ buffer.end) × (buffer.end ≤ length buffer.bytes.items) × (length buffer.bytes.items ≤ ROOM)
+        × (ROOM ≤ vec_capacity buffer.bytes) };
 }
 
 impl Buffer {
@@ -38,7 +41,7 @@ impl Buffer {
         ensures { IfOk result (λ buffer. buffer ≡ record { bytes = []; stop = None }) }
     {
         Ok(Buffer {
-            bytes: vec![in alloc; 0u8; ROOM]?,
+            bytes: Vec::with_capacity(alloc, ROOM)?,
             start: 0,
             end: 0,
             stop: None,
@@ -76,7 +79,7 @@ impl Buffer {
     }
 
     /// Reads more bytes. What is kept is moved only where the room behind it is used up: all of it then belongs to the
-    /// message that is awaited, so a byte is moved at most once a message.
+    /// message that is awaited, so a byte is moved at most once a message. To find room takes no memory.
     pub(crate) fn fill<S: Source>(&mut self, source: &mut S) -> Result<usize, ReadFault>
         requires { length self.old.bytes < ROOM }
         ensures stop { self.new.stop ≡ self.old.stop }
@@ -88,11 +91,33 @@ impl Buffer {
         ensures cause { RisesOnErr (S.Told.told source.old).read_faults (S.Told.told source.new).read_faults result }
     {
         let kept = self.end - self.start;
+        widen(&mut self.bytes, self.start, self.end);
         self.start = pack(self.bytes.as_mut_slice(), self.start, self.end);
         self.end = self.start + kept;
         let count = read_behind(self.bytes.as_mut_slice(), self.start, self.end, source)?;
         self.end += count;
         Ok(count)
+    }
+}
+
+/// Makes the bytes twice as many, up to `ROOM`, where no room is left behind those from `start` to `end` and these are
+/// more than half of them. The bytes that a buffer begins with are its first.
+fn widen(bytes: &mut Vec<u8>, start: usize, end: usize)
+    requires ordered { start ≤ end }
+    requires within { end ≤ length bytes.old.items }
+    requires most { length bytes.old.items ≤ ROOM }
+    requires capacity { ROOM ≤ vec_capacity bytes.old }
+    ensures kept { slice_range bytes.new.items start end ≡ slice_range bytes.old.items start end }
+    ensures within { end ≤ length bytes.new.items }
+    ensures most { length bytes.new.items ≤ ROOM }
+    ensures capacity { ROOM ≤ vec_capacity bytes.new }
+    ensures room { end - start < ROOM → end - start < length bytes.new.items }
+{
+    let used_up = end == bytes.len();
+    let few = 0 < start && end - start <= start;
+    if used_up && !few {
+        let wider = (bytes.len() * 2).clamp(FIRST_ROOM, ROOM);
+        let _memory_is_there = bytes.resize(wider, 0);
     }
 }
 

@@ -7,6 +7,10 @@ use Rattle.ss_booked.specs.declared.booked.Booked.{Booked}
 use Rattle.ss_booked.specs.declared.booked.Terms.{Terms}
 
 module _ {K : Type 0} {G : Ghosts K} where
+  -- whose it is
+  abbrev pub uid_of : Booked K G → ℕ
+  uid_of b = b.bound.uid
+
   -- the account, with its keeper
   abbrev pub account_of : Booked K G → Held K
   account_of b = b.bound.account
@@ -21,4 +25,9 @@ module _ {K : Type 0} {G : Ghosts K} where
 
   -- what no call changes
   abbrev pub terms_of : (K → ℕ) → Booked K G → Terms
-  terms_of keep_faults b = record { opening = b.bound.journal.opening; most = b.bound.journal.most; faults = keep_faults b.bound.before }
+  terms_of keep_faults b = record {
+    uid = b.bound.uid;
+    opening = b.bound.journal.opening;
+    most = b.bound.journal.most;
+    faults = keep_faults b.bound.before;
+  }

@@ -29,9 +29,10 @@ pub struct Asked {
     pub request: Request,
 }
 
-/// What no call changes: the opening of the journal, the most entries, and the keeper's count of faults at the opening.
-/// It is for the proofs: no value of it is made.
+/// What no call changes: whose account it is, the opening of the journal, the most entries, and the keeper's count of
+/// faults at the opening. It is for the proofs: no value of it is made.
 pub struct Terms {
+    pub uid: u32,
     pub opening: Plain,
     pub most: u32,
     pub faults: u64,
@@ -47,23 +48,25 @@ pub struct Booked<K: Keeper> {
 }
 
 impl<K: Keeper> Booked<K> {
-    ghost use Rattle.ss_booked.specs.Booked.{account_of, journal_of, keeper_before};
+    ghost use Rattle.ss_booked.specs.Booked.{uid_of, account_of, journal_of, keeper_before};
 
-    /// Opens a journal for an account, with room for so many entries. Where memory is wanting the account comes back as
-    /// it was.
+    /// Opens a journal for the account of this uid, with room for so many entries. Where memory is wanting the account
+    /// comes back as it was.
     pub fn open(
         alloc: Global,
+        uid: u32,
         account: Account<K>,
         most: u32,
     ) -> Result<Booked<K>, (Account<K>, AllocError)>
         requires most { (1 ≤ most) × (most ≤ most_entries) }
+        ensures uid { IfOk result (λ b. uid_of b ≡ uid) }
         ensures account { IfOk result (λ b. account_of b ≡ account) }
         ensures opening { IfOk result (λ b. SameAccount account.plain (journal_of b).opening) }
         ensures begun { IfOk result (λ b. journal_of b ≡ begun (journal_of b).opening most) }
         ensures before { IfOk result (λ b. keeper_before b ≡ account.keeper) }
         ensures returned { IfErr result (λ refused. refused.0 ≡ account) }
     {
-        let bound = Bound::open(alloc, account, most)?;
+        let bound = Bound::open(alloc, uid, account, most)?;
         Ok(Booked { bound })
     }
 
@@ -79,6 +82,7 @@ impl<K: Keeper> Booked<K> {
     ) -> Result<Reply, Full>
         requires fits { IsFitRequest request }
         requires above { All (λ entry. entry.ticket < ticket) (journal_of self.old).entries }
+        ensures uid { uid_of self.new ≡ uid_of self.old }
         ensures entered { IfOk result (λ reply. journal_of self.new ≡ with_entry (journal_of self.old)
             (record { ticket = ticket; pass = pass; now = now; request = request; mark = mark_of reply })) }
         ensures reply { IfOk result (λ reply. reply_at (journal_of self.new) (length (journal_of self.old).entries)
@@ -112,6 +116,7 @@ impl<K: Keeper> Booked<K> {
     /// Begins the journal again: the present account becomes its opening, and the entries go. Where memory is wanting
     /// nothing changes.
     pub fn fold(&mut self) -> Result<(), AllocError>
+        ensures uid { uid_of self.new ≡ uid_of self.old }
         ensures account { account_of self.new ≡ account_of self.old }
         ensures opening { OnOk result (SameAccount (account_of self.old).plain (journal_of self.new).opening) }
         ensures follows { OnOk result (SameAccount (account_after (journal_of self.old).opening

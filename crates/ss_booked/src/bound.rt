@@ -23,10 +23,11 @@ use std::alloc::{AllocError, Global};
 use std::marker::Model;
 use std::snapshot::Snapshot;
 
-/// An account bound to its journal. Contracts see the two, and the keeper as it was when the journal was opened.
+/// An account bound to its journal. Contracts see its uid, the two, and the keeper as it was when the journal was opened.
 #[derive(Drop)]
 pub(crate) struct Bound<K: Keeper> {
     alloc: Global,
+    uid: u32,
     account: Account<K>,
     journal: Journal,
 
@@ -44,19 +45,21 @@ impl<K: Keeper> Model for Bound<K> {
 
     ghost use Rattle.ss_booked.specs.Sound.{IsSound};
 
-    ghost view = { λ b. record { account = b.account; journal = b.journal; before = b.before.value } };
+    ghost view = { λ b. record { uid = b.uid; account = b.account; journal = b.journal; before = b.before.value } };
 
     ghost invariant = { λ b. IsSound (K.told b.account.keeper) b.account.plain b.journal b.bytes (K.keep_faults b.before.value) (K.keep_faults b.account.keeper) };
 }
 
 impl<K: Keeper> Bound<K> {
-    /// Opens a journal for an account, with room for so many entries. Where memory is wanting the account comes back as
-    /// it was.
+    /// Opens a journal for the account of this uid, with room for so many entries. Where memory is wanting the account
+    /// comes back as it was.
     pub(crate) fn open(
         alloc: Global,
+        uid: u32,
         account: Account<K>,
         most: u32,
     ) -> Result<Bound<K>, (Account<K>, AllocError)>
+        ensures uid { IfOk result (λ b. b.uid ≡ uid) }
         ensures account { IfOk result (λ b. b.account ≡ account) }
         ensures opening { IfOk result (λ b. SameAccount account.plain b.journal.opening) }
         ensures begun { IfOk result (λ b. b.journal ≡ begun b.journal.opening most) }
@@ -75,6 +78,7 @@ impl<K: Keeper> Bound<K> {
         let before = Snapshot::of(account.keeper());
         Ok(Bound {
             alloc,
+            uid,
             account,
             journal,
             bytes: 0,
@@ -92,6 +96,7 @@ impl<K: Keeper> Bound<K> {
     ) -> Result<Reply, Full>
         requires fits { IsFitRequest request }
         requires above { All (λ entry. entry.ticket < ticket) self.old.journal.entries }
+        ensures uid { self.new.uid ≡ self.old.uid }
         ensures entered { IfOk result (λ reply. self.new.journal ≡ with_entry self.old.journal
             (record { ticket = ticket; pass = pass; now = now; request = request; mark = mark_of reply })) }
         ensures reply { IfOk result (λ reply. reply_at self.new.journal (length self.old.journal.entries)
@@ -154,6 +159,7 @@ impl<K: Keeper> Bound<K> {
 
     /// Begins the journal again, from the present account.
     pub(crate) fn fold(&mut self) -> Result<(), AllocError>
+        ensures uid { self.new.uid ≡ self.old.uid }
         ensures account { self.new.account ≡ self.old.account }
         ensures opening { OnOk result (SameAccount self.old.account.plain self.new.journal.opening) }
         ensures follows { OnOk result (SameAccount (account_after self.old.journal.opening self.old.journal.entries)
@@ -183,6 +189,7 @@ impl<K: Keeper> Bound<K> {
     {
         let Bound {
             alloc: _,
+            uid: _,
             account,
             journal,
             bytes: _,

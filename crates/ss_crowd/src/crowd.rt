@@ -59,7 +59,7 @@ fn accounts(alloc: Global) -> anyhow::Result<Vec<(u32, Booked<SureKeeper>)>>
     let mut accounts = Vec::new(alloc);
     for uid in [7, 8] {
         let keeper = SureKeeper::new(Kept::fresh(alloc));
-        add(&mut accounts, uid, booked(alloc, keeper)?)?;
+        add(&mut accounts, uid, booked(alloc, uid, keeper)?)?;
     }
     Ok(accounts)
 }

@@ -94,8 +94,8 @@ fn accounts(alloc: Global, meeting: &Meeting) -> anyhow::Result<Vec<(u32, Booked
         late: &meeting.late,
     };
     let mut accounts = Vec::new(alloc);
-    add(&mut accounts, 7, booked(alloc, seven)?)?;
-    add(&mut accounts, 8, booked(alloc, eight)?)?;
+    add(&mut accounts, 7, booked(alloc, 7, seven)?)?;
+    add(&mut accounts, 8, booked(alloc, 8, eight)?)?;
     Ok(accounts)
 }
 

@@ -32,11 +32,11 @@ fn opened<K: Keeper + Drop>(alloc: Global, keeper: K) -> anyhow::Result<Account<
     }
 }
 
-/// The account of a keeper, with an empty journal.
-pub fn booked<K: Keeper + Drop>(alloc: Global, keeper: K) -> anyhow::Result<Booked<K>>
+/// The account of this uid, which a keeper holds, with an empty journal.
+pub fn booked<K: Keeper + Drop>(alloc: Global, uid: u32, keeper: K) -> anyhow::Result<Booked<K>>
     ensures bare { IfOk result (λ b. (journal_of b).entries ≡ []) }
 {
-    match Booked::open(alloc, opened(alloc, keeper)?, MOST) {
+    match Booked::open(alloc, uid, opened(alloc, keeper)?, MOST) {
         Ok(booked) => Ok(booked),
         Err((account, _)) => {
             drop(account);

@@ -37,12 +37,12 @@ fn fresh(alloc: Global, commit: u64) -> anyhow::Result<Account<MemKeeper>> {
     }
 }
 
-/// A fresh account with an empty journal.
+/// Account 7, fresh, with an empty journal.
 fn booked(alloc: Global, setting: Setting) -> anyhow::Result<Booked<MemKeeper>>
     requires most { (1 ≤ setting.most) × (setting.most ≤ 200000) }
     ensures bare { IfOk result (λ b. (journal_of b).entries ≡ []) }
 {
-    match Booked::open(alloc, fresh(alloc, setting.commit)?, setting.most) {
+    match Booked::open(alloc, 7, fresh(alloc, setting.commit)?, setting.most) {
         Ok(booked) => Ok(booked),
         Err((account, _)) => {
             drop(account);

@@ -20,6 +20,7 @@ use Rattle.ss_run_serve.specs.Terms.{BeginsAnew, IsLeft}
 begins_itself : (account : ℕ × Hosted) → IsBegun account.1 → BeginsAnew account account
 begins_itself account begun = record {
   uid = refl;
+  own = refl;
   opening = subst (λ (entries : List Entry). SameAccount (account_after account.1.fixed.opening entries) account.1.fixed.opening) (sym begun.entries) (same-self account.1.fixed.opening);
   begun = begun;
   most = refl;

@@ -14,7 +14,7 @@ use Rattle.ss_laws.specs.Journal.{Journal}
 use Rattle.ss_laws.specs.Journals.{account_after, begun}
 use Rattle.ss_account.specs.Held.{Held}
 use Rattle.ss_booked.specs.declared.booked.Booked.{Booked}
-use Rattle.ss_booked.specs.Booked.{account_of, journal_of, keeper_before}
+use Rattle.ss_booked.specs.Booked.{uid_of, account_of, journal_of, keeper_before}
 use Rattle.ss_booked.specs.Sizes.{most_entries}
 use Rattle.ss_site.specs.Sites.{Entries, IsEntry}
 use Rattle.ss_run_serve.specs.Hosted.{Hosted, IsBegun, hosted, hosted_at, left_by}
@@ -26,10 +26,12 @@ use Rattle.ss_run_serve.proofs.Anew.{left_anew}
 module _ {K : Type 0} {G : Ghosts K} (told : K → Option Kept) (faults : K → ℕ) where
   pub opened_account : {E : Type 0} (folder : List ℕ) (uid : ℕ) (kept kept' : Option Entries) (account : Held K) (r : Result (Booked K G) E) → kept' ≡ kept
       → ((entries : Entries) → kept' ≡ Some entries → SameAccount (opened (entries folder uid)) account.plain) → IsEntry folder uid (told account.keeper) kept' → faults account.keeper ≡ 0
-      → IfOk r (λ b. account_of b ≡ account) → IfOk r (λ b. SameAccount account.plain (journal_of b).opening) → IfOk r (λ b. IsBegun (hosted told faults b)) → IfOk r (λ b. (journal_of b).most ≡ most_entries)
+      → IfOk r (λ b. uid_of b ≡ uid) → IfOk r (λ b. account_of b ≡ account) → IfOk r (λ b. SameAccount account.plain (journal_of b).opening) → IfOk r (λ b. IsBegun (hosted told faults b))
+      → IfOk r (λ b. (journal_of b).most ≡ most_entries)
       → IfOk r (λ b. IsOpened folder kept (uid, hosted told faults b))
-  opened_account folder uid kept kept' account (Err e) same opens entry fresh is opening begun most = is
-  opened_account folder uid kept kept' account (Ok b) same opens entry fresh is opening begun most = record {
+  opened_account folder uid kept kept' account (Err e) same opens entry fresh own is opening begun most = is
+  opened_account folder uid kept kept' account (Ok b) same opens entry fresh own is opening begun most = record {
+    own = own;
     opening = λ entries there. same-through (opened (entries folder uid)) account.plain (journal_of b).opening (opens entries (same ∙ there)) opening;
     entry = subst (λ (k : Option Entries). IsEntry folder uid (told (account_of b).keeper) k) same (subst (λ (a : Held K). IsEntry folder uid (told a.keeper) kept') (sym is) entry);
     begun = begun;
@@ -37,13 +39,14 @@ module _ {K : Type 0} {G : Ghosts K} (told : K → Option Kept) (faults : K → 
     faults = ap (λ (a : Held K). faults a.keeper) is ∙ fresh;
   }
 
-  pub folded_anew : {E : Type 0} (uid : ℕ) (old new : Booked K G) (r : Result (Unit {0}) E) → account_of new ≡ account_of old
+  pub folded_anew : {E : Type 0} (uid : ℕ) (old new : Booked K G) (r : Result (Unit {0}) E) → uid_of new ≡ uid_of old → account_of new ≡ account_of old
       → OnOk r (SameAccount (account_after (journal_of old).opening (journal_of old).entries) (journal_of new).opening)
       → OnOk r (journal_of new ≡ begun (journal_of new).opening (journal_of old).most) → OnOk r (keeper_before new ≡ (account_of old).keeper)
       → OnOk r (BeginsAnew (hosted_at told faults (uid, old)) (hosted_at told faults (uid, new)))
-  folded_anew uid old new (Err e) same follows is before = follows
-  folded_anew uid old new (Ok done) same follows is before = record {
+  folded_anew uid old new (Err e) own same follows is before = follows
+  folded_anew uid old new (Ok done) own same follows is before = record {
     uid = refl;
+    own = own;
     opening = follows;
     begun = record {
       entries = ap (λ (j : Journal). j.entries) is;

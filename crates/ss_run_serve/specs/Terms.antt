@@ -15,10 +15,12 @@ use Rattle.ss_run_serve.specs.Hosted.{Hosted, IsBegun, journal_in, left_by}
 abbrev pub IsLeft : List (ℕ × Hosted) → ℕ × Hosted → Type 0
 IsLeft left account = Any (λ other. (other.0 ≡ account.0) × SameAccount (left_by other.1) (left_by account.1)) left
 
--- the account with this uid begins anew from where it was left: it opens with the account that its journal leaves, whatever the
--- order of its rows, collections and batches, with the room that its journal had, over a keeper that has not failed meanwhile
+-- the account with this uid begins anew from where it was left: it is the one that it was, and opens with the account that its
+-- journal leaves, whatever the order of its rows, collections and batches, with the room that its journal had, over a keeper that
+-- has not failed meanwhile
 pub record BeginsAnew (left anew : ℕ × Hosted) : Type 0 where
   pub uid : anew.0 ≡ left.0
+  pub own : anew.1.fixed.uid ≡ left.1.fixed.uid
   pub opening : SameAccount (left_by left.1) anew.1.fixed.opening
   pub begun : IsBegun anew.1
   pub most : anew.1.fixed.most ≡ left.1.fixed.most

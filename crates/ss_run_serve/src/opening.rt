@@ -4,7 +4,7 @@ ghost use Rattle.std.specs.Prelude.{◌≡◌, ◌≤◌, ℕ, [], map, length, 
 ghost use Rattle.ss_outside.specs.Causes.{Rose};
 ghost use Rattle.ss_bso.specs.Changes.{opened};
 ghost use Rattle.ss_bso.specs.Validity.{SameAccount};
-ghost use Rattle.ss_booked.specs.Booked.{account_of, journal_of};
+ghost use Rattle.ss_booked.specs.Booked.{uid_of, account_of, journal_of};
 ghost use Rattle.ss_booked.specs.Sizes.{most_entries};
 ghost use Rattle.ss_site.specs.Sites.{Counts, Entries, IsBack, IsEntry};
 ghost use Rattle.ss_run_serve.specs.Hosted.{hosted, hosted_at, IsBegun};
@@ -71,6 +71,7 @@ fn begin<X: Site>(
 ) -> Result<Booked<X::Keeper>, Stop>
     requires entry { IsEntry folder.now uid (X.Keeper.told account.keeper) (X.kept site.old) }
     requires fresh { X.Keeper.keep_faults account.keeper ≡ 0 }
+    ensures uid { IfOk result (λ b. uid_of b ≡ uid) }
     ensures account { IfOk result (λ b. account_of b ≡ account) }
     ensures opening { IfOk result (λ b. SameAccount account.plain (journal_of b).opening) }
     ensures begun { IfOk result (λ b. IsBegun (hosted X.Keeper.told X.Keeper.keep_faults b)) }
@@ -83,7 +84,7 @@ fn begin<X: Site>(
     ensures lent { OnOk result (X.lent site.new ≡ X.lent site.old) }
     ensures returned { OnErr result (IsBack (X.lent site.old) (X.lent site.new)) }
 {
-    match Booked::open(alloc, account, MOST_ENTRIES) {
+    match Booked::open(alloc, uid, account, MOST_ENTRIES) {
         Ok(booked) => Ok(booked),
         Err((account, _)) => {
             site.retire(folder, uid, account.into_keeper());

@@ -106,8 +106,8 @@ module _ {B : Type 0} (terms : B → Terms) (entries : B → List Entry) where
 
       -- What a term hands back of the accounts that were handed in
       pub record IsTerm (given handed : List (ℕ × B)) (reports : List (LinkReport L)) (coming coming' : List (Option (List ℕ))) : Type 0 where
-        -- The accounts come back in the order of their uids, each with the opening, the most entries and the keeper's count
-        -- of faults at the opening that it had.
+        -- The accounts come back in the order of their uids, each the account of the uid that it was, with the opening, the most
+        -- entries and the keeper's count of faults at the opening that it had.
         pub may : MayOpen given
         pub order : List (ℕ × B)
         pub moved : IsPermutation given order

@@ -24,14 +24,14 @@ fn fresh(alloc: Global, failing: u64) -> anyhow::Result<Account<MemKeeper>> {
     }
 }
 
-/// Such an account with an empty journal, which has room for so many entries.
-fn booked(alloc: Global, most: u32, failing: u64) -> anyhow::Result<Booked<MemKeeper>>
+/// Such an account of this uid with an empty journal, which has room for so many entries.
+fn booked(alloc: Global, uid: u32, most: u32, failing: u64) -> anyhow::Result<Booked<MemKeeper>>
     ensures bare { IfOk result (λ b. (journal_of b).entries ≡ []) }
 {
     if most == 0 || most > MOST_ENTRIES {
         bail!("no such room");
     }
-    match Booked::open(alloc, fresh(alloc, failing)?, most) {
+    match Booked::open(alloc, uid, fresh(alloc, failing)?, most) {
         Ok(booked) => Ok(booked),
         Err((account, _)) => {
             drop(account);
@@ -65,7 +65,7 @@ fn add_fresh(
     requires bare { AreBare (λ b. (journal_of b).entries) accounts.old.items }
     ensures bare { IfOk result (λ done. AreBare (λ b. (journal_of b).entries) accounts.new.items) }
 {
-    let booked = booked(alloc, most, failing)?;
+    let booked = booked(alloc, uid, most, failing)?;
     add(accounts, uid, booked)?;
     Ok(())
 }

@@ -61,12 +61,12 @@ fn fresh(alloc: Global) -> anyhow::Result<Account<SureKeeper>> {
     }
 }
 
-/// A fresh account with an empty journal, which has room for so many entries.
+/// Account 7, fresh, with an empty journal, which has room for so many entries.
 fn booked(alloc: Global, most: u32) -> anyhow::Result<Booked<SureKeeper>>
     requires most { (1 ≤ most) × (most ≤ 200000) }
     ensures bare { IfOk result (λ b. (journal_of b).entries ≡ []) }
 {
-    match Booked::open(alloc, fresh(alloc)?, most) {
+    match Booked::open(alloc, 7, fresh(alloc)?, most) {
         Ok(booked) => Ok(booked),
         Err((account, _)) => {
             drop(account);

@@ -22,7 +22,7 @@ use Rattle.ss_text.specs.Numbers.{number_of}
 use Rattle.ss_route.specs.Posts.{token, batch_of}
 use Rattle.ss_route.specs.Targets.{positive_of, uid_of}
 use Rattle.ss_route.proofs.Composed.{is_plain, all_append}
-use Rattle.ss_text.proofs.StampTexts.{two_are_digits, decimal_digits}
+use Rattle.ss_text.proofs.StampTexts.{two_are_digits, decimal_digits, all_three}
 
 digit_is_plain : (x : ℕ) → is_ascii_digit x ≡ true → is_plain x ≡ true
 digit_is_plain x e = ap (λ b. ((b || (leb 65 x && leb x 90)) || (leb 97 x && leb x 122)) || x == 45 || x == 46 || x == 95) e
@@ -91,13 +91,10 @@ token_short n below =
     omega (arith, digits, symbols, same)
 
 -- a number is read back
-pub three_tests : (a b c : Bool) (x : Option ℕ) → a ≡ true → b ≡ true → c ≡ true → cond (a && b && c) x None ≡ x
-three_tests a b c x p q r = ap₂ (λ s t. cond (s && t && c) x None) p q ∙ ap (λ t. cond (true && true && t) x None) r
-
 pub number_back : (most n : ℕ) → 0 < most → n < 2 ^ 64 → n < 10 ^ most → number_of most (decimal n) ≡ Some n
 unfolding number_of
 number_back most n some few small =
-    three_tests _ _ _ (Some (digits_value 10 (decimal n))) (le-leb 1 _ (decimal_nonempty n few)) (le-leb _ most (length-decimal-le most n some small few)) (decimal_digits n few)
+    all_three _ _ _ (Some (digits_value 10 (decimal n))) (le-leb 1 _ (decimal_nonempty n few)) (le-leb _ most (length-decimal-le most n some small few)) (decimal_digits n few)
     ∙ ap Some (decimal_is_IsNumeral n few).1
 
 pub positive_back : (most n : ℕ) → 0 < most → 0 < n → n < 2 ^ 64 → n < 10 ^ most → positive_of most (decimal n) ≡ Some n

@@ -15,7 +15,7 @@ use std::marker::Model;
 /// Bytes that were read and belong to no message yet, and why no message will come any more, if so.
 #[derive(Drop)]
 pub struct Buffer {
-    // In memory for `ROOM` of them, of which only those are touched that reads have come to.
+    // There is memory for `ROOM` of them. Of it `FIRST_ROOM` is touched at the first read, and more as messages need it.
     bytes: Vec<u8>,
     start: usize,
     end: usize,

@@ -21,7 +21,7 @@ use Rattle.ss_query.specs.declared.requests.Request.TheVariants.{Post}
 use Rattle.ss_query.specs.declared.requests.Mode.TheVariants.{Begin, Append, Commit}
 use Rattle.ss_query.specs.declared.replies.Body.{Body}
 use Rattle.ss_query.specs.Fit.{IsFitRequest}
-use Rattle.ss_query.specs.Refused.{Refusal, NoItem, NoMoreBatches, NoBatch, BatchFull, ClockEnded, AccountFull, batch_of, condition_of, said_by, staged_parts, target_time, IsLive}
+use Rattle.ss_query.specs.Refused.{Refusal, NoItem, NoMoreBatches, NoBatch, BatchFull, ClockEnded, AccountFull, batch_of, condition_of, said_by, staged_parts, is_there, target_time, IsLive}
 use Rattle.ss_query.specs.Effect.{effect, is_empty, is_over, is_write, stamp_in}
 use Rattle.ss_query.specs.Api.{condition_cause, first_some, lacks_room, misses_batch, misses_item, outcome, overfills_batch, refusal, where_so, why_stopped}
 use Rattle.ss_account.specs.Steps.{batch_cause, committed, fault_body, late_refusal, plain_reply, stage_of}
@@ -250,7 +250,7 @@ by-batch (Some other) b c others why e = e
 -- the tests before those of batches are passed
 pub record ComesIn (account : Plain) (request : Request) : Type 0 where
   pub item : misses_item account request ≡ false
-  pub free : stops (condition_of request) (target_time account request) ≡ None
+  pub free : stops (condition_of request) (is_there account request) (target_time account request) ≡ None
 
 first-two : (missing : Bool) (cause : Option Refusal) (others : List (Option Refusal)) → missing ≡ false → cause ≡ None → first_some (where_so missing NoItem ∷ cause ∷ others) ≡ first_some others
 first-two true cause others e f = cc

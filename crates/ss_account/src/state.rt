@@ -14,7 +14,8 @@ ghost use Rattle.ss_keeper.specs.Keeping.{HasCause};
 ghost use Rattle.ss_query.specs.declared.replies.Body.TheVariants.{Posted, Said as Word};
 ghost use Rattle.ss_query.specs.declared.replies.Said.TheVariants.{Keeper as KeeperWord, Memory};
 ghost use Rattle.ss_query.specs.Fit.{IsFitRequest};
-ghost use Rattle.ss_query.specs.Refused.{target_time, collection_time, said_by, staged_parts, IsLive};
+ghost use Rattle.ss_query.specs.Refused.{condition_of, is_there, is_listed, target_time, collection_time, said_by, staged_parts, IsLive};
+ghost use Rattle.ss_text.specs.Time.{stops};
 ghost use Rattle.ss_query.specs.Effect.{effect, is_over, is_write, stamp_in};
 ghost use Rattle.ss_query.specs.Told.{body_of, first_failures, info_body, per_collection, picked};
 ghost use Rattle.ss_query.specs.Api.{refusal, outcome, done, misses_item};
@@ -42,7 +43,7 @@ use ss_bso::{
 use ss_index::Shelf;
 use ss_keeper::{KeepFault, Keeper};
 use ss_query::{Body, Info, Mode, Numbers, Query, Reply, Request, Said};
-use ss_text::{Id, LAST, Name, Stamp};
+use ss_text::{Cond, Id, LAST, Name, Stamp};
 use ss_writes::{
     Ended, Pending, Targets, copy_batches, copy_parts, count_others, find_time, made_rows,
     with_body, would_be_full,
@@ -165,6 +166,38 @@ impl State {
         }
     }
 
+    fn is_listed(&self, collection: &Name) -> bool
+        ensures { result ≡ is_listed self.now collection.now }
+    {
+        find_time(self.collections.as_slice(), collection).is_some()
+    }
+
+    /// Whether a request's target is there.
+    fn is_there(&self, request: &Request) -> bool
+        ensures { result ≡ is_there self.now request.now }
+    {
+        match request {
+            Request::Info { .. } | Request::DeleteAll { .. } => 0 < self.store.get(),
+            Request::List { collection, .. } => self.is_listed(collection),
+            Request::Post { collection, .. } => self.is_listed(collection),
+            Request::DeleteCollection { collection, .. } => self.is_listed(collection),
+            Request::DeleteIds { collection, .. } => self.is_listed(collection),
+            Request::Get { collection, id, .. } => self.shelf.get(collection, id).is_some(),
+            Request::Put { collection, id, .. } => self.shelf.get(collection, id).is_some(),
+            Request::Delete { collection, id, .. } => self.shelf.get(collection, id).is_some(),
+        }
+    }
+
+    /// The status with which a request's condition stops it, whose target has this time.
+    fn stopped(&self, request: &Request, time: Stamp) -> Option<u16>
+        ensures { result ≡ stops (condition_of request.now) (is_there self.now request.now) time }
+    {
+        match condition_of(request) {
+            Cond::IfAbsent => Cond::IfAbsent.stops(self.is_there(request), time),
+            cond => cond.stops(true, time),
+        }
+    }
+
     fn item_time(&self, collection: &Name, id: &Id) -> Option<Stamp>
         ensures { result ≡ option_map (λ row. row.modified) (row_at collection.now id.now self.now.rows) }
     {
@@ -242,7 +275,7 @@ impl State {
                 }
             },
             Request::DeleteIds { collection, .. } => {
-                find_time(self.collections.as_slice(), collection).is_some()
+                self.is_listed(collection)
             }
             Request::DeleteAll { .. }
             | Request::DeleteCollection { .. }
@@ -279,7 +312,7 @@ impl State {
         let Some(time) = self.target_time(request) else {
             return Err(self.refuse(404, None, Body::Said(Said::Item)));
         };
-        if let Some(status) = condition_of(request).stops(time) {
+        if let Some(status) = self.stopped(request, time) {
             return Err(self.refuse(status, Some(time), stop_body(status)));
         }
         if let Some(body) = self.batch_refusal(request) {

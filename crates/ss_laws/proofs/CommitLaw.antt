@@ -11,7 +11,7 @@ use Rattle.ss_bso.specs.Validity.{IsWithinLimits}
 use Rattle.ss_query.specs.declared.requests.Request.{Request}
 use Rattle.ss_query.specs.declared.requests.Request.TheVariants.{Post}
 use Rattle.ss_query.specs.declared.requests.Mode.TheVariants.{Commit}
-use Rattle.ss_query.specs.Refused.{Refusal, NoItem, NotModified, WasModified, NoMoreBatches, NoBatch, BatchFull, ClockEnded, AccountFull, collection_time, batch_of}
+use Rattle.ss_query.specs.Refused.{Refusal, NoItem, NotModified, WasModified, NoMoreBatches, NoBatch, BatchFull, ClockEnded, AccountFull, collection_time, is_listed, batch_of}
 use Rattle.ss_query.specs.Effect.{effect, is_write, is_over}
 use Rattle.ss_query.specs.Api.{refusal, outcome, why_stopped}
 use Rattle.ss_laws.specs.Laws.{MayCommit, CommitLaw}
@@ -52,7 +52,7 @@ may_commit account collection records number condition e =
     let request : Request = Post collection records (Commit number) condition in
     let p = passes account request e in
     record {
-      condition = free_from (stops condition (collection_time account collection)) p.condition;
+      condition = free_from (stops condition (is_listed account collection) (collection_time account collection)) p.condition;
       live = some_from (batch_of account collection number) p.batch;
       fits = not-false _ p.full;
       clock = clock_from (is_write account request) account.store p.clock;

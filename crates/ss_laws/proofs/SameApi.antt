@@ -24,7 +24,7 @@ use Rattle.ss_query.specs.declared.requests.Info.TheVariants.{Collections, Count
 use Rattle.ss_query.specs.declared.replies.Picked.{Picked}
 use Rattle.ss_query.specs.declared.replies.Body.TheVariants.{Times, Counts as CountsBody, Usage as UsageBody, Quota as QuotaBody, Staged as StagedBody, One, Empty}
 use Rattle.ss_bso.specs.Batches.{fit}
-use Rattle.ss_query.specs.Refused.{Refusal, NoItem, NoMoreBatches, NoBatch, BatchFull, ClockEnded, AccountFull, status_of, said_by, time_shown, condition_of, target_time, collection_time, item_time, batch_of, staged_parts, continued, begins}
+use Rattle.ss_query.specs.Refused.{Refusal, NoItem, NoMoreBatches, NoBatch, BatchFull, ClockEnded, AccountFull, status_of, said_by, time_shown, condition_of, is_there, is_listed, has_item, target_time, collection_time, item_time, batch_of, staged_parts, continued, begins}
 use Rattle.ss_bso.specs.Batches.{grown}
 use Rattle.ss_query.specs.Effect.{stamp_in, effect, is_write, is_over, is_empty, write_some, parts_to_put, batches_after, counter_after}
 use Rattle.ss_query.specs.Told.{by_name, info_body, first_failures, post_body, picked, rows_body, body_of, ok_status, count_of, next_of}
@@ -119,6 +119,23 @@ module _ (one other : Plain) (s : SameAccount one other) (k : Keyed one) where
   target_eq (Get collection id condition) = item_time_eq collection id
   target_eq (Put collection id fields condition) = item_time_eq collection id
   target_eq (Delete collection id condition) = item_time_eq collection id
+
+  listed_eq : (collection : List ℕ) → is_listed one collection ≡ is_listed other collection
+  listed_eq collection = ap is_some (time_eq collection)
+
+  has_item_eq : (collection id : List ℕ) → has_item one collection id ≡ has_item other collection id
+  has_item_eq collection id = ap is_some (row_eq collection id)
+
+  there_eq : (request : Request) → is_there one request ≡ is_there other request
+  there_eq (Info what condition) = ap (nat_lt 0) s.store
+  there_eq (DeleteAll condition) = ap (nat_lt 0) s.store
+  there_eq (ListOf collection query condition) = listed_eq collection
+  there_eq (Post collection records mode condition) = listed_eq collection
+  there_eq (DeleteCollection collection condition) = listed_eq collection
+  there_eq (DeleteIds collection ids condition) = listed_eq collection
+  there_eq (Get collection id condition) = has_item_eq collection id
+  there_eq (Put collection id fields condition) = has_item_eq collection id
+  there_eq (Delete collection id condition) = has_item_eq collection id
 
   staged_eq : (collection : List ℕ) (number : ℕ) → staged_parts one collection number ≡ staged_parts other collection number
   staged_eq collection number = ap (λ found. option_map_or (λ (batch : Staged). batch.parts) found []) (batch_eq collection number)
@@ -283,7 +300,7 @@ module _ (one other : Plain) (s : SameAccount one other) (k : Keyed one) where
   refusal_eq : (request : Request) → refusal one request ≡ refusal other request
   refusal_eq request = λ i. first_some (
       where_so (misses_item_eq request i) NoItem
-      ∷ option_map why_stopped (stops (condition_of request) (target_eq request i))
+      ∷ option_map why_stopped (stops (condition_of request) (there_eq request i) (target_eq request i))
       ∷ where_so (lacks_room_eq request i) NoMoreBatches
       ∷ where_so (misses_batch_eq request i) NoBatch
       ∷ where_so (overfills_eq request i) BatchFull

@@ -17,7 +17,7 @@ use Rattle.ss_query.specs.declared.requests.Request.TheVariants.{Post}
 use Rattle.ss_query.specs.declared.requests.Mode.TheVariants.{Commit}
 use Rattle.ss_query.specs.declared.requests.Sort.{Sort}
 use Rattle.ss_query.specs.Answer.{comes_before}
-use Rattle.ss_query.specs.Refused.{begins, continued, collection_time, IsLive, Fits}
+use Rattle.ss_query.specs.Refused.{begins, continued, collection_time, is_listed, IsLive, Fits}
 use Rattle.ss_query.specs.Effect.{effect, is_write}
 use Rattle.ss_query.specs.Api.{api, refusal, Outcome}
 use Rattle.ss_query.specs.Flat.{Ask, Turn, after_all, turns, flat}
@@ -54,7 +54,7 @@ pub record BatchLaw (opening : Plain) (asks : List Ask) : Type 0 where
 -- a commit may be done: its condition holds, its batch is live for the collection, the parts fit, and where it writes
 -- there is a later stamp and the account stays within its limits
 pub record MayCommit (account : Plain) (collection : List ℕ) (records : Records) (number : ℕ) (cond : Cond) : Type 0 where
-  pub condition : stops cond (collection_time account collection) ≡ None
+  pub condition : stops cond (is_listed account collection) (collection_time account collection) ≡ None
   pub live : IsLive account collection number
   pub fits : Fits account collection number records.parts
   pub clock : is_write account (Post collection records (Commit number) cond) ≡ true → account.store < last_stamp

@@ -9,7 +9,7 @@ use Rattle.ss_query.specs.declared.requests.Request.{Request}
 use Rattle.ss_query.specs.declared.requests.Request.TheVariants.{Post, Get, Delete}
 use Rattle.ss_query.specs.declared.replies.Reply.{Reply}
 use Rattle.ss_bso.specs.Batches.{fit}
-use Rattle.ss_query.specs.Refused.{Refusal, NoItem, NotModified, WasModified, NoMoreBatches, NoBatch, BatchFull, ClockEnded, AccountFull, status_of, said_by, time_shown, condition_of, target_time, batch_of, staged_parts, continued, begins}
+use Rattle.ss_query.specs.Refused.{Refusal, NoItem, NotModified, WasModified, NoMoreBatches, NoBatch, BatchFull, ClockEnded, AccountFull, status_of, said_by, time_shown, condition_of, is_there, target_time, batch_of, staged_parts, continued, begins}
 use Rattle.ss_query.specs.Effect.{stamp_in, effect, is_write, is_over}
 use Rattle.ss_query.specs.Told.{body_of, ok_status, count_of, next_of}
 
@@ -25,7 +25,7 @@ why_stopped status = if status == 304 then NotModified else WasModified
 
 -- the refusal by the request's condition, where it stops the request
 abbrev pub condition_cause : Plain → Request → Option Refusal
-condition_cause account request = option_map why_stopped (stops (condition_of request) (target_time account request))
+condition_cause account request = option_map why_stopped (stops (condition_of request) (is_there account request) (target_time account request))
 
 -- a begin with as many live batches as there may be, or with the counter at its last value
 abbrev pub lacks_room : Plain → Request → Bool

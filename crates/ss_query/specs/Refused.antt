@@ -1,5 +1,5 @@
 -- When a request is refused, and with what.
-use Rattle.std.specs.Prelude.{ℕ, Bool, true, false, List, [], ◌++◌, Option, Some, None, unwrap_or, IsSome, IsTrue}
+use Rattle.std.specs.Prelude.{ℕ, Bool, true, false, List, [], ◌++◌, Option, Some, None, unwrap_or, IsSome, is_some, nat_lt, IsTrue}
 use Rattle.std.specs.Option.{option_map_or}
 use Rattle.ss_text.specs.declared.stamps.Cond.{Cond}
 use Rattle.ss_bso.specs.declared.parts.Part.{Part}
@@ -46,6 +46,26 @@ target_time account (DeleteIds collection ids cond) = collection_time account co
 target_time account (Get collection id cond) = item_time account collection id
 target_time account (Put collection id fields cond) = item_time account collection id
 target_time account (Delete collection id cond) = item_time account collection id
+
+-- whether a collection is listed
+abbrev pub is_listed : Plain → List ℕ → Bool
+is_listed account collection = is_some (time_of collection account.collections)
+
+-- whether an item is there
+abbrev pub has_item : Plain → List ℕ → List ℕ → Bool
+has_item account collection id = is_some (row_at collection id account.rows)
+
+-- whether the target of a request is there: an account whose time isn't 0, a collection that is listed, an item that has a row
+abbrev pub is_there : Plain → Request → Bool
+is_there account (Info what cond) = nat_lt 0 account.store
+is_there account (DeleteAll cond) = nat_lt 0 account.store
+is_there account (ListOf collection query cond) = is_listed account collection
+is_there account (Post collection records mode cond) = is_listed account collection
+is_there account (DeleteCollection collection cond) = is_listed account collection
+is_there account (DeleteIds collection ids cond) = is_listed account collection
+is_there account (Get collection id cond) = has_item account collection id
+is_there account (Put collection id fields cond) = has_item account collection id
+is_there account (Delete collection id cond) = has_item account collection id
 
 -- the live batch of this number and collection
 abbrev pub batch_of : Plain → List ℕ → ℕ → Option Staged

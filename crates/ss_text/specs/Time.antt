@@ -4,7 +4,7 @@ use Rattle.std.specs.Char.{is_ascii_digit}
 use Rattle.std.specs.List.{list_all}
 use Rattle.std.specs.Str.Parse.{digits_value}
 use Rattle.ss_text.specs.declared.stamps.Cond.{Cond}
-use Rattle.ss_text.specs.declared.stamps.Cond.TheVariants.{Free, IfModified, IfUnmodified}
+use Rattle.ss_text.specs.declared.stamps.Cond.TheVariants.{Free, IfModified, IfUnmodified, IfAbsent}
 
 -- the last time that there is
 abbrev pub last_stamp : ℕ
@@ -50,8 +50,9 @@ is_seconds text = nat_le 1 (length text) && nat_le (length text) 10 && list_all 
 unfoldable pub stamp_of : List ℕ → Option ℕ
 stamp_of text = if is_seconds (split_point text).0 then with_fraction (digits_value 10 (split_point text).0) (split_point text).1 else None
 
--- the status with which a condition stops a request whose target has this time
-abbrev pub stops : Cond → ℕ → Option ℕ
-stops Free time = None
-stops (IfModified since) time = if nat_le time since then Some 304 else None
-stops (IfUnmodified since) time = if nat_lt since time then Some 412 else None
+-- the status with which a condition stops a request whose target is there or isn't, and has this time
+abbrev pub stops : Cond → Bool → ℕ → Option ℕ
+stops Free there time = None
+stops (IfModified since) there time = if nat_le time since then Some 304 else None
+stops (IfUnmodified since) there time = if nat_lt since time then Some 412 else None
+stops IfAbsent there time = if there then Some 412 else None

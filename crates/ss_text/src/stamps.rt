@@ -169,13 +169,16 @@ pub enum Cond {
 
     /// `X-If-Unmodified-Since`: the target hasn't changed since.
     IfUnmodified(Stamp),
+
+    /// The target isn't there. No field says so by itself: it is what browsers mean by `X-If-Unmodified-Since: 0`.
+    IfAbsent,
 }
 
 impl Cond {
-    /// The status with which the condition stops a request whose target has this time: 304 where the target hasn't
-    /// changed since, 412 where it has.
-    pub fn stops(self, time: Stamp) -> Option<u16>
-        ensures { result ≡ stops self time }
+    /// The status with which the condition stops a request whose target is there or isn't, and has this time: 304 where
+    /// the target hasn't changed since, 412 where it has, or is there though it mustn't be.
+    pub fn stops(self, is_there: bool, time: Stamp) -> Option<u16>
+        ensures { result ≡ stops self is_there time }
     {
         match self {
             Cond::Free => None,
@@ -185,6 +188,11 @@ impl Cond {
                 None
             },
             Cond::IfUnmodified(since) => if since.get() < time.get() {
+                Some(412)
+            } else {
+                None
+            },
+            Cond::IfAbsent => if is_there {
                 Some(412)
             } else {
                 None

@@ -9,7 +9,7 @@ use Rattle.httparse.specs.Grammar.{IsField, crlf, print_request, RequestHead, Is
 use Rattle.httparse.proofs.GrammarLemmas.{print_request-append}
 use Rattle.ss_text.specs.Time.{stamp_text}
 use Rattle.ss_text.specs.declared.stamps.Cond.{Cond}
-use Rattle.ss_text.specs.declared.stamps.Cond.TheVariants.{Free, IfModified, IfUnmodified}
+use Rattle.ss_text.specs.declared.stamps.Cond.TheVariants.{Free, IfModified, IfUnmodified, IfAbsent}
 use Rattle.ss_http.specs.declared.message.Message.{Message}
 use Rattle.ss_http.specs.Fields.{Line, lines, first_named, announced, announced_by, agreed, agrees, is_number, closes, ends}
 use Rattle.ss_http.specs.Messages.{ReadsMessage, fields_of}
@@ -48,6 +48,7 @@ unfolding is_token_byte
 cond_fit Free h = tt
 cond_fit (IfModified since) h = (record { name = refl; value = stamp_is_bare since h }, tt)
 cond_fit (IfUnmodified since) h = (record { name = refl; value = stamp_is_bare since h }, tt)
+cond_fit IfAbsent h = (record { name = refl; value = stamp_is_bare 0 (omega arith) }, tt)
 
 request_fit : (method target host : List ℕ) (cond : Cond) (body : Option (List ℕ)) → IsSendable method target host cond body → Fit (request_fields host cond body)
 unfolding is_token_byte
@@ -74,6 +75,8 @@ no_coding host (IfModified since) None = refl
 no_coding host (IfModified since) (Some b) = refl
 no_coding host (IfUnmodified since) None = refl
 no_coding host (IfUnmodified since) (Some b) = refl
+no_coding host IfAbsent None = refl
+no_coding host IfAbsent (Some b) = refl
 
 length_said : (host : List ℕ) (cond : Cond) (body : Option (List ℕ)) → first_named (codes "Content-Length") (request_fields host cond body) ≡ option_map (λ b. decimal (length b)) body
 length_said host Free None = refl
@@ -82,6 +85,8 @@ length_said host (IfModified since) None = refl
 length_said host (IfModified since) (Some b) = refl
 length_said host (IfUnmodified since) None = refl
 length_said host (IfUnmodified since) (Some b) = refl
+length_said host IfAbsent None = refl
+length_said host IfAbsent (Some b) = refl
 
 abbrev if_said : Bool → ℕ → Option ℕ
 if_said t n = cond t (Some n) None
@@ -93,6 +98,7 @@ all_said : (host : List ℕ) (cond : Cond) (b : List ℕ) → length b ≤ BODY_
 all_said host Free b few = ap (λ t. t && true) (agrees_itself (length b) few)
 all_said host (IfModified since) b few = ap (λ t. t && true) (agrees_itself (length b) few)
 all_said host (IfUnmodified since) b few = ap (λ t. t && true) (agrees_itself (length b) few)
+all_said host IfAbsent b few = ap (λ t. t && true) (agrees_itself (length b) few)
 
 announces_body : (host : List ℕ) (cond : Cond) (body : Option (List ℕ)) → IfSome body (λ b. length b ≤ BODY_ROOM) → announced (request_fields host cond body) ≡ Some (length (body_bytes body))
 unfolding announced
@@ -109,6 +115,8 @@ stays_open host (IfModified since) None = refl
 stays_open host (IfModified since) (Some b) = refl
 stays_open host (IfUnmodified since) None = refl
 stays_open host (IfUnmodified since) (Some b) = refl
+stays_open host IfAbsent None = refl
+stays_open host IfAbsent (Some b) = refl
 
 -- ---- how long a head is
 
@@ -119,6 +127,8 @@ field_count host (IfModified since) None = lit≤ tt
 field_count host (IfModified since) (Some b) = lit≤ tt
 field_count host (IfUnmodified since) None = lit≤ tt
 field_count host (IfUnmodified since) (Some b) = lit≤ tt
+field_count host IfAbsent None = lit≤ tt
+field_count host IfAbsent (Some b) = lit≤ tt
 
 content_long : (body : Option (List ℕ)) → IfSome body (λ b. length b ≤ BODY_ROOM) → length (lines (content_fields body)) ≤ 100
 unfolding lines
@@ -134,6 +144,7 @@ unfolding lines
 cond_long Free h = lit≤ tt
 cond_long (IfModified since) h = let x = if_long (codes "X-If-Modified-Since") (Some (stamp_text since)) 23 (stamp_long since h) in omega arith
 cond_long (IfUnmodified since) h = let x = if_long (codes "X-If-Unmodified-Since") (Some (stamp_text since)) 23 (stamp_long since h) in omega arith
+cond_long IfAbsent h = let x = if_long (codes "X-If-Unmodified-Since") (Some (stamp_text 0)) 23 (stamp_long 0 (omega arith)) in omega arith
 
 lines_short : (method target host : List ℕ) (cond : Cond) (body : Option (List ℕ)) → IsSendable method target host cond body → length (lines (request_fields host cond body)) ≤ 2000
 lines_short method target host cond body s =

@@ -5,16 +5,17 @@ use Rattle.std.specs.Str.{IsUtf8}
 use Rattle.httparse.specs.Grammar.{is_token, is_uri_byte}
 use Rattle.ss_text.specs.Time.{stamp_text, last_stamp}
 use Rattle.ss_text.specs.declared.stamps.Cond.{Cond}
-use Rattle.ss_text.specs.declared.stamps.Cond.TheVariants.{Free, IfModified, IfUnmodified}
+use Rattle.ss_text.specs.declared.stamps.Cond.TheVariants.{Free, IfModified, IfUnmodified, IfAbsent}
 use Rattle.ss_http.specs.declared.message.Message.{Message}
 use Rattle.ss_http.specs.Fields.{Line, lines}
 use Rattle.ss_http.specs.declared.limits.TheConstants.{BODY_ROOM, HOST_ROOM, METHOD_ROOM, TARGET_ROOM}
 
--- the field of a condition
+-- the field of a condition; that a target isn't there is said as browsers say it
 abbrev pub cond_fields : Cond → List Line
 cond_fields Free = []
 cond_fields (IfModified since) = (codes "X-If-Modified-Since", stamp_text since) ∷ []
 cond_fields (IfUnmodified since) = (codes "X-If-Unmodified-Since", stamp_text since) ∷ []
+cond_fields IfAbsent = (codes "X-If-Unmodified-Since", stamp_text 0) ∷ []
 
 -- the fields on a body
 abbrev pub content_fields : Option (List ℕ) → List Line
@@ -53,6 +54,7 @@ abbrev pub IsCond : Cond → Type 0
 IsCond Free = ⊤
 IsCond (IfModified since) = since ≤ last_stamp
 IsCond (IfUnmodified since) = since ≤ last_stamp
+IsCond IfAbsent = ⊤
 
 -- parts that make a message: a short method, a target, a host of 1 to 1,030 visible bytes and a body that isn't too large
 pub record IsSendable (method target host : List ℕ) (cond : Cond) (body : Option (List ℕ)) : Type 0 where

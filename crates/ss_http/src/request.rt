@@ -5,7 +5,7 @@ ghost use Rattle.ss_http.specs.Fields.{field_if, lines};
 ghost use Rattle.ss_http.specs.Requests.{body_bytes, cond_fields, content_fields, request_fields, request_line, request_text};
 
 use crate::lines::{push_line, push_number_line, push_stamp_line, push_text};
-use ss_text::Cond;
+use ss_text::{Cond, Stamp};
 use std::alloc::{AllocError, Global};
 
 fn push_request_line(out: &mut Vec<u8>, method: &str, target: &str) -> Result<(), AllocError>
@@ -25,6 +25,7 @@ fn push_cond(out: &mut Vec<u8>, cond: &Cond) -> Result<(), AllocError>
         Cond::Free => Ok(()),
         Cond::IfModified(since) => push_stamp_line(out, "X-If-Modified-Since", Some(*since)),
         Cond::IfUnmodified(since) => push_stamp_line(out, "X-If-Unmodified-Since", Some(*since)),
+        Cond::IfAbsent => push_stamp_line(out, "X-If-Unmodified-Since", Some(Stamp::clamp(0))),
     }
 }
 

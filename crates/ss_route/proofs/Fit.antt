@@ -22,6 +22,7 @@ use Rattle.ss_route.specs.declared.asked.CollectionAct.{CollectionAct}
 use Rattle.ss_route.specs.declared.asked.CollectionAct.TheVariants as collections
 use Rattle.ss_route.specs.declared.asked.ItemAct.{ItemAct}
 use Rattle.ss_route.specs.declared.asked.ItemAct.TheVariants as items
+use Rattle.ss_route.specs.declared.manner.Manner.{Manner}
 use Rattle.ss_route.specs.declared.methods.Method.{Method}
 use Rattle.ss_route.specs.declared.routed.Local.{Local}
 use Rattle.ss_route.specs.declared.routed.Routed.{Routed}
@@ -179,35 +180,35 @@ item_fit items.Get collection id cond m request e = is_fit _ (Get collection id 
 item_fit items.Put collection id cond m request e = put_fit collection id cond m request e
 item_fit items.Delete collection id cond m request e = is_fit _ (Delete collection id cond) request refl e tt
 
-request_fit : (asked : Asked) (method : Method) (m : Message) (request : Request) → request_in asked method m ≡ Ok request → IsFitRequest request
+request_fit : (manner : Manner) (asked : Asked) (method : Method) (m : Message) (request : Request) → request_in manner asked method m ≡ Ok request → IsFitRequest request
 unfolding request_in
-request_fit DeleteEverything method m request e =
-    let cond = came (condition_in (is_get method) m.fields) (λ cond. Ok (DeleteAll cond)) request e in
+request_fit manner DeleteEverything method m request e =
+    let cond = came (condition_in manner (is_get method) m.fields) (λ cond. Ok (DeleteAll cond)) request e in
     is_fit _ (DeleteAll cond.value) request refl cond.then tt
-request_fit (TellOf what) method m request e =
-    let cond = came (condition_in (is_get method) m.fields) (λ cond. Ok (Info what cond)) request e in
+request_fit manner (TellOf what) method m request e =
+    let cond = came (condition_in manner (is_get method) m.fields) (λ cond. Ok (Info what cond)) request e in
     is_fit _ (Info what cond.value) request refl cond.then tt
-request_fit (OfCollection act collection) method m request e =
-    let name = came (name_in collection) (λ name. condition_in (is_get method) m.fields >>= (λ cond. collection_request act name cond m)) request e in
-    let cond = came (condition_in (is_get method) m.fields) (λ cond. collection_request act name.value cond m) request name.then in
+request_fit manner (OfCollection act collection) method m request e =
+    let name = came (name_in collection) (λ name. condition_in manner (is_get method) m.fields >>= (λ cond. collection_request act name cond m)) request e in
+    let cond = came (condition_in manner (is_get method) m.fields) (λ cond. collection_request act name.value cond m) request name.then in
     collection_fit act name.value cond.value m request cond.then
-request_fit (OfItem act collection id) method m request e =
-    let name = came (name_in collection) (λ name. id_in id >>= (λ id. condition_in (is_get method) m.fields >>= (λ cond. item_request act name id cond m))) request e in
-    let item = came (id_in id) (λ id. condition_in (is_get method) m.fields >>= (λ cond. item_request act name.value id cond m)) request name.then in
-    let cond = came (condition_in (is_get method) m.fields) (λ cond. item_request act name.value item.value cond m) request item.then in
+request_fit manner (OfItem act collection id) method m request e =
+    let name = came (name_in collection) (λ name. id_in id >>= (λ id. condition_in manner (is_get method) m.fields >>= (λ cond. item_request act name id cond m))) request e in
+    let item = came (id_in id) (λ id. condition_in manner (is_get method) m.fields >>= (λ cond. item_request act name.value id cond m)) request name.then in
+    let cond = came (condition_in manner (is_get method) m.fields) (λ cond. item_request act name.value item.value cond m) request item.then in
     item_fit act name.value item.value cond.value m request cond.then
 
 -- what is asked may be asked
-pub asks_fit : (m : Message) (routed : Routed) → asking m ≡ Ok routed → AsksFit routed
+pub asks_fit : (manner : Manner) (m : Message) (routed : Routed) → asking manner m ≡ Ok routed → AsksFit routed
 unfolding asking
-asks_fit m routed e =
+asks_fit manner m routed e =
     let ask : ℕ → Request → Result Routed Local = λ uid request. Ok (Ask uid request (wants_lines m.fields)) in
     let method = came (method_in m.method)
-    (λ method. named_in m.target >>= (λ named. account_in named.uid >>= (λ uid. asked_in named.place method >>= (λ asked. request_in asked method m >>= ask uid)))) routed e in
+    (λ method. named_in m.target >>= (λ named. account_in named.uid >>= (λ uid. asked_in named.place method >>= (λ asked. request_in manner asked method m >>= ask uid)))) routed e in
     let named = came (named_in m.target)
-    (λ named. account_in named.uid >>= (λ uid. asked_in named.place method.value >>= (λ asked. request_in asked method.value m >>= ask uid))) routed method.then in
+    (λ named. account_in named.uid >>= (λ uid. asked_in named.place method.value >>= (λ asked. request_in manner asked method.value m >>= ask uid))) routed method.then in
     let uid = came (account_in named.value.uid)
-    (λ uid. asked_in named.value.place method.value >>= (λ asked. request_in asked method.value m >>= ask uid)) routed named.then in
-    let asked = came (asked_in named.value.place method.value) (λ asked. request_in asked method.value m >>= ask uid.value) routed uid.then in
-    let request = came (request_in asked.value method.value m) (ask uid.value) routed asked.then in
-    subst AsksFit (same_value _ _ routed refl request.then) (request_fit asked.value method.value m request.value request.was)
+    (λ uid. asked_in named.value.place method.value >>= (λ asked. request_in manner asked method.value m >>= ask uid)) routed named.then in
+    let asked = came (asked_in named.value.place method.value) (λ asked. request_in manner asked method.value m >>= ask uid.value) routed uid.then in
+    let request = came (request_in manner asked.value method.value m) (ask uid.value) routed asked.then in
+    subst AsksFit (same_value _ _ routed refl request.then) (request_fit manner asked.value method.value m request.value request.was)

@@ -7,7 +7,7 @@ use Rattle.std.specs.Str.{IsUtf8}
 use Rattle.httparse.specs.Grammar.{is_token, is_token_byte, is_uri_byte}
 use Rattle.ss_text.specs.Time.{stamp_text, two_digits}
 use Rattle.ss_text.specs.declared.stamps.Cond.{Cond}
-use Rattle.ss_text.specs.declared.stamps.Cond.TheVariants.{Free, IfModified, IfUnmodified}
+use Rattle.ss_text.specs.declared.stamps.Cond.TheVariants.{Free, IfModified, IfUnmodified, IfAbsent}
 use Rattle.ss_bso.specs.declared.parts.Records.{Records}
 use Rattle.ss_http.specs.Messages.{ReadsMessage}
 use Rattle.ss_http.specs.Requests.{IsCond, IsSendable}
@@ -148,6 +148,7 @@ page_sendable uid newer offset host Free below visible known at within typed =
     (composed (codes "GET") (target_of uid (ListOf (codes "bookmarks") (page newer 0) Free)) host Free None (bookmarks uid) (first_pairs newer) get_name (first_target uid newer)
     (bookmarks_plain uid (omega arith)) (first_plain newer known) (first_size uid newer below known) visible tt tt)
 page_sendable uid newer offset host (IfModified time) below visible known at within typed = absurd at
+page_sendable uid newer offset host IfAbsent below visible known at within typed = absurd at
 page_sendable uid newer offset host (IfUnmodified time) below visible known at within typed =
     composed (codes "GET") (target_of uid (ListOf (codes "bookmarks") (page newer offset) (IfUnmodified time))) host (IfUnmodified time) None (bookmarks uid) (later_pairs newer offset)
     get_name (later_target uid newer offset time) (bookmarks_plain uid (omega arith)) (later_plain newer offset known (omega arith)) (later_size uid newer offset time below known within) visible typed tt
@@ -155,6 +156,7 @@ page_sendable uid newer offset host (IfUnmodified time) below visible known at w
 ids_sendable : (uid : ℕ) (host : List ℕ) (cond : Cond) → uid ≤ 4294967295 → IsHost host → IsUnmodified cond → IsCond cond → Sendable uid host (ListOf (codes "bookmarks") all_ids cond)
 ids_sendable uid host Free below visible at typed = absurd at
 ids_sendable uid host (IfModified time) below visible at typed = absurd at
+ids_sendable uid host IfAbsent below visible at typed = absurd at
 ids_sendable uid host (IfUnmodified time) below visible at typed =
     composed (codes "GET") (target_of uid (ListOf (codes "bookmarks") all_ids (IfUnmodified time))) host (IfUnmodified time) None (bookmarks uid) []
     get_name (ids_target uid time) (bookmarks_plain uid (omega arith)) tt (ids_size uid time below) visible typed tt

@@ -1,16 +1,18 @@
 -- A request that is sent is routed as it was meant.
 use Rattle.std.proofs.Common.{◌≡◌, ℕ, suc, ◌+◌, ◌^◌, ◌<◌, ◌≤◌, List, [], ◌∷◌, length, Bool, true, false, ◌&&◌, cond, Option, Some, None, option_and_then, codes, decimal, refl, sym, ap, ap₂, ◌∙◌, subst, arith, lit<, le-leb, append_assoc, append-nil, ◌++◌, ⊎_elim}
 use Rattle.std.proofs.lemmas.Fmt.{decimal_nonempty}
+use Rattle.std.proofs.lemmas.List.Folds.{list_all-append}
 use Rattle.std.proofs.lemmas.List.Sums.{sum_by-cons}
+use Rattle.std.specs.Char.{is_ascii_digit}
 use Rattle.std.specs.List.{list_all, AllByRecursion, All}
 use Rattle.std.specs.Prelude.{Result, Ok, Err, ok_or, is_some, IfSome}
 use Rattle.std.specs.Str.{IsUtf8}
 use Rattle.httparse.specs.Grammar.{trim_ows}
 use Rattle.ss_text.specs.Names.{is_id}
 use Rattle.ss_text.specs.Numbers.{number_of}
-use Rattle.ss_text.specs.Time.{stamp_text, last_stamp}
+use Rattle.ss_text.specs.Time.{stamp_text, stamp_of, last_stamp, two_digits}
 use Rattle.ss_text.specs.declared.stamps.Cond.{Cond}
-use Rattle.ss_text.specs.declared.stamps.Cond.TheVariants.{Free, IfModified, IfUnmodified}
+use Rattle.ss_text.specs.declared.stamps.Cond.TheVariants.{Free, IfModified, IfUnmodified, IfAbsent}
 use Rattle.ss_bso.specs.Limits.{part_bytes, payload_size}
 use Rattle.ss_bso.specs.declared.parts.Part.{Part}
 use Rattle.ss_bso.specs.declared.parts.Records.{Records}
@@ -32,6 +34,8 @@ use Rattle.ss_route.specs.declared.asked.Asked.{Asked}
 use Rattle.ss_route.specs.declared.asked.Asked.TheVariants.{TellOf, OfCollection}
 use Rattle.ss_route.specs.declared.asked.CollectionAct.{CollectionAct}
 use Rattle.ss_route.specs.declared.asked.CollectionAct.TheVariants as collections
+use Rattle.ss_route.specs.declared.manner.Manner.{Manner}
+use Rattle.ss_route.specs.declared.manner.Manner.TheVariants.{Profile, Browser}
 use Rattle.ss_route.specs.declared.methods.Method.{Method}
 use Rattle.ss_route.specs.declared.methods.Method.TheVariants as methods
 use Rattle.ss_route.specs.declared.routed.Local.{Local}
@@ -41,12 +45,12 @@ use Rattle.ss_route.specs.declared.targets.Named.{Named}
 use Rattle.ss_route.specs.declared.targets.Place.TheVariants.{About, Collection}
 use Rattle.ss_route.specs.Asking.{method_in, asked_in, name_in}
 use Rattle.ss_route.specs.Bodies.{is_in_lines, lines_of_type, records_in, within_limits}
-use Rattle.ss_route.specs.Conditions.{condition_in, time_in}
+use Rattle.ss_route.specs.Conditions.{condition_in, is_beyond_stamps, meant, stamp_said, time_in}
 use Rattle.ss_route.specs.Fields.{wants_lines, without_parameters}
 use Rattle.ss_route.specs.Posts.{token, batch_of, mode_of, mode_in, batch_in, continues, names_batch, announced_in}
 use Rattle.ss_route.specs.Refusals.{said, code, or_refusal, query_refusal, body_refusal}
 use Rattle.ss_route.specs.Routing.{is_get, asking, settled, routed, request_in, collection_request, list_request, post_request}
-use Rattle.ss_route.specs.Sending.{IsSent, IsTyped, IsReadable, IsReadableBatch, IsPageAt, IsListed, IsUnmodified, IsUpload, page, all_ids, payload_set, account_path, target_of, uploads_text, message_of}
+use Rattle.ss_route.specs.Sending.{IsSent, IsTyped, IsReadable, IsReadableBatch, IsPageAt, IsListed, IsUnmodified, IsUpload, page, all_ids, payload_set, account_path, target_of, uploads_text, message_of, request_meant}
 use Rattle.ss_route.specs.Targets.{query_of, named_by, named_in, place_of, info_of, account_in}
 use Rattle.ss_route.proofs.Composed.{Pair, is_plain, IsPlainSegment, IsPlainPair, ArePlainSegments, ArePlainPairs, target_text, first_value, path_again, parameter_again}
 use Rattle.ss_route.proofs.Tokens.{decimal_is_plain, stamp_is_plain, token_is_plain, number_back, uid_back, batch_back, token_is_not_true}
@@ -93,46 +97,75 @@ account_back uid above below = ap (λ o. ok_or o (said 401 words.Account)) (uid_
 
 -- ---- the rules
 
-asked_again : (m : Message) (method : Method) (named : Named) (uid : ℕ) (asked : Asked) (request : Request)
+asked_again : (manner : Manner) (m : Message) (method : Method) (named : Named) (uid : ℕ) (asked : Asked) (request : Request)
     → method_in m.method ≡ Ok method → named_in m.target ≡ Ok named → account_in named.uid ≡ Ok uid → asked_in named.place method ≡ Ok asked
-    → request_in asked method m ≡ Ok request → wants_lines m.fields ≡ false → asking m ≡ Ok (Ask uid request false)
+    → request_in manner asked method m ≡ Ok request → wants_lines m.fields ≡ false → asking manner m ≡ Ok (Ask uid request false)
 unfolding asking
-asked_again m method named uid asked request a b c d e f =
+asked_again manner m method named uid asked request a b c d e f =
     let ask : ℕ → Request → Result Routed Local = λ uid request. Ok (Ask uid request (wants_lines m.fields)) in
     let y : Routed = Ask uid request (wants_lines m.fields) in
     let whole =
     on (method_in m.method) method
-    (λ method. named_in m.target >>= (λ named. account_in named.uid >>= (λ uid. asked_in named.place method >>= (λ asked. request_in asked method m >>= ask uid)))) y a
-    (on (named_in m.target) named (λ named. account_in named.uid >>= (λ uid. asked_in named.place method >>= (λ asked. request_in asked method m >>= ask uid))) y b
-    (on (account_in named.uid) uid (λ uid. asked_in named.place method >>= (λ asked. request_in asked method m >>= ask uid)) y c
-    (on (asked_in named.place method) asked (λ asked. request_in asked method m >>= ask uid) y d (on (request_in asked method m) request (ask uid) y e refl)))) in
+    (λ method. named_in m.target >>= (λ named. account_in named.uid >>= (λ uid. asked_in named.place method >>= (λ asked. request_in manner asked method m >>= ask uid)))) y a
+    (on (named_in m.target) named (λ named. account_in named.uid >>= (λ uid. asked_in named.place method >>= (λ asked. request_in manner asked method m >>= ask uid))) y b
+    (on (account_in named.uid) uid (λ uid. asked_in named.place method >>= (λ asked. request_in manner asked method m >>= ask uid)) y c
+    (on (asked_in named.place method) asked (λ asked. request_in manner asked method m >>= ask uid) y d (on (request_in manner asked method m) request (ask uid) y e refl)))) in
     whole ∙ ap (λ lines. Ok (Ask uid request lines)) f
 
-asked_bookmarks : (m : Message) (method : Method) (act : CollectionAct) (uid : ℕ) (pairs : List Pair) (cond : Cond) (request : Request)
+asked_bookmarks : (manner : Manner) (m : Message) (method : Method) (act : CollectionAct) (uid : ℕ) (pairs : List Pair) (cond : Cond) (request : Request)
     → method_in m.method ≡ Ok method → m.target ≡ target_text (bookmarks uid) pairs → ArePlainPairs pairs → 1 ≤ uid → uid ≤ 4294967295
-    → asked_in (Collection (codes "bookmarks")) method ≡ Ok (OfCollection act (codes "bookmarks")) → condition_in (is_get method) m.fields ≡ Ok cond
-    → collection_request act (codes "bookmarks") cond m ≡ Ok request → wants_lines m.fields ≡ false → asking m ≡ Ok (Ask uid request false)
+    → asked_in (Collection (codes "bookmarks")) method ≡ Ok (OfCollection act (codes "bookmarks")) → condition_in manner (is_get method) m.fields ≡ Ok cond
+    → collection_request act (codes "bookmarks") cond m ≡ Ok request → wants_lines m.fields ≡ false → asking manner m ≡ Ok (Ask uid request false)
 unfolding request_in name_in
-asked_bookmarks m method act uid pairs cond request a target plain above below d condition body f =
+asked_bookmarks manner m method act uid pairs cond request a target plain above below d condition body f =
     let few : uid < 2 ^ 64 = omega arith in
-    asked_again m method (record { uid = decimal uid; place = Collection (codes "bookmarks") }) uid (OfCollection act (codes "bookmarks")) request a
+    asked_again manner m method (record { uid = decimal uid; place = Collection (codes "bookmarks") }) uid (OfCollection act (codes "bookmarks")) request a
     (ap named_in target ∙ named_bookmarks uid pairs few plain) (account_back uid above below) d
-    (on (condition_in (is_get method) m.fields) cond (λ cond. collection_request act (codes "bookmarks") cond m) request condition body) f
+    (on (condition_in manner (is_get method) m.fields) cond (λ cond. collection_request act (codes "bookmarks") cond m) request condition body) f
 
 -- ---- conditions
 
-free_again : (gets : Bool) (host : List ℕ) → condition_in gets (request_fields host Free None) ≡ Ok Free
+free_again : (manner : Manner) (gets : Bool) (host : List ℕ) → condition_in manner gets (request_fields host Free None) ≡ Ok Free
 unfolding condition_in
-free_again gets host = refl
+free_again manner gets host = refl
 
-time_back : (time : ℕ) → time ≤ last_stamp → (time_in (stamp_text time) >>= (λ time. Ok (IfUnmodified time))) ≡ Ok (IfUnmodified time)
-time_back time h = ap (λ o. ok_or o (said 400 words.Condition) >>= (λ time. Ok (IfUnmodified time))) (stamp_again time h)
+-- a stamp's text has a point, so it isn't beyond the stamps
+nor_false : (a b c : Bool) → c ≡ false → (a && b && c) ≡ false
+nor_false true true c e = e
+nor_false true false c e = refl
+nor_false false b c e = refl
 
-unmodified_again : (gets : Bool) (host : List ℕ) (time : ℕ) (body : Option (List ℕ)) → time ≤ last_stamp
-    → condition_in gets (request_fields host (IfUnmodified time) body) ≡ Ok (IfUnmodified time)
+and_false : (a b : Bool) → b ≡ false → (a && b) ≡ false
+and_false true b e = e
+and_false false b e = refl
+
+has_point : (time : ℕ) → list_all is_ascii_digit (stamp_text time) ≡ false
+unfolding stamp_text
+has_point time =
+    list_all-append is_ascii_digit (decimal (time / 100)) (46 ∷ two_digits (time % 100))
+    ∙ and_false (list_all is_ascii_digit (decimal (time / 100))) _ refl
+
+not_beyond : (time : ℕ) → is_beyond_stamps (stamp_text time) ≡ false
+not_beyond time = nor_false _ _ _ (has_point time)
+
+said_again : (manner : Manner) (time : ℕ) → time ≤ last_stamp → stamp_said manner (stamp_text time) ≡ Some time
+said_again Profile time h = stamp_again time h
+said_again Browser time h = ap (λ beyond. cond beyond (Some last_stamp) (stamp_of (stamp_text time))) (not_beyond time) ∙ stamp_again time h
+
+time_back : (manner : Manner) (time : ℕ) → time ≤ last_stamp
+    → (time_in manner (stamp_text time) >>= (λ time. Ok (meant manner (IfUnmodified time)))) ≡ Ok (meant manner (IfUnmodified time))
+time_back manner time h = ap (λ o. ok_or o (said 400 words.Condition) >>= (λ time. Ok (meant manner (IfUnmodified time)))) (said_again manner time h)
+
+unmodified_again : (manner : Manner) (gets : Bool) (host : List ℕ) (time : ℕ) (body : Option (List ℕ)) → time ≤ last_stamp
+    → condition_in manner gets (request_fields host (IfUnmodified time) body) ≡ Ok (meant manner (IfUnmodified time))
 unfolding condition_in
-unmodified_again gets host time None h = time_back time h
-unmodified_again gets host time (Some body) h = time_back time h
+unmodified_again manner gets host time None h = time_back manner time h
+unmodified_again manner gets host time (Some body) h = time_back manner time h
+
+-- what a request without a condition means
+free_meant : (manner : Manner) → meant manner Free ≡ Free
+free_meant Profile = refl
+free_meant Browser = refl
 
 -- ---- a page
 
@@ -228,6 +261,8 @@ no_lines host (IfModified time) None = refl
 no_lines host (IfModified time) (Some body) = refl
 no_lines host (IfUnmodified time) None = refl
 no_lines host (IfUnmodified time) (Some body) = refl
+no_lines host IfAbsent None = refl
+no_lines host IfAbsent (Some body) = refl
 
 pub first_target : (uid : ℕ) (newer : Option ℕ) → target_of uid (ListOf (codes "bookmarks") (page newer 0) Free) ≡ target_text (bookmarks uid) (first_pairs newer)
 unfolding target_of account_path
@@ -244,41 +279,45 @@ unfolding target_of account_path
 ids_target uid time = simp (append_assoc, append-nil)
 
 -- a list whose target has these pairs is asked for again
-list_goes : (uid : ℕ) (host : List ℕ) (query : Query) (cond : Cond) (pairs : List Pair) → 1 ≤ uid → uid ≤ 4294967295 → target_of uid (ListOf (codes "bookmarks") query cond) ≡ target_text (bookmarks uid) pairs
-    → ArePlainPairs pairs → condition_in true (request_fields host cond None) ≡ Ok cond
+list_goes : (manner : Manner) (uid : ℕ) (host : List ℕ) (query : Query) (cond : Cond) (pairs : List Pair) → 1 ≤ uid → uid ≤ 4294967295 → target_of uid (ListOf (codes "bookmarks") query cond) ≡ target_text (bookmarks uid) pairs
+    → ArePlainPairs pairs → condition_in manner true (request_fields host cond None) ≡ Ok (meant manner cond)
     → query_from (first_value (codes "ids") pairs) (first_value (codes "newer") pairs) (first_value (codes "older") pairs) (first_value (codes "limit") pairs)
     (first_value (codes "offset") pairs) (first_value (codes "sort") pairs) (first_value (codes "full") pairs) ≡ Ok query
-    → asking (message_of uid host (ListOf (codes "bookmarks") query cond)) ≡ Ok (Ask uid (ListOf (codes "bookmarks") query cond) false)
-list_goes uid host query cond pairs above below target plain condition found =
+    → asking manner (message_of uid host (ListOf (codes "bookmarks") query cond)) ≡ Ok (Ask uid (ListOf (codes "bookmarks") query (meant manner cond)) false)
+list_goes manner uid host query cond pairs above below target plain condition found =
     let request = ListOf (codes "bookmarks") query cond in
     let m = message_of uid host request in
     let few : uid < 2 ^ 64 = omega arith in
-    asked_bookmarks m methods.Get collections.List uid pairs cond request get_is target plain above below (get_asks collections.List) condition
-    (listed_again m cond query (ap (λ target. query_of_text (query_of target)) target ∙ parameters_are (bookmarks uid) pairs query (bookmarks_plain uid few) plain found)) (no_lines host cond None)
+    asked_bookmarks manner m methods.Get collections.List uid pairs (meant manner cond) (ListOf (codes "bookmarks") query (meant manner cond)) get_is target plain above below (get_asks collections.List) condition
+    (listed_again m (meant manner cond) query (ap (λ target. query_of_text (query_of target)) target ∙ parameters_are (bookmarks uid) pairs query (bookmarks_plain uid few) plain found)) (no_lines host cond None)
 
-first_page : (uid : ℕ) (newer : Option ℕ) (host : List ℕ) → 1 ≤ uid → uid ≤ 4294967295 → IsTime newer
-    → asking (message_of uid host (ListOf (codes "bookmarks") (page newer 0) Free)) ≡ Ok (Ask uid (ListOf (codes "bookmarks") (page newer 0) Free) false)
-first_page uid newer host above below known = list_goes uid host (page newer 0) Free (first_pairs newer) above below (first_target uid newer) (first_plain newer known) (free_again true host) (found newer known)
+first_page : (manner : Manner) (uid : ℕ) (newer : Option ℕ) (host : List ℕ) → 1 ≤ uid → uid ≤ 4294967295 → IsTime newer
+    → asking manner (message_of uid host (ListOf (codes "bookmarks") (page newer 0) Free)) ≡ Ok (Ask uid (ListOf (codes "bookmarks") (page newer 0) (meant manner Free)) false)
+first_page manner uid newer host above below known =
+    list_goes manner uid host (page newer 0) Free (first_pairs newer) above below (first_target uid newer) (first_plain newer known)
+    (free_again manner true host ∙ ap Ok (sym (free_meant manner))) (found newer known)
   where
     found : (t : Option ℕ) → IsTime t → query_from (first_value (codes "ids") (first_pairs t)) (first_value (codes "newer") (first_pairs t)) (first_value (codes "older") (first_pairs t)) (first_value (codes "limit") (first_pairs t))
         (first_value (codes "offset") (first_pairs t)) (first_value (codes "sort") (first_pairs t)) (first_value (codes "full") (first_pairs t)) ≡ Ok (page t 0)
     found None h = page_query None None None 0 refl refl
     found (Some since) h = page_query (Some (stamp_text since)) None (Some since) 0 (newer_again (Some since) h) refl
 
-later_page : (uid : ℕ) (newer : Option ℕ) (offset time : ℕ) (host : List ℕ) → 1 ≤ uid → uid ≤ 4294967295 → IsTime newer → offset ≤ 999999999 → time ≤ last_stamp
-    → asking (message_of uid host (ListOf (codes "bookmarks") (page newer offset) (IfUnmodified time))) ≡ Ok (Ask uid (ListOf (codes "bookmarks") (page newer offset) (IfUnmodified time)) false)
-later_page uid newer offset time host above below known within moment =
-    list_goes uid host (page newer offset) (IfUnmodified time) (later_pairs newer offset) above below (later_target uid newer offset time) (later_plain newer offset known (omega arith))
-    (unmodified_again true host time None moment) (found newer known)
+later_page : (manner : Manner) (uid : ℕ) (newer : Option ℕ) (offset time : ℕ) (host : List ℕ) → 1 ≤ uid → uid ≤ 4294967295 → IsTime newer → offset ≤ 999999999 → time ≤ last_stamp
+    → asking manner (message_of uid host (ListOf (codes "bookmarks") (page newer offset) (IfUnmodified time)))
+    ≡ Ok (Ask uid (ListOf (codes "bookmarks") (page newer offset) (meant manner (IfUnmodified time))) false)
+later_page manner uid newer offset time host above below known within moment =
+    list_goes manner uid host (page newer offset) (IfUnmodified time) (later_pairs newer offset) above below (later_target uid newer offset time) (later_plain newer offset known (omega arith))
+    (unmodified_again manner true host time None moment) (found newer known)
   where
     found : (t : Option ℕ) → IsTime t → query_from (first_value (codes "ids") (later_pairs t offset)) (first_value (codes "newer") (later_pairs t offset)) (first_value (codes "older") (later_pairs t offset))
         (first_value (codes "limit") (later_pairs t offset)) (first_value (codes "offset") (later_pairs t offset)) (first_value (codes "sort") (later_pairs t offset)) (first_value (codes "full") (later_pairs t offset)) ≡ Ok (page t offset)
     found None h = page_query None (Some (decimal offset)) None offset refl (offset_again offset within)
     found (Some since) h = page_query (Some (stamp_text since)) (Some (decimal offset)) (Some since) offset (newer_again (Some since) h) (offset_again offset within)
 
-ids_listed : (uid time : ℕ) (host : List ℕ) → 1 ≤ uid → uid ≤ 4294967295 → time ≤ last_stamp
-    → asking (message_of uid host (ListOf (codes "bookmarks") all_ids (IfUnmodified time))) ≡ Ok (Ask uid (ListOf (codes "bookmarks") all_ids (IfUnmodified time)) false)
-ids_listed uid time host above below known = list_goes uid host all_ids (IfUnmodified time) [] above below (ids_target uid time) tt (unmodified_again true host time None known) all_query
+ids_listed : (manner : Manner) (uid time : ℕ) (host : List ℕ) → 1 ≤ uid → uid ≤ 4294967295 → time ≤ last_stamp
+    → asking manner (message_of uid host (ListOf (codes "bookmarks") all_ids (IfUnmodified time))) ≡ Ok (Ask uid (ListOf (codes "bookmarks") all_ids (meant manner (IfUnmodified time))) false)
+ids_listed manner uid time host above below known =
+    list_goes manner uid host all_ids (IfUnmodified time) [] above below (ids_target uid time) tt (unmodified_again manner true host time None known) all_query
 
 -- ---- the limits of the server
 
@@ -286,20 +325,25 @@ pub configuration_target : (uid : ℕ) → target_of uid (Info Configuration Fre
 unfolding target_of account_path
 configuration_target uid = simp (append_assoc, append-nil)
 
-told_of : (m : Message) → condition_in true m.fields ≡ Ok Free → request_in (TellOf Configuration) methods.Get m ≡ Ok (Info Configuration Free)
+told_of : (manner : Manner) (m : Message) → condition_in manner true m.fields ≡ Ok Free → request_in manner (TellOf Configuration) methods.Get m ≡ Ok (Info Configuration Free)
 unfolding request_in
-told_of m e = ap (λ r. r >>= (λ cond. Ok (Info Configuration cond))) e
+told_of manner m e = ap (λ r. r >>= (λ cond. Ok (Info Configuration cond))) e
 
 tell_asks : asked_in (About Configuration) methods.Get ≡ Ok (TellOf Configuration)
 unfolding asked_in
 tell_asks = refl
 
-limits_asked : (uid : ℕ) (host : List ℕ) → 1 ≤ uid → uid ≤ 4294967295 → asking (message_of uid host (Info Configuration Free)) ≡ Ok (Ask uid (Info Configuration Free) false)
-limits_asked uid host above below =
+limits_asked : (manner : Manner) (uid : ℕ) (host : List ℕ) → 1 ≤ uid → uid ≤ 4294967295 → asking manner (message_of uid host (Info Configuration Free)) ≡ Ok (Ask uid (Info Configuration Free) false)
+limits_asked manner uid host above below =
     let m = message_of uid host (Info Configuration Free) in
     let few : uid < 2 ^ 64 = omega arith in
-    asked_again m methods.Get (record { uid = decimal uid; place = About Configuration }) uid (TellOf Configuration) (Info Configuration Free) get_is
-    (ap named_in (configuration_target uid) ∙ named_configuration uid few) (account_back uid above below) tell_asks (told_of m (free_again true host)) (no_lines host Free None)
+    asked_again manner m methods.Get (record { uid = decimal uid; place = About Configuration }) uid (TellOf Configuration) (Info Configuration Free) get_is
+    (ap named_in (configuration_target uid) ∙ named_configuration uid few) (account_back uid above below) tell_asks (told_of manner m (free_again manner true host)) (no_lines host Free None)
+
+limits_meant : (manner : Manner) (uid : ℕ) (host : List ℕ) → 1 ≤ uid → uid ≤ 4294967295
+    → asking manner (message_of uid host (Info Configuration Free)) ≡ Ok (Ask uid (Info Configuration (meant manner Free)) false)
+limits_meant manner uid host above below =
+    limits_asked manner uid host above below ∙ ap (λ condition. Ok (Ask uid (Info Configuration condition) false)) (sym (free_meant manner))
 
 -- ---- a POST
 
@@ -395,73 +439,93 @@ posted_again m records mode cond a b c d =
     (on (announced_in (names_batch (query_of m.target)) m.fields) tt (λ announced. is_in_lines true m.fields >>= (λ lines. records_in lines m.body >>= with mode)) y b
     (on (is_in_lines true m.fields) false (λ lines. records_in lines m.body >>= with mode) y c (on (records_in false m.body) records (with mode) y d refl)))
 
-upload : (uid time : ℕ) (host : List ℕ) (parts : List Part) (mode : Mode) → 1 ≤ uid → uid ≤ 4294967295 → time ≤ last_stamp → IsReadableBatch mode
+upload : (manner : Manner) (uid time : ℕ) (host : List ℕ) (parts : List Part) (mode : Mode) → 1 ≤ uid → uid ≤ 4294967295 → time ≤ last_stamp → IsReadableBatch mode
     → AllByRecursion IsPart parts → length parts + 0 ≤ most_post_records → part_bytes parts ≤ most_post_bytes
     → (let request : Request = Post (codes "bookmarks") (record { parts = parts; failed = [] }) mode (IfUnmodified time) in
-    asking (message_of uid host request) ≡ Ok (Ask uid request false))
-upload uid time host parts mode above below known readable are number bytes =
+    asking manner (message_of uid host request) ≡ Ok (Ask uid (request_meant manner request) false))
+upload manner uid time host parts mode above below known readable are number bytes =
     let records : Records = record { parts = parts; failed = [] } in
     let request = Post (codes "bookmarks") records mode (IfUnmodified time) in
     let m = message_of uid host request in
     let few : uid < 2 ^ 64 = omega arith in
     let target = mode_target uid records mode (IfUnmodified time) in
     let body = uploads_text parts in
-    asked_bookmarks m methods.Post collections.Post uid (mode_pairs mode) (IfUnmodified time) request post_is target (mode_plain mode readable) above below post_asks
-    (unmodified_again false host time (Some body) known)
-    (posted_again m records mode (IfUnmodified time) (ap (λ target. mode_in (query_of target)) target ∙ mode_again uid mode few readable)
+    asked_bookmarks manner m methods.Post collections.Post uid (mode_pairs mode) (meant manner (IfUnmodified time)) (request_meant manner request) post_is target (mode_plain mode readable) above below post_asks
+    (unmodified_again manner false host time (Some body) known)
+    (posted_again m records mode (meant manner (IfUnmodified time)) (ap (λ target. mode_in (query_of target)) target ∙ mode_again uid mode few readable)
     (nothing_announced (names_batch (query_of m.target)) host time body) (json_again host time body) (records_again parts are number bytes))
     (no_lines host (IfUnmodified time) (Some body))
 
 -- ---- the law
 
-abbrev Goes : ℕ → List ℕ → Request → Type 0
-Goes uid host request = asking (message_of uid host request) ≡ Ok (Ask uid request false)
+abbrev Goes : Manner → ℕ → List ℕ → Request → Type 0
+Goes manner uid host request = asking manner (message_of uid host request) ≡ Ok (Ask uid (request_meant manner request) false)
 
-page_goes : (uid : ℕ) (newer : Option ℕ) (offset : ℕ) (host : List ℕ) (cond : Cond) → 1 ≤ uid → uid ≤ 4294967295 → IsTime newer → IsPageAt offset cond → offset ≤ 999999999 → IsCond cond
-    → Goes uid host (ListOf (codes "bookmarks") (page newer offset) cond)
-page_goes uid newer offset host Free above below known at within typed = subst (λ offset. Goes uid host (ListOf (codes "bookmarks") (page newer offset) Free)) (sym at) (first_page uid newer host above below known)
-page_goes uid newer offset host (IfModified time) above below known at within typed = absurd at
-page_goes uid newer offset host (IfUnmodified time) above below known at within typed = later_page uid newer offset time host above below known within typed
+page_goes : (manner : Manner) (uid : ℕ) (newer : Option ℕ) (offset : ℕ) (host : List ℕ) (cond : Cond) → 1 ≤ uid → uid ≤ 4294967295 → IsTime newer → IsPageAt offset cond → offset ≤ 999999999 → IsCond cond
+    → Goes manner uid host (ListOf (codes "bookmarks") (page newer offset) cond)
+page_goes manner uid newer offset host Free above below known at within typed = subst (λ offset. Goes manner uid host (ListOf (codes "bookmarks") (page newer offset) Free)) (sym at) (first_page manner uid newer host above below known)
+page_goes manner uid newer offset host (IfModified time) above below known at within typed = absurd at
+page_goes manner uid newer offset host IfAbsent above below known at within typed = absurd at
+page_goes manner uid newer offset host (IfUnmodified time) above below known at within typed = later_page manner uid newer offset time host above below known within typed
 
-ids_go : (uid : ℕ) (host : List ℕ) (cond : Cond) → 1 ≤ uid → uid ≤ 4294967295 → IsUnmodified cond → IsCond cond → Goes uid host (ListOf (codes "bookmarks") all_ids cond)
-ids_go uid host Free above below at typed = absurd at
-ids_go uid host (IfModified time) above below at typed = absurd at
-ids_go uid host (IfUnmodified time) above below at typed = ids_listed uid time host above below typed
+ids_go : (manner : Manner) (uid : ℕ) (host : List ℕ) (cond : Cond) → 1 ≤ uid → uid ≤ 4294967295 → IsUnmodified cond → IsCond cond → Goes manner uid host (ListOf (codes "bookmarks") all_ids cond)
+ids_go manner uid host Free above below at typed = absurd at
+ids_go manner uid host (IfModified time) above below at typed = absurd at
+ids_go manner uid host IfAbsent above below at typed = absurd at
+ids_go manner uid host (IfUnmodified time) above below at typed = ids_listed manner uid time host above below typed
 
-lists_go : (uid : ℕ) (host : List ℕ) (query : Query) (cond : Cond) → 1 ≤ uid → uid ≤ 4294967295 → IsTime query.newer → IsListed query cond → query.offset ≤ 999999999 → IsCond cond
-    → Goes uid host (ListOf (codes "bookmarks") query cond)
-lists_go uid host query cond above below known listed within typed =
+lists_go : (manner : Manner) (uid : ℕ) (host : List ℕ) (query : Query) (cond : Cond) → 1 ≤ uid → uid ≤ 4294967295 → IsTime query.newer → IsListed query cond → query.offset ≤ 999999999 → IsCond cond
+    → Goes manner uid host (ListOf (codes "bookmarks") query cond)
+lists_go manner uid host query cond above below known listed within typed =
     ⊎_elim
-    (λ is. subst (λ query. Goes uid host (ListOf (codes "bookmarks") query cond)) (sym is.0) (page_goes uid query.newer query.offset host cond above below known is.1 within typed))
-    (λ is. subst (λ query. Goes uid host (ListOf (codes "bookmarks") query cond)) (sym is.0) (ids_go uid host cond above below is.1 typed)) listed
+    (λ is. subst (λ query. Goes manner uid host (ListOf (codes "bookmarks") query cond)) (sym is.0) (page_goes manner uid query.newer query.offset host cond above below known is.1 within typed))
+    (λ is. subst (λ query. Goes manner uid host (ListOf (codes "bookmarks") query cond)) (sym is.0) (ids_go manner uid host cond above below is.1 typed)) listed
 
-post_goes : (uid : ℕ) (host : List ℕ) (parts : List Part) (mode : Mode) (cond : Cond) → 1 ≤ uid → uid ≤ 4294967295 → IsUnmodified cond → IsCond cond → IsReadableBatch mode
+post_goes : (manner : Manner) (uid : ℕ) (host : List ℕ) (parts : List Part) (mode : Mode) (cond : Cond) → 1 ≤ uid → uid ≤ 4294967295 → IsUnmodified cond → IsCond cond → IsReadableBatch mode
     → AllByRecursion IsPart parts → length parts + 0 ≤ most_post_records → part_bytes parts ≤ most_post_bytes
-    → Goes uid host (Post (codes "bookmarks") (record { parts = parts; failed = [] }) mode cond)
-post_goes uid host parts mode Free above below at typed readable are number bytes = absurd at
-post_goes uid host parts mode (IfModified time) above below at typed readable are number bytes = absurd at
-post_goes uid host parts mode (IfUnmodified time) above below at typed readable are number bytes = upload uid time host parts mode above below typed readable are number bytes
+    → Goes manner uid host (Post (codes "bookmarks") (record { parts = parts; failed = [] }) mode cond)
+post_goes manner uid host parts mode Free above below at typed readable are number bytes = absurd at
+post_goes manner uid host parts mode (IfModified time) above below at typed readable are number bytes = absurd at
+post_goes manner uid host parts mode IfAbsent above below at typed readable are number bytes = absurd at
+post_goes manner uid host parts mode (IfUnmodified time) above below at typed readable are number bytes = upload manner uid time host parts mode above below typed readable are number bytes
 
-goes : (uid : ℕ) (host : List ℕ) (request : Request) → 1 ≤ uid → uid ≤ 4294967295 → IsTyped request → IsSent request → IsFitRequest request → IsReadable request → Goes uid host request
-goes uid host (Info what cond) above below typed sent fit readable =
-    subst (λ what. Goes uid host (Info what cond)) (sym sent.0) (subst (λ cond. Goes uid host (Info Configuration cond)) (sym sent.1) (limits_asked uid host above below))
-goes uid host (DeleteAll cond) above below typed sent fit readable = absurd sent
-goes uid host (ListOf collection query cond) above below typed sent fit readable =
-    subst (λ collection. Goes uid host (ListOf collection query cond)) (sym sent.0)
-    (lists_go uid host query cond above below typed.0 sent.1 readable typed.1)
-goes uid host (Post collection records mode cond) above below typed sent fit readable =
+goes : (manner : Manner) (uid : ℕ) (host : List ℕ) (request : Request) → 1 ≤ uid → uid ≤ 4294967295 → IsTyped request → IsSent request → IsFitRequest request → IsReadable request → Goes manner uid host request
+goes manner uid host (Info what cond) above below typed sent fit readable =
+    subst (λ what. Goes manner uid host (Info what cond)) (sym sent.0) (subst (λ cond. Goes manner uid host (Info Configuration cond)) (sym sent.1) (limits_meant manner uid host above below))
+goes manner uid host (DeleteAll cond) above below typed sent fit readable = absurd sent
+goes manner uid host (ListOf collection query cond) above below typed sent fit readable =
+    subst (λ collection. Goes manner uid host (ListOf collection query cond)) (sym sent.0)
+    (lists_go manner uid host query cond above below typed.0 sent.1 readable typed.1)
+goes manner uid host (Post collection records mode cond) above below typed sent fit readable =
     let are = parts_are records.parts (all_by_recursion IsUpload records.parts sent.2) (all_by_recursion _ records.parts typed.0) fit.1 in
     let number : length records.parts + 0 ≤ most_post_records = omega (arith, fit.0) in
     let made : Records = record { parts = records.parts; failed = [] } in
     let same : made ≡ records = λ i. record { parts = records.parts; failed = sym sent.1 i } in
-    subst (λ collection. Goes uid host (Post collection records mode cond)) (sym sent.0)
-    (subst (λ records. Goes uid host (Post (codes "bookmarks") records mode cond)) same (post_goes uid host records.parts mode cond above below sent.3 typed.1 readable.0 are number fit.1))
-goes uid host (DeleteCollection collection cond) above below typed sent fit readable = absurd sent
-goes uid host (DeleteIds collection ids cond) above below typed sent fit readable = absurd sent
-goes uid host (GetItem collection id cond) above below typed sent fit readable = absurd sent
-goes uid host (Put collection id fields cond) above below typed sent fit readable = absurd sent
-goes uid host (DeleteItem collection id cond) above below typed sent fit readable = absurd sent
+    subst (λ collection. Goes manner uid host (Post collection records mode cond)) (sym sent.0)
+    (subst (λ records. Goes manner uid host (Post (codes "bookmarks") records mode cond)) same (post_goes manner uid host records.parts mode cond above below sent.3 typed.1 readable.0 are number fit.1))
+goes manner uid host (DeleteCollection collection cond) above below typed sent fit readable = absurd sent
+goes manner uid host (DeleteIds collection ids cond) above below typed sent fit readable = absurd sent
+goes manner uid host (GetItem collection id cond) above below typed sent fit readable = absurd sent
+goes manner uid host (Put collection id fields cond) above below typed sent fit readable = absurd sent
+goes manner uid host (DeleteItem collection id cond) above below typed sent fit readable = absurd sent
+
+pub sent_is_meant : (manner : Manner) (uid : ℕ) (host : List ℕ) (request : Request) → 1 ≤ uid → uid ≤ 4294967295 → IsTyped request → IsSent request → IsFitRequest request → IsReadable request
+    → routed manner (message_of uid host request) ≡ Ask uid (request_meant manner request) false
+sent_is_meant manner uid host request above below typed sent fit readable = ap settled (goes manner uid host request above below typed sent fit readable)
+
+-- by the profile a request is meant as it is
+as_it_is : (request : Request) → request_meant Profile request ≡ request
+as_it_is (Info what cond) = refl
+as_it_is (DeleteAll cond) = refl
+as_it_is (ListOf collection query cond) = refl
+as_it_is (Post collection records mode cond) = refl
+as_it_is (DeleteCollection collection cond) = refl
+as_it_is (DeleteIds collection ids cond) = refl
+as_it_is (GetItem collection id cond) = refl
+as_it_is (Put collection id fields cond) = refl
+as_it_is (DeleteItem collection id cond) = refl
 
 pub sent_is_routed : (uid : ℕ) (host : List ℕ) (request : Request) → 1 ≤ uid → uid ≤ 4294967295 → IsTyped request → IsSent request → IsFitRequest request → IsReadable request
-    → routed (message_of uid host request) ≡ Ask uid request false
-sent_is_routed uid host request above below typed sent fit readable = ap settled (goes uid host request above below typed sent fit readable)
+    → routed Profile (message_of uid host request) ≡ Ask uid request false
+sent_is_routed uid host request above below typed sent fit readable =
+    sent_is_meant Profile uid host request above below typed sent fit readable ∙ ap (λ asked. Ask uid asked false) (as_it_is request)

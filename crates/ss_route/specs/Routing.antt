@@ -7,6 +7,7 @@ use Rattle.ss_query.specs.Parameters.{◌>>=◌, query_of_text, ids_of_text}
 use Rattle.ss_query.specs.declared.requests.Request.{Request}
 use Rattle.ss_query.specs.declared.requests.Request.TheVariants.{Info, DeleteAll, List as ListOf, Post, DeleteCollection, DeleteIds, Get, Put, Delete}
 use Rattle.ss_query.specs.Fit.{IsFitRequest}
+use Rattle.ss_route.specs.declared.manner.Manner.{Manner}
 use Rattle.ss_route.specs.declared.methods.Method.{Method}
 use Rattle.ss_route.specs.declared.methods.Method.TheVariants as methods
 use Rattle.ss_route.specs.declared.asked.Asked.{Asked}
@@ -75,40 +76,40 @@ item_request items.Put collection id cond m = put_request collection id cond m
 item_request items.Delete collection id cond m = Ok (Delete collection id cond)
 
 -- what is asked, with its names, its condition, its query, its announced sizes, its type and its body, tested in this order
-unfoldable pub request_in : Asked → Method → Message → Result Request Told
-request_in DeleteEverything method m = do
-  cond ← condition_in (is_get method) m.fields
+unfoldable pub request_in : Manner → Asked → Method → Message → Result Request Told
+request_in manner DeleteEverything method m = do
+  cond ← condition_in manner (is_get method) m.fields
   Ok (DeleteAll cond)
-request_in (TellOf what) method m = do
-  cond ← condition_in (is_get method) m.fields
+request_in manner (TellOf what) method m = do
+  cond ← condition_in manner (is_get method) m.fields
   Ok (Info what cond)
-request_in (OfCollection act collection) method m = do
+request_in manner (OfCollection act collection) method m = do
   collection ← name_in collection
-  cond ← condition_in (is_get method) m.fields
+  cond ← condition_in manner (is_get method) m.fields
   collection_request act collection cond m
-request_in (OfItem act collection id) method m = do
+request_in manner (OfItem act collection id) method m = do
   collection ← name_in collection
   id ← id_in id
-  cond ← condition_in (is_get method) m.fields
+  cond ← condition_in manner (is_get method) m.fields
   item_request act collection id cond m
 
 -- the first refusal, or what is asked
-unfoldable pub asking : Message → Result Routed Told
-asking m = do
+unfoldable pub asking : Manner → Message → Result Routed Told
+asking manner m = do
   method ← method_in m.method
   named ← named_in m.target
   uid ← account_in named.uid
   asked ← asked_in named.place method
-  request ← request_in asked method m
+  request ← request_in manner asked method m
   Ok (Ask uid request (wants_lines m.fields))
 
 abbrev pub settled : Result Routed Told → Routed
 settled (Ok routed) = routed
 settled (Err local) = Local local
 
--- routing
-abbrev pub routed : Message → Routed
-routed m = settled (asking m)
+-- routing, in a manner of reading conditions
+abbrev pub routed : Manner → Message → Routed
+routed manner m = settled (asking manner m)
 
 -- a call's answer is that one, unless memory ran out
 abbrev pub IsRouted : Routed → Routed → Type 0

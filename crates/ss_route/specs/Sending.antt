@@ -4,7 +4,7 @@ use Rattle.std.specs.List.{list_all}
 use Rattle.std.specs.Str.{IsUtf8}
 use Rattle.ss_text.specs.Time.{stamp_text, last_stamp}
 use Rattle.ss_text.specs.declared.stamps.Cond.{Cond}
-use Rattle.ss_text.specs.declared.stamps.Cond.TheVariants.{Free, IfModified, IfUnmodified}
+use Rattle.ss_text.specs.declared.stamps.Cond.TheVariants.{Free, IfModified, IfUnmodified, IfAbsent}
 use Rattle.ss_bso.specs.declared.parts.Field.{Field}
 use Rattle.ss_bso.specs.declared.parts.Field.TheVariants.{Keep, Clear, Set}
 use Rattle.ss_bso.specs.declared.parts.Part.{Part}
@@ -17,9 +17,11 @@ use Rattle.ss_query.specs.declared.requests.Mode.{Mode}
 use Rattle.ss_query.specs.declared.requests.Mode.TheVariants.{Plain, Begin, Append, Commit}
 use Rattle.ss_query.specs.declared.requests.Query.{Query}
 use Rattle.ss_query.specs.declared.requests.Request.{Request}
-use Rattle.ss_query.specs.declared.requests.Request.TheVariants.{Info, List as ListOf, Post}
+use Rattle.ss_query.specs.declared.requests.Request.TheVariants.{Info, DeleteAll, List as ListOf, Post, DeleteCollection, DeleteIds, Get, Put, Delete}
 use Rattle.ss_query.specs.declared.requests.Sort.TheVariants.{Newest, Oldest}
+use Rattle.ss_route.specs.Conditions.{meant}
 use Rattle.ss_route.specs.Posts.{token}
+use Rattle.ss_route.specs.declared.manner.Manner.{Manner}
 use Rattle.ss_route.specs.Texts.{json_text, list_text}
 use Rattle.ss_http.specs.declared.limits.TheConstants.{BODY_ROOM, HOST_ROOM}
 
@@ -36,12 +38,14 @@ abbrev pub IsPageAt : ℕ → Cond → Type 0
 IsPageAt offset Free = offset ≡ 0
 IsPageAt offset (IfModified time) = ⊥
 IsPageAt offset (IfUnmodified time) = ⊤
+IsPageAt offset IfAbsent = ⊥
 
 -- a condition that nothing has changed
 abbrev pub IsUnmodified : Cond → Type 0
 IsUnmodified Free = ⊥
 IsUnmodified (IfModified time) = ⊥
 IsUnmodified (IfUnmodified time) = ⊤
+IsUnmodified IfAbsent = ⊥
 
 -- the lists that are asked for: a page, or all ids where nothing has changed
 abbrev pub IsListed : Query → Cond → Type 0
@@ -62,6 +66,18 @@ IsSent (ListOf collection query cond) = (collection ≡ codes "bookmarks") × Is
 IsSent (Post collection records mode cond) = (collection ≡ codes "bookmarks") × (records.failed ≡ []) × All IsUpload records.parts × IsUnmodified cond
 IsSent _ = ⊥
 
+-- a request with its condition as it is meant in a manner
+abbrev pub request_meant : Manner → Request → Request
+request_meant manner (Info what cond) = Info what (meant manner cond)
+request_meant manner (DeleteAll cond) = DeleteAll (meant manner cond)
+request_meant manner (ListOf collection query cond) = ListOf collection query (meant manner cond)
+request_meant manner (Post collection records mode cond) = Post collection records mode (meant manner cond)
+request_meant manner (DeleteCollection collection cond) = DeleteCollection collection (meant manner cond)
+request_meant manner (DeleteIds collection ids cond) = DeleteIds collection ids (meant manner cond)
+request_meant manner (Get collection id cond) = Get collection id (meant manner cond)
+request_meant manner (Put collection id fields cond) = Put collection id fields (meant manner cond)
+request_meant manner (Delete collection id cond) = Delete collection id (meant manner cond)
+
 -- a host of 1 to 1,030 visible bytes
 abbrev pub IsHost : List ℕ → Type 0
 IsHost host = (0 < length host) × (length host ≤ HOST_ROOM) × (list_all is_host_byte host ≡ true)
@@ -79,6 +95,7 @@ abbrev pub offset_text : ℕ → Cond → List ℕ
 offset_text offset Free = []
 offset_text offset (IfModified time) = []
 offset_text offset (IfUnmodified time) = codes "&offset=" ++ decimal offset
+offset_text offset IfAbsent = []
 
 -- a page of newer records names their time
 abbrev pub newer_text : Option ℕ → List ℕ

@@ -9,7 +9,9 @@ ghost use Rattle.ss_query.specs.declared.replies.Reply.{Reply};
 ghost use Rattle.ss_query.specs.declared.requests.Request.{Request};
 ghost use Rattle.ss_route.specs.Posts.{batch_of, token};
 ghost use Rattle.ss_route.specs.Routing.{routed};
-ghost use Rattle.ss_route.specs.Sending.{IsHost, IsSent, IsTyped, IsReadable, message_of, request_sent};
+ghost use Rattle.ss_route.specs.Sending.{IsHost, IsSent, IsTyped, IsReadable, message_of, request_meant, request_sent};
+ghost use Rattle.ss_route.specs.declared.manner.Manner.{Manner};
+ghost use Rattle.ss_route.specs.declared.manner.Manner.TheVariants.{Profile};
 ghost use Rattle.ss_route.specs.declared.routed.Routed.TheVariants.{Ask};
 ghost use Rattle.ss_route.specs.Wire.{IsReply, HasReason, IsHeardWhole, wire, heard_of};
 
@@ -22,7 +24,9 @@ pub fn replies_are_heard()
 {}
 
 /// A request that is sent, to a host of 1 to 1,030 visible bytes: its bytes are read as its message, whatever follows,
-/// and its message is routed to this account and this request. It is one that is sent where the account's number is at
+/// and its message is routed to this account and this request, or in the browser's manner to this request with its
+/// condition as browsers mean it: where nothing is to have changed since 0, that the target isn't there. It is one that
+/// is sent where the account's number is at
 /// least 1, an offset is at most 999,999,999, a batch's number is from 1 to 999,999,999,999 and a body has at most
 /// 2,101,248 bytes.
 pub fn requests_are_routed()
@@ -31,7 +35,10 @@ pub fn requests_are_routed()
         → IsReadable request → ReadsMessage (request_sent uid host request ++ rest) (message_of uid host request) rest }
     ensures routed { (uid : ℕ) (host : List ℕ) (request : Request) → 1 ≤ uid → uid ≤ 4294967295 → IsTyped request
         → IsSent request → IsFitRequest request
-        → IsReadable request → routed (message_of uid host request) ≡ Ask uid request false }
+        → IsReadable request → routed Profile (message_of uid host request) ≡ Ask uid request false }
+    ensures meant { (manner : Manner) (uid : ℕ) (host : List ℕ) (request : Request) → 1 ≤ uid → uid ≤ 4294967295
+        → IsTyped request → IsSent request → IsFitRequest request
+        → IsReadable request → routed manner (message_of uid host request) ≡ Ask uid (request_meant manner request) false }
 {}
 
 /// The text that is given out as the id of a batch is read as its number, and no other text is.

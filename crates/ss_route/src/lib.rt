@@ -10,6 +10,7 @@ mod conditions;
 mod cuts;
 mod fields;
 mod laws;
+mod manner;
 mod methods;
 mod posts;
 mod requests;
@@ -21,6 +22,7 @@ mod targets;
 mod texts;
 
 pub use laws::{batch_ids_are_given_out, replies_are_heard, requests_are_routed};
+pub use manner::Manner;
 pub use requests::write_request;
 pub use responses::{heard_of, not_listed, refused, render, render_local};
 pub use routed::{Local, Routed};

@@ -72,7 +72,7 @@ fn push_page(
 {
     match cond {
         Cond::IfUnmodified(_) => push_offset(alloc, target, query.offset),
-        Cond::Free | Cond::IfModified(_) => Ok(()),
+        Cond::Free | Cond::IfModified(_) | Cond::IfAbsent => Ok(()),
     }
 }
 

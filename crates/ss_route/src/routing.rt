@@ -10,6 +10,7 @@ use crate::asked::{Asked, CollectionAct, ItemAct, asked_in, id_in, name_in};
 use crate::bodies::{fields_in, is_in_lines, records_in};
 use crate::conditions::condition_in;
 use crate::fields::wants_lines;
+use crate::manner::Manner;
 use crate::methods::{Method, method_in};
 use crate::posts::{announced_in, mode_in, names_batch};
 use crate::routed::{Routed, Stop, code, said};
@@ -173,30 +174,31 @@ fn item_request(
 #[tactic(auto, unfolding(crate::specs::Routing::request_in))]
 fn request_in(
     alloc: Global,
+    manner: Manner,
     asked: &Asked,
     method: Method,
     message: &Message,
 ) -> Result<Request, Stop>
-    ensures { Settles result (request_in asked.now method message.now) }
+    ensures { Settles result (request_in manner asked.now method message.now) }
 {
     let fields = &message.fields;
     match asked {
         Asked::DeleteEverything => Ok(Request::DeleteAll {
-            cond: condition_in(method.is_get(), fields)?,
+            cond: condition_in(manner, method.is_get(), fields)?,
         }),
         Asked::TellOf(what) => Ok(Request::Info {
             what: *what,
-            cond: condition_in(method.is_get(), fields)?,
+            cond: condition_in(manner, method.is_get(), fields)?,
         }),
         Asked::OfCollection(act, collection) => {
             let collection = name_in(alloc, collection.as_slice())?;
-            let cond = condition_in(method.is_get(), fields)?;
+            let cond = condition_in(manner, method.is_get(), fields)?;
             collection_request(alloc, *act, collection, cond, message)
         }
         Asked::OfItem(act, collection, id) => {
             let collection = name_in(alloc, collection.as_slice())?;
             let id = id_in(alloc, id.as_slice())?;
-            let cond = condition_in(method.is_get(), fields)?;
+            let cond = condition_in(manner, method.is_get(), fields)?;
             item_request(alloc, *act, collection, id, cond, message)
         }
     }
@@ -204,14 +206,14 @@ fn request_in(
 
 /// The rules in their order.
 #[tactic(auto, unfolding(crate::specs::Routing::asking))]
-fn asking(alloc: Global, message: &Message) -> Result<Routed, Stop>
-    ensures { Settles result (asking message.now) }
+fn asking(alloc: Global, manner: Manner, message: &Message) -> Result<Routed, Stop>
+    ensures { Settles result (asking manner message.now) }
 {
     let method = method_in(alloc, message.method.as_slice())?;
     let named = named_in(alloc, message.target.as_slice())?;
     let uid = account_in(named.uid.as_slice())?;
     let asked = asked_in(alloc, named.place, method)?;
-    let request = request_in(alloc, &asked, method, message)?;
+    let request = request_in(alloc, manner, &asked, method, message)?;
     Ok(Routed::Ask {
         uid,
         request,
@@ -219,12 +221,13 @@ fn asking(alloc: Global, message: &Message) -> Result<Routed, Stop>
     })
 }
 
-/// What a message asks, and of which account, or the reply of the first rule that refuses it (SyncStorage API 1.5).
-pub fn route(alloc: Global, message: &Message) -> Routed
-    ensures routed { IsRouted result (routed message.now) }
+/// What a message asks, in a manner of reading conditions, and of which account, or the reply of the first rule that
+/// refuses it (SyncStorage API 1.5).
+pub fn route(alloc: Global, manner: Manner, message: &Message) -> Routed
+    ensures routed { IsRouted result (routed manner message.now) }
     ensures fit { AsksFit result }
 {
-    match asking(alloc, message) {
+    match asking(alloc, manner, message) {
         Ok(routed) => routed,
         Err(Stop::Refused(local)) => Routed::Local(local),
         Err(Stop::Memory) => Routed::Memory,

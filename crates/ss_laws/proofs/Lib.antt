@@ -1,3 +1,4 @@
+pub mod Absence
 pub mod Commit
 pub mod CommitLaw
 pub mod InOrder

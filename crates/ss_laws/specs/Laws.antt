@@ -1,10 +1,11 @@
 -- Laws of the one-account API, over whole lists of requests.
-use Rattle.std.specs.Prelude.{All, AllPairs, IsFalse, ◌≡◌, ◌≢◌, ◌<◌, ◌≤◌, ◌↔◌, ℕ, None, Bool, true, false, not, ◌||◌, is_some, List, IsTrue}
+use Rattle.std.specs.Prelude.{All, AllPairs, IsFalse, ◌≡◌, ◌≢◌, ◌<◌, ◌≤◌, ◌↔◌, ℕ, nat_lt, None, Bool, true, false, not, ◌||◌, is_some, List, IsTrue}
 use Rattle.std.specs.List.{AllZip}
 use Rattle.std.specs.Option.{option_map_or}
 use Rattle.ss_text.specs.Texts.{Reordered, sorted}
 use Rattle.ss_text.specs.Time.{last_stamp, stops}
 use Rattle.ss_text.specs.declared.stamps.Cond.{Cond}
+use Rattle.ss_text.specs.declared.stamps.Cond.TheVariants.{IfAbsent, IfUnmodified}
 use Rattle.ss_bso.specs.declared.rows.Row.{Row}
 use Rattle.ss_bso.specs.declared.parts.Part.{Part}
 use Rattle.ss_bso.specs.declared.parts.Records.{Records}
@@ -17,7 +18,7 @@ use Rattle.ss_query.specs.declared.requests.Request.TheVariants.{Post}
 use Rattle.ss_query.specs.declared.requests.Mode.TheVariants.{Commit}
 use Rattle.ss_query.specs.declared.requests.Sort.{Sort}
 use Rattle.ss_query.specs.Answer.{comes_before}
-use Rattle.ss_query.specs.Refused.{begins, continued, collection_time, is_listed, IsLive, Fits}
+use Rattle.ss_query.specs.Refused.{begins, continued, with_condition, target_time, collection_time, is_there, is_listed, IsLive, Fits}
 use Rattle.ss_query.specs.Effect.{effect, is_write}
 use Rattle.ss_query.specs.Api.{api, refusal, Outcome}
 use Rattle.ss_query.specs.Flat.{Ask, Turn, after_all, turns, flat}
@@ -65,6 +66,14 @@ abbrev pub CommitLaw : Plain → ℕ → List ℕ → Records → ℕ → Cond �
 CommitLaw account now collection records number cond =
     ((api account now (Post collection records (Commit number) cond)).reply.status ≡ 200)
     ↔ MayCommit (tick account now) collection records number cond
+
+-- the condition that a target isn't there: it stops a request exactly where its target is there, and is the condition that
+-- nothing has changed since 0 where the target is there exactly if it has a time after 0. Nothing else lies between the
+-- two: a target that isn't there and has a later time is a collection that isn't listed, after a deletion
+pub record AbsenceLaw (account : Plain) (now : ℕ) (request : Request) : Type 0 where
+  pub stops : ((api account now (with_condition IfAbsent request)).reply.status ≡ 412) ↔ (is_there (tick account now) request ≡ true)
+  pub unmodified : is_there (tick account now) request ≡ nat_lt 0 (target_time (tick account now) request)
+    → api account now (with_condition IfAbsent request) ≡ api account now (with_condition (IfUnmodified 0) request)
 
 -- what a write makes of the times: the store's time rises, and the moment is the store's time
 pub record Rises (before after : Plain) : Type 0 where

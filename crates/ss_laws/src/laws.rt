@@ -11,7 +11,7 @@ ghost use Rattle.ss_text.specs.Texts.{Reordered};
 ghost use Rattle.ss_query.specs.declared.requests.Sort.{Sort};
 ghost use Rattle.ss_bso.specs.Write.{rows_written};
 ghost use Rattle.ss_query.specs.Fit.{IsFitRequest};
-ghost use Rattle.ss_laws.specs.Laws.{AreCounted, BatchLaw, CommitLaw, QuietLaw, StampLaw, SameOutcome, SortLaw, WriteLaw};
+ghost use Rattle.ss_laws.specs.Laws.{AbsenceLaw, AreCounted, BatchLaw, CommitLaw, QuietLaw, StampLaw, SameOutcome, SortLaw, WriteLaw};
 ghost use Rattle.ss_query.specs.declared.requests.Request.{Request};
 ghost use Rattle.ss_query.specs.Api.{api};
 ghost use Rattle.ss_query.specs.Effect.{is_write};
@@ -56,6 +56,13 @@ pub fn same_law()
 pub fn commit_law()
     ensures { (account : Plain) (now : ℕ) (collection : List ℕ) (records : Records) (number : ℕ) (cond : Cond)
         → CommitLaw account now collection records number cond }
+{}
+
+/// A request whose condition is that its target isn't there is answered 412 exactly where the target is there. It is
+/// answered as one whose condition is that nothing has changed since 0, but for a collection that isn't listed after
+/// something was deleted.
+pub fn absence_law()
+    ensures { (account : Plain) (now : ℕ) (request : Request) → AbsenceLaw account now request }
 {}
 
 /// A valid account stays valid, whatever the clock says and whatever is asked.

@@ -8,6 +8,6 @@ mod laws;
 
 pub use journal::{Entry, Journal};
 pub use laws::{
-    batch_law, commit_law, journal_law, journal_order_law, order_law, quiet_law, refusal_law,
-    same_law, sort_law, stamp_law, validity_law, write_law,
+    absence_law, batch_law, commit_law, journal_law, journal_order_law, order_law, quiet_law,
+    refusal_law, same_law, sort_law, stamp_law, validity_law, write_law,
 };

@@ -27,6 +27,18 @@ condition_of (Get collection id cond) = cond
 condition_of (Put collection id fields cond) = cond
 condition_of (Delete collection id cond) = cond
 
+-- the same request under another condition
+abbrev pub with_condition : Cond → Request → Request
+with_condition cond (Info what _) = Info what cond
+with_condition cond (DeleteAll _) = DeleteAll cond
+with_condition cond (ListOf collection query _) = ListOf collection query cond
+with_condition cond (Post collection records mode _) = Post collection records mode cond
+with_condition cond (DeleteCollection collection _) = DeleteCollection collection cond
+with_condition cond (DeleteIds collection ids _) = DeleteIds collection ids cond
+with_condition cond (Get collection id _) = Get collection id cond
+with_condition cond (Put collection id fields _) = Put collection id fields cond
+with_condition cond (Delete collection id _) = Delete collection id cond
+
 -- the time of a collection, or of the last deletion where the collection is absent
 abbrev pub collection_time : Plain → List ℕ → ℕ
 collection_time account collection = unwrap_or (time_of collection account.collections) account.last_delete

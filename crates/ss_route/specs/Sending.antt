@@ -11,13 +11,13 @@ use Rattle.ss_bso.specs.declared.parts.Part.{Part}
 use Rattle.ss_text.specs.Names.{is_id}
 use Rattle.ss_http.specs.Requests.{IsCond, is_host_byte, request_text, message_sent}
 use Rattle.ss_http.specs.declared.message.Message.{Message}
-use Rattle.ss_query.specs.Refused.{condition_of}
+use Rattle.ss_query.specs.Refused.{condition_of, with_condition}
 use Rattle.ss_query.specs.declared.requests.Info.TheVariants.{Configuration}
 use Rattle.ss_query.specs.declared.requests.Mode.{Mode}
 use Rattle.ss_query.specs.declared.requests.Mode.TheVariants.{Plain, Begin, Append, Commit}
 use Rattle.ss_query.specs.declared.requests.Query.{Query}
 use Rattle.ss_query.specs.declared.requests.Request.{Request}
-use Rattle.ss_query.specs.declared.requests.Request.TheVariants.{Info, DeleteAll, List as ListOf, Post, DeleteCollection, DeleteIds, Get, Put, Delete}
+use Rattle.ss_query.specs.declared.requests.Request.TheVariants.{Info, List as ListOf, Post}
 use Rattle.ss_query.specs.declared.requests.Sort.TheVariants.{Newest, Oldest}
 use Rattle.ss_route.specs.Conditions.{meant}
 use Rattle.ss_route.specs.Posts.{token}
@@ -68,15 +68,7 @@ IsSent _ = ⊥
 
 -- a request with its condition as it is meant in a manner
 abbrev pub request_meant : Manner → Request → Request
-request_meant manner (Info what cond) = Info what (meant manner cond)
-request_meant manner (DeleteAll cond) = DeleteAll (meant manner cond)
-request_meant manner (ListOf collection query cond) = ListOf collection query (meant manner cond)
-request_meant manner (Post collection records mode cond) = Post collection records mode (meant manner cond)
-request_meant manner (DeleteCollection collection cond) = DeleteCollection collection (meant manner cond)
-request_meant manner (DeleteIds collection ids cond) = DeleteIds collection ids (meant manner cond)
-request_meant manner (Get collection id cond) = Get collection id (meant manner cond)
-request_meant manner (Put collection id fields cond) = Put collection id fields (meant manner cond)
-request_meant manner (Delete collection id cond) = Delete collection id (meant manner cond)
+request_meant manner request = with_condition (meant manner (condition_of request)) request
 
 -- a host of 1 to 1,030 visible bytes
 abbrev pub IsHost : List ℕ → Type 0

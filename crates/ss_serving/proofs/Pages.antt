@@ -26,7 +26,7 @@ use Rattle.ss_serving.proofs.Seen.{oldest_order, sheet-map}
 use Rattle.ss_text.proofs.Basics.{length-filter_le}
 
 -- a condition that doesn't stop a request
-pub unmodified : (condition time : ℕ) → option_map why_stopped (stops (IfUnmodified condition) time) ≡ None → time ≤ condition
+pub unmodified : (condition time : ℕ) → option_map why_stopped (stops (IfUnmodified condition) true time) ≡ None → time ≤ condition
 unmodified condition time e =
     elim (nat_lt condition time) as (λ v. nat_lt condition time ≡ v → option_map why_stopped (cond v (Some 412) None) ≡ None → time ≤ condition)
     [ true ↦ (λ t h. cc) | false ↦ (λ t h. grind (arith, nat_tests)) ] refl e

@@ -2,14 +2,13 @@
 use Rattle.std.specs.Prelude.{ℕ, ◌+◌, nat_lt, Bool, true, ◌&&◌, List, [], filter, find, bytes_eq, Option, option_map}
 use Rattle.std.specs.Option.{option_map_or}
 use Rattle.ss_text.specs.Time.{after}
-use Rattle.ss_bso.specs.declared.limits.TheConstants.{BATCH_LIFE}
 use Rattle.ss_bso.specs.declared.rows.Row.{Row}
 use Rattle.ss_bso.specs.declared.account.Plain.{Plain}
 use Rattle.ss_bso.specs.declared.account.Staged.{Staged}
 
--- how long a batch lives, in hundredths of a second of account time
+-- how long a batch lives, in hundredths of a second of account time: two hours (this project)
 abbrev pub batch_life : ℕ
-batch_life = BATCH_LIFE
+batch_life = 720000
 
 -- an account that nothing was asked of
 abbrev pub fresh : Plain

@@ -6,7 +6,7 @@ use Rattle.serde_json.specs.Data.{Data}
 use Rattle.serde_json.specs.Read.{read}
 use Rattle.serde_json.specs.Find.{get, as_null, as_str, as_number, as_i64, as_u64, as_object}
 use Rattle.ss_text.specs.Decimals.{wrapped}
-use Rattle.ss_bso.specs.declared.limits.TheConstants.{MOST_PAYLOAD, LEAST_SORTINDEX, MOST_SORTINDEX, MOST_TTL}
+use Rattle.ss_bso.specs.Limits.{most_payload, least_sortindex, most_sortindex, most_ttl}
 use Rattle.ss_bso.specs.declared.parts.Field.{Field}
 use Rattle.ss_bso.specs.declared.parts.Field.TheVariants.{Keep, Clear, Set}
 use Rattle.ss_bso.specs.declared.parts.Fields.{Fields}
@@ -31,17 +31,17 @@ member_field value (Some d) = if is_some (as_null d) then Ok Clear else value d
 -- a payload: a string of at most so many bytes
 abbrev pub payload_value : Option (List ℕ) → Result (Field (List ℕ)) Reason
 payload_value None = Err Payload
-payload_value (Some text) = if nat_lt MOST_PAYLOAD (length text) then Err TooLarge else Ok (Set text)
+payload_value (Some text) = if nat_lt most_payload (length text) then Err TooLarge else Ok (Set text)
 
 -- a sortindex: a whole number from -999,999,999 to 999,999,999
 abbrev pub sortindex_value : Option ℤ → Result (Field ℤ) Reason
 sortindex_value None = Err Sortindex
-sortindex_value (Some z) = if le_z LEAST_SORTINDEX z && le_z z MOST_SORTINDEX then Ok (Set z) else Err Sortindex
+sortindex_value (Some z) = if le_z least_sortindex z && le_z z most_sortindex then Ok (Set z) else Err Sortindex
 
 -- a ttl: a whole number from 0 to 999,999,999
 abbrev pub ttl_value : Option ℕ → Result (Field ℕ) Reason
 ttl_value None = Err Ttl
-ttl_value (Some n) = if nat_le n MOST_TTL then Ok (Set n) else Err Ttl
+ttl_value (Some n) = if nat_le n most_ttl then Ok (Set n) else Err Ttl
 
 unfoldable pub payload_of : Option Data → Result (Field (List ℕ)) Reason
 payload_of member = member_field (λ d. payload_value (as_str d)) member

@@ -1,5 +1,6 @@
-//! The limits of an account, of what a request brings, and of a batch (this project). Each stands here and nowhere
-//! else. Payload bytes are the UTF-8 bytes of the decoded string.
+//! The limits of an account, of what a request brings, and of a batch (this project), as `specs/Limits.antt` and, for
+//! the life of a batch, `specs/Account.antt` state them. In code each stands here and nowhere else. Payload bytes are
+//! the UTF-8 bytes of the decoded string.
 
 /// The most bytes of one payload.
 pub const MOST_PAYLOAD: usize = 2_097_152;

@@ -1,19 +1,10 @@
 -- What a request may carry.
 use Rattle.std.specs.Prelude.{ℕ, ◌+◌, ◌≤◌, length, ⊤}
 use Rattle.std.specs.Option.{ForSome}
-use Rattle.ss_bso.specs.declared.limits.TheConstants.{MOST_POST_RECORDS, MOST_POST_BYTES}
-use Rattle.ss_bso.specs.Limits.{part_bytes}
+use Rattle.ss_bso.specs.Limits.{part_bytes, most_ids}
+pub use Rattle.ss_bso.specs.Limits.{most_post_records, most_post_bytes}
 use Rattle.ss_query.specs.declared.requests.Request.{Request}
 use Rattle.ss_query.specs.declared.requests.Request.TheVariants.{Post, List as ListOf, DeleteIds}
-use Rattle.ss_query.specs.Parameters.{most_ids}
-
--- the most records of one POST
-abbrev pub most_post_records : ℕ
-most_post_records = MOST_POST_RECORDS
-
--- the most payload bytes of the records of one POST that didn't fail
-abbrev pub most_post_bytes : ℕ
-most_post_bytes = MOST_POST_BYTES
 
 -- what a request may carry, as it is routed: a POST within its limits, and a list of not too many ids
 abbrev pub IsFitRequest : Request → Type 0

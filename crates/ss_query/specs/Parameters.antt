@@ -9,7 +9,7 @@ use Rattle.ss_text.specs.Time.{stamp_of}
 use Rattle.ss_query.specs.declared.requests.Query.{Query}
 use Rattle.ss_query.specs.declared.requests.Sort.{Sort}
 use Rattle.ss_query.specs.declared.requests.Sort.TheVariants.{Newest, Oldest, Index}
-use Rattle.ss_bso.specs.declared.limits.TheConstants.{MOST_IDS}
+pub use Rattle.ss_bso.specs.Limits.{most_ids}
 use Rattle.ss_query.specs.declared.queries.QueryFault.{QueryFault}
 use Rattle.ss_query.specs.declared.queries.QueryFault.TheVariants as fault
 
@@ -25,10 +25,6 @@ first_in name (pair ∷ pairs) = if bytes_eq (text_of pair.0) name then Some (te
 -- a parameter of a query: of equal names the first counts
 unfoldable pub parameter : List ℕ → List ℕ → Option (List ℕ)
 parameter name query = first_in name (raw_pairs query)
-
--- how many ids one query may name
-abbrev pub most_ids : ℕ
-most_ids = MOST_IDS
 
 -- ids between commas, none empty; at most so many
 unfoldable pub ids_in : List ℕ → Result (List (List ℕ)) QueryFault

@@ -16,7 +16,8 @@ use Rattle.ss_http.specs.Messages.{ReadsMessage, fields_of}
 use Rattle.ss_http.specs.Requests.{cond_fields, content_fields, request_fields, body_bytes, request_text, message_sent, IsCond, IsSendable}
 use Rattle.ss_http.proofs.Written.{field_of, lines_print, Fit, fit-append, are_fields, values_are, if_long, lines_length, decimal_long, stamp_long}
 use Rattle.ss_http.proofs.Values.{decimal_is_bare, stamp_is_bare, visible_is_bare, number_again}
-use Rattle.ss_http.specs.declared.limits.TheConstants.{BODY_ROOM, HEAD_ROOM, HOST_ROOM}
+use Rattle.ss_http.specs.Limits.{most_host_bytes}
+use Rattle.ss_http.specs.declared.limits.TheConstants.{BODY_ROOM, HEAD_ROOM}
 
 abbrev pub request_tree : List ℕ → List ℕ → List ℕ → Cond → Option (List ℕ) → RequestHead
 request_tree method target host cond body =
@@ -151,7 +152,7 @@ lines_short method target host cond body s =
     omega (
       arith,
       lines_length ((codes "Host", host) ∷ []) (cond_fields cond ++ content_fields body),
-      if_long (codes "Host") (Some host) HOST_ROOM s.host_size.1,
+      if_long (codes "Host") (Some host) most_host_bytes s.host_size.1,
       lines_length (cond_fields cond) (content_fields body),
       cond_long cond s.stamp,
       content_long body s.size,

@@ -5,7 +5,7 @@ use Rattle.ss_http.specs.declared.fault.MsgFault.{MsgFault}
 use Rattle.ss_http.specs.declared.fault.MsgFault.TheVariants as faults
 use Rattle.ss_http.specs.Fields.{first_named, announced}
 use Rattle.ss_http.specs.Messages.{BeginsWith, Announces, NoMessage, fields_of}
-use Rattle.ss_http.specs.declared.limits.TheConstants.{BODY_ROOM, HEAD_ROOM, MOST_FIELDS}
+use Rattle.ss_http.specs.Limits.{most_body_bytes, most_head_bytes, most_fields}
 
 -- no front of buf is a head
 abbrev pub NoHead : List ℕ → Type 0
@@ -13,11 +13,11 @@ NoHead buf = (h : RequestHead) → BeginsWith buf h → ⊥
 
 -- whatever follows, no head with at most 64 fields stands at the front
 abbrev pub NeverHead : List ℕ → Type 0
-NeverHead buf = (more : List ℕ) (h : RequestHead) (rest : List ℕ) → ReadsRequest (buf ++ more) h rest → MOST_FIELDS < length h.fields
+NeverHead buf = (more : List ℕ) (h : RequestHead) (rest : List ℕ) → ReadsRequest (buf ++ more) h rest → most_fields < length h.fields
 
 -- the head isn't whole, and may still be within its limit
 abbrev pub WantsHead : List ℕ → Type 0
-WantsHead buf = (0 < length buf) × (length buf < HEAD_ROOM) × NoHead buf
+WantsHead buf = (0 < length buf) × (length buf < most_head_bytes) × NoHead buf
 
 -- the head is there, and the body that it announces isn't whole
 pub record WantsBody (buf : List ℕ) : Type 0 where
@@ -25,7 +25,7 @@ pub record WantsBody (buf : List ℕ) : Type 0 where
   pub n : ℕ
   pub begins : BeginsWith buf head
   pub announces : Announces (fields_of head) n
-  pub limit : n ≤ BODY_ROOM
+  pub limit : n ≤ most_body_bytes
   pub short : length buf < length (print_request head) + n
 
 -- the head has a Transfer-Encoding
@@ -46,14 +46,14 @@ pub record IsTooLarge (n : ℕ) (buf : List ℕ) : Type 0 where
   pub head : RequestHead
   pub begins : BeginsWith buf head
   pub announces : Announces (fields_of head) n
-  pub above : BODY_ROOM < n
+  pub above : most_body_bytes < n
 
 -- what the bytes are where a call answers this fault
 abbrev pub IsMessageFault : MsgFault → List ℕ → Type 0
 IsMessageFault faults.End bytes = bytes ≡ []
 IsMessageFault faults.Cut bytes = WantsHead bytes ⊎ WantsBody bytes
 IsMessageFault faults.BadHead bytes = NeverHead bytes
-IsMessageFault faults.HeadTooLong bytes = (HEAD_ROOM ≤ length bytes) × NoHead bytes
+IsMessageFault faults.HeadTooLong bytes = (most_head_bytes ≤ length bytes) × NoHead bytes
 IsMessageFault faults.Coded bytes = IsCoded bytes
 IsMessageFault faults.BadLength bytes = IsUnmeasured bytes
 IsMessageFault (faults.TooLarge n) bytes = IsTooLarge n bytes

@@ -3,7 +3,7 @@ use Rattle.std.specs.Prelude.{ℕ, List, [], ◌∷◌, ◌++◌, reverse, Bool,
 use Rattle.std.specs.List.{flat_map, list_all, list_any, slice_split}
 use Rattle.std.specs.Str.{str_eq_ignore_ascii_case}
 use Rattle.ss_text.specs.Numbers.{number_of}
-use Rattle.ss_http.specs.declared.limits.TheConstants.{LENGTH_DIGITS}
+use Rattle.ss_http.specs.Limits.{most_length_digits}
 
 -- a field: its name and its value, without the blanks around it
 abbrev pub Line : Type 0
@@ -38,7 +38,7 @@ is_number n (Some m) = m == n
 
 -- a field that is no Content-Length, or one that says n
 abbrev pub agrees : ℕ → Line → Bool
-agrees n f = not (same_name f.0 (codes "Content-Length")) || is_number n (number_of LENGTH_DIGITS f.1)
+agrees n f = not (same_name f.0 (codes "Content-Length")) || is_number n (number_of most_length_digits f.1)
 
 -- the length that the first says, if all say it
 abbrev pub agreed : Option ℕ → List Line → Option ℕ
@@ -48,7 +48,7 @@ agreed (Some n) fields = if list_all (agrees n) fields then Some n else None
 -- of what the first Content-Length says, where there is one
 abbrev pub announced_by : Option (List ℕ) → List Line → Option ℕ
 announced_by None fields = Some 0
-announced_by (Some text) fields = agreed (number_of LENGTH_DIGITS text) fields
+announced_by (Some text) fields = agreed (number_of most_length_digits text) fields
 
 -- the length of the body that fields announce: 0 without a Content-Length; none where one isn't 1 to 18 digits, or where
 -- two differ as numbers

@@ -13,7 +13,7 @@ use Rattle.ss_http.specs.declared.heard.Heard.{Heard}
 use Rattle.ss_http.specs.declared.heard.HeardFault.{HeardFault}
 use Rattle.ss_http.specs.declared.heard.HeardFault.TheVariants as faults
 use Rattle.ss_http.specs.Fields.{Line, first_named, ends}
-use Rattle.ss_http.specs.declared.limits.TheConstants.{HEAD_ROOM, HEARD_ROOM, LENGTH_DIGITS, MOST_FIELDS}
+use Rattle.ss_http.specs.Limits.{most_head_bytes, most_heard_bytes, most_length_digits, most_fields}
 
 -- the fields of a head
 abbrev pub values_of : grammar.ResponseHead → List Line
@@ -22,8 +22,8 @@ values_of h = map name_and_value h.fields
 -- a head that a response may begin with: it has at most 64 fields and 16,384 bytes
 pub record IsAnswerHead (h : grammar.ResponseHead) : Type 0 where
   pub grammar : IsResponseHead h
-  pub size : length (print_response h) ≤ HEAD_ROOM
-  pub count : length h.fields ≤ MOST_FIELDS
+  pub size : length (print_response h) ≤ most_head_bytes
+  pub count : length h.fields ≤ most_fields
 
 -- buf begins with such a head
 pub record AnswersWith (buf : List ℕ) (h : grammar.ResponseHead) : Type 0 where
@@ -33,7 +33,7 @@ pub record AnswersWith (buf : List ℕ) (h : grammar.ResponseHead) : Type 0 wher
 
 -- how many bytes the body has: none at 304, else as many as the first Content-Length says in 1 to 18 digits
 abbrev pub size_of : ℕ → List Line → Option ℕ
-size_of status fields = if status == 304 then Some 0 else option_and_then (number_of LENGTH_DIGITS) (first_named (codes "Content-Length") fields)
+size_of status fields = if status == 304 then Some 0 else option_and_then (number_of most_length_digits) (first_named (codes "Content-Length") fields)
 
 -- the head has a body of n bytes: no Transfer-Encoding, and that size
 pub record HasBody (h : grammar.ResponseHead) (n : ℕ) : Type 0 where
@@ -56,7 +56,7 @@ pub record Hears (input : List ℕ) (heard : Heard) (rest : List ℕ) : Type 0 w
   pub body : List ℕ
   pub is_head : IsAnswerHead head
   pub sized : HasBody head (length body)
-  pub limit : length body ≤ HEARD_ROOM
+  pub limit : length body ≤ most_heard_bytes
   pub bytes : input ≡ print_response head ++ (body ++ rest)
   pub says : heard ≡ heard_from head body
 
@@ -68,11 +68,11 @@ NoAnswerHead buf = (h : grammar.ResponseHead) → AnswersWith buf h → ⊥
 
 -- whatever follows, no head with at most 64 fields stands at the front
 abbrev pub NeverAnswers : List ℕ → Type 0
-NeverAnswers buf = (more : List ℕ) (h : grammar.ResponseHead) (rest : List ℕ) → ReadsResponse (buf ++ more) h rest → MOST_FIELDS < length h.fields
+NeverAnswers buf = (more : List ℕ) (h : grammar.ResponseHead) (rest : List ℕ) → ReadsResponse (buf ++ more) h rest → most_fields < length h.fields
 
 -- the head isn't whole, and may still be within its limit
 abbrev pub LacksHead : List ℕ → Type 0
-LacksHead buf = (length buf < HEAD_ROOM) × NoAnswerHead buf
+LacksHead buf = (length buf < most_head_bytes) × NoAnswerHead buf
 
 -- the head is there, and its body isn't whole
 pub record LacksBody (buf : List ℕ) : Type 0 where
@@ -80,7 +80,7 @@ pub record LacksBody (buf : List ℕ) : Type 0 where
   pub n : ℕ
   pub begins : AnswersWith buf head
   pub sized : HasBody head n
-  pub limit : n ≤ HEARD_ROOM
+  pub limit : n ≤ most_heard_bytes
   pub short : length buf < length (print_response head) + n
 
 -- the head has a Transfer-Encoding
@@ -101,13 +101,13 @@ pub record HasLarge (n : ℕ) (buf : List ℕ) : Type 0 where
   pub head : grammar.ResponseHead
   pub begins : AnswersWith buf head
   pub sized : HasBody head n
-  pub above : HEARD_ROOM < n
+  pub above : most_heard_bytes < n
 
 -- the bytes begin no response that is read: no head comes of them whatever follows; as many came as a head may have, and hold
 -- none; or the head has a Transfer-Encoding, or no size
 pub data IsBad (buf : List ℕ) : Type 0 where
   headless : NeverAnswers buf → IsBad buf
-  endless : HEAD_ROOM ≤ length buf → NoAnswerHead buf → IsBad buf
+  endless : most_head_bytes ≤ length buf → NoAnswerHead buf → IsBad buf
   coded : HasCoding buf → IsBad buf
   unsized : HasNoSize buf → IsBad buf
 
@@ -157,7 +157,7 @@ pub record IsSound (head : ResponseHead) (body : List ℕ) : Type 0 where
   pub count : IfSome head.count (λ n. n < 2 ^ 64)
   pub next : IfSome head.next (λ n. n < 2 ^ 64)
   pub allow : IfSome head.allow IsAllow
-  pub size : length body ≤ HEARD_ROOM
+  pub size : length body ≤ most_heard_bytes
   pub empty : head.status ≡ 304 → body ≡ []
 
 -- what a fault says where a whole response stands at the front of all that was there: the input had more, or it is no fault of the bytes

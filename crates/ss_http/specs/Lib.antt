@@ -3,6 +3,7 @@ pub mod Faults
 pub mod Fields
 pub mod Heads
 pub mod Hearing
+pub mod Limits
 pub mod Listening
 pub mod Messages
 pub mod Reading

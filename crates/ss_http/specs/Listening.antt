@@ -11,14 +11,14 @@ use Rattle.ss_http.specs.declared.heard.HeardFault.{HeardFault}
 use Rattle.ss_http.specs.declared.heard.HeardFault.TheVariants as faults
 use Rattle.ss_http.specs.Fields.{first_named, ends}
 use Rattle.ss_http.specs.Hearing.{AnswersWith, HasBody, IsHeardFault, values_of}
-use Rattle.ss_http.specs.declared.limits.TheConstants.{HEAD_ROOM, HEARD_ROOM}
+use Rattle.ss_http.specs.Limits.{most_head_bytes, most_heard_bytes}
 
 -- buf begins with a head that says this
 pub record IsAnswerAt (buf : List ℕ) (answer : Answer) : Type 0 where
   pub tree : grammar.ResponseHead
   pub begins : AnswersWith buf tree
   pub sized : HasBody tree answer.size
-  pub limit : answer.size ≤ HEARD_ROOM
+  pub limit : answer.size ≤ most_heard_bytes
   pub status : answer.status ≡ status_code tree
   pub modified : answer.modified ≡ option_and_then stamp_of (first_named (codes "X-Last-Modified") (values_of tree))
   pub next : answer.next ≡ first_named (codes "X-Weave-Next-Offset") (values_of tree)
@@ -37,7 +37,7 @@ IsOfHead _ = ⊥
 -- there is a head; there is none yet; there is none that is read
 abbrev pub Looks : Looked → List ℕ → Type 0
 Looks (Whole answer) buf = IsAnswerAt buf answer
-Looks Unfinished buf = (length buf < HEAD_ROOM) × HasNoResponse buf
+Looks Unfinished buf = (length buf < most_head_bytes) × HasNoResponse buf
 Looks (Refused fault) buf = IsOfHead fault × IsHeardFault fault buf
 
 -- the byte that a read brought, if it brought one

@@ -4,7 +4,7 @@ use Rattle.httparse.specs.Grammar.{RequestHead, IsRequestHead, print_request}
 use Rattle.httparse.specs.Spans.{name_and_value}
 use Rattle.ss_http.specs.declared.message.Message.{Message}
 use Rattle.ss_http.specs.Fields.{Line, first_named, announced, ends}
-use Rattle.ss_http.specs.declared.limits.TheConstants.{BODY_ROOM, HEAD_ROOM, MOST_FIELDS}
+use Rattle.ss_http.specs.Limits.{most_body_bytes, most_head_bytes, most_fields}
 
 -- the fields of a head
 abbrev pub fields_of : RequestHead → List Line
@@ -13,8 +13,8 @@ fields_of h = map name_and_value h.fields
 -- a head that a message may begin with: it has at most 64 fields and 16,384 bytes
 pub record IsHead (h : RequestHead) : Type 0 where
   pub grammar : IsRequestHead h
-  pub size : length (print_request h) ≤ HEAD_ROOM
-  pub count : length h.fields ≤ MOST_FIELDS
+  pub size : length (print_request h) ≤ most_head_bytes
+  pub count : length h.fields ≤ most_fields
 
 -- buf begins with such a head
 pub record BeginsWith (buf : List ℕ) (h : RequestHead) : Type 0 where
@@ -38,7 +38,7 @@ pub record ReadsMessage (buf : List ℕ) (m : Message) (rest : List ℕ) : Type 
   pub body : List ℕ
   pub is_head : IsHead head
   pub announces : Announces (fields_of head) (length body)
-  pub limit : length body ≤ BODY_ROOM
+  pub limit : length body ≤ most_body_bytes
   pub bytes : buf ≡ print_request head ++ (body ++ rest)
   pub says : m ≡ message_of head body
 

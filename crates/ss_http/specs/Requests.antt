@@ -8,7 +8,7 @@ use Rattle.ss_text.specs.declared.stamps.Cond.{Cond}
 use Rattle.ss_text.specs.declared.stamps.Cond.TheVariants.{Free, IfModified, IfUnmodified, IfAbsent}
 use Rattle.ss_http.specs.declared.message.Message.{Message}
 use Rattle.ss_http.specs.Fields.{Line, lines}
-use Rattle.ss_http.specs.declared.limits.TheConstants.{BODY_ROOM, HOST_ROOM, METHOD_ROOM, TARGET_ROOM}
+use Rattle.ss_http.specs.Limits.{most_body_bytes, most_host_bytes, most_method_bytes, most_target_bytes}
 
 -- the field of a condition; that a target isn't there is said as browsers say it
 abbrev pub cond_fields : Cond → List Line
@@ -58,11 +58,11 @@ IsCond IfAbsent = ⊤
 
 -- parts that make a message: a short method, a target, a host of 1 to 1,030 visible bytes and a body that isn't too large
 pub record IsSendable (method target host : List ℕ) (cond : Cond) (body : Option (List ℕ)) : Type 0 where
-  pub token : (is_token method ≡ true) × (length method ≤ METHOD_ROOM)
-  pub target_size : (0 < length target) × (length target ≤ TARGET_ROOM)
+  pub token : (is_token method ≡ true) × (length method ≤ most_method_bytes)
+  pub target_size : (0 < length target) × (length target ≤ most_target_bytes)
   pub target_bytes : list_all is_uri_byte target ≡ true
   pub target_text : IsUtf8 target
-  pub host_size : (0 < length host) × (length host ≤ HOST_ROOM)
+  pub host_size : (0 < length host) × (length host ≤ most_host_bytes)
   pub host_bytes : list_all is_host_byte host ≡ true
   pub stamp : IsCond cond
-  pub size : IfSome body (λ b. length b ≤ BODY_ROOM)
+  pub size : IfSome body (λ b. length b ≤ most_body_bytes)

@@ -1,4 +1,5 @@
-//! The limits of messages and responses (this project). Each stands here and nowhere else.
+//! The limits of messages and responses (this project), as `specs/Limits.antt` states them. In code each stands here and
+//! nowhere else.
 
 /// The most fields of a head.
 pub const MOST_FIELDS: usize = 64;
@@ -20,12 +21,3 @@ pub const HEARD_ROOM: u64 = 536_870_912;
 
 /// The most digits of a `Content-Length`.
 pub const LENGTH_DIGITS: usize = 18;
-
-/// The longest method of a request that a client sends, in bytes.
-pub const METHOD_ROOM: usize = 100;
-
-/// The longest target of a request that a client sends, in bytes.
-pub const TARGET_ROOM: usize = 8_000;
-
-/// The longest host of a request that a client sends, in bytes.
-pub const HOST_ROOM: usize = 1_030;

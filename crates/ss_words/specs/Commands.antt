@@ -3,11 +3,13 @@ use Rattle.std.specs.Prelude.{◌≡◌, ℕ, ◌≤◌, ⊤, true, IfSome, List
 use Rattle.std.specs.Net.Grammar.{IsSocketV4Text}
 use Rattle.std.specs.declared.net.socket_addr.SocketAddrV4.{SocketAddrV4}
 use Rattle.ss_route.specs.Targets.{uid_of}
+use Rattle.ss_route.specs.declared.manner.Manner.{Manner}
+use Rattle.ss_route.specs.declared.manner.Manner.TheVariants.{Profile, Browser}
 use Rattle.ss_words.specs.declared.commands.Command.{Command}
 use Rattle.ss_words.specs.declared.commands.Command.TheVariants as asked
 use Rattle.ss_words.specs.declared.names.Name.{Name}
 use Rattle.ss_words.specs.declared.names.Name.TheVariants.{Answer, Edit, Merge, Rehearse, Sync, Serve}
-use Rattle.ss_words.specs.declared.names.OptionName.TheVariants.{At, Newer, Workers, Connections, Terms}
+use Rattle.ss_words.specs.declared.names.OptionName.TheVariants.{At, Newer, Workers, Connections, Terms, Firefox}
 use Rattle.ss_words.specs.Names.{name_of}
 use Rattle.ss_words.specs.Lines.{Line, IsLine}
 use Rattle.ss_words.specs.Values.{given, number_in, number_given, accounts_of, are_accounts}
@@ -49,9 +51,14 @@ sync_words newer _ = None
 unfoldable pub sync_in : Line → Option Command
 sync_in line = option_and_then (λ newer. sync_words newer line.positionals) (given Newer line)
 
+-- how a server reads conditions: as browsers mean them where `--firefox` is given, else by the letter
+abbrev pub manner_of : Option (List ℕ) → Manner
+manner_of None = Profile
+manner_of (Some value) = Browser
+
 -- `serve ADDRESS FOLDER UID ..`
-abbrev pub serve_words : ℕ → ℕ → ℕ → List (List ℕ) → Option Command
-serve_words workers connections terms (address ∷ folder ∷ uids) =
+abbrev pub serve_words : ℕ → ℕ → ℕ → Manner → List (List ℕ) → Option Command
+serve_words workers connections terms manner (address ∷ folder ∷ uids) =
     option_map (λ uids. asked.Serve (record {
       address = address;
       folder = folder;
@@ -59,14 +66,15 @@ serve_words workers connections terms (address ∷ folder ∷ uids) =
       workers = workers;
       connections = connections;
       terms = terms;
+      manner = manner;
     })) (accounts_of uids)
-serve_words workers connections terms _ = None
+serve_words workers connections terms manner _ = None
 
 unfoldable pub serve_in : Line → Option Command
 serve_in line =
-    option_and_then (λ workers. option_and_then (λ connections. option_and_then (λ terms.
-    serve_words (unwrap_or workers 4) (unwrap_or connections 100) (unwrap_or terms 0) line.positionals)
-    (number_given Terms 0 most line)) (number_given Connections 1 1000 line)) (number_given Workers 1 16 line)
+    option_and_then (λ workers. option_and_then (λ connections. option_and_then (λ terms. option_and_then (λ firefox.
+    serve_words (unwrap_or workers 4) (unwrap_or connections 100) (unwrap_or terms 0) (manner_of firefox) line.positionals)
+    (given Firefox line)) (number_given Terms 0 most line)) (number_given Connections 1 1000 line)) (number_given Workers 1 16 line)
 
 -- what the line of a command asks
 abbrev pub command_in : Name → Line → Option Command

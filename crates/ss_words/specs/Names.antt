@@ -3,7 +3,7 @@ use Rattle.std.specs.Prelude.{ℕ, Bool, true, false, List, Option, Some, None, 
 use Rattle.ss_words.specs.declared.names.Name.{Name}
 use Rattle.ss_words.specs.declared.names.Name.TheVariants.{Answer, Edit, Merge, Rehearse, Sync, Serve}
 use Rattle.ss_words.specs.declared.names.OptionName.{OptionName}
-use Rattle.ss_words.specs.declared.names.OptionName.TheVariants.{At, Newer, Workers, Connections, Terms}
+use Rattle.ss_words.specs.declared.names.OptionName.TheVariants.{At, Newer, Workers, Connections, Terms, Firefox}
 
 -- a command's name
 abbrev pub name_text : Name → List ℕ
@@ -31,6 +31,7 @@ option_text Newer = codes "--newer"
 option_text Workers = codes "--workers"
 option_text Connections = codes "--connections"
 option_text Terms = codes "--terms"
+option_text Firefox = codes "--firefox"
 
 -- the option that a text writes
 unfoldable pub option_of : List ℕ → Option OptionName
@@ -39,7 +40,8 @@ option_of text =
     else (if bytes_eq text (codes "--newer") then Some Newer
     else (if bytes_eq text (codes "--workers") then Some Workers
     else (if bytes_eq text (codes "--connections") then Some Connections
-    else (if bytes_eq text (codes "--terms") then Some Terms else None))))
+    else (if bytes_eq text (codes "--terms") then Some Terms
+    else (if bytes_eq text (codes "--firefox") then Some Firefox else None)))))
 
 -- the options of each command
 abbrev pub takes : Name → OptionName → Bool
@@ -49,6 +51,7 @@ takes Sync Newer = true
 takes Serve Workers = true
 takes Serve Connections = true
 takes Serve Terms = true
+takes Serve Firefox = true
 takes _ _ = false
 
 -- whether a value belongs to an option
@@ -58,3 +61,4 @@ has_value At = true
 has_value Workers = true
 has_value Connections = true
 has_value Terms = true
+has_value Firefox = false

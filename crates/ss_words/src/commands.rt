@@ -2,9 +2,10 @@
 
 ghost use Rattle.std.specs.Prelude.{◌≡◌, ◌≤◌, Some, None, map, string_bytes, IfOk, IfErr, IsTrue, IsFalse};
 ghost use Rattle.std.specs.Net.Grammar.{IsSocketV4Text};
+ghost use Rattle.std.specs.Option.{option_copied};
 ghost use Rattle.std.specs.declared.net.socket_addr.SocketAddrV4.{SocketAddrV4};
 ghost use Rattle.ss_words.specs.Refused.{IsRefused};
-ghost use Rattle.ss_words.specs.Commands.{answer_in, answer_words, edit_in, merge_words, rehearse_words, sync_in, sync_words, serve_in, serve_words, command_in, HasAddress, HasRange, AsksOf, Asks};
+ghost use Rattle.ss_words.specs.Commands.{answer_in, answer_words, edit_in, merge_words, rehearse_words, sync_in, sync_words, manner_of, serve_in, serve_words, command_in, HasAddress, HasRange, AsksOf, Asks};
 
 use crate::actions::{Action, action_in, wrong_count};
 use crate::lines::{Line, read_line};
@@ -12,6 +13,7 @@ use crate::names::{Name, OptionName};
 use crate::refusals::{Cause, WordsFault};
 use crate::urls::{Server, read_server};
 use crate::values::{Uids, accounts_in, copied, given, number_given, number_in, uid_in};
+use ss_route::Manner;
 use ss_text::Word;
 use std::alloc::Global;
 use std::net::SocketAddrV4;
@@ -61,7 +63,7 @@ pub struct SyncCommand {
     pub newer: bool,
 }
 
-/// `serve ADDRESS FOLDER UID .. [--workers N] [--connections N] [--terms N]`
+/// `serve ADDRESS FOLDER UID .. [--workers N] [--connections N] [--terms N] [--firefox]`
 #[derive(Drop, Debug)]
 pub struct ServeCommand {
     /// An IPv4 address, a colon and a port.
@@ -81,6 +83,9 @@ pub struct ServeCommand {
 
     /// 0, which is the default, means without end.
     pub terms: u64,
+
+    /// How conditions are read: as browsers mean them with `--firefox`, else by the letter of the API.
+    pub manner: Manner,
 }
 
 /// What words ask.
@@ -171,19 +176,30 @@ struct Sizes {
     terms: u64,
 }
 
+/// How a server reads conditions, by the option `--firefox`.
+fn manner_of(firefox: Option<&str>) -> Manner
+    ensures { result ≡ manner_of (option_copied firefox) }
+{
+    match firefox {
+        None => Manner::Profile,
+        Some(_) => Manner::Browser,
+    }
+}
+
 fn serve_words<'a>(
     alloc: Global,
     sizes: Sizes,
+    manner: Manner,
     words: &[&'a str],
 ) -> Result<Command, WordsFault<'a>>
     requires workers { (1 ≤ sizes.workers) × (sizes.workers ≤ 16) }
     requires connections { (1 ≤ sizes.connections) × (sizes.connections ≤ 1000) }
     requires terms { sizes.terms ≤ 999999999999 }
     ensures ok { IfOk result (λ command. serve_words sizes.workers sizes.connections sizes.terms
-        (map (λ word. word.now) words.now) ≡ Some command) }
+        manner (map (λ word. word.now) words.now) ≡ Some command) }
     ensures range { IfOk result HasRange }
     ensures refused { IfErr result (λ fault. IsRefused fault → serve_words sizes.workers sizes.connections sizes.terms
-        (map (λ word. word.now) words.now) ≡ None) }
+        manner (map (λ word. word.now) words.now) ≡ None) }
 {
     match words {
         [address, folder, uids @ ..] => Ok(Command::Serve(ServeCommand {
@@ -193,6 +209,7 @@ fn serve_words<'a>(
             workers: sizes.workers,
             connections: sizes.connections,
             terms: sizes.terms,
+            manner,
         })),
         _ => Err(WordsFault::missing(Cause::TooFew)),
     }
@@ -207,12 +224,13 @@ fn serve_in<'a>(alloc: Global, line: &Line<'a>) -> Result<Command, WordsFault<'a
     let workers = number_given(line, OptionName::Workers, 1, 16)?;
     let connections = number_given(line, OptionName::Connections, 1, 1_000)?;
     let terms = number_given(line, OptionName::Terms, 0, MOST)?;
+    let manner = manner_of(given(line, OptionName::Firefox)?);
     let sizes = Sizes {
         workers: workers.unwrap_or(4),
         connections: connections.unwrap_or(100),
         terms: terms.unwrap_or(0),
     };
-    serve_words(alloc, sizes, line.positionals())
+    serve_words(alloc, sizes, manner, line.positionals())
 }
 
 fn command_in<'a>(alloc: Global, name: Name, line: &Line<'a>) -> Result<Command, WordsFault<'a>>

@@ -31,6 +31,9 @@ pub enum OptionName {
 
     /// `--terms N`; 0 means without end.
     Terms,
+
+    /// `--firefox`, without a value: conditions are read as Firefox means them.
+    Firefox,
 }
 
 impl Name {
@@ -73,7 +76,10 @@ impl Name {
             Name::Sync => matches!(option, OptionName::Newer),
             Name::Serve => matches!(
                 option,
-                OptionName::Workers | OptionName::Connections | OptionName::Terms
+                OptionName::Workers
+                    | OptionName::Connections
+                    | OptionName::Terms
+                    | OptionName::Firefox
             ),
             Name::Merge | Name::Rehearse => false,
         }
@@ -92,6 +98,7 @@ impl OptionName {
             "--workers" => Some(OptionName::Workers),
             "--connections" => Some(OptionName::Connections),
             "--terms" => Some(OptionName::Terms),
+            "--firefox" => Some(OptionName::Firefox),
             _ => None,
         }
     }
@@ -106,6 +113,7 @@ impl OptionName {
             OptionName::Workers => "--workers",
             OptionName::Connections => "--connections",
             OptionName::Terms => "--terms",
+            OptionName::Firefox => "--firefox",
         }
     }
 
@@ -113,6 +121,6 @@ impl OptionName {
     pub(crate) fn has_value(self) -> bool
         ensures { result ≡ has_value self }
     {
-        !matches!(self, OptionName::Newer)
+        !matches!(self, OptionName::Newer | OptionName::Firefox)
     }
 }

@@ -12,6 +12,7 @@ use Rattle.ss_outside.specs.Told.{TakesFirst}
 use Rattle.ss_http.specs.declared.message.Message.{Message}
 use Rattle.ss_http.specs.Messages.{Reads, ReadsMessage}
 use Rattle.ss_http.proofs.MessageLemmas.{reads_append, reads_further}
+use Rattle.ss_route.specs.declared.manner.Manner.{Manner}
 use Rattle.ss_connection.specs.Known.{Known}
 use Rattle.ss_connection.specs.Turns.{Exchange, SaysEach, SaysTurn, closes}
 use Rattle.ss_connection.specs.Calls.{added}
@@ -33,12 +34,12 @@ response_in x = x.response
 abbrev pub got_in : Exchange → List ℕ
 got_in x = x.got
 
-pub says_push : (uids : List ℕ) (known : ℕ → Known) (xs : List Exchange) (x : Exchange) → SaysEach uids known xs
-    → SaysTurn uids known x.message x.note.now (closes (length xs) x.message) x.note.turn x.response → SaysEach uids known (xs ++ x ∷ [])
-says_push uids known xs x each one k y at = elim (at_end xs x y k at) [
+pub says_push : (manner : Manner) (uids : List ℕ) (known : ℕ → Known) (xs : List Exchange) (x : Exchange) → SaysEach manner uids known xs
+    → SaysTurn manner uids known x.message x.note.now (closes (length xs) x.message) x.note.turn x.response → SaysEach manner uids known (xs ++ x ∷ [])
+says_push manner uids known xs x each one k y at = elim (at_end xs x y k at) [
   | inl old ↦ each k y old
   | inr new ↦
-      let S : ℕ → Exchange → Type 0 = λ n z. SaysTurn uids known z.message z.note.now (closes n z.message) z.note.turn z.response in
+      let S : ℕ → Exchange → Type 0 = λ n z. SaysTurn manner uids known z.message z.note.now (closes n z.message) z.note.turn z.response in
       subst (λ n. S n y) (sym new.0) (subst (λ z. S (length xs) z) new.1 one)
 ]
 

@@ -11,6 +11,7 @@ use Rattle.ss_laws.proofs.Journals.{reply_at-alone}
 use Rattle.ss_booked.specs.declared.booked.Asked.{Asked}
 use Rattle.ss_booked.specs.Turns.{journal_on}
 use Rattle.ss_http.specs.declared.message.Message.{Message}
+use Rattle.ss_route.specs.declared.manner.Manner.{Manner}
 use Rattle.ss_connection.specs.Known.{Known, KnowsMore}
 use Rattle.ss_connection.specs.Turns.{Called, WasFull, SaysTurn, SaysEach, Exchange}
 use Rattle.ss_connection.specs.Ends.{Served}
@@ -64,9 +65,9 @@ was_full_later known known' full fixed begins h = record {
   is_full = h.is_full;
 }
 
-module _ (uids : List ℕ) (known known' : ℕ → Known) (more : KnowsMore known known') where
+module _ (manner : Manner) (uids : List ℕ) (known known' : ℕ → Known) (more : KnowsMore known known') where
   pub turn_later : (message : Message) (now : ℕ) (last : Bool) (turn : Turn) (bytes : List ℕ)
-      → SaysTurn uids known message now last turn bytes → SaysTurn uids known' message now last turn bytes
+      → SaysTurn manner uids known message now last turn bytes → SaysTurn manner uids known' message now last turn bytes
   turn_later message now last turns.Local bytes h = h
   turn_later message now last (turns.Call uid ticket) bytes h = let i = h.asks.place in record {
     asks = h.asks;
@@ -81,11 +82,11 @@ module _ (uids : List ℕ) (known known' : ℕ → Known) (more : KnowsMore know
   }
   turn_later message now last turns.Memory bytes h = h
 
-  pub each_later : (exchanges : List Exchange) → SaysEach uids known exchanges → SaysEach uids known' exchanges
+  pub each_later : (exchanges : List Exchange) → SaysEach manner uids known exchanges → SaysEach manner uids known' exchanges
   each_later exchanges says = λ k x at. turn_later x.message x.note.now _ x.note.turn x.response (says k x at)
 
   pub served_later : (end : End) (link link' : Meanings) (coming coming' : Option (List ℕ)) (notes : List TurnNote)
-      → Served uids known end link link' coming coming' notes → Served uids known' end link link' coming coming' notes
+      → Served manner uids known end link link' coming coming' notes → Served manner uids known' end link link' coming coming' notes
   served_later end link link' coming coming' notes h = record {
     exchanges = h.exchanges;
     refusal = h.refusal;

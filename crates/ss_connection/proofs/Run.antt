@@ -20,6 +20,7 @@ use Rattle.ss_http.specs.Buffers.{Kept}
 use Rattle.ss_http.specs.Reading.{EndsWith, RisesWith}
 use Rattle.ss_http.proofs.MessageLemmas.{reads_append}
 use Rattle.ss_route.specs.Wire.{refusal_of}
+use Rattle.ss_route.specs.declared.manner.Manner.{Manner}
 use Rattle.ss_connection.specs.Known.{Known, KnowsMore}
 use Rattle.ss_connection.specs.Sending.{WasSent, WasCut}
 use Rattle.ss_connection.specs.Turns.{Exchange, SaysEach, SaysTurn, closes, most_messages}
@@ -38,9 +39,9 @@ no_exchange : (x : Exchange) (k : ℕ) → get_elem? {A = Exchange} [] k ≡ som
 no_exchange x k e = maybe.some-ne-none x (sym e)
 
 -- the beginning
-pub begun : (uids : List ℕ) (known : ℕ → Known) (link : Meanings) (coming : Option (List ℕ)) (turns : List TurnNote)
-    → Progress uids known link link coming coming (record { bytes = []; stop = None }) turns turns 0
-begun uids known link coming turns = record {
+pub begun : (manner : Manner) (uids : List ℕ) (known : ℕ → Known) (link : Meanings) (coming : Option (List ℕ)) (turns : List TurnNote)
+    → Progress manner uids known link link coming coming (record { bytes = []; stop = None }) turns turns 0
+begun manner uids known link coming turns = record {
   exchanges = [];
   taken = [];
   sent = [];
@@ -61,7 +62,7 @@ begun uids known link coming turns = record {
 }
 
 -- one message more: what was read, and what its turn says
-pub record Answers (uids : List ℕ) (known : ℕ → Known) (link link' : Meanings) (coming coming' : Option (List ℕ)) (kept kept' : Kept) (count : ℕ) (message : Message) (note : TurnNote) (bytes : List ℕ) : Type 0 where
+pub record Answers (manner : Manner) (uids : List ℕ) (known : ℕ → Known) (link link' : Meanings) (coming coming' : Option (List ℕ)) (kept kept' : Kept) (count : ℕ) (message : Message) (note : TurnNote) (bytes : List ℕ) : Type 0 where
   pub few : count < most_messages
   pub got : List ℕ
   pub read : HasRead got link link'
@@ -70,18 +71,18 @@ pub record Answers (uids : List ℕ) (known : ℕ → Known) (link link' : Meani
   pub quiet : link'.read_faults ≡ link.read_faults
   pub spare : (m : Message) (rest : List ℕ) → ReadsMessage kept.bytes m rest → link' ≡ link
   pub reading : TakesFirst coming coming' note.now
-  pub says : SaysTurn uids known message note.now (closes count message) note.turn bytes
+  pub says : SaysTurn manner uids known message note.now (closes count message) note.turn bytes
 
 abbrev pub exchange : List ℕ → Message → TurnNote → List ℕ → Exchange
 exchange got message note bytes = record { got = got; message = message; note = note; response = bytes }
 
-module _ (uids : List ℕ) (known known' : ℕ → Known) (more : KnowsMore known known') (link link' link2 link3 : Meanings) (coming coming' coming2 : Option (List ℕ)) (kept kept' : Kept) (turns turns' : List TurnNote)
-    (count : ℕ) (message : Message) (note : TurnNote) (bytes : List ℕ) (p : Progress uids known link link' coming coming' kept turns turns' count)
-    (a : Answers uids known' link' link2 coming' coming2 kept kept' count message note bytes) where
-  says_one : SaysEach uids known' (p.exchanges ++ exchange a.got message note bytes ∷ [])
+module _ (manner : Manner) (uids : List ℕ) (known known' : ℕ → Known) (more : KnowsMore known known') (link link' link2 link3 : Meanings) (coming coming' coming2 : Option (List ℕ)) (kept kept' : Kept) (turns turns' : List TurnNote)
+    (count : ℕ) (message : Message) (note : TurnNote) (bytes : List ℕ) (p : Progress manner uids known link link' coming coming' kept turns turns' count)
+    (a : Answers manner uids known' link' link2 coming' coming2 kept kept' count message note bytes) where
+  says_one : SaysEach manner uids known' (p.exchanges ++ exchange a.got message note bytes ∷ [])
   says_one =
-      let S : ℕ → Type 0 = λ n. SaysTurn uids known' message note.now (closes n message) note.turn bytes in
-      says_push uids known' p.exchanges (exchange a.got message note bytes) (each_later uids known known' more p.exchanges p.says) (subst S p.counted a.says)
+      let S : ℕ → Type 0 = λ n. SaysTurn manner uids known' message note.now (closes n message) note.turn bytes in
+      says_push manner uids known' p.exchanges (exchange a.got message note bytes) (each_later manner uids known known' more p.exchanges p.says) (subst S p.counted a.says)
 
   long_one : length (p.exchanges ++ exchange a.got message note bytes ∷ []) ≡ count + 1
   long_one = omega (arith, p.counted, length-append p.exchanges (exchange a.got message note bytes ∷ []))
@@ -103,7 +104,7 @@ module _ (uids : List ℕ) (known known' : ℕ → Known) (more : KnowsMore know
   added_one = ap (drop (length turns)) (noted_push turns turns' p.exchanges (exchange a.got message note bytes) p.noted) ∙ drop-append_seam turns (map note_in (p.exchanges ++ exchange a.got message note bytes ∷ []))
 
   -- it was answered, and the connection goes on
-  pub goes_on : WasSent bytes link2 link3 → message.last ≡ false → Progress uids known' link link3 coming coming2 kept' turns (turns' ++ note ∷ []) (count + 1)
+  pub goes_on : WasSent bytes link2 link3 → message.last ≡ false → Progress manner uids known' link link3 coming coming2 kept' turns (turns' ++ note ∷ []) (count + 1)
   goes_on sent stays = record {
     exchanges = p.exchanges ++ exchange a.got message note bytes ∷ [];
     taken = p.taken ++ a.got;
@@ -125,7 +126,7 @@ module _ (uids : List ℕ) (known known' : ℕ → Known) (more : KnowsMore know
   }
 
   -- it was answered, and had asked to close
-  pub ended_asked : WasSent bytes link2 link3 → message.last ≡ true → Served uids known' ends.Asked link link3 coming coming2 (added turns (turns' ++ note ∷ []))
+  pub ended_asked : WasSent bytes link2 link3 → message.last ≡ true → Served manner uids known' ends.Asked link link3 coming coming2 (added turns (turns' ++ note ∷ []))
   ended_asked sent closed = record {
     exchanges = p.exchanges ++ exchange a.got message note bytes ∷ [];
     refusal = None;
@@ -149,7 +150,7 @@ module _ (uids : List ℕ) (known known' : ℕ → Known) (more : KnowsMore know
   }
 
   -- of its response a front was written
-  pub ended_cut : WasCut bytes link2 link3 → Served uids known' ends.WriteFault link link3 coming coming2 (added turns (turns' ++ note ∷ []))
+  pub ended_cut : WasCut bytes link2 link3 → Served manner uids known' ends.WriteFault link link3 coming coming2 (added turns (turns' ++ note ∷ []))
   ended_cut cut =
       let R : ℕ → Type 0 = λ n. Rose n link3.write_faults in
       record {
@@ -191,8 +192,8 @@ pub record Faults (link link' : Meanings) (kept : Kept) (count : ℕ) (fault : M
   pub ended : EndsWith fault link'
   pub rises : RisesWith fault link.read_faults link'.read_faults
 
-module _ (uids : List ℕ) (known : ℕ → Known) (link link' link2 link3 : Meanings) (coming coming' coming2 : Option (List ℕ)) (kept : Kept) (turns turns' : List TurnNote) (count : ℕ) (fault : MsgFault)
-    (p : Progress uids known link link' coming coming' kept turns turns' count) where
+module _ (manner : Manner) (uids : List ℕ) (known : ℕ → Known) (link link' link2 link3 : Meanings) (coming coming' coming2 : Option (List ℕ)) (kept : Kept) (turns turns' : List TurnNote) (count : ℕ) (fault : MsgFault)
+    (p : Progress manner uids known link link' coming coming' kept turns turns' count) where
   added_none : added turns turns' ≡ map note_in p.exchanges
   added_none = ap (drop (length turns)) p.noted ∙ drop-append_seam turns (map note_in p.exchanges)
 
@@ -229,7 +230,7 @@ module _ (uids : List ℕ) (known : ℕ → Known) (link link' link2 link3 : Mea
       clock_refused = readings_push (map now_in p.exchanges) now coming coming' coming2 p.clock r.reading
 
       -- the refusal was sent
-      ended_refusing : WasSent bytes link2 link3 → Served uids known (ends.BadMessage now) link link3 coming coming2 (added turns turns')
+      ended_refusing : WasSent bytes link2 link3 → Served manner uids known (ends.BadMessage now) link link3 coming coming2 (added turns turns')
       ended_refusing sent = record {
         exchanges = p.exchanges;
         refusal = Some (record { fault = fault; now = now; response = bytes });
@@ -255,7 +256,7 @@ module _ (uids : List ℕ) (known : ℕ → Known) (link link' link2 link3 : Mea
       }
 
       -- a front of it was
-      ended_refusing_in_part : WasCut bytes link2 link3 → Served uids known ends.WriteFault link link3 coming coming2 (added turns turns')
+      ended_refusing_in_part : WasCut bytes link2 link3 → Served manner uids known ends.WriteFault link link3 coming coming2 (added turns turns')
       ended_refusing_in_part cut =
           let R : ℕ → Type 0 = λ n. Rose n link3.write_faults in
           record {
@@ -286,132 +287,132 @@ module _ (uids : List ℕ) (known : ℕ → Known) (link link' link2 link3 : Mea
           }
 
 -- the input ended or failed, or no memory was found for the message
-ended_unanswered : (uids : List ℕ) (known : ℕ → Known) (link link' link2 : Meanings) (coming coming' : Option (List ℕ)) (kept : Kept) (turns turns' : List TurnNote) (count : ℕ) (fault : MsgFault)
-    → Progress uids known link link' coming coming' kept turns turns' count → Faults link' link2 kept count fault → refusal_of fault ≡ None
-    → Served uids known (end_of fault) link link2 coming coming' (added turns turns')
-ended_unanswered uids known link link' link2 coming coming' kept turns turns' count faults.End p f none = record {
+ended_unanswered : (manner : Manner) (uids : List ℕ) (known : ℕ → Known) (link link' link2 : Meanings) (coming coming' : Option (List ℕ)) (kept : Kept) (turns turns' : List TurnNote) (count : ℕ) (fault : MsgFault)
+    → Progress manner uids known link link' coming coming' kept turns turns' count → Faults link' link2 kept count fault → refusal_of fault ≡ None
+    → Served manner uids known (end_of fault) link link2 coming coming' (added turns turns')
+ended_unanswered manner uids known link link' link2 coming coming' kept turns turns' count faults.End p f none = record {
   exchanges = p.exchanges;
   refusal = None;
   taken = p.taken ++ f.got;
   rest = kept.bytes ++ f.got;
   sent = p.sent;
-  noted = added_none uids known link link' link2 link2 coming coming' coming' kept turns turns' count faults.End p;
+  noted = added_none manner uids known link link' link2 link2 coming coming' coming' kept turns turns' count faults.End p;
   says = p.says;
   moves = moves_read p.taken p.sent f.got link link' link2 p.moves f.read;
   split = reads_append p.taken f.got (map message_in p.exchanges) kept.bytes p.split;
   more = f.got;
-  gets = gets_more uids known link link' link2 link2 coming coming' coming' kept turns turns' count faults.End p f.got;
-  sparing = sparing_more uids known link link' link2 link2 coming coming' coming' kept turns turns' count faults.End p f.got;
+  gets = gets_more manner uids known link link' link2 link2 coming coming' coming' kept turns turns' count faults.End p f.got;
+  sparing = sparing_more manner uids known link link' link2 link2 coming coming' coming' kept turns turns' count faults.End p f.got;
   no_more = tt;
-  sends = sends_none uids known link link' link2 link2 coming coming' coming' kept turns turns' count faults.End p;
-  clock = clock_none uids known link link' link2 link2 coming coming' coming' kept turns turns' count faults.End p;
+  sends = sends_none manner uids known link link' link2 link2 coming coming' coming' kept turns turns' count faults.End p;
+  clock = clock_none manner uids known link link' link2 link2 coming coming' coming' kept turns turns' count faults.End p;
   cause = (f.is, f.ended, p.goes_on, refl);
   faults = (f.rises ∙ p.read_faults, f.read.write_faults ∙ p.write_faults);
-  fewer = few_none uids known link link' link2 link2 coming coming' coming' kept turns turns' count faults.End p f.few;
+  fewer = few_none manner uids known link link' link2 link2 coming coming' coming' kept turns turns' count faults.End p f.few;
 }
-ended_unanswered uids known link link' link2 coming coming' kept turns turns' count faults.Cut p f none = record {
+ended_unanswered manner uids known link link' link2 coming coming' kept turns turns' count faults.Cut p f none = record {
   exchanges = p.exchanges;
   refusal = None;
   taken = p.taken ++ f.got;
   rest = kept.bytes ++ f.got;
   sent = p.sent;
-  noted = added_none uids known link link' link2 link2 coming coming' coming' kept turns turns' count faults.Cut p;
+  noted = added_none manner uids known link link' link2 link2 coming coming' coming' kept turns turns' count faults.Cut p;
   says = p.says;
   moves = moves_read p.taken p.sent f.got link link' link2 p.moves f.read;
   split = reads_append p.taken f.got (map message_in p.exchanges) kept.bytes p.split;
   more = f.got;
-  gets = gets_more uids known link link' link2 link2 coming coming' coming' kept turns turns' count faults.Cut p f.got;
-  sparing = sparing_more uids known link link' link2 link2 coming coming' coming' kept turns turns' count faults.Cut p f.got;
+  gets = gets_more manner uids known link link' link2 link2 coming coming' coming' kept turns turns' count faults.Cut p f.got;
+  sparing = sparing_more manner uids known link link' link2 link2 coming coming' coming' kept turns turns' count faults.Cut p f.got;
   no_more = tt;
-  sends = sends_none uids known link link' link2 link2 coming coming' coming' kept turns turns' count faults.Cut p;
-  clock = clock_none uids known link link' link2 link2 coming coming' coming' kept turns turns' count faults.Cut p;
+  sends = sends_none manner uids known link link' link2 link2 coming coming' coming' kept turns turns' count faults.Cut p;
+  clock = clock_none manner uids known link link' link2 link2 coming coming' coming' kept turns turns' count faults.Cut p;
   cause = (f.is, f.ended, p.goes_on, refl);
   faults = (f.rises ∙ p.read_faults, f.read.write_faults ∙ p.write_faults);
-  fewer = few_none uids known link link' link2 link2 coming coming' coming' kept turns turns' count faults.Cut p f.few;
+  fewer = few_none manner uids known link link' link2 link2 coming coming' coming' kept turns turns' count faults.Cut p f.few;
 }
-ended_unanswered uids known link link' link2 coming coming' kept turns turns' count faults.ReadFault p f none = record {
+ended_unanswered manner uids known link link' link2 coming coming' kept turns turns' count faults.ReadFault p f none = record {
   exchanges = p.exchanges;
   refusal = None;
   taken = p.taken ++ f.got;
   rest = kept.bytes ++ f.got;
   sent = p.sent;
-  noted = added_none uids known link link' link2 link2 coming coming' coming' kept turns turns' count faults.ReadFault p;
+  noted = added_none manner uids known link link' link2 link2 coming coming' coming' kept turns turns' count faults.ReadFault p;
   says = p.says;
   moves = moves_read p.taken p.sent f.got link link' link2 p.moves f.read;
   split = reads_append p.taken f.got (map message_in p.exchanges) kept.bytes p.split;
   more = f.got;
-  gets = gets_more uids known link link' link2 link2 coming coming' coming' kept turns turns' count faults.ReadFault p f.got;
-  sparing = sparing_more uids known link link' link2 link2 coming coming' coming' kept turns turns' count faults.ReadFault p f.got;
+  gets = gets_more manner uids known link link' link2 link2 coming coming' coming' kept turns turns' count faults.ReadFault p f.got;
+  sparing = sparing_more manner uids known link link' link2 link2 coming coming' coming' kept turns turns' count faults.ReadFault p f.got;
   no_more = tt;
-  sends = sends_none uids known link link' link2 link2 coming coming' coming' kept turns turns' count faults.ReadFault p;
-  clock = clock_none uids known link link' link2 link2 coming coming' coming' kept turns turns' count faults.ReadFault p;
+  sends = sends_none manner uids known link link' link2 link2 coming coming' coming' kept turns turns' count faults.ReadFault p;
+  clock = clock_none manner uids known link link' link2 link2 coming coming' coming' kept turns turns' count faults.ReadFault p;
   cause = (f.is, (let P : ℕ → Type 0 = λ n. Rose n link2.read_faults in subst P p.read_faults f.rises), p.goes_on, refl);
   faults = f.read.write_faults ∙ p.write_faults;
-  fewer = few_none uids known link link' link2 link2 coming coming' coming' kept turns turns' count faults.ReadFault p f.few;
+  fewer = few_none manner uids known link link' link2 link2 coming coming' coming' kept turns turns' count faults.ReadFault p f.few;
 }
-ended_unanswered uids known link link' link2 coming coming' kept turns turns' count faults.Memory p f none = record {
+ended_unanswered manner uids known link link' link2 coming coming' kept turns turns' count faults.Memory p f none = record {
   exchanges = p.exchanges;
   refusal = None;
   taken = p.taken ++ f.got;
   rest = kept.bytes ++ f.got;
   sent = p.sent;
-  noted = added_none uids known link link' link2 link2 coming coming' coming' kept turns turns' count faults.Memory p;
+  noted = added_none manner uids known link link' link2 link2 coming coming' coming' kept turns turns' count faults.Memory p;
   says = p.says;
   moves = moves_read p.taken p.sent f.got link link' link2 p.moves f.read;
   split = reads_append p.taken f.got (map message_in p.exchanges) kept.bytes p.split;
   more = f.got;
-  gets = gets_more uids known link link' link2 link2 coming coming' coming' kept turns turns' count faults.Memory p f.got;
-  sparing = sparing_more uids known link link' link2 link2 coming coming' coming' kept turns turns' count faults.Memory p f.got;
+  gets = gets_more manner uids known link link' link2 link2 coming coming' coming' kept turns turns' count faults.Memory p f.got;
+  sparing = sparing_more manner uids known link link' link2 link2 coming coming' coming' kept turns turns' count faults.Memory p f.got;
   no_more = tt;
-  sends = sends_none uids known link link' link2 link2 coming coming' coming' kept turns turns' count faults.Memory p;
-  clock = clock_none uids known link link' link2 link2 coming coming' coming' kept turns turns' count faults.Memory p;
+  sends = sends_none manner uids known link link' link2 link2 coming coming' coming' kept turns turns' count faults.Memory p;
+  clock = clock_none manner uids known link link' link2 link2 coming coming' coming' kept turns turns' count faults.Memory p;
   cause = (p.goes_on, refl);
   faults = (f.rises ∙ p.read_faults, f.read.write_faults ∙ p.write_faults);
-  fewer = few_none uids known link link' link2 link2 coming coming' coming' kept turns turns' count faults.Memory p f.few;
+  fewer = few_none manner uids known link link' link2 link2 coming coming' coming' kept turns turns' count faults.Memory p f.few;
 }
-ended_unanswered uids known link link' link2 coming coming' kept turns turns' count faults.BadHead p f none = cc
-ended_unanswered uids known link link' link2 coming coming' kept turns turns' count faults.HeadTooLong p f none = cc
-ended_unanswered uids known link link' link2 coming coming' kept turns turns' count faults.Coded p f none = cc
-ended_unanswered uids known link link' link2 coming coming' kept turns turns' count faults.BadLength p f none = cc
-ended_unanswered uids known link link' link2 coming coming' kept turns turns' count (faults.TooLarge n) p f none = cc
+ended_unanswered manner uids known link link' link2 coming coming' kept turns turns' count faults.BadHead p f none = cc
+ended_unanswered manner uids known link link' link2 coming coming' kept turns turns' count faults.HeadTooLong p f none = cc
+ended_unanswered manner uids known link link' link2 coming coming' kept turns turns' count faults.Coded p f none = cc
+ended_unanswered manner uids known link link' link2 coming coming' kept turns turns' count faults.BadLength p f none = cc
+ended_unanswered manner uids known link link' link2 coming coming' kept turns turns' count (faults.TooLarge n) p f none = cc
 
 -- nothing was written, the clock wasn't read, and the end is the fault's
-unanswered : (uids : List ℕ) (known : ℕ → Known) (link link' link2 link3 : Meanings) (coming coming' coming2 : Option (List ℕ)) (kept : Kept) (turns turns' : List TurnNote) (count : ℕ) (fault : MsgFault) (end : End)
-    → Progress uids known link link' coming coming' kept turns turns' count → Faults link' link2 kept count fault
+unanswered : (manner : Manner) (uids : List ℕ) (known : ℕ → Known) (link link' link2 link3 : Meanings) (coming coming' coming2 : Option (List ℕ)) (kept : Kept) (turns turns' : List TurnNote) (count : ℕ) (fault : MsgFault) (end : End)
+    → Progress manner uids known link link' coming coming' kept turns turns' count → Faults link' link2 kept count fault
     → (refusal_of fault ≡ None) × (end ≡ end_of fault) × (link3 ≡ link2) × (coming2 ≡ coming')
-    → Served uids known end link link3 coming coming2 (added turns turns')
-unanswered uids known link link' link2 link3 coming coming' coming2 kept turns turns' count fault end p f stops =
-    let E : End → Type 0 = λ e. Served uids known e link link3 coming coming2 (added turns turns') in
-    let M : Meanings → Type 0 = λ m. Served uids known (end_of fault) link m coming coming2 (added turns turns') in
-    let C : Option (List ℕ) → Type 0 = λ c. Served uids known (end_of fault) link link2 coming c (added turns turns') in
+    → Served manner uids known end link link3 coming coming2 (added turns turns')
+unanswered manner uids known link link' link2 link3 coming coming' coming2 kept turns turns' count fault end p f stops =
+    let E : End → Type 0 = λ e. Served manner uids known e link link3 coming coming2 (added turns turns') in
+    let M : Meanings → Type 0 = λ m. Served manner uids known (end_of fault) link m coming coming2 (added turns turns') in
+    let C : Option (List ℕ) → Type 0 = λ c. Served manner uids known (end_of fault) link link2 coming c (added turns turns') in
     subst E (sym stops.1) (subst M (sym stops.2) (subst C (sym stops.3)
-    (ended_unanswered uids known link link' link2 coming coming' kept turns turns' count fault p f stops.0)))
+    (ended_unanswered manner uids known link link' link2 coming coming' kept turns turns' count fault p f stops.0)))
 
 -- the connection stopped as a message was to be read
-pub stopped : (uids : List ℕ) (known : ℕ → Known) (link link' link2 link3 : Meanings) (coming coming' coming2 : Option (List ℕ)) (kept : Kept) (turns turns' : List TurnNote) (count : ℕ) (fault : MsgFault) (end : End)
-    → Progress uids known link link' coming coming' kept turns turns' count → Faults link' link2 kept count fault
-    → Stops end fault link2 link3 coming' coming2 → Served uids known end link link3 coming coming2 (added turns turns')
-stopped uids known link link' link2 link3 coming coming' coming2 kept turns turns' count fault (ends.BadMessage now) p f stops =
-    ended_refusing uids known link link' link2 link3 coming coming' coming2 kept turns turns' count fault p f now stops.0 stops.1 stops.2
-stopped uids known link link' link2 link3 coming coming' coming2 kept turns turns' count fault ends.WriteFault p f stops =
-    ended_refusing_in_part uids known link link' link2 link3 coming coming' coming2 kept turns turns' count fault p f stops.1 stops.0 stops.2 stops.3
-stopped uids known link link' link2 link3 coming coming' coming2 kept turns turns' count fault ends.Closed p f stops =
-    unanswered uids known link link' link2 link3 coming coming' coming2 kept turns turns' count fault ends.Closed p f stops
-stopped uids known link link' link2 link3 coming coming' coming2 kept turns turns' count fault ends.Asked p f stops =
-    unanswered uids known link link' link2 link3 coming coming' coming2 kept turns turns' count fault ends.Asked p f stops
-stopped uids known link link' link2 link3 coming coming' coming2 kept turns turns' count fault ends.Count p f stops =
-    unanswered uids known link link' link2 link3 coming coming' coming2 kept turns turns' count fault ends.Count p f stops
-stopped uids known link link' link2 link3 coming coming' coming2 kept turns turns' count fault ends.Cut p f stops =
-    unanswered uids known link link' link2 link3 coming coming' coming2 kept turns turns' count fault ends.Cut p f stops
-stopped uids known link link' link2 link3 coming coming' coming2 kept turns turns' count fault ends.ReadFault p f stops =
-    unanswered uids known link link' link2 link3 coming coming' coming2 kept turns turns' count fault ends.ReadFault p f stops
-stopped uids known link link' link2 link3 coming coming' coming2 kept turns turns' count fault ends.Memory p f stops =
-    unanswered uids known link link' link2 link3 coming coming' coming2 kept turns turns' count fault ends.Memory p f stops
+pub stopped : (manner : Manner) (uids : List ℕ) (known : ℕ → Known) (link link' link2 link3 : Meanings) (coming coming' coming2 : Option (List ℕ)) (kept : Kept) (turns turns' : List TurnNote) (count : ℕ) (fault : MsgFault) (end : End)
+    → Progress manner uids known link link' coming coming' kept turns turns' count → Faults link' link2 kept count fault
+    → Stops end fault link2 link3 coming' coming2 → Served manner uids known end link link3 coming coming2 (added turns turns')
+stopped manner uids known link link' link2 link3 coming coming' coming2 kept turns turns' count fault (ends.BadMessage now) p f stops =
+    ended_refusing manner uids known link link' link2 link3 coming coming' coming2 kept turns turns' count fault p f now stops.0 stops.1 stops.2
+stopped manner uids known link link' link2 link3 coming coming' coming2 kept turns turns' count fault ends.WriteFault p f stops =
+    ended_refusing_in_part manner uids known link link' link2 link3 coming coming' coming2 kept turns turns' count fault p f stops.1 stops.0 stops.2 stops.3
+stopped manner uids known link link' link2 link3 coming coming' coming2 kept turns turns' count fault ends.Closed p f stops =
+    unanswered manner uids known link link' link2 link3 coming coming' coming2 kept turns turns' count fault ends.Closed p f stops
+stopped manner uids known link link' link2 link3 coming coming' coming2 kept turns turns' count fault ends.Asked p f stops =
+    unanswered manner uids known link link' link2 link3 coming coming' coming2 kept turns turns' count fault ends.Asked p f stops
+stopped manner uids known link link' link2 link3 coming coming' coming2 kept turns turns' count fault ends.Count p f stops =
+    unanswered manner uids known link link' link2 link3 coming coming' coming2 kept turns turns' count fault ends.Count p f stops
+stopped manner uids known link link' link2 link3 coming coming' coming2 kept turns turns' count fault ends.Cut p f stops =
+    unanswered manner uids known link link' link2 link3 coming coming' coming2 kept turns turns' count fault ends.Cut p f stops
+stopped manner uids known link link' link2 link3 coming coming' coming2 kept turns turns' count fault ends.ReadFault p f stops =
+    unanswered manner uids known link link' link2 link3 coming coming' coming2 kept turns turns' count fault ends.ReadFault p f stops
+stopped manner uids known link link' link2 link3 coming coming' coming2 kept turns turns' count fault ends.Memory p f stops =
+    unanswered manner uids known link link' link2 link3 coming coming' coming2 kept turns turns' count fault ends.Memory p f stops
 
-module _ (uids : List ℕ) (known : ℕ → Known) (link link' : Meanings) (coming coming' : Option (List ℕ)) (kept : Kept) (turns turns' : List TurnNote) (count : ℕ)
-    (p : Progress uids known link link' coming coming' kept turns turns' count) where
+module _ (manner : Manner) (uids : List ℕ) (known : ℕ → Known) (link link' : Meanings) (coming coming' : Option (List ℕ)) (kept : Kept) (turns turns' : List TurnNote) (count : ℕ)
+    (p : Progress manner uids known link link' coming coming' kept turns turns' count) where
   -- as many messages were answered as may be
-  pub ended_counting : most_messages ≤ count → Served uids known ends.Count link link' coming coming' (added turns turns')
+  pub ended_counting : most_messages ≤ count → Served manner uids known ends.Count link link' coming coming' (added turns turns')
   ended_counting full =
       let most : count ≤ most_messages = p.within in
       let long : length p.exchanges ≡ most_messages = (let e = p.counted in omega arith) in
@@ -421,42 +422,42 @@ module _ (uids : List ℕ) (known : ℕ → Known) (link link' : Meanings) (comi
         taken = p.taken;
         rest = kept.bytes;
         sent = p.sent;
-        noted = added_none uids known link link' link' link' coming coming' coming' kept turns turns' count faults.End p;
+        noted = added_none manner uids known link link' link' link' coming coming' coming' kept turns turns' count faults.End p;
         says = p.says;
         moves = p.moves;
         split = p.split;
         more = [];
-        gets = gets_none uids known link link' link' link' coming coming' coming' kept turns turns' count faults.End p;
-        sparing = sparing_none uids known link link' link' link' coming coming' coming' kept turns turns' count faults.End p;
+        gets = gets_none manner uids known link link' link' link' coming coming' coming' kept turns turns' count faults.End p;
+        sparing = sparing_none manner uids known link link' link' link' coming coming' coming' kept turns turns' count faults.End p;
         no_more = refl;
-        sends = sends_none uids known link link' link' link' coming coming' coming' kept turns turns' count faults.End p;
-        clock = clock_none uids known link link' link' link' coming coming' coming' kept turns turns' count faults.End p;
+        sends = sends_none manner uids known link link' link' link' coming coming' coming' kept turns turns' count faults.End p;
+        clock = clock_none manner uids known link link' link' link' coming coming' coming' kept turns turns' count faults.End p;
         cause = (long, p.goes_on, refl);
         faults = (p.read_faults, p.write_faults);
         fewer = omega arith;
       }
 
   -- no memory was found for one turn more
-  pub ended_early : count < most_messages → Served uids known ends.Memory link link' coming coming' (added turns turns')
+  pub ended_early : count < most_messages → Served manner uids known ends.Memory link link' coming coming' (added turns turns')
   ended_early few = record {
     exchanges = p.exchanges;
     refusal = None;
     taken = p.taken;
     rest = kept.bytes;
     sent = p.sent;
-    noted = added_none uids known link link' link' link' coming coming' coming' kept turns turns' count faults.End p;
+    noted = added_none manner uids known link link' link' link' coming coming' coming' kept turns turns' count faults.End p;
     says = p.says;
     moves = p.moves;
     split = p.split;
     more = [];
-    gets = gets_none uids known link link' link' link' coming coming' coming' kept turns turns' count faults.End p;
-    sparing = sparing_none uids known link link' link' link' coming coming' coming' kept turns turns' count faults.End p;
+    gets = gets_none manner uids known link link' link' link' coming coming' coming' kept turns turns' count faults.End p;
+    sparing = sparing_none manner uids known link link' link' link' coming coming' coming' kept turns turns' count faults.End p;
     no_more = tt;
-    sends = sends_none uids known link link' link' link' coming coming' coming' kept turns turns' count faults.End p;
-    clock = clock_none uids known link link' link' link' coming coming' coming' kept turns turns' count faults.End p;
+    sends = sends_none manner uids known link link' link' link' coming coming' coming' kept turns turns' count faults.End p;
+    clock = clock_none manner uids known link link' link' link' coming coming' coming' kept turns turns' count faults.End p;
     cause = (p.goes_on, refl);
     faults = (p.read_faults, p.write_faults);
-    fewer = few_none uids known link link' link' link' coming coming' coming' kept turns turns' count faults.End p few;
+    fewer = few_none manner uids known link link' link' link' coming coming' coming' kept turns turns' count faults.End p few;
   }
 
   -- the turns were added to those that were there
@@ -464,5 +465,5 @@ module _ (uids : List ℕ) (known : ℕ → Known) (link link' : Meanings) (comi
   begins = (map note_in p.exchanges, p.noted)
 
 -- no memory was found for the connection
-pub unserved : (uids : List ℕ) (known : ℕ → Known) (link : Meanings) (coming : Option (List ℕ)) (turns : List TurnNote) → Served uids known ends.Memory link link coming coming (added turns turns)
-unserved uids known link coming turns = ended_early uids known link link coming coming (record { bytes = []; stop = None }) turns turns 0 (begun uids known link coming turns) (omega arith)
+pub unserved : (manner : Manner) (uids : List ℕ) (known : ℕ → Known) (link : Meanings) (coming : Option (List ℕ)) (turns : List TurnNote) → Served manner uids known ends.Memory link link coming coming (added turns turns)
+unserved manner uids known link coming turns = ended_early manner uids known link link coming coming (record { bytes = []; stop = None }) turns turns 0 (begun manner uids known link coming turns) (omega arith)

@@ -9,6 +9,7 @@ use Rattle.ss_http.specs.declared.fault.MsgFault.TheVariants as faults
 use Rattle.ss_http.specs.declared.message.Message.{Message}
 use Rattle.ss_http.specs.Faults.{IsMessageFault}
 use Rattle.ss_http.specs.Messages.{Reads, ReadsMessage}
+use Rattle.ss_route.specs.declared.manner.Manner.{Manner}
 use Rattle.ss_route.specs.declared.routed.Local.{Local}
 use Rattle.ss_route.specs.Wire.{local_wire, refusal_of}
 use Rattle.ss_connection.specs.Known.{Known}
@@ -115,8 +116,8 @@ IsFewer ends.Count count = count ≤ most_messages
 IsFewer ends.WriteFault count = count ≤ most_messages
 IsFewer _ count = count < most_messages
 
--- A connection that had these turns, over what is known of the accounts. Whoever knows more of them can say it too (`served_later`)
-pub record Served (uids : List ℕ) (known : ℕ → Known) (end : End) (link link' : Meanings) (coming coming' : Option (List ℕ)) (notes : List TurnNote) : Type 0 where
+-- A connection that had these turns, in a manner of reading conditions, over what is known of the accounts. Whoever knows more of them can say it too (`served_later`)
+pub record Served (manner : Manner) (uids : List ℕ) (known : ℕ → Known) (end : End) (link link' : Meanings) (coming coming' : Option (List ℕ)) (notes : List TurnNote) : Type 0 where
   pub exchanges : List Exchange
   pub refusal : Option Refusal
   pub taken : List ℕ
@@ -124,7 +125,7 @@ pub record Served (uids : List ℕ) (known : ℕ → Known) (end : End) (link li
   pub sent : List ℕ
   -- The turns are those of the messages, and each response is what its turn says.
   pub noted : notes ≡ map (λ x. x.note) exchanges
-  pub says : SaysEach uids known exchanges
+  pub says : SaysEach manner uids known exchanges
   -- What was taken from the link are the messages, and then the rest, of which the cause tells.
   pub moves : Moves taken sent link link'
   pub split : Reads taken (map (λ x. x.message) exchanges) rest

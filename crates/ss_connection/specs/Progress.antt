@@ -6,6 +6,7 @@ use Rattle.ss_http.specs.declared.fault.MsgFault.{MsgFault}
 use Rattle.ss_http.specs.declared.fault.MsgFault.TheVariants as faults
 use Rattle.ss_http.specs.Buffers.{Kept}
 use Rattle.ss_http.specs.Messages.{Reads}
+use Rattle.ss_route.specs.declared.manner.Manner.{Manner}
 use Rattle.ss_route.specs.declared.routed.Local.{Local}
 use Rattle.ss_route.specs.Wire.{local_wire, refusal_of}
 use Rattle.ss_connection.specs.Known.{Known}
@@ -16,12 +17,12 @@ use Rattle.ss_connection.specs.declared.notes.End.{End}
 use Rattle.ss_connection.specs.declared.notes.End.TheVariants as ends
 use Rattle.ss_connection.specs.declared.notes.TurnNote.{TurnNote}
 
-pub record Progress (uids : List ℕ) (known : ℕ → Known) (link link' : Meanings) (coming coming' : Option (List ℕ)) (kept : Kept) (turns turns' : List TurnNote) (count : ℕ) : Type 0 where
+pub record Progress (manner : Manner) (uids : List ℕ) (known : ℕ → Known) (link link' : Meanings) (coming coming' : Option (List ℕ)) (kept : Kept) (turns turns' : List TurnNote) (count : ℕ) : Type 0 where
   pub exchanges : List Exchange
   pub taken : List ℕ
   pub sent : List ℕ
   pub noted : turns' ≡ turns ++ map (λ x. x.note) exchanges
-  pub says : SaysEach uids known exchanges
+  pub says : SaysEach manner uids known exchanges
   pub moves : Moves taken sent link link'
   pub split : Reads taken (map (λ x. x.message) exchanges) kept.bytes
   pub gets : taken ≡ flat_map (λ x. x.got) exchanges

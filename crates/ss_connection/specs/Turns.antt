@@ -1,4 +1,4 @@
--- What a turn says: the response to one message of a connection, by its account's journal.
+-- What a turn says: the response to one message of a connection, by its account's journal, over either manner of reading conditions.
 use Rattle.std.specs.Prelude.{◌≡◌, ℕ, ◌+◌, Bool, ◌||◌, nat_eq, List, ◌∷◌, ◌++◌, length, Some}
 use mathlib.Core.Option.{some}
 use lib.ListN.{get_elem?}
@@ -15,6 +15,7 @@ use Rattle.ss_booked.specs.declared.booked.Terms.{Terms}
 use Rattle.ss_booked.specs.Turns.{ask_of, full_on, journal_on}
 use Rattle.ss_http.specs.declared.message.Message.{Message}
 use Rattle.ss_http.specs.Responses.{memory_response}
+use Rattle.ss_route.specs.declared.manner.Manner.{Manner}
 use Rattle.ss_route.specs.declared.routed.Local.{Local}
 use Rattle.ss_route.specs.declared.routed.Routed.{Routed}
 use Rattle.ss_route.specs.declared.routed.Routed.TheVariants as routes
@@ -74,39 +75,39 @@ IsTold uids (routes.Ask uid request newlines) told = IsUnlisted uids uid × (tol
 IsTold uids routes.Memory told = ⊥
 
 -- routing makes of a message a request to this account, which is listed
-pub record IsAsked (uids : List ℕ) (message : Message) (uid : ℕ) : Type 0 where
+pub record IsAsked (manner : Manner) (uids : List ℕ) (message : Message) (uid : ℕ) : Type 0 where
   pub place : ℕ
   pub listed : At uids place uid
   pub request : Request
   pub newlines : Bool
-  pub routes : routed message ≡ routes.Ask uid request newlines
+  pub routes : routed manner message ≡ routes.Ask uid request newlines
 
 -- the response to a message that no account was asked for
-pub record SaysLocal (uids : List ℕ) (message : Message) (now : ℕ) (last : Bool) (bytes : List ℕ) : Type 0 where
+pub record SaysLocal (manner : Manner) (uids : List ℕ) (message : Message) (now : ℕ) (last : Bool) (bytes : List ℕ) : Type 0 where
   pub local : Local
-  pub told : IsTold uids (routed message) local
+  pub told : IsTold uids (routed manner message) local
   pub response : OrMemory (local_wire local (clamped now) last) (clamped now) last bytes
 
 -- the response to a message that was asked of its account: the reply at the place that bears the turn's ticket
-pub record SaysCall (uids : List ℕ) (known : ℕ → Known) (message : Message) (now : ℕ) (last : Bool) (uid ticket : ℕ) (bytes : List ℕ) : Type 0 where
-  pub asks : IsAsked uids message uid
+pub record SaysCall (manner : Manner) (uids : List ℕ) (known : ℕ → Known) (message : Message) (now : ℕ) (last : Bool) (uid ticket : ℕ) (bytes : List ℕ) : Type 0 where
+  pub asks : IsAsked manner uids message uid
   pub reply : Reply
   pub called : Called (known asks.place) ticket (record { now = now; request = asks.request }) reply
   pub response : OrMemory (wire reply asks.newlines last) reply.moment last bytes
 
 -- the response to a message whose account's journal was full
-pub record SaysFull (uids : List ℕ) (known : ℕ → Known) (message : Message) (now : ℕ) (last : Bool) (uid : ℕ) (full : Full) (bytes : List ℕ) : Type 0 where
-  pub asks : IsAsked uids message uid
+pub record SaysFull (manner : Manner) (uids : List ℕ) (known : ℕ → Known) (message : Message) (now : ℕ) (last : Bool) (uid : ℕ) (full : Full) (bytes : List ℕ) : Type 0 where
+  pub asks : IsAsked manner uids message uid
   pub was_full : WasFull (known asks.place) full
   pub response : OrMemory (local_wire term_is_full (clamped now) last) (clamped now) last bytes
 
 -- A message's turn at this reading of the clock has these bytes as its response. A turn is `Local` exactly where routing refuses the
 -- message or its account isn't listed, memory aside: the two after it say that the account is asked, and is listed
-abbrev pub SaysTurn : List ℕ → (ℕ → Known) → Message → ℕ → Bool → Turn → List ℕ → Type 0
-SaysTurn uids known message now last turns.Local bytes = SaysLocal uids message now last bytes
-SaysTurn uids known message now last (turns.Call uid ticket) bytes = SaysCall uids known message now last uid ticket bytes
-SaysTurn uids known message now last (turns.Full uid entries size) bytes = SaysFull uids known message now last uid (record { entries = entries; bytes = size }) bytes
-SaysTurn uids known message now last turns.Memory bytes = bytes ≡ memory_response (clamped now) last
+abbrev pub SaysTurn : Manner → List ℕ → (ℕ → Known) → Message → ℕ → Bool → Turn → List ℕ → Type 0
+SaysTurn manner uids known message now last turns.Local bytes = SaysLocal manner uids message now last bytes
+SaysTurn manner uids known message now last (turns.Call uid ticket) bytes = SaysCall manner uids known message now last uid ticket bytes
+SaysTurn manner uids known message now last (turns.Full uid entries size) bytes = SaysFull manner uids known message now last uid (record { entries = entries; bytes = size }) bytes
+SaysTurn manner uids known message now last turns.Memory bytes = bytes ≡ memory_response (clamped now) last
 
 -- the bytes that were taken from the link for a message, the message that was answered, the note of its turn, and the response
 pub record Exchange : Type 0 where
@@ -116,6 +117,6 @@ pub record Exchange : Type 0 where
   pub response : List ℕ
 
 -- each message's response is what its turn says
-abbrev pub SaysEach : List ℕ → (ℕ → Known) → List Exchange → Type 0
-SaysEach uids known exchanges = (k : ℕ) (x : Exchange) → get_elem? exchanges k ≡ some x
-    → SaysTurn uids known x.message x.note.now (closes k x.message) x.note.turn x.response
+abbrev pub SaysEach : Manner → List ℕ → (ℕ → Known) → List Exchange → Type 0
+SaysEach manner uids known exchanges = (k : ℕ) (x : Exchange) → get_elem? exchanges k ≡ some x
+    → SaysTurn manner uids known x.message x.note.now (closes k x.message) x.note.turn x.response

@@ -14,7 +14,7 @@ use ss_booked::{Asked, Booked};
 use ss_http::Message;
 use ss_keeper::Keeper;
 use ss_query::{Body, Said};
-use ss_route::{Local, Routed, not_listed, route};
+use ss_route::{Local, Manner, Routed, not_listed, route};
 use ss_town::{Answer, Passes, Town};
 use std::alloc::Global;
 use std::sync::Wait;
@@ -30,11 +30,12 @@ fn term_is_full() -> Local
     }
 }
 
-/// Asks the account of a message that was read at a reading of the clock (hundredths of a second), where routing finds
-/// one. The response is made after the call, so that no other caller waits for it; `last` closes the connection.
+/// Asks the account of a message that was read at a reading of the clock (hundredths of a second), where routing in this
+/// manner finds one. The response is made after the call, so that no other caller waits for it; `last` closes the connection.
 pub(crate) fn answer<K: Keeper + Drop, R: Wait>(
     rt: &R,
     alloc: Global,
+    manner: Manner,
     town: &Town<Booked<K>>,
     passes: &mut Passes<Booked<K>>,
     now: u64,
@@ -44,12 +45,12 @@ pub(crate) fn answer<K: Keeper + Drop, R: Wait>(
     requires of { AreOf (desks_of town.now) (passes_of passes.old) }
     ensures of { AreOf (desks_of town.now) (passes_of passes.new) }
     ensures more { SeeMore (passes_of passes.old) (passes_of passes.new) }
-    ensures says { SaysTurn (uids_of town.now) (known_by (passes_of passes.new)) message.now now last result.0
+    ensures says { SaysTurn manner (uids_of town.now) (known_by (passes_of passes.new)) message.now now last result.0
         (bytes_of result.1) }
     ensures enters { Enters (uids_of town.now) (passes_of passes.old) (passes_of passes.new)
         (record { now = now; turn = result.0 } ∷ []) }
 {
-    let (uid, request, newlines) = match route(alloc, message) {
+    let (uid, request, newlines) = match route(alloc, manner, message) {
         Routed::Memory => return (Turn::Memory, Response::unread(now, last)),
         Routed::Local(local) => {
             return (Turn::Local, Response::to_local(alloc, &local, now, last));

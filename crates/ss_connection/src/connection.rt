@@ -19,7 +19,7 @@ use ss_http::{Buffer, Message, MsgFault, read_message};
 use ss_keeper::Keeper;
 use ss_links::Gate;
 use ss_outside::{Clock, Sink, Source};
-use ss_route::refused;
+use ss_route::{Manner, refused};
 use ss_town::{Passes, Town};
 use std::alloc::Global;
 use std::sync::Wait;
@@ -60,12 +60,13 @@ fn stop<L: Sink, C: Clock>(alloc: Global, fault: MsgFault, link: &mut L, clock: 
     }
 }
 
-/// Answers the messages of a link, one reading of the clock and one turn each, until one of the connection's ends. The
-/// worker passes the gate with its own number and the number of the message, both from 0, after each message was read.
+/// Answers the messages of a link, whose conditions are read in this manner, one reading of the clock and one turn each,
+/// until one of the connection's ends. The worker passes the gate with its own number and the number of the message, both from 0, after each message was read.
 /// The turns are added to those that are there. Nothing is said of how long a worker waits for its turn at an account.
 pub fn serve_connection<L: Source + Sink, C: Clock, K: Keeper + Drop, G: Gate, R: Wait>(
     rt: &R,
     alloc: Global,
+    manner: Manner,
     link: &mut L,
     clock: &mut C,
     gate: &G,
@@ -82,7 +83,7 @@ pub fn serve_connection<L: Source + Sink, C: Clock, K: Keeper + Drop, G: Gate, R
     // Turns were added, and none was changed.
     ensures noted { Begins turns.old.items turns.new.items }
     // What was taken, what was written, and why it ended, over what the passes have then seen.
-    ensures served { Served (uids_of town.now) (known_by (passes_of passes.new)) result (L.Told.told link.old)
+    ensures served { Served manner (uids_of town.now) (known_by (passes_of passes.new)) result (L.Told.told link.old)
         (L.Told.told link.new)
         (C.coming clock.old) (C.coming clock.new) (added turns.old.items turns.new.items) }
     // The passes' new entries are those of the calls, in order, account by account.
@@ -103,7 +104,7 @@ pub fn serve_connection<L: Source + Sink, C: Clock, K: Keeper + Drop, G: Gate, R
         let now = clock.now();
         gate.pass(worker, count);
         let last = closes(count, &message);
-        let (turn, response) = answer(rt, alloc, town, passes, now, last, &message);
+        let (turn, response) = answer(rt, alloc, manner, town, passes, now, last, &message);
         turns.push_reserved(TurnNote { now, turn });
         match response.write(link) {
             Ok(()) => {}

@@ -107,7 +107,7 @@ example: syncstore sync http://127.0.0.1:8000/1.5/7 device
 ";
 
 const SERVE: &str = "\
-usage: syncstore serve ADDRESS FOLDER UID .. [--workers N] [--connections N] [--terms N]
+usage: syncstore serve ADDRESS FOLDER UID .. [--workers N] [--connections N] [--terms N] [--firefox]
 
 Serves accounts from SQLite files over HTTP/1.1, without login and without TLS: docs/SERVING.md tells what to put before it. It runs
 until it is stopped by a signal, at any moment: what was answered is in the files.
@@ -119,6 +119,8 @@ until it is stopped by a signal, at any moment: what was answered is in the file
   --connections N    of one term: 1 to 1000, 100 where nothing is said. An account takes a limited number of requests in a term, and
                      answers 503 past it until the term's last connection has ended
   --terms N          how many terms are served: 0 to 999999999999; 0, which is the default, means without end
+  --firefox          reads conditions as Firefox means them: nothing changed since 0 is that the target isn't there, and 11 to 18
+                     digits, thousandths of a second taken for seconds, are the last time that there is
 
 exit status: 0 all terms were served; 1 faulty words; 2 the folder, a file or the address failed; 3 the port failed while it listened;
 4 what a file holds is no account; 8 no memory outside a response. Standard error tells when it listens, a line a term, and why it stops.

@@ -8,7 +8,7 @@ abbrev pub invariant-messages : goal.invariant-messages
 invariant-messages g l = record {
   of : AreOf l.town.desks.items l.passes.passes.items;
   more : SeeMore l.fn.passes.passes.items l.passes.passes.items;
-  progress : Progress l.town.uids.items (known_by l.passes.passes.items) (g.L.Told.told l.fn.link) (g.L.Told.told l.link) (g.C.Clock.coming l.fn.clock) (g.C.Clock.coming l.clock) l.buffer l.fn.turns.items
+  progress : Progress l.manner l.town.uids.items (known_by l.passes.passes.items) (g.L.Told.told l.fn.link) (g.L.Told.told l.link) (g.C.Clock.coming l.fn.clock) (g.C.Clock.coming l.clock) l.buffer l.fn.turns.items
       l.turns.items l.count;
   enters : Enters l.town.uids.items l.fn.passes.passes.items l.passes.passes.items (added l.fn.turns.items l.turns.items);
 }

@@ -30,8 +30,9 @@ fn term_is_full() -> Local
     }
 }
 
-/// Asks the account of a message that was read at a reading of the clock (hundredths of a second), where routing in this
-/// manner finds one. The response is made after the call, so that no other caller waits for it; `last` closes the connection.
+/// Asks the account of a message that was read at a reading of the clock (hundredths of a second), where routing in
+/// this manner finds one. The response is made after the call, so that no other caller waits for it; `last` closes the
+/// connection.
 pub(crate) fn answer<K: Keeper + Drop, R: Wait>(
     rt: &R,
     alloc: Global,

@@ -60,9 +60,10 @@ fn stop<L: Sink, C: Clock>(alloc: Global, fault: MsgFault, link: &mut L, clock: 
     }
 }
 
-/// Answers the messages of a link, whose conditions are read in this manner, one reading of the clock and one turn each,
-/// until one of the connection's ends. The worker passes the gate with its own number and the number of the message, both from 0, after each message was read.
-/// The turns are added to those that are there. Nothing is said of how long a worker waits for its turn at an account.
+/// Answers the messages of a link, whose conditions are read in this manner, one reading of the clock and one turn
+/// each, until one of the connection's ends. The worker passes the gate with its own number and the number of the
+/// message, both from 0, after each message was read. The turns are added to those that are there. Nothing is said of
+/// how long a worker waits for its turn at an account.
 pub fn serve_connection<L: Source + Sink, C: Clock, K: Keeper + Drop, G: Gate, R: Wait>(
     rt: &R,
     alloc: Global,

@@ -1,5 +1,5 @@
 -- The town is closed, and what the reports say holds of the journals that are handed back.
-use Rattle.std.proofs.Common.{Bool, cond, eq-eqb, ne_eqb, ◌≡◌, ◌≢◌, ◌⊎◌, inl, inr, ℕ, zero, suc, ◌+◌, ◌<◌, ◌≤◌, List, [], ◌∷◌, ◌++◌, length, map, refl, sym, ap, ◌∙◌, subst, append_assoc, arith, Option, Some, None}
+use Rattle.std.proofs.Common.{Bool, cond, eq-eqb, ne_eqb, ◌≡◌, ◌≢◌, ◌⊎◌, inl, inr, ℕ, zero, suc, ◌+◌, ◌<◌, ◌≤◌, List, [], ◌∷◌, ◌++◌, length, map, refl, sym, ap, ◌∙◌, subst, append_assoc, arith, Option, Some, None, All}
 use Rattle.std.specs.List.Sorted.{IsStrictlyIncreasing}
 use mathlib.Core.Option.{some, some-ne-none, some-injective}
 use lib.ListN.{get_elem?}
@@ -22,6 +22,7 @@ use Rattle.ss_town.specs.Places.{At, Handed}
 use Rattle.ss_town.specs.Town.{passes_of}
 use Rattle.ss_laws.specs.declared.journal.Entry.{Entry}
 use Rattle.ss_booked.specs.declared.booked.Terms.{Terms}
+use Rattle.ss_route.specs.declared.manner.Manner.{Manner}
 use Rattle.ss_booked.specs.Sound.{RoseBy, keeper_marks}
 use Rattle.ss_booked.specs.Turns.{IsLegalOn}
 use Rattle.ss_connection.specs.Known.{Known, KnowsMore, known_by}
@@ -33,7 +34,7 @@ use Rattle.ss_serve.specs.Gathering.{Gathered, pages, reports_in}
 use Rattle.ss_serve.specs.Reports.{AreReports, all_calls_to, reports_by}
 use Rattle.ss_serve.specs.Terms.{weigh, SameNumbers, AreServed, known_after, uids_in}
 use Rattle.ss_serve.specs.Workers.{half, number_of}
-use Rattle.ss_serve.proofs.Crews.{at_map, long_map, under}
+use Rattle.ss_serve.proofs.Crews.{all_at, at_map, long_map, under}
 use Rattle.ss_serve.proofs.Shares.{halves_pos, halves_drop, past_end}
 use Rattle.ss_serve.proofs.Working.{reports_later}
 
@@ -223,7 +224,7 @@ module _ {L C T A R : Type 0} {J : Ghosts T Terms Entry A R} where
     placed i uid b at = let n : i < length handed = at_length handed i (uid, b) at in omega (arith, closing.0, g.long, same_length)
 
     abbrev Done : ℕ → Worker L C T Terms Entry A R J → Type 0
-    Done k w = Works tells closed uids k (passes_of w.passes) w.reports.items (coming w.start.value) (coming w.clock)
+    Done k w = Works w.manner tells closed uids k (passes_of w.passes) w.reports.items (coming w.start.value) (coming w.clock)
 
     done : (k : ℕ) (w : Worker L C T Terms Entry A R J) → get_elem? all k ≡ some w → (length (passes_of w.passes) ≡ length uids) × Done k w
     done k w at = let h = have.each k w at in (h.0.of.0 ∙ desk_count, subst (λ n. Done n w) h.1 h.0.works)
@@ -307,40 +308,42 @@ module _ {L C T A R : Type 0} {J : Ghosts T Terms Entry A R} where
     uids_are : uids_in handed ≡ uids
     uids_are = same_uids uids handed (closing.0 ∙ (g.long ∙ same_length)) (λ i u b at. (closing.1 i u b at).0)
 
-    told : (k : ℕ) (w : Worker L C T Terms Entry A R J) → get_elem? all k ≡ some w → AreReports tells closed (uids_in handed) (known_after terms entries (number_of k) handed) (reports_by k out) (coming w.start.value) (coming w.clock)
+    told : (k : ℕ) (w : Worker L C T Terms Entry A R J) → get_elem? all k ≡ some w → AreReports w.manner tells closed (uids_in handed) (known_after terms entries (number_of k) handed) (reports_by k out) (coming w.start.value) (coming w.clock)
     told k w here =
-        subst (λ (l : List ℕ). AreReports tells closed l (known_after terms entries (number_of k) handed) (reports_by k out) (coming w.start.value) (coming w.clock)) (sym uids_are)
-        (subst (λ (l : List (LinkReport L)). AreReports tells closed uids (known_after terms entries (number_of k) handed) l (coming w.start.value) (coming w.clock)) (sym (by_worker k w here))
-        (reports_later tells closed uids (known_by (passes_of w.passes)) (known_after terms entries (number_of k) handed) (knows_more k w here) w.reports.items (coming w.start.value) (coming w.clock) (done k w here).1.told))
+        subst (λ (l : List ℕ). AreReports w.manner tells closed l (known_after terms entries (number_of k) handed) (reports_by k out) (coming w.start.value) (coming w.clock)) (sym uids_are)
+        (subst (λ (l : List (LinkReport L)). AreReports w.manner tells closed uids (known_after terms entries (number_of k) handed) l (coming w.start.value) (coming w.clock)) (sym (by_worker k w here))
+        (reports_later w.manner tells closed uids (known_by (passes_of w.passes)) (known_after terms entries (number_of k) handed) (knows_more k w here) w.reports.items (coming w.start.value) (coming w.clock) (done k w here).1.told))
 
     clocks_are : clocks ≡ map (λ (w : Worker L C T Terms Entry A R J). w.clock) all
     clocks_are = g.back ∙ ap (map (λ (w : Worker L C T Terms Entry A R J). w.clock)) (sym whole)
 
-    reported : (k : ℕ) (before after : Option (List ℕ)) → get_elem? (starts (map (sign coming) all)) k ≡ some before → get_elem? (map coming clocks) k ≡ some after
-        → AreReports tells closed (uids_in handed) (known_after terms entries (number_of k) handed) (reports_by k out) before after
-    reported k before after first last =
+    reported : (manner : Manner) → All (λ (w : Worker L C T Terms Entry A R J). w.manner ≡ manner) all → (k : ℕ) (before after : Option (List ℕ)) → get_elem? (starts (map (sign coming) all)) k ≡ some before → get_elem? (map coming clocks) k ≡ some after
+        → AreReports manner tells closed (uids_in handed) (known_after terms entries (number_of k) handed) (reports_by k out) before after
+    reported manner one k before after first last =
         let s = under (λ (s : Sign). s.start) (map (sign coming) all) k before first in
         let w = under (sign coming) all k s.0 s.1 in
         let begins : coming w.0.start.value ≡ before = ap (λ (s : Sign). s.start) w.2 ∙ s.2 in
         let ends : coming w.0.clock ≡ after = some-injective (coming w.0.clock) after
         (sym (at_map coming (map (λ (w : Worker L C T Terms Entry A R J). w.clock) all) k w.0.clock (at_map (λ (w : Worker L C T Terms Entry A R J). w.clock) all k w.0 w.1)) ∙ (ap (λ (l : List C). get_elem? (map coming l) k) (sym clocks_are) ∙ last)) in
-        subst (λ (a : Option (List ℕ)). AreReports tells closed (uids_in handed) (known_after terms entries (number_of k) handed) (reports_by k out) a after) begins
-        (subst (λ (z : Option (List ℕ)). AreReports tells closed (uids_in handed) (known_after terms entries (number_of k) handed) (reports_by k out) (coming w.0.start.value) z) ends (told k w.0 w.1))
+        let so : w.0.manner ≡ manner = all_at (λ (w : Worker L C T Terms Entry A R J). w.manner ≡ manner) all k w.0 one w.1 in
+        subst (λ (a : Option (List ℕ)). AreReports manner tells closed (uids_in handed) (known_after terms entries (number_of k) handed) (reports_by k out) a after) begins
+        (subst (λ (z : Option (List ℕ)). AreReports manner tells closed (uids_in handed) (known_after terms entries (number_of k) handed) (reports_by k out) (coming w.0.start.value) z) ends
+        (subst (λ (m : Manner). AreReports m tells closed (uids_in handed) (known_after terms entries (number_of k) handed) (reports_by k out) (coming w.0.start.value) (coming w.0.clock)) so (told k w.0 w.1)))
 
     pub clock_count : length clocks ≡ length all
     clock_count = ap length clocks_are ∙ long_map (λ (w : Worker L C T Terms Entry A R J). w.clock) all
 
-    pub served : ((i uid : ℕ) (b : B) → get_elem? handed i ≡ some (uid, b) → RoseBy (keeper_marks (entries b)) (terms b).faults (faults b))
-        → AreServed terms entries faults tells closed handed out (starts (map (sign coming) all)) (map coming clocks)
+    pub served : (manner : Manner) → All (λ (w : Worker L C T Terms Entry A R J). w.manner ≡ manner) all → ((i uid : ℕ) (b : B) → get_elem? handed i ≡ some (uid, b) → RoseBy (keeper_marks (entries b)) (terms b).faults (faults b))
+        → AreServed terms entries faults manner tells closed handed out (starts (map (sign coming) all)) (map coming clocks)
     unfolding Fin
-    served kept =
+    served manner one kept =
         let count : length (starts (map (sign coming) all)) ≡ length all = long_map (λ (s : Sign). s.start) (map (sign coming) all) ∙ long_map (sign coming) all in record {
           lawful = λ i uid b at. let f : Fin i b = (closing.1 i uid b at).1 in (f.lawful, f.rises);
           kept = kept;
           tickets = ticketed;
           clocks = long_map coming clocks ∙ (clock_count ∙ sym count);
           workers = λ j r at. subst (λ n. r.worker < n) (sym count) (worker_in j r at);
-          reported = reported;
+          reported = reported manner one;
         }
 
     pub are_handed : IsStrictlyIncreasing (uids_in handed) → AreHanded terms uids opened handed

@@ -8,6 +8,7 @@ use native.Mathlib.Decide.{dec_lt}
 use Rattle.ss_desk.proofs.Beside.{get_left, get_last}
 use Rattle.ss_desk.proofs.Lists.{at_length, at_get, at_end}
 use Rattle.ss_booked.specs.declared.booked.Terms.{Terms}
+use Rattle.ss_route.specs.declared.manner.Manner.{Manner}
 use Rattle.ss_serve.specs.Crew.{Sign, Signed, starts}
 
 module _ {X : Type 0} where
@@ -28,6 +29,10 @@ module _ {X : Type 0} where
   -- what holds at each place holds of all
   pub all_of : (P : X → Type 0) (l : List X) → ((k : ℕ) (x : X) → get_elem? l k ≡ some x → P x) → All P l
   all_of P l h k d lt = h k (get_or l k d) (at_get l k d lt)
+
+  -- there are none
+  pub none_so : (P : X → Type 0) (l : List X) → l ≡ [] → All P l
+  none_so P l none = all_of P l (λ k x at. absurd (some-ne-none x (sym (ap (λ (xs : List X). get_elem? xs k) (sym none) ∙ at))))
 
   pub all_first : (P : X → Type 0) (l : List X) (y : X) → All P l → P y → All P (set l 0 y)
   all_first P [] y h p k d lt = h k d lt
@@ -64,13 +69,17 @@ module _ {X : Type 0} where
       let here : get_elem? (map f ys) k ≡ some (f x) = ap (λ (l : List _). get_elem? l k) (sym e) ∙ at_map f xs k x at in
       let q = under f ys k (f x) here in subst P q.2 (all_at (λ y. P (f y)) ys k q.0 h q.1))
 
-pub signed_more : (least : ℕ) (fixed : ℕ → Option Terms) (signs : List Sign) (s : Sign) → Signed least fixed signs → s.number ≡ length signs → least ≤ s.room → s.fixed ≡ fixed
-    → Signed least fixed (signs ++ s ∷ [])
-signed_more least fixed signs s h is enough same k t at = elim (at_end signs s t k at) [
+pub signed_more : (least : ℕ) (fixed : ℕ → Option Terms) (manner : Manner) (signs : List Sign) (s : Sign) → Signed least fixed manner signs → s.number ≡ length signs → least ≤ s.room → s.fixed ≡ fixed → s.manner ≡ manner
+    → Signed least fixed manner (signs ++ s ∷ [])
+signed_more least fixed manner signs s h is enough same so k t at = elim (at_end signs s t k at) [
   | inl old ↦ h k t old
   | inr new ↦
-      let e : s ≡ t = new.1 in
-      (sym (ap (λ (u : Sign). u.number) e) ∙ (is ∙ sym new.0), omega (arith, ap (λ (u : Sign). u.room) e, enough), sym (ap (λ (u : Sign). u.fixed) e) ∙ same)
+      let e : s ≡ t = new.1 in (
+        sym (ap (λ (u : Sign). u.number) e) ∙ (is ∙ sym new.0),
+        omega (arith, ap (λ (u : Sign). u.room) e, enough),
+        sym (ap (λ (u : Sign). u.fixed) e) ∙ same,
+        sym (ap (λ (u : Sign). u.manner) e) ∙ so,
+      )
 ]
 
 pub starts_more : (signs : List Sign) (s : Sign) → starts (signs ++ s ∷ []) ≡ starts signs ++ s.start ∷ []
@@ -85,5 +94,8 @@ begun_next {C} coming signs s rest clocks clock all is same e =
     ap (λ (l : List (Option (List ℕ))). l ++ map coming (reverse rest)) more
     ∙ (append_assoc (starts signs) (coming clock ∷ []) (map coming (reverse rest)) ∙ (ap (λ (l : List C). starts signs ++ map coming l) (sym turned) ∙ e))
 
-pub least_of : {X : Type 0} (least : ℕ) (fixed : ℕ → Option Terms) (f : X → Sign) (xs : List X) → Signed least fixed (map f xs) → All (λ x. least ≤ (f x).room) xs
-least_of {X} least fixed f xs h = all_of (λ (x : X). least ≤ (f x).room) xs (λ k x at. (h k (f x) (at_map f xs k x at)).1)
+pub least_of : {X : Type 0} (least : ℕ) (fixed : ℕ → Option Terms) (manner : Manner) (f : X → Sign) (xs : List X) → Signed least fixed manner (map f xs) → All (λ x. least ≤ (f x).room) xs
+least_of {X} least fixed manner f xs h = all_of (λ (x : X). least ≤ (f x).room) xs (λ k x at. (h k (f x) (at_map f xs k x at)).1)
+
+pub one_manner : {X : Type 0} (least : ℕ) (fixed : ℕ → Option Terms) (manner : Manner) (f : X → Sign) (xs : List X) → Signed least fixed manner (map f xs) → All (λ x. (f x).manner ≡ manner) xs
+one_manner {X} least fixed manner f xs h = all_of (λ (x : X). (f x).manner ≡ manner) xs (λ k x at. (h k (f x) (at_map f xs k x at)).3)

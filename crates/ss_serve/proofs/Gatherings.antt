@@ -16,6 +16,7 @@ use Rattle.ss_outside.specs.Told.{Meanings}
 use Rattle.ss_town.specs.Town.{passes_of}
 use Rattle.ss_laws.specs.declared.journal.Entry.{Entry}
 use Rattle.ss_booked.specs.declared.booked.Terms.{Terms}
+use Rattle.ss_route.specs.declared.manner.Manner.{Manner}
 use Rattle.ss_serve.specs.declared.report.LinkReport.{LinkReport}
 use Rattle.ss_serve.specs.declared.worker.Worker.{Worker}
 use Rattle.ss_serve.specs.Crew.{Works, IsWhole, count_reports}
@@ -62,9 +63,9 @@ module _ {L C T A R : Type 0} {J : Ghosts T Terms Entry A R} where
       → Gathered places opened all (rest ++ x ∷ []) now reports clocks → get_elem? all (length rest) ≡ some x
   place_of places opened now all rest x reports clocks g = ap (λ (l : List (Worker L C T Terms Entry A R J)). get_elem? l (length rest)) (g.split ∙ append_assoc rest (x ∷ []) g.tail) ∙ middle_at rest g.tail x
 
-  module _ (tells : L → Meanings) (closed : L → Bool) (uids : List ℕ) where
+  module _ (manner : Manner) (tells : L → Meanings) (closed : L → Bool) (uids : List ℕ) where
     pub gather_next : (places : ℕ) (opened now after : List (RawPass T Terms Entry)) (all rest : List (Worker L C T Terms Entry A R J)) (x : Worker L C T Terms Entry A R J) (reports reports' : List (LinkReport L)) (clocks clocks' : List C) (start coming : Option (List ℕ))
-        → Gathered places opened all (rest ++ x ∷ []) now reports clocks → Works tells closed uids (length rest) (passes_of x.passes) x.reports.items start coming → places ≡ length (passes_of x.passes)
+        → Gathered places opened all (rest ++ x ∷ []) now reports clocks → Works manner tells closed uids (length rest) (passes_of x.passes) x.reports.items start coming → places ≡ length (passes_of x.passes)
         → Joins now (passes_of x.passes) after → reports' ≡ reports ++ x.reports.items → clocks' ≡ x.clock ∷ clocks → Gathered places opened all rest after reports' clocks'
     gather_next places opened now after all rest x reports reports' clocks clocks' start coming g w long joins add more =
         let ps = passes_of x.passes in

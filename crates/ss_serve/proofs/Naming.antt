@@ -14,6 +14,7 @@ use Rattle.std.specs.List.Sorted.{IsStrictlyIncreasing}
 use Rattle.ss_http.specs.declared.message.Message.{Message}
 use Rattle.ss_laws.specs.declared.journal.Entry.{Entry}
 use Rattle.ss_booked.specs.declared.booked.Terms.{Terms}
+use Rattle.ss_route.specs.declared.manner.Manner.{Manner}
 use Rattle.ss_booked.specs.Sizes.{is_full, journal_bytes}
 use Rattle.ss_booked.specs.Turns.{full_on, journal_on}
 use Rattle.ss_connection.specs.Known.{Known}
@@ -55,9 +56,9 @@ pub record Told (uids : List ℕ) (known : ℕ → Known) (uid entries : ℕ) (t
   pub count : full.entries ≡ entries
   pub says : TurnIsFull uid full turn
 
-turn_tells : (uids : List ℕ) (known : ℕ → Known) (message : Message) (now : ℕ) (last : Bool) (turn : Turn) (bytes : List ℕ) (uid entries : ℕ)
-    → SaysTurn uids known message now last turn bytes → TurnNames uid entries turn → Told uids known uid entries turn
-turn_tells uids known message now last (turns.Full u count size) bytes uid entries says names = record {
+turn_tells : (manner : Manner) (uids : List ℕ) (known : ℕ → Known) (message : Message) (now : ℕ) (last : Bool) (turn : Turn) (bytes : List ℕ) (uid entries : ℕ)
+    → SaysTurn manner uids known message now last turn bytes → TurnNames uid entries turn → Told uids known uid entries turn
+turn_tells manner uids known message now last (turns.Full u count size) bytes uid entries says names = record {
   full = record { entries = count; bytes = size };
   place = says.asks.place;
   listed = subst (λ n. At uids says.asks.place n) names.0 says.asks.listed;
@@ -65,9 +66,9 @@ turn_tells uids known message now last (turns.Full u count size) bytes uid entri
   count = names.1;
   says = (names.0, refl, refl);
 }
-turn_tells uids known message now last turns.Local bytes uid entries says names = absurd names
-turn_tells uids known message now last (turns.Call u ticket) bytes uid entries says names = absurd names
-turn_tells uids known message now last turns.Memory bytes uid entries says names = absurd names
+turn_tells manner uids known message now last turns.Local bytes uid entries says names = absurd names
+turn_tells manner uids known message now last (turns.Call u ticket) bytes uid entries says names = absurd names
+turn_tells manner uids known message now last turns.Memory bytes uid entries says names = absurd names
 
 turn_names : (uid entries : ℕ) (full : Full) (turn : Turn) → full.entries ≡ entries → TurnIsFull uid full turn → TurnNames uid entries turn
 turn_names uid entries full (turns.Full u count size) e says = (says.0, says.1 ∙ e)
@@ -85,23 +86,23 @@ module _ {L : Type 0} where
       (λ e. (suc q.0, ap (λ b. get_elem? (cond b (s ∷ reports_by r.worker rs) (reports_by r.worker rs)) (suc q.0)) (eq-eqb s.worker r.worker e) ∙ q.1))
       (λ ne. (q.0, ap (λ b. get_elem? (cond b (s ∷ reports_by r.worker rs) (reports_by r.worker rs)) q.0) (ne_eqb s.worker r.worker ne) ∙ q.1))
 
-  module _ (tells : L → Meanings) (closed : L → Bool) (uids : List ℕ) (known : ℕ → Known) where
-    one_of : (rs : List (LinkReport L)) (before after : Option (List ℕ)) (n : ℕ) (r : LinkReport L) → AreReports tells closed uids known rs before after → get_elem? rs n ≡ some r
-        → (a : Option (List ℕ)) × (b : Option (List ℕ)) × IsReport tells closed uids known a b r
+  module _ (manner : Manner) (tells : L → Meanings) (closed : L → Bool) (uids : List ℕ) (known : ℕ → Known) where
+    one_of : (rs : List (LinkReport L)) (before after : Option (List ℕ)) (n : ℕ) (r : LinkReport L) → AreReports manner tells closed uids known rs before after → get_elem? rs n ≡ some r
+        → (a : Option (List ℕ)) × (b : Option (List ℕ)) × IsReport manner tells closed uids known a b r
     one_of [] before after n r h at = absurd (some-ne-none r (sym at))
-    one_of (s ∷ rs) before after zero r h at = (before, h.0, subst (λ (x : LinkReport L). IsReport tells closed uids known before h.0 x) (some-injective s r at) h.1)
+    one_of (s ∷ rs) before after zero r h at = (before, h.0, subst (λ (x : LinkReport L). IsReport manner tells closed uids known before h.0 x) (some-injective s r at) h.1)
     one_of (s ∷ rs) before after (suc n) r h at = one_of rs h.0 after n r h.2 at
 
-    report_tells : (a b : Option (List ℕ)) (r : LinkReport L) (k : ℕ) (note : TurnNote) (uid entries : ℕ) → IsReport tells closed uids known a b r → get_elem? r.turns.items k ≡ some note
+    report_tells : (a b : Option (List ℕ)) (r : LinkReport L) (k : ℕ) (note : TurnNote) (uid entries : ℕ) → IsReport manner tells closed uids known a b r → get_elem? r.turns.items k ≡ some note
         → TurnNames uid entries note.turn → Told uids known uid entries note.turn
     report_tells a b r k note uid entries h at names =
         let x = under (λ (x : Exchange). x.note) h.served.exchanges k note (ap (λ (l : List TurnNote). get_elem? l k) (sym h.served.noted) ∙ at) in
         let says = h.served.says k x.0 x.1 in
-        turn_tells uids known x.0.message x.0.note.now (closes k x.0.message) note.turn x.0.response uid entries
-        (subst (λ (n : TurnNote). SaysTurn uids known x.0.message x.0.note.now (closes k x.0.message) n.turn x.0.response) x.2 says) names
+        turn_tells manner uids known x.0.message x.0.note.now (closes k x.0.message) note.turn x.0.response uid entries
+        (subst (λ (n : TurnNote). SaysTurn manner uids known x.0.message x.0.note.now (closes k x.0.message) n.turn x.0.response) x.2 says) names
 
-module _ {B L : Type 0} (terms : B → Terms) (entries : B → List Entry) (faults : B → ℕ) (tells : L → Meanings) (closed : L → Bool) (handed : List (ℕ × B)) (reports : List (LinkReport L)) (coming coming' : List (Option (List ℕ)))
-    (h : AreServed terms entries faults tells closed handed reports coming coming') (sorted : IsStrictlyIncreasing (uids_in handed)) where
+module _ {B L : Type 0} (terms : B → Terms) (entries : B → List Entry) (faults : B → ℕ) (manner : Manner) (tells : L → Meanings) (closed : L → Bool) (handed : List (ℕ × B)) (reports : List (LinkReport L)) (coming coming' : List (Option (List ℕ)))
+    (h : AreServed terms entries faults manner tells closed handed reports coming coming') (sorted : IsStrictlyIncreasing (uids_in handed)) where
   named_full : (i : ℕ) (a : ℕ × B) → get_elem? handed i ≡ some a → IsNamed entries reports a → IsFull terms entries reports a
   named_full i a at named =
       let r = named.1 in let said = named.3 in let note = said.1 in let k = r.worker in
@@ -109,8 +110,8 @@ module _ {B L : Type 0} (terms : B → Terms) (entries : B → List Entry) (faul
       let before = there_is coming k lt in let after = there_is coming' k (omega (arith, h.clocks)) in
       let here = in_by reports named.0 r named.2 in
       let known : ℕ → Known = known_after terms entries (number_of k) handed in
-      let one = one_of tells closed (uids_in handed) known (reports_by k reports) before.0 after.0 here.0 r (h.reported k before.0 after.0 before.1 after.1) here.1 in
-      let told = report_tells tells closed (uids_in handed) known one.0 one.1 r said.0 note a.0 (length (entries a.1)) one.2 said.2 said.3 in
+      let one = one_of manner tells closed (uids_in handed) known (reports_by k reports) before.0 after.0 here.0 r (h.reported k before.0 after.0 before.1 after.1) here.1 in
+      let told = report_tells manner tells closed (uids_in handed) known one.0 one.1 r said.0 note a.0 (length (entries a.1)) one.2 said.2 said.3 in
       let same : told.place ≡ i = one_place (uids_in handed) sorted told.place i a.0 told.listed (at_map (λ (x : ℕ × B). x.0) handed i a at) in
       let is = known_at terms entries (number_of k) handed i a.0 a.1 at in
       let was = subst (λ (y : Known). WasFull y told.full) is (subst (λ n. WasFull (known n) told.full) same told.was_full) in

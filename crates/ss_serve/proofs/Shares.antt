@@ -12,6 +12,7 @@ use Rattle.ss_desk.specs.Views.{range_of, lower, spent, numbers, middle}
 use Rattle.ss_outside.specs.Told.{Meanings}
 use Rattle.ss_laws.specs.declared.journal.Entry.{Entry}
 use Rattle.ss_booked.specs.declared.booked.Terms.{Terms}
+use Rattle.ss_route.specs.declared.manner.Manner.{Manner}
 use Rattle.ss_connection.specs.Known.{known_by}
 use Rattle.ss_serve.specs.Crew.{IsStart, Works, fixed_at}
 use Rattle.ss_serve.specs.Workers.{half}
@@ -85,8 +86,8 @@ module _ {T : Type 0} (k : ℕ) (ps qs rs : List (RawPass T Terms Entry)) (start
       (λ less. let e = (h.2 i less).1 in (ap (λ (v : View Terms Entry). v.book) e, ap (λ (v : View Terms Entry). v.seen) e ∙ (start i less).1))
       (λ more. let e = past_end rs i (omega (arith, h.1)) in (ap (λ (v : View Terms Entry). v.book) e, ap (λ (v : View Terms Entry). v.seen) e))
 
-  pub works_high : {L : Type 0} (tells : L → Meanings) (closed : L → Bool) (uids : List ℕ) (coming : Option (List ℕ)) → Works tells closed uids k rs [] coming coming
-  works_high {L} tells closed uids coming = record {
+  pub works_high : {L : Type 0} (manner : Manner) (tells : L → Meanings) (closed : L → Bool) (uids : List ℕ) (coming : Option (List ℕ)) → Works manner tells closed uids k rs [] coming coming
+  works_high {L} manner tells closed uids coming = record {
     range = λ i lt. let less : i < length ps = omega (arith, h.1) in let s = start i less in
         ap (λ (v : View Terms Entry). v.range) (h.2 i less).1 ∙ (ap (λ n. range_of n (view_at ps i).range.end) (cut_at k (view_at ps i) s) ∙ ap (λ (r : Range). range_of (half (suc k)) r.end) s.0.range);
     no_book = λ i. (none_high i).0;

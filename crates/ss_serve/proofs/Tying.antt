@@ -15,6 +15,7 @@ use Rattle.ss_outside.specs.Told.{Meanings}
 use Rattle.ss_town.specs.Opening.{IsTown, MayOpen}
 use Rattle.ss_laws.specs.declared.journal.Entry.{Entry}
 use Rattle.ss_booked.specs.declared.booked.Terms.{Terms}
+use Rattle.ss_route.specs.declared.manner.Manner.{Manner}
 use Rattle.ss_serve.specs.declared.report.LinkReport.{LinkReport}
 use Rattle.ss_serve.specs.declared.report.TermStop.{TermStop}
 use Rattle.ss_serve.specs.declared.report.TermStop.TheVariants as stop
@@ -35,9 +36,9 @@ module _ {L C T A R : Type 0} {J : Ghosts T Terms Entry A R} where
   count_least [] old is lt = absurd (omega arith)
   count_least (x ∷ xs) old is lt = omega (arith, ap (λ (w : Worker L C T Terms Entry A R J). length w.reports.items) is)
 
-  pub by_place : {D S : Type 0} (tells : L → Meanings) (closed : L → Bool) (coming : C → Option (List ℕ)) (uids : List ℕ) (desks : List (Desk T Terms Entry D S)) (opened : List (RawPass T Terms Entry)) (least : ℕ) (crew : List (Worker L C T Terms Entry A R J))
-      → All (λ w. HasWorked tells closed coming uids desks w) crew → Signed least (fixed_at opened) (map (sign coming) crew) → Have tells closed coming uids desks opened crew
-  by_place tells closed coming uids desks opened least crew worked signed = record {
+  pub by_place : {D S : Type 0} (tells : L → Meanings) (closed : L → Bool) (coming : C → Option (List ℕ)) (uids : List ℕ) (desks : List (Desk T Terms Entry D S)) (opened : List (RawPass T Terms Entry)) (least : ℕ) (manner : Manner) (crew : List (Worker L C T Terms Entry A R J))
+      → All (λ w. HasWorked tells closed coming uids desks w) crew → Signed least (fixed_at opened) manner (map (sign coming) crew) → Have tells closed coming uids desks opened crew
+  by_place tells closed coming uids desks opened least manner crew worked signed = record {
     each = λ k w at. let s = signed k (sign coming w) (at_map (sign coming) crew k w at) in (all_at (λ w. HasWorked tells closed coming uids desks w) crew k w worked at, s.0, s.2);
   }
 
@@ -74,14 +75,14 @@ same_tail (v ∷ xs) [] zs k x y long le a b = absurd (omega arith)
 same_tail (v ∷ xs) (w ∷ ys) zs zero x y long le a b = absurd (omega arith)
 same_tail (v ∷ xs) (w ∷ ys) zs (suc k) x y long le a b = same_tail xs ys zs k x y (omega arith) (omega arith) a b
 
-module _ {B L : Type 0} (terms : B → Terms) (entries : B → List Entry) (faults : B → ℕ) (tells : L → Meanings) (closed : L → Bool) where
+module _ {B L : Type 0} (terms : B → Terms) (entries : B → List Entry) (faults : B → ℕ) (manner : Manner) (tells : L → Meanings) (closed : L → Bool) where
   past : (k n : ℕ) (rs : List (LinkReport L)) → ((j : ℕ) (r : LinkReport L) → get_elem? rs j ≡ some r → r.worker < n) → n ≤ k → reports_by k rs ≡ []
   past k n [] all le = refl
   past k n (r ∷ rs) all le = let lt = all zero r refl in ap (λ b. cond b (r ∷ reports_by k rs) (reports_by k rs)) (ne_eqb r.worker k (λ e. omega (arith, e, lt))) ∙ past k n rs (λ i s at. all (suc i) s at) le
 
   -- clocks that no worker had come back as they were
-  pub served_with : (handed : List (ℕ × B)) (reports : List (LinkReport L)) (coming coming' others : List (Option (List ℕ))) → AreServed terms entries faults tells closed handed reports coming coming'
-      → AreServed terms entries faults tells closed handed reports (coming ++ others) (coming' ++ others)
+  pub served_with : (handed : List (ℕ × B)) (reports : List (LinkReport L)) (coming coming' others : List (Option (List ℕ))) → AreServed terms entries faults manner tells closed handed reports coming coming'
+      → AreServed terms entries faults manner tells closed handed reports (coming ++ others) (coming' ++ others)
   served_with handed reports coming coming' others h = record {
     lawful = h.lawful;
     kept = h.kept;
@@ -92,14 +93,14 @@ module _ {B L : Type 0} (terms : B → Terms) (entries : B → List Entry) (faul
         (λ less. let a = there_is coming k less in let b = there_is coming' k (omega (arith, h.clocks)) in
         let is : a.0 ≡ before = some-injective a.0 before (sym (at_left coming others k a.0 a.1) ∙ first) in
         let ends : b.0 ≡ after = some-injective b.0 after (sym (at_left coming' others k b.0 b.1) ∙ last) in
-        subst (λ (x : Option (List ℕ)). AreReports tells closed (uids_in handed) (known_after terms entries (number_of k) handed) (reports_by k reports) x after) is
-        (subst (λ (x : Option (List ℕ)). AreReports tells closed (uids_in handed) (known_after terms entries (number_of k) handed) (reports_by k reports) a.0 x) ends (h.reported k a.0 b.0 a.1 b.1)))
-        (λ more. subst (λ (l : List (LinkReport L)). AreReports tells closed (uids_in handed) (known_after terms entries (number_of k) handed) l before after) (sym (past k (length coming) reports h.workers (omega arith)))
+        subst (λ (x : Option (List ℕ)). AreReports manner tells closed (uids_in handed) (known_after terms entries (number_of k) handed) (reports_by k reports) x after) is
+        (subst (λ (x : Option (List ℕ)). AreReports manner tells closed (uids_in handed) (known_after terms entries (number_of k) handed) (reports_by k reports) a.0 x) ends (h.reported k a.0 b.0 a.1 b.1)))
+        (λ more. subst (λ (l : List (LinkReport L)). AreReports manner tells closed (uids_in handed) (known_after terms entries (number_of k) handed) l before after) (sym (past k (length coming) reports h.workers (omega arith)))
         (same_tail coming coming' others k before after h.clocks (omega arith) first last));
   }
 
   pub says_open : (ended : TermStop) (given handed : List (ℕ × B)) (reports : List (LinkReport L)) (coming coming' : List (Option (List ℕ))) → IsOpenStop ended
-      → IsTerm terms entries faults tells closed given handed reports coming coming' → TermSays terms entries faults tells closed given handed reports coming coming' ended
+      → IsTerm terms entries faults manner tells closed given handed reports coming coming' → TermSays terms entries faults manner tells closed given handed reports coming coming' ended
   says_open stop.Connections given handed reports coming coming' o h = h
   says_open stop.PortEnded given handed reports coming coming' o h = h
   says_open stop.Port given handed reports coming coming' o h = h
@@ -108,8 +109,8 @@ module _ {B L : Type 0} (terms : B → Terms) (entries : B → List Entry) (faul
   says_open (stop.Town fault) given handed reports coming coming' o h = absurd o
 
   pub term_of : {D S : Type 0} (given handed : List (ℕ × B)) (reports : List (LinkReport L)) (coming coming' : List (Option (List ℕ))) (uids : List ℕ) (desks : List (Desk B Terms Entry D S)) (ps : List (RawPass B Terms Entry))
-      → MayOpen given → IsTown terms given uids desks ps → AreHanded terms uids ps handed → AreServed terms entries faults tells closed handed reports coming coming'
-      → IsTerm terms entries faults tells closed given handed reports coming coming'
+      → MayOpen given → IsTown terms given uids desks ps → AreHanded terms uids ps handed → AreServed terms entries faults manner tells closed handed reports coming coming'
+      → IsTerm terms entries faults manner tells closed given handed reports coming coming'
   term_of given handed reports coming coming' uids desks ps may town h served = record {
     may = may;
     order = town.order;

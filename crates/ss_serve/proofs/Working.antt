@@ -5,6 +5,7 @@ use Rattle.ss_desk.proofs.Lists.{at_end, append_nil}
 use Rattle.ss_outside.specs.Told.{Meanings}
 use Rattle.ss_laws.specs.declared.journal.Entry.{Entry}
 use Rattle.ss_booked.specs.declared.booked.Terms.{Terms}
+use Rattle.ss_route.specs.declared.manner.Manner.{Manner}
 use Rattle.ss_connection.specs.Known.{Known, KnowsMore, SeeMore, known_by}
 use Rattle.ss_connection.specs.Calls.{Enters, calls_to}
 use Rattle.ss_connection.proofs.Later.{served_later}
@@ -18,31 +19,31 @@ module _ {L : Type 0} where
   calls_end uid [] r = append_nil (calls_to uid r.turns.items)
   calls_end uid (s ∷ rs) r = ap (λ (l : List ℕ). calls_to uid s.turns.items ++ l) (calls_end uid rs r) ∙ sym (append_assoc (calls_to uid s.turns.items) (all_calls_to uid rs) (calls_to uid r.turns.items))
 
-  module _ (tells : L → Meanings) (closed : L → Bool) (uids : List ℕ) where
+  module _ (manner : Manner) (tells : L → Meanings) (closed : L → Bool) (uids : List ℕ) where
     -- what a report says stays true where more is known of the accounts
     report_later : (known known' : ℕ → Known) → KnowsMore known known' → (coming coming' : Option (List ℕ)) (r : LinkReport L)
-        → IsReport tells closed uids known coming coming' r → IsReport tells closed uids known' coming coming' r
+        → IsReport manner tells closed uids known coming coming' r → IsReport manner tells closed uids known' coming coming' r
     report_later known known' more coming coming' r h = record {
       given = h.given;
       unused = h.unused;
-      served = served_later uids known known' more r.end h.given (tells r.link) coming coming' r.turns.items h.served;
+      served = served_later manner uids known known' more r.end h.given (tells r.link) coming coming' r.turns.items h.served;
       is_closed = h.is_closed;
     }
 
     pub reports_later : (known known' : ℕ → Known) → KnowsMore known known' → (rs : List (LinkReport L)) (coming coming' : Option (List ℕ))
-        → AreReports tells closed uids known rs coming coming' → AreReports tells closed uids known' rs coming coming'
+        → AreReports manner tells closed uids known rs coming coming' → AreReports manner tells closed uids known' rs coming coming'
     reports_later known known' more [] coming coming' h = h
     reports_later known known' more (r ∷ rs) coming coming' h =
         (h.0, report_later known known' more coming h.0 r h.1, reports_later known known' more rs h.0 coming' h.2)
 
     reports_push : (known : ℕ → Known) (rs : List (LinkReport L)) (r : LinkReport L) (first before after : Option (List ℕ))
-        → AreReports tells closed uids known rs first before → IsReport tells closed uids known before after r → AreReports tells closed uids known (rs ++ r ∷ []) first after
-    reports_push known [] r first before after h is = (after, subst (λ (x : Option (List ℕ)). IsReport tells closed uids known x after r) h is, refl)
+        → AreReports manner tells closed uids known rs first before → IsReport manner tells closed uids known before after r → AreReports manner tells closed uids known (rs ++ r ∷ []) first after
+    reports_push known [] r first before after h is = (after, subst (λ (x : Option (List ℕ)). IsReport manner tells closed uids known x after r) h is, refl)
     reports_push known (s ∷ rs) r first before after h is = (h.0, h.1, reports_push known rs r h.0 before after h.2 is)
 
     pub works_more : {T : Type 0} (number : ℕ) (ps qs : List (RawPass T Terms Entry)) (reports : List (LinkReport L)) (r : LinkReport L) (start before after : Option (List ℕ))
-        → Works tells closed uids number ps reports start before → SeeMore ps qs → Enters uids ps qs r.turns.items → r.worker ≡ number
-        → IsReport tells closed uids (known_by qs) before after r → Works tells closed uids number qs (reports ++ r ∷ []) start after
+        → Works manner tells closed uids number ps reports start before → SeeMore ps qs → Enters uids ps qs r.turns.items → r.worker ≡ number
+        → IsReport manner tells closed uids (known_by qs) before after r → Works manner tells closed uids number qs (reports ++ r ∷ []) start after
     works_more number ps qs reports r start before after h more enters by_is is = record {
       range = λ i lt. more.range i ∙ h.range i (subst (λ n. i < n) more.count lt);
       no_book = λ i. more.book i ∙ h.no_book i;

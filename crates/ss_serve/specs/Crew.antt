@@ -22,6 +22,7 @@ use Rattle.ss_town.specs.Places.{At}
 use Rattle.ss_town.specs.Town.{passes_of}
 use Rattle.ss_laws.specs.declared.journal.Entry.{Entry}
 use Rattle.ss_booked.specs.declared.booked.Terms.{Terms}
+use Rattle.ss_route.specs.declared.manner.Manner.{Manner}
 use Rattle.ss_connection.specs.Known.{known_by}
 use Rattle.ss_connection.specs.Calls.{own_tickets}
 use Rattle.ss_serve.specs.declared.report.LinkReport.{LinkReport}
@@ -30,10 +31,11 @@ use Rattle.ss_serve.specs.Reports.{AreReports, all_calls_to}
 use Rattle.ss_serve.specs.Terms.{uids_in}
 use Rattle.ss_serve.specs.Workers.{half, share}
 
--- what stays of a worker while it works: its number, its room for reports, what its clock told at first, and what the fixed parts of
--- the accounts are to its passes
+-- what stays of a worker while it works: its number, the manner in which it reads conditions, its room for reports, what its clock
+-- told at first, and what the fixed parts of the accounts are to its passes
 pub record Sign : Type 0 where
   pub number : ℕ
+  pub manner : Manner
   pub room : ℕ
   pub start : Option (List ℕ)
   pub fixed : ℕ → Option Terms
@@ -42,9 +44,10 @@ pub record Sign : Type 0 where
 abbrev pub starts : List Sign → List (Option (List ℕ))
 starts signs = map (λ (s : Sign). s.start) signs
 
--- the number of each worker is its place, it has room for so many reports, and its passes are of accounts with these fixed parts
-abbrev pub Signed : ℕ → (ℕ → Option Terms) → List Sign → Type 0
-Signed least fixed signs = (k : ℕ) (s : Sign) → get_elem? signs k ≡ some s → (s.number ≡ k) × (least ≤ s.room) × (s.fixed ≡ fixed)
+-- the number of each worker is its place, it has room for so many reports, its passes are of accounts with these fixed parts, and it
+-- reads conditions in this manner
+abbrev pub Signed : ℕ → (ℕ → Option Terms) → Manner → List Sign → Type 0
+Signed least fixed manner signs = (k : ℕ) (s : Sign) → get_elem? signs k ≡ some s → (s.number ≡ k) × (least ≤ s.room) × (s.fixed ≡ fixed) × (s.manner ≡ manner)
 
 module _ {T : Type 0} where
   -- the fixed parts of the accounts, as these passes know them
@@ -68,19 +71,19 @@ module _ {T : Type 0} where
     pub start : (i : ℕ) → i < length ps → IsStart n (view_at ps i)
     pub fixed : fixed_at ps ≡ fixed_at opened
 
-module _ {T L : Type 0} (tells : L → Meanings) (closed : L → Bool) (uids : List ℕ) where
-  -- A worker's passes hold its share of the numbers. Its reports are of connections, over what its passes have seen, with the readings
+module _ {T L : Type 0} (manner : Manner) (tells : L → Meanings) (closed : L → Bool) (uids : List ℕ) where
+  -- A worker's passes hold its share of the numbers. Its reports are of connections in its manner, over what its passes have seen, with the readings
   -- of its clock; and its entries are those of the calls in its reports, in order, account by account
   pub record Works (number : ℕ) (ps : List (RawPass T Terms Entry)) (reports : List (LinkReport L)) (start coming : Option (List ℕ)) : Type 0 where
     pub range : (i : ℕ) → i < length ps → (view_at ps i).range ≡ share number
     pub no_book : (i : ℕ) → (view_at ps i).book ≡ []
-    pub told : AreReports tells closed uids (known_by ps) reports start coming
+    pub told : AreReports manner tells closed uids (known_by ps) reports start coming
     pub by : (j : ℕ) (r : LinkReport L) → get_elem? reports j ≡ some r → r.worker ≡ number
     pub own : (i uid : ℕ) → At uids i uid → own_tickets (known_by ps i) ≡ all_calls_to uid reports
 
 module _ {L C T A R : Type 0} {J : Ghosts T Terms Entry A R} where
   abbrev pub sign : (C → Option (List ℕ)) → Worker L C T Terms Entry A R J → Sign
-  sign coming w = record { number = w.number; room = vec_capacity w.reports; start = coming w.start.value; fixed = fixed_at (passes_of w.passes) }
+  sign coming w = record { number = w.number; manner = w.manner; room = vec_capacity w.reports; start = coming w.start.value; fixed = fixed_at (passes_of w.passes) }
 
   -- how many reports the workers have
   abbrev pub count_reports : List (Worker L C T Terms Entry A R J) → ℕ
@@ -91,7 +94,7 @@ module _ {L C T A R : Type 0} {J : Ghosts T Terms Entry A R} where
     -- a worker's passes are of the town, and its reports say what was done
     pub record HasWorked (w : Worker L C T Terms Entry A R J) : Type 0 where
       pub of : AreOf desks (passes_of w.passes)
-      pub works : Works tells closed uids w.number (passes_of w.passes) w.reports.items (coming w.start.value) (coming w.clock)
+      pub works : Works w.manner tells closed uids w.number (passes_of w.passes) w.reports.items (coming w.start.value) (coming w.clock)
 
     -- and its place at the channel has taken as many links as it has reports
     pub record IsReady {Q M N P : Type 0} (ring : Rows (Badge (Key (Job L))) (Doing (Job L) Tally) Q M (Key (Job L)) N P) (w : Worker L C T Terms Entry A R J) : Type 0 where

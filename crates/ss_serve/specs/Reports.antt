@@ -3,6 +3,7 @@ use Rattle.std.specs.Prelude.{◌≡◌, ℕ, Bool, List, [], ◌∷◌, ◌++�
 use Rattle.ss_desk.specs.Journal.{entries_of}
 use Rattle.ss_outside.specs.Told.{Meanings}
 use Rattle.ss_links.specs.Links.{IsUnused}
+use Rattle.ss_route.specs.declared.manner.Manner.{Manner}
 use Rattle.ss_connection.specs.Known.{Known}
 use Rattle.ss_connection.specs.Calls.{calls_to}
 use Rattle.ss_connection.specs.Ends.{Served}
@@ -18,13 +19,13 @@ module _ {L : Type 0} where
   abbrev pub reports_by : ℕ → List (LinkReport L) → List (LinkReport L)
   reports_by worker reports = entries_of (λ r. r.worker) worker reports
 
-  module _ (tells : L → Meanings) (closed : L → Bool) (uids : List ℕ) where
+  module _ (manner : Manner) (tells : L → Meanings) (closed : L → Bool) (uids : List ℕ) where
     -- A link that the port gave, of which nothing had been taken and to which nothing had been written: its turns and its end
-    -- were those of a connection, over what is known of the accounts, and it was closed
+    -- were those of a connection in this manner, over what is known of the accounts, and it was closed
     pub record IsReport (known : ℕ → Known) (coming coming' : Option (List ℕ)) (r : LinkReport L) : Type 0 where
       pub given : Meanings
       pub unused : IsUnused given
-      pub served : Served uids known r.end given (tells r.link) coming coming' r.turns.items
+      pub served : Served manner uids known r.end given (tells r.link) coming coming' r.turns.items
       pub is_closed : IsTrue (closed r.link)
 
     -- such reports, one after the other, with the readings of one clock

@@ -15,6 +15,7 @@ use Rattle.ss_laws.specs.declared.journal.Entry.{Entry}
 use Rattle.ss_booked.specs.declared.booked.Terms.{Terms}
 use Rattle.ss_booked.specs.Sound.{RoseBy, keeper_marks}
 use Rattle.ss_booked.specs.Turns.{IsLegalOn, full_on}
+use Rattle.ss_route.specs.declared.manner.Manner.{Manner}
 use Rattle.ss_connection.specs.Known.{Known}
 use Rattle.ss_connection.specs.declared.notes.Turn.{Turn}
 use Rattle.ss_connection.specs.declared.notes.Turn.TheVariants as turns
@@ -87,7 +88,7 @@ module _ {B : Type 0} (terms : B → Terms) (entries : B → List Entry) where
       pub none : reports ≡ []
       pub clocks : coming' ≡ coming
 
-    module _ (faults : B → ℕ) (tells : L → Meanings) (closed : L → Bool) where
+    module _ (faults : B → ℕ) (manner : Manner) (tells : L → Meanings) (closed : L → Bool) where
       -- The accounts, the reports and the clocks that are handed back, of clocks that told `coming`
       pub record AreServed (handed : List (ℕ × B)) (reports : List (LinkReport L)) (coming coming' : List (Option (List ℕ))) : Type 0 where
         -- Each journal is legal, and its tickets rise.
@@ -99,10 +100,10 @@ module _ {B : Type 0} (terms : B → Terms) (entries : B → List Entry) where
         -- The clocks come back in their order, one for each worker.
         pub clocks : length coming' ≡ length coming
         pub workers : (j : ℕ) (r : LinkReport L) → get_elem? reports j ≡ some r → r.worker < length coming
-        -- A worker's reports, in their order, are of connections on links that were new, over the journals that are handed
-        -- back, with the number of its passes and the readings of its clock.
+        -- A worker's reports, in their order, are of connections on links that were new, in the term's manner, over the journals
+        -- that are handed back, with the number of its passes and the readings of its clock.
         pub reported : (k : ℕ) (before after : Option (List ℕ)) → get_elem? coming k ≡ some before → get_elem? coming' k ≡ some after
-            → AreReports tells closed (uids_in handed) (known_after (number_of k) handed) (reports_by k reports) before after
+            → AreReports manner tells closed (uids_in handed) (known_after (number_of k) handed) (reports_by k reports) before after
 
       -- What a term hands back of the accounts that were handed in
       pub record IsTerm (given handed : List (ℕ × B)) (reports : List (LinkReport L)) (coming coming' : List (Option (List ℕ))) : Type 0 where

@@ -15,13 +15,14 @@ use ss_booked::Booked;
 use ss_keeper::Keeper;
 use ss_links::Closable;
 use ss_outside::Clock;
+use ss_route::Manner;
 use ss_town::{Passes, Town};
 use std::alloc::Global;
 use std::mem::replace;
 use std::snapshot::Snapshot;
 
-/// A worker with the upper halves of the numbers, and room for so many reports. Where memory is wanting nothing
-/// changes.
+/// A worker with the upper halves of the numbers, this manner, and room for so many reports. Where memory is wanting
+/// nothing changes.
 pub(crate) fn recruit<L: Closable + Drop, C: Clock + Drop, K: Keeper + Drop>(
     alloc: Global,
     town: &Town<Booked<K>>,
@@ -30,6 +31,7 @@ pub(crate) fn recruit<L: Closable + Drop, C: Clock + Drop, K: Keeper + Drop>(
     place: &mut Pass<Job<L>, Tally>,
     clock: C,
     number: u32,
+    manner: Manner,
     connections: usize,
 ) -> Result<Worker<L, C, Booked<K>>, C>
     requires of { AreOf (desks_of town.now) (passes_of passes.old) }
@@ -47,6 +49,7 @@ pub(crate) fn recruit<L: Closable + Drop, C: Clock + Drop, K: Keeper + Drop>(
     ensures signed { IfOk result (λ w. (w.number ≡ number) × (connections ≤ vec_capacity w.reports)
         × (C.coming w.start.value ≡ C.coming clock) × (fixed_at (passes_of w.passes)
         ≡ fixed_at (passes_of passes.old))) }
+    ensures manner { IfOk result (λ w. w.manner ≡ manner) }
     ensures none { IfOk result (λ w. w.reports.items ≡ []) }
     ensures place { IfOk result (λ w. view place.new ≡ tally ((view place.old).parts - 1) (view place.old).put
         (view place.old).taken) }
@@ -65,6 +68,7 @@ pub(crate) fn recruit<L: Closable + Drop, C: Clock + Drop, K: Keeper + Drop>(
     let start = Snapshot::of(&clock);
     Ok(Worker {
         number,
+        manner,
         clock,
         start,
         passes: theirs,
@@ -73,7 +77,7 @@ pub(crate) fn recruit<L: Closable + Drop, C: Clock + Drop, K: Keeper + Drop>(
     })
 }
 
-/// A worker for each clock, in their order. Where memory runs out the other clocks stay.
+/// A worker for each clock, in their order, all in one manner. Where memory runs out the other clocks stay.
 pub(crate) fn recruit_all<L: Closable + Drop, C: Clock + Drop, K: Keeper + Drop>(
     alloc: Global,
     town: &Town<Booked<K>>,
@@ -81,6 +85,7 @@ pub(crate) fn recruit_all<L: Closable + Drop, C: Clock + Drop, K: Keeper + Drop>
     sender: &RuledSender<Job<L>, Tally, Links<L>>,
     place: &mut Pass<Job<L>, Tally>,
     clocks: &mut Vec<C>,
+    manner: Manner,
     connections: usize,
     jobs: &mut Vec<Worker<L, C, Booked<K>>>,
 ) -> bool
@@ -98,7 +103,7 @@ pub(crate) fn recruit_all<L: Closable + Drop, C: Clock + Drop, K: Keeper + Drop>
     ensures idle { ((view place.new).put ≡ 0) × ((view place.new).taken ≡ 0) }
     ensures ready { All (λ w. IsReady L.Told.told L.closed C.coming (uids_of town.now) (desks_of town.now)
         (sends_on sender.now) w) jobs.new.items }
-    ensures signed { Signed connections (fixed_at (passes_of passes.old)) (map (sign C.coming) jobs.new.items) }
+    ensures signed { Signed connections (fixed_at (passes_of passes.old)) manner (map (sign C.coming) jobs.new.items) }
     ensures none { count_reports jobs.new.items ≡ 0 }
     ensures starts { starts (map (sign C.coming) jobs.new.items) ++ map C.coming clocks.new.items
         ≡ map C.coming clocks.old.items }
@@ -115,6 +120,7 @@ pub(crate) fn recruit_all<L: Closable + Drop, C: Clock + Drop, K: Keeper + Drop>
             place,
             clock,
             jobs.len() as u32,
+            manner,
             connections,
         ) {
             Ok(worker) => jobs.push_reserved(worker),

@@ -1,9 +1,10 @@
 //! The end of a term: passes come back, and the town is closed.
 
-ghost use Rattle.std.specs.Prelude.{◌≡◌, ◌≤◌, ◌<◌, ◌+◌, ◌++◌, ℕ, [], map, reverse, length, vec_len, vec_capacity};
+ghost use Rattle.std.specs.Prelude.{◌≡◌, ◌≤◌, ◌<◌, ◌+◌, ◌++◌, ℕ, [], All, map, reverse, length, vec_len, vec_capacity};
 ghost use Rattle.ss_desk.specs.Passes.{AreOf, view_at};
 ghost use Rattle.ss_town.specs.Town.{uids_of, desks_of, passes_of};
 ghost use Rattle.ss_booked.specs.Booked.{account_of, journal_of, terms_of};
+ghost use Rattle.ss_route.specs.declared.manner.Manner.{Manner};
 ghost use Rattle.ss_serve.specs.Terms.{AreServed};
 ghost use Rattle.ss_serve.specs.Crew.{Have, IsWhole, AreHanded, count_reports, sign, starts};
 ghost use Rattle.ss_serve.specs.Gathering.{Gathered};
@@ -51,6 +52,7 @@ fn gather<L: Closable + Drop, C: Clock + Drop, K: Keeper + Drop>(
     while let Some(worker) = crew.pop() {
         let Worker {
             number: _,
+            manner: _,
             clock,
             start: _,
             passes: theirs,
@@ -63,7 +65,8 @@ fn gather<L: Closable + Drop, C: Clock + Drop, K: Keeper + Drop>(
     }
 }
 
-/// The accounts, the reports and the clocks of a term whose workers have all returned.
+/// The accounts, the reports and the clocks of a term whose workers have all returned. A report is in the manner of its
+/// worker.
 pub(crate) fn finish<L: Closable + Drop, C: Clock + Drop, K: Keeper + Drop>(
     town: Town<Booked<K>>,
     mut passes: Passes<Booked<K>>,
@@ -79,8 +82,9 @@ pub(crate) fn finish<L: Closable + Drop, C: Clock + Drop, K: Keeper + Drop>(
     requires room { count_reports crew.items ≤ vec_capacity reports }
     requires clocks { vec_len crew ≤ vec_capacity clocks }
     ensures handed { AreHanded (λ b. terms_of K.keep_faults b) (uids_of town) (passes_of passes) result.0.items }
-    ensures served { AreServed (λ b. terms_of K.keep_faults b) (λ b. (journal_of b).entries)
-        (λ b. K.keep_faults (account_of b).keeper) L.Told.told L.closed
+    ensures served { (manner : Manner) → All (λ w. w.manner ≡ manner) crew.items
+        → AreServed (λ b. terms_of K.keep_faults b) (λ b. (journal_of b).entries)
+        (λ b. K.keep_faults (account_of b).keeper) manner L.Told.told L.closed
         result.0.items result.1.items (starts (map (sign C.coming) crew.items)) (map C.coming result.2.items) }
     ensures count { length result.1.items ≡ count_reports crew.items }
     ensures clocks { length result.2.items ≡ length crew.items }

@@ -10,6 +10,7 @@ ghost use Rattle.ss_accept.specs.Accepting.{HasCause, HasGiven};
 ghost use Rattle.ss_town.specs.Town.{uids_of, desks_of, passes_of};
 ghost use Rattle.ss_town.specs.Opening.{AreBare};
 ghost use Rattle.ss_booked.specs.Booked.{account_of, journal_of, terms_of};
+ghost use Rattle.ss_route.specs.declared.manner.Manner.{Manner};
 ghost use Rattle.ss_serve.specs.Crew.{AreLeft, AreHanded, Have, HasWorked, IsReady, IsWhole, count_reports, sign, starts};
 ghost use Rattle.ss_accept.specs.Tallies.{tally};
 ghost use Rattle.ss_serve.specs.Terms.{TermSays, FullSays, HasEnded, AreServed};
@@ -29,6 +30,7 @@ use ss_booked::Booked;
 use ss_keeper::Keeper;
 use ss_links::{Closable, Gate, Port};
 use ss_outside::Clock;
+use ss_route::Manner;
 use ss_town::{Passes, Town};
 use std::alloc::Global;
 use std::sync::Wait;
@@ -80,8 +82,8 @@ fn end_unserved<L: Closable + Drop, C: Clock + Drop, K: Keeper + Drop>(
     requires of { AreOf (desks_of town) (passes_of passes) }
     requires start { AreLeft 0 (passes_of passes) (passes_of passes) }
     ensures handed { AreHanded (λ b. terms_of K.keep_faults b) (uids_of town) (passes_of passes) result.accounts.items }
-    ensures served { AreServed (λ b. terms_of K.keep_faults b) (λ b. (journal_of b).entries)
-        (λ b. K.keep_faults (account_of b).keeper) L.Told.told L.closed
+    ensures served { (manner : Manner) → AreServed (λ b. terms_of K.keep_faults b) (λ b. (journal_of b).entries)
+        (λ b. K.keep_faults (account_of b).keeper) manner L.Told.told L.closed
         result.accounts.items result.links.items (map C.coming clocks.items) (map C.coming result.clocks.items) }
     ensures none { result.links.items ≡ [] }
     ensures ended { result.ended ≡ TermStop.Memory }
@@ -113,8 +115,9 @@ fn end_early<L: Closable + Drop, C: Clock + Drop, K: Keeper + Drop>(
     requires unserved { count_reports crew.items ≡ 0 }
     requires room { vec_len crew + vec_len others ≤ vec_capacity served }
     ensures handed { AreHanded (λ b. terms_of K.keep_faults b) (uids_of town) (passes_of passes) result.accounts.items }
-    ensures served { AreServed (λ b. terms_of K.keep_faults b) (λ b. (journal_of b).entries)
-        (λ b. K.keep_faults (account_of b).keeper) L.Told.told L.closed
+    ensures served { (manner : Manner) → All (λ w. w.manner ≡ manner) crew.items
+        → AreServed (λ b. terms_of K.keep_faults b) (λ b. (journal_of b).entries)
+        (λ b. K.keep_faults (account_of b).keeper) manner L.Told.told L.closed
         result.accounts.items result.links.items (starts (map (sign C.coming) crew.items) ++ map C.coming others.items) (map C.coming result.clocks.items) }
     ensures none { length result.links.items ≡ 0 }
     ensures ended { result.ended ≡ TermStop.Memory }
@@ -139,6 +142,7 @@ fn end_served<L: Closable + Drop, C: Clock + Drop, K: Keeper + Drop>(
     stopped: Stopped,
 ) -> TermEnd<L, C, K>
     requires of { AreOf (desks_of town) (passes_of passes) }
+    requires one { (manner : Manner) × All (λ w. w.manner ≡ manner) crew.items }
     requires crew { Have L.Told.told L.closed C.coming (uids_of town) (desks_of town) (passes_of passes) crew.items }
     requires whole { (i : ℕ) → i < length (uids_of town) → IsWhole (length crew.items) (view_at (passes_of passes) i) }
     requires few { length crew.items ≤ 16 }
@@ -146,8 +150,9 @@ fn end_served<L: Closable + Drop, C: Clock + Drop, K: Keeper + Drop>(
     requires room { count_reports crew.items ≤ vec_capacity reports }
     requires clocks { vec_len crew ≤ vec_capacity clocks }
     ensures handed { AreHanded (λ b. terms_of K.keep_faults b) (uids_of town) (passes_of passes) result.accounts.items }
-    ensures served { AreServed (λ b. terms_of K.keep_faults b) (λ b. (journal_of b).entries)
-        (λ b. K.keep_faults (account_of b).keeper) L.Told.told L.closed
+    ensures served { (manner : Manner) → All (λ w. w.manner ≡ manner) crew.items
+        → AreServed (λ b. terms_of K.keep_faults b) (λ b. (journal_of b).entries)
+        (λ b. K.keep_faults (account_of b).keeper) manner L.Told.told L.closed
         result.accounts.items result.links.items (starts (map (sign C.coming) crew.items)) (map C.coming result.clocks.items) }
     ensures count { length result.links.items ≡ count_reports crew.items }
     ensures open { IsOpenStop result.ended }
@@ -243,6 +248,7 @@ fn run_in<
 >(
     rt: &R,
     alloc: Global,
+    manner: Manner,
     port: &mut P,
     mut clocks: Vec<C>,
     gate: &G,
@@ -264,7 +270,7 @@ fn run_in<
         × (view room.place ≡ tally 32 0 0) }
     ensures handed { AreHanded (λ b. terms_of K.keep_faults b) (uids_of town) (passes_of passes) result.accounts.items }
     ensures served { AreServed (λ b. terms_of K.keep_faults b) (λ b. (journal_of b).entries)
-        (λ b. K.keep_faults (account_of b).keeper) L.Told.told L.closed
+        (λ b. K.keep_faults (account_of b).keeper) manner L.Told.told L.closed
         result.accounts.items result.links.items (map C.coming clocks.items) (map C.coming result.clocks.items) }
     ensures open { IsOpenStop result.ended }
     ensures full { FullSays (λ b. terms_of K.keep_faults b) (λ b. (journal_of b).entries) result.accounts.items
@@ -290,6 +296,7 @@ fn run_in<
         &sender,
         &mut place,
         &mut clocks,
+        manner,
         connections as usize,
         &mut jobs,
     ) {
@@ -321,6 +328,7 @@ fn run_term<
 >(
     rt: &R,
     alloc: Global,
+    manner: Manner,
     port: &mut P,
     clocks: Vec<C>,
     gate: &G,
@@ -334,7 +342,7 @@ fn run_term<
     requires start { AreLeft 0 (passes_of passes) (passes_of passes) }
     ensures handed { AreHanded (λ b. terms_of K.keep_faults b) (uids_of town) (passes_of passes) result.accounts.items }
     ensures served { AreServed (λ b. terms_of K.keep_faults b) (λ b. (journal_of b).entries)
-        (λ b. K.keep_faults (account_of b).keeper) L.Told.told L.closed
+        (λ b. K.keep_faults (account_of b).keeper) manner L.Told.told L.closed
         result.accounts.items result.links.items (map C.coming clocks.items) (map C.coming result.clocks.items) }
     ensures open { IsOpenStop result.ended }
     ensures full { FullSays (λ b. terms_of K.keep_faults b) (λ b. (journal_of b).entries) result.accounts.items
@@ -347,6 +355,7 @@ fn run_term<
         Ok(room) => run_in(
             rt,
             alloc,
+            manner,
             port,
             clocks,
             gate,
@@ -360,8 +369,9 @@ fn run_term<
 }
 
 /// A term: a worker for each clock, in a thread of its own where one can be started, answers the links that the port
-/// gives, up to so many, over the desks of these accounts. Where no thread can be started the caller serves the links
-/// itself. A worker's number is its clock's place, from 0. Nothing is said of progress, fairness or time.
+/// gives, up to so many, over the desks of these accounts, and reads conditions in this manner. Where no thread can be
+/// started the caller serves the links itself. A worker's number is its clock's place, from 0. Nothing is said of
+/// progress, fairness or time.
 pub fn serve_term<
     L: Closable + Drop + Send,
     P: Port<Link = L>,
@@ -372,6 +382,7 @@ pub fn serve_term<
 >(
     rt: &R,
     alloc: Global,
+    manner: Manner,
     port: &mut P,
     clocks: Vec<C>,
     gate: &G,
@@ -383,7 +394,7 @@ pub fn serve_term<
     requires bare { AreBare (λ b. (journal_of b).entries) accounts.items }
     // What comes back, and what the reports say of it.
     ensures says { TermSays (λ b. terms_of K.keep_faults b) (λ b. (journal_of b).entries)
-        (λ b. K.keep_faults (account_of b).keeper) L.Told.told L.closed
+        (λ b. K.keep_faults (account_of b).keeper) manner L.Told.told L.closed
         accounts.items result.accounts.items result.links.items (map C.coming clocks.items) (map C.coming result.clocks.items) result.ended }
     // Which account was full.
     ensures full { FullSays (λ b. terms_of K.keep_faults b) (λ b. (journal_of b).entries) result.accounts.items
@@ -395,7 +406,17 @@ pub fn serve_term<
     ensures cause { HasEnded result.ended connections (P.counts port.old) (P.counts port.new) }
 {
     match Town::open(alloc, accounts) {
-        Ok((town, passes)) => run_term(rt, alloc, port, clocks, gate, town, passes, connections),
+        Ok((town, passes)) => run_term(
+            rt,
+            alloc,
+            manner,
+            port,
+            clocks,
+            gate,
+            town,
+            passes,
+            connections,
+        ),
         Err((accounts, fault)) => TermEnd {
             accounts,
             links: Vec::new(alloc),

@@ -1,4 +1,4 @@
-//! A worker: its passes, its clock, its place at the channel, and its reports.
+//! A worker: its passes, its manner of reading conditions, its clock, its place at the channel, and its reports.
 
 ghost use Rattle.std.specs.Prelude.{◌≡◌, ◌<◌, ◌+◌, vec_len, vec_capacity};
 ghost use Rattle.crossbeam_channel.specs.Ends.{receives_on};
@@ -15,6 +15,7 @@ use ss_desk::Journaled;
 use ss_keeper::Keeper;
 use ss_links::{Closable, Gate};
 use ss_outside::Clock;
+use ss_route::Manner;
 use ss_town::{Passes, Town};
 use std::alloc::Global;
 use std::snapshot::Snapshot;
@@ -23,6 +24,8 @@ use std::sync::Wait;
 #[derive(Drop)]
 pub(crate) struct Worker<L, C, T: Journaled> {
     pub(crate) number: u32,
+    // How it reads conditions.
+    pub(crate) manner: Manner,
     pub(crate) clock: C,
     // The clock as it was at first, for the proofs.
     pub(crate) start: Snapshot<C>,
@@ -52,6 +55,7 @@ pub(crate) fn serve_one<L: Closable + Drop, C: Clock + Drop, K: Keeper + Drop, G
     let end = serve_connection(
         rt,
         alloc,
+        worker.manner,
         &mut link,
         &mut worker.clock,
         gate,

@@ -27,9 +27,9 @@ returns-clause-ready g c =
     record {
       worked = record {
         of = c.in-Ok-split.ensures.new;
-        works = subst (λ (l : List (LinkReport _)). Works tells closed u c.args.number rs l (coming c.of-start.result.value) now) (sym none)
-            (subst (λ x. Works tells closed u c.args.number rs [] (coming x) now) (sym c.of-start.ensures)
-            (works_high c.args.number (passes_of c.args.passes.now) (passes_of c.split.new.self) rs c.requires.start c.in-Ok-split.ensures.halves tells closed u now));
+        works = subst (λ (l : List (LinkReport _)). Works c.args.manner tells closed u c.args.number rs l (coming c.of-start.result.value) now) (sym none)
+            (subst (λ x. Works c.args.manner tells closed u c.args.number rs [] (coming x) now) (sym c.of-start.ensures)
+            (works_high c.args.number (passes_of c.args.passes.now) (passes_of c.split.new.self) rs c.requires.start c.in-Ok-split.ensures.halves c.args.manner tells closed u now));
       };
       seat = c.another-theirs_at.ensures.channel.2;
       counted = subst (λ (l : List (LinkReport _)). view c.another-theirs_at.result ≡ tally 1 0 (length l)) (sym none) c.another-theirs_at.ensures.rule.1;

@@ -29,8 +29,8 @@ loop-clock-preserved g c =
       idle = (ap (λ v. v.put) e.place ∙ j.idle.0, ap (λ v. v.taken) e.place ∙ j.idle.1);
       ready = subst (λ ws. All (λ w. IsReady tells closed coming (uids_of c.args.town.now) (desks_of c.args.town.now) (sends_on c.args.sender.now) w) ws) (sym items)
           (all_end (λ w. IsReady tells closed coming (uids_of c.args.town.now) (desks_of c.args.town.now) (sends_on c.args.sender.now) w) js w j.ready e.ready);
-      signed = subst (λ (l : List Sign). Signed c.args.connections (fixed_at opened) l) (sym signs)
-          (signed_more c.args.connections (fixed_at opened) (map (sign coming) js) (sign coming w) j.signed number e.signed.1 (e.signed.3 ∙ j.left.fixed));
+      signed = subst (λ (l : List Sign). Signed c.args.connections (fixed_at opened) c.args.manner l) (sym signs)
+          (signed_more c.args.connections (fixed_at opened) c.args.manner (map (sign coming) js) (sign coming w) j.signed number e.signed.1 (e.signed.3 ∙ j.left.fixed) e.manner);
       none = ap count_reports items ∙ (count_end js w ∙ (let a = j.none in omega (arith, a, none)));
       begun = ap (λ (l : List Sign). starts l ++ map coming (reverse c.pop.new.self.items)) signs
           ∙ begun_next coming (map (sign coming) js) (sign coming w) c.pop.new.self.items c.loop-clock.clocks.items c.in-Some.clock _ c.in-Some.ensures.items e.signed.2 j.begun;

@@ -15,7 +15,7 @@ invariant-loop-clock g l = record {
   parts : (view l.place).parts + length l.jobs.items ≡ 32;
   idle : ((view l.place).put ≡ 0) × ((view l.place).taken ≡ 0);
   ready : All (λ w. IsReady g.L.Told.told g.L.Closable.closed g.C.Clock.coming (uids_of l.town) (desks_of l.town) (sends_on l.sender) w) l.jobs.items;
-  signed : Signed l.connections (fixed_at (passes_of l.fn.passes)) (map (sign g.C.Clock.coming) l.jobs.items);
+  signed : Signed l.connections (fixed_at (passes_of l.fn.passes)) l.manner (map (sign g.C.Clock.coming) l.jobs.items);
   none : count_reports l.jobs.items ≡ 0;
   begun : starts (map (sign g.C.Clock.coming) l.jobs.items) ++ map g.C.Clock.coming (reverse l.clocks.items) ≡ map g.C.Clock.coming l.fn.clocks.items;
   count : vec_len l.jobs + vec_len l.clocks ≡ vec_len l.fn.clocks;

@@ -23,12 +23,12 @@ returns-clause-handed g c = let town = c.args.town in let tells = g.L.Told.told 
     c.gather.ensures.gathered (c.requires.of.0 ∙ q) c.requires.few q c.requires.crew c.close.ensures.handed c.close.ensures.sorted
 
 pub returns-clause-served : goal.returns-clause-served
-returns-clause-served g c = let town = c.args.town in let tells = g.L.Told.told in let closed = g.L.Closable.closed in let coming = g.C.Clock.coming in
+returns-clause-served g c = λ manner one. let town = c.args.town in let tells = g.L.Told.told in let closed = g.L.Closable.closed in let coming = g.C.Clock.coming in
     let q : length (desks_of town) ≡ length (uids_of town) = omega (arith, town.alike, town.uids.ok.0, town.desks.ok.0) in
-    subst (λ cs. AreServed (λ b. terms_of g.K.Keeper.keep_faults b) (λ b. (journal_of b).entries) (λ b. g.K.Keeper.keep_faults (account_of b).keeper) tells closed c.close.result.items c.gather.new.reports.items (starts (map (sign coming) c.args.crew.items)) (map coming cs)) (sym c.reverse.ensures.items)
+    subst (λ cs. AreServed (λ b. terms_of g.K.Keeper.keep_faults b) (λ b. (journal_of b).entries) (λ b. g.K.Keeper.keep_faults (account_of b).keeper) manner tells closed c.close.result.items c.gather.new.reports.items (starts (map (sign coming) c.args.crew.items)) (map coming cs)) (sym c.reverse.ensures.items)
     (served (λ b. terms_of g.K.Keeper.keep_faults b) (λ b. (journal_of b).entries) (λ b. g.K.Keeper.keep_faults (account_of b).keeper) tells closed coming (uids_of town) (desks_of town)
     (passes_of c.args.passes) (passes_of c.gather.new.passes) c.args.crew.items c.gather.new.reports.items (reverse c.gather.new.clocks.items) c.close.result.items
-    c.gather.ensures.gathered (c.requires.of.0 ∙ q) c.requires.few q c.requires.crew c.close.ensures.handed (λ i uid b at. b.rose))
+    c.gather.ensures.gathered (c.requires.of.0 ∙ q) c.requires.few q c.requires.crew c.close.ensures.handed manner one (λ i uid b at. b.rose))
 
 pub returns-clause-clocks : goal.returns-clause-clocks
 returns-clause-clocks g c = let town = c.args.town in let tells = g.L.Told.told in let closed = g.L.Closable.closed in let coming = g.C.Clock.coming in

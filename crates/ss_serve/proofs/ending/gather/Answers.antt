@@ -31,12 +31,12 @@ loop-worker-preserved g c = let rest = c.pop.new.self.items in let x = c.in-Some
     let h = subst (λ ws. Gathered n ps c.args.crew.items ws (passes_of l.passes) l.reports.items (reverse l.clocks.items)) c.in-Some.ensures.items l.invariant.gathered in
     let k = c.requires.crew.each (length rest) x (place_of n ps (passes_of l.passes) c.args.crew.items rest x l.reports.items (reverse l.clocks.items) h) in
     let e = ap count_reports c.in-Some.ensures.items ∙ count_end rest x in
-    let works = subst (λ m. Works tells closed (uids_of town) m (passes_of x.passes) x.reports.items (coming x.start.value) (coming x.clock)) k.1 k.0.works in
+    let works = subst (λ m. Works x.manner tells closed (uids_of town) m (passes_of x.passes) x.reports.items (coming x.start.value) (coming x.clock)) k.1 k.0.works in
     let q : length (uids_of town) ≡ length (desks_of town) = omega (arith, town.alike, town.uids.ok.0, town.desks.ok.0) in
     let turned : reverse c.push_reserved.new.self.items ≡ x.clock ∷ reverse l.clocks.items = ap reverse c.push_reserved.ensures.items ∙ reverse-append l.clocks.items (x.clock ∷ []) in
     record {
       of = c.back.ensures.of;
-      gathered = gather_next tells closed (uids_of town) n ps (passes_of l.passes) (passes_of c.back.new.into) c.args.crew.items rest x l.reports.items c.move_all.new.into.items (reverse l.clocks.items) (reverse c.push_reserved.new.self.items)
+      gathered = gather_next x.manner tells closed (uids_of town) n ps (passes_of l.passes) (passes_of c.back.new.into) c.args.crew.items rest x l.reports.items c.move_all.new.into.items (reverse l.clocks.items) (reverse c.push_reserved.new.self.items)
           (coming x.start.value) (coming x.clock) h works (q ∙ sym k.0.of.0) c.back.ensures.joined c.move_all.ensures.items turned;
       room = omega (arith, e, l.invariant.room, ap length c.move_all.ensures.items, length-append l.reports.items x.reports.items, c.move_all.ensures.room);
       clocks = search rules;

@@ -7,7 +7,7 @@ use Rattle.ss_serve.proofs.Tying.{served_with}
 use Rattle.ss_serve.proofs.term.end_early.Goals as goal
 
 pub returns-clause-served : goal.returns-clause-served
-returns-clause-served g c = let f = c.finish-accounts in let coming = g.C.Clock.coming in
+returns-clause-served g c = λ manner one. let f = c.finish-accounts in let coming = g.C.Clock.coming in
     let e : map coming c.move_all.new.into.items ≡ map coming f.result.2.items ++ map coming c.args.others.items = ap (map coming) c.move_all.ensures.items ∙ map-append coming f.result.2.items c.args.others.items in
-    subst (λ (cs : List (Option (List ℕ))). AreServed (λ b. terms_of g.K.Keeper.keep_faults b) (λ b. (journal_of b).entries) (λ b. g.K.Keeper.keep_faults (account_of b).keeper) g.L.Told.told g.L.Closable.closed f.result.0.items f.result.1.items (starts (map (sign coming) c.args.crew.items) ++ map coming c.args.others.items) cs) (sym e)
-    (served_with (λ b. terms_of g.K.Keeper.keep_faults b) (λ b. (journal_of b).entries) (λ b. g.K.Keeper.keep_faults (account_of b).keeper) g.L.Told.told g.L.Closable.closed f.result.0.items f.result.1.items (starts (map (sign coming) c.args.crew.items)) (map coming f.result.2.items) (map coming c.args.others.items) f.ensures.served)
+    subst (λ (cs : List (Option (List ℕ))). AreServed (λ b. terms_of g.K.Keeper.keep_faults b) (λ b. (journal_of b).entries) (λ b. g.K.Keeper.keep_faults (account_of b).keeper) manner g.L.Told.told g.L.Closable.closed f.result.0.items f.result.1.items (starts (map (sign coming) c.args.crew.items) ++ map coming c.args.others.items) cs) (sym e)
+    (served_with (λ b. terms_of g.K.Keeper.keep_faults b) (λ b. (journal_of b).entries) (λ b. g.K.Keeper.keep_faults (account_of b).keeper) manner g.L.Told.told g.L.Closable.closed f.result.0.items f.result.1.items (starts (map (sign coming) c.args.crew.items)) (map coming f.result.2.items) (map coming c.args.others.items) (f.ensures.served manner one))

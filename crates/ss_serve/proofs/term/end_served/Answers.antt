@@ -14,5 +14,5 @@ returns-clause-full g c = let f = c.finish-accounts in let bs = f.result.0.items
     (subst (λ l. Smallest (IsNamed (λ b. (journal_of b).entries) l) c.as_slice.result.now (length c.as_slice.result.now) full) c.as_slice-2.ensures.value c.smallest_full-full.ensures) in
     full_says (λ b. terms_of g.K.Keeper.keep_faults b) (λ b. (journal_of b).entries) bs rs full c.stop_of.result c.stop_of.ensures.full
     (smallest_same (IsNamed (λ b. (journal_of b).entries) rs) bs (IsFull (λ b. terms_of g.K.Keeper.keep_faults b) (λ b. (journal_of b).entries) rs) (length bs) full
-    (named_same (λ b. terms_of g.K.Keeper.keep_faults b) (λ b. (journal_of b).entries) (λ b. g.K.Keeper.keep_faults (account_of b).keeper) g.L.Told.told g.L.Closable.closed bs rs (starts (map (sign coming) c.args.crew.items)) (map coming f.result.2.items) f.ensures.served f.ensures.handed.sorted)
+    (named_same (λ b. terms_of g.K.Keeper.keep_faults b) (λ b. (journal_of b).entries) (λ b. g.K.Keeper.keep_faults (account_of b).keeper) c.requires.one.0 g.L.Told.told g.L.Closable.closed bs rs (starts (map (sign coming) c.args.crew.items)) (map coming f.result.2.items) (f.ensures.served c.requires.one.0 c.requires.one.1) f.ensures.handed.sorted)
     named)

@@ -16,12 +16,12 @@ returns-clause-worked g c =
     let tells = g.L.Told.told in let closed = g.L.Closable.closed in let coming = g.C.Clock.coming in let w = c.args.worker.now in
     let u = uids_of c.args.town.now in let ps = passes_of w.passes in let s = c.serve_connection-end in let qs = passes_of s.new.passes in let l = c.close.new.self in
     let r : LinkReport _ = record { worker = w.number; link = l; turns = s.new.turns; end = s.result } in
-    let served = subst (λ (a : Meanings). Served u (known_by qs) s.result (tells c.args.link) a (coming w.clock) (coming s.new.clock) s.new.turns.items) (sym c.close.ensures.told)
-    (subst (λ (ts : List TurnNote). Served u (known_by qs) s.result (tells c.args.link) (tells s.new.link) (coming w.clock) (coming s.new.clock) (added ts s.new.turns.items)) c.new-turns.ensures.items s.ensures.served) in
+    let served = subst (λ (a : Meanings). Served w.manner u (known_by qs) s.result (tells c.args.link) a (coming w.clock) (coming s.new.clock) s.new.turns.items) (sym c.close.ensures.told)
+    (subst (λ (ts : List TurnNote). Served w.manner u (known_by qs) s.result (tells c.args.link) (tells s.new.link) (coming w.clock) (coming s.new.clock) (added ts s.new.turns.items)) c.new-turns.ensures.items s.ensures.served) in
     let enters = subst (λ (ts : List TurnNote). Enters u ps qs (added ts s.new.turns.items)) c.new-turns.ensures.items s.ensures.enters in
-    let is : IsReport tells closed u (known_by qs) (coming w.clock) (coming s.new.clock) r = record { given = tells c.args.link; unused = c.requires.unused; served = served; is_closed = c.close.ensures.closed } in
+    let is : IsReport w.manner tells closed u (known_by qs) (coming w.clock) (coming s.new.clock) r = record { given = tells c.args.link; unused = c.requires.unused; served = served; is_closed = c.close.ensures.closed } in
     record {
       of = s.ensures.of;
-      works = subst (λ (rs : List (LinkReport _)). Works tells closed u w.number qs rs (coming w.start.value) (coming s.new.clock)) (sym c.push_reserved.ensures.items)
-          (works_more tells closed u w.number ps qs w.reports.items r (coming w.start.value) (coming w.clock) (coming s.new.clock) c.requires.worked.works s.ensures.more enters refl is);
+      works = subst (λ (rs : List (LinkReport _)). Works w.manner tells closed u w.number qs rs (coming w.start.value) (coming s.new.clock)) (sym c.push_reserved.ensures.items)
+          (works_more w.manner tells closed u w.number ps qs w.reports.items r (coming w.start.value) (coming w.clock) (coming s.new.clock) c.requires.worked.works s.ensures.more enters refl is);
     }

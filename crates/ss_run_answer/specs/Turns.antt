@@ -19,6 +19,7 @@ use Rattle.ss_http.specs.Messages.{Reads}
 use Rattle.ss_http.specs.Faults.{IsMessageFault}
 use Rattle.ss_http.specs.Buffers.{Kept}
 use Rattle.ss_http.specs.Responses.{memory_response}
+use Rattle.ss_route.specs.declared.manner.Manner.TheVariants.{Profile}
 use Rattle.ss_route.specs.declared.routed.Local.{Local}
 use Rattle.ss_route.specs.declared.routed.Routed.{Routed}
 use Rattle.ss_route.specs.declared.routed.Routed.TheVariants as routes
@@ -42,9 +43,9 @@ asked_of uid (routes.Ask other request newlines) = if nat_eq other uid then asks
 asked_of uid (routes.Local local) = told local
 asked_of uid routes.Memory = told (said 507 words.Memory)
 
--- what a message asks of the account `uid`
+-- what a message asks of the account `uid`, its condition by the letter of the API
 abbrev pub asked : ℕ → Message → Asked
-asked uid message = asked_of uid (routed message)
+asked uid message = asked_of uid (routed Profile message)
 
 -- how far a message came: its request was made and entered with this mark, or it was told; or no memory was found to read what it asks
 pub data Course : Type 0 where

@@ -14,7 +14,7 @@ use ss_http::{Buffer, Message, MsgFault, read_message};
 use ss_keeper::SureKeeper;
 use ss_outside::{Clock, Sink, Source};
 use ss_query::Request;
-use ss_route::{Local, Routed, not_listed, refused, route};
+use ss_route::{Local, Manner, Routed, not_listed, refused, route};
 use ss_words::AnswerCommand;
 use std::alloc::Global;
 
@@ -123,7 +123,7 @@ fn respond(
     ensures turn { IsTurn (asked uid message.now) now last account.old.plain account.new.plain (bytes_of result) }
     ensures valid { IsValid account.new.plain }
 {
-    match route(alloc, message) {
+    match route(alloc, Manner::Profile, message) {
         Routed::Memory => Response::unread(now, last),
         Routed::Local(local) => tell(alloc, &local, now, last),
         Routed::Ask {

@@ -8,6 +8,7 @@ use Rattle.std.proofs.lemmas.List.Elements.{All-contains, All-head, All-tail}
 use Rattle.std.proofs.lemmas.List.Sorted.{All-permutation, IsPermutation-map, IsPermutation-refl, IsPermutation-sym, Contains-permutation}
 use mathlib.Core.Option.{some}
 use lib.ListN.{get_elem?}
+use Rattle.ss_route.specs.declared.manner.Manner.{Manner}
 use Rattle.ss_desk.proofs.Lists.{at_get}
 use Rattle.ss_keeper.specs.declared.keeper.Keeper.{Ghosts}
 use Rattle.ss_outside.specs.Told.{Meanings}
@@ -96,13 +97,13 @@ module _ {K : Type 0} {G : Ghosts K} (told : K → Option Kept) (faults : K → 
   pub are_bare : (accounts : List (ℕ × Booked K G)) → All (λ (a : ℕ × Hosted). IsBegun a.1) (hosted_all accounts) → AreBare (λ (b : Booked K G). (journal_of b).entries) accounts
   are_bare accounts begun = λ i uid b at. (all_at (λ (a : ℕ × Hosted). IsBegun a.1) (hosted_all accounts) i (uid, hosted told faults b) begun (at_seen (hosted told faults) accounts i uid b at)).entries
 
-  module _ {L : Type 0} (tells : L → Meanings) (closed : L → Bool) where
+  module _ {L : Type 0} (manner : Manner) (tells : L → Meanings) (closed : L → Bool) where
     abbrev Term_of : List (ℕ × Booked K G) → List (ℕ × Booked K G) → List (LinkReport L) → List (Option (List ℕ)) → List (Option (List ℕ)) → Type 0
-    Term_of given handed reports coming coming' = IsTerm fixed entries_in failures tells closed given handed reports coming coming'
+    Term_of given handed reports coming coming' = IsTerm fixed entries_in failures manner tells closed given handed reports coming coming'
 
     -- a term that isn't refused
     term_of : (given handed : List (ℕ × Booked K G)) (reports : List (LinkReport L)) (coming coming' : List (Option (List ℕ))) (stop : TermStop) → ((fault : TownFault) → stop ≡ ended.Town fault → ⊥)
-        → TermSays fixed entries_in failures tells closed given handed reports coming coming' stop → Term_of given handed reports coming coming'
+        → TermSays fixed entries_in failures manner tells closed given handed reports coming coming' stop → Term_of given handed reports coming coming'
     term_of given handed reports coming coming' ended.Connections town says = says
     term_of given handed reports coming coming' ended.PortEnded town says = says
     term_of given handed reports coming coming' ended.Port town says = says
@@ -111,8 +112,8 @@ module _ {K : Type 0} {G : Ghosts K} (told : K → Option Kept) (faults : K → 
     term_of given handed reports coming coming' (ended.Town fault) town says = absurd (town fault refl)
 
     seen_term : (given handed : List (ℕ × Booked K G)) (reports : List (LinkReport L)) (coming coming' : List (Option (List ℕ))) → Term_of given handed reports coming coming'
-        → IsTerm (λ (h : Hosted). h.fixed) (λ (h : Hosted). h.entries) (λ (h : Hosted). h.faults) tells closed (hosted_all given) (hosted_all handed) reports coming coming'
-    seen_term given handed reports coming coming' term = term_seen (hosted told faults) (λ (h : Hosted). h.fixed) (λ (h : Hosted). h.entries) (λ (h : Hosted). h.faults) tells closed given handed reports coming coming' term
+        → IsTerm (λ (h : Hosted). h.fixed) (λ (h : Hosted). h.entries) (λ (h : Hosted). h.faults) manner tells closed (hosted_all given) (hosted_all handed) reports coming coming'
+    seen_term given handed reports coming coming' term = term_seen (hosted told faults) (λ (h : Hosted). h.fixed) (λ (h : Hosted). h.entries) (λ (h : Hosted). h.faults) manner tells closed given handed reports coming coming' term
 
     journals : (accounts : List (ℕ × Booked K G)) → map {B = ℕ × Journal} (λ (a : ℕ × Booked K G). (a.0, journal_of a.1)) accounts ≡ map {B = ℕ × Journal} (λ (a : ℕ × Hosted). (a.0, journal_in a.1)) (hosted_all accounts)
     journals [] = refl
@@ -123,8 +124,8 @@ module _ {K : Type 0} {G : Ghosts K} (told : K → Option Kept) (faults : K → 
     term_told handed reports = record { reports = reports; journals = map {B = ℕ × Journal} (λ (a : ℕ × Booked K G). (a.0, journal_of a.1)) handed }
 
     took_place : (given handed : List (ℕ × Booked K G)) (reports : List (LinkReport L)) (coming coming' : List (Option (List ℕ))) (stop : TermStop) (connections : ℕ) (port port' : Accepts)
-        → ((fault : TownFault) → stop ≡ ended.Town fault → ⊥) → TermSays fixed entries_in failures tells closed given handed reports coming coming' stop → RoseBy (length reports) port.links port'.links → length reports ≤ connections
-        → TookPlace tells closed (hosted_all given) (hosted_all handed) coming coming' connections port port' (term_told handed reports)
+        → ((fault : TownFault) → stop ≡ ended.Town fault → ⊥) → TermSays fixed entries_in failures manner tells closed given handed reports coming coming' stop → RoseBy (length reports) port.links port'.links → length reports ≤ connections
+        → TookPlace manner tells closed (hosted_all given) (hosted_all handed) coming coming' connections port port' (term_told handed reports)
     took_place given handed reports coming coming' stop connections port port' town says links few = record {
       journals = journals handed;
       served = seen_term given handed reports coming coming' (term_of given handed reports coming coming' stop town says);
@@ -135,10 +136,10 @@ module _ {K : Type 0} {G : Ghosts K} (told : K → Option Kept) (faults : K → 
     -- the site was told of a term
     pub once_done : (given handed : List (ℕ × Booked K G)) (reports : List (LinkReport L)) (coming coming' : List (Option (List ℕ))) (stop : TermStop) (terms terms' : Option (List (Term (LinkReport L))))
         (old new : Counts) (connections : ℕ) (port port' : Accepts) (next : Option Stop) → ((fault : TownFault) → stop ≡ ended.Town fault → ⊥)
-        → TermSays fixed entries_in failures tells closed given handed reports coming coming' stop
+        → TermSays fixed entries_in failures manner tells closed given handed reports coming coming' stop
         → HasAdded (record { reports = reports; journals = map {B = ℕ × Journal} (λ (a : ℕ × Booked K G). (a.0, journal_of a.1)) handed }) terms terms'
         → new ≡ old → RoseBy (length reports) port.links port'.links → length reports ≤ connections → HasEnded stop connections port port' → Follows stop port' next
-        → IsOnce tells closed (hosted_all given) (hosted_all handed) coming coming' terms terms' old new connections port port' next
+        → IsOnce manner tells closed (hosted_all given) (hosted_all handed) coming coming' terms terms' old new connections port port' next
     once_done given handed reports coming coming' stop terms terms' old new connections port port' next town says added counts links few why follows = inr (inr (record {
       term = term_told handed reports;
       told = added;
@@ -150,8 +151,8 @@ module _ {K : Type 0} {G : Ghosts K} (told : K → Option Kept) (faults : K → 
     -- the site wasn't told
     pub once_untold : (given handed : List (ℕ × Booked K G)) (reports : List (LinkReport L)) (coming coming' : List (Option (List ℕ))) (stop : TermStop) (terms terms' : Option (List (Term (LinkReport L))))
         (old new : Counts) (connections : ℕ) (port port' : Accepts) (last : Stop) → ((fault : TownFault) → stop ≡ ended.Town fault → ⊥)
-        → TermSays fixed entries_in failures tells closed given handed reports coming coming' stop → terms' ≡ terms → IsUntold old new last → RoseBy (length reports) port.links port'.links → length reports ≤ connections
-        → IsOnce tells closed (hosted_all given) (hosted_all handed) coming coming' terms terms' old new connections port port' (Some last)
+        → TermSays fixed entries_in failures manner tells closed given handed reports coming coming' stop → terms' ≡ terms → IsUntold old new last → RoseBy (length reports) port.links port'.links → length reports ≤ connections
+        → IsOnce manner tells closed (hosted_all given) (hosted_all handed) coming coming' terms terms' old new connections port port' (Some last)
     once_untold given handed reports coming coming' stop terms terms' old new connections port port' last town says same why links few = inr (inl (record {
       stop = last;
       is = refl;
@@ -239,11 +240,11 @@ module _ {K : Type 0} {G : Ghosts K} (told : K → Option Kept) (faults : K → 
     -- no term took place
     pub once_refused : (given handed : List (ℕ × Booked K G)) (reports : List (LinkReport L)) (coming coming' : List (Option (List ℕ))) (stop : TermStop) (fault : TownFault)
         (terms : Option (List (Term (LinkReport L)))) (old : Counts) (connections : ℕ) (port port' : Accepts) → stop ≡ ended.Town fault → All (λ (a : ℕ × Hosted). IsBegun a.1) (hosted_all given)
-        → TermSays fixed entries_in failures tells closed given handed reports coming coming' stop → HasEnded stop connections port port'
-        → IsOnce tells closed (hosted_all given) (hosted_all handed) coming coming' terms terms old old connections port port' (Some stops.Memory)
+        → TermSays fixed entries_in failures manner tells closed given handed reports coming coming' stop → HasEnded stop connections port port'
+        → IsOnce manner tells closed (hosted_all given) (hosted_all handed) coming coming' terms terms old old connections port port' (Some stops.Memory)
     once_refused given handed reports coming coming' stop fault terms old connections port port' town begun says why =
         let refused : IsRefused fixed entries_in fault given handed reports coming coming' =
-        (let P : TermStop → Type 0 = λ (s : TermStop). TermSays fixed entries_in failures tells closed given handed reports coming coming' s in subst P town says) in
+        (let P : TermStop → Type 0 = λ (s : TermStop). TermSays fixed entries_in failures manner tells closed given handed reports coming coming' s in subst P town says) in
         let back = back_after given handed fault begun refused.back in
         let same : port' ≡ port = (let P : TermStop → Type 0 = λ (s : TermStop). HasEnded s connections port port' in subst P town why) in
         inl (record { stop = stops.Memory; is = refl; why = refl; untold = refl; links = ap (λ (p : Accepts). p.links) same; left = back.left; uids = back.uids; failed = back.failed })

@@ -7,6 +7,7 @@ use Rattle.std.proofs.lemmas.List.Elements.{All-head, All-tail}
 use Rattle.std.proofs.lemmas.List.Sorted.{IsPermutation-map}
 use mathlib.Core.Option.{some}
 use lib.ListN.{get_elem?}
+use Rattle.ss_route.specs.declared.manner.Manner.{Manner}
 use Rattle.ss_desk.specs.Journal.{Rises}
 use Rattle.ss_outside.specs.Told.{Meanings}
 use Rattle.ss_town.specs.Opening.{AreBare, HasUid, MayOpen}
@@ -69,18 +70,18 @@ module _ {B C : Type 0} (view : B → C) where
     known_seen number (x ∷ xs) zero = refl
     known_seen number (x ∷ xs) (suc i) = known_seen number xs i
 
-    module _ (faults : C → ℕ) {L : Type 0} (tells : L → Meanings) (closed : L → Bool) where
+    module _ (faults : C → ℕ) {L : Type 0} (manner : Manner) (tells : L → Meanings) (closed : L → Bool) where
       reported_seen : (handed : List (ℕ × B)) (number : ℕ) (reports : List (LinkReport L)) (before after : Option (List ℕ))
-          → AreReports tells closed (uids_in handed) (known_after (λ b. terms (view b)) (λ b. entries (view b)) number handed) reports before after
-          → AreReports tells closed (uids_in (map seen handed)) (known_after terms entries number (map seen handed)) reports before after
+          → AreReports manner tells closed (uids_in handed) (known_after (λ b. terms (view b)) (λ b. entries (view b)) number handed) reports before after
+          → AreReports manner tells closed (uids_in (map seen handed)) (known_after terms entries number (map seen handed)) reports before after
       reported_seen handed number reports before after told =
           let known : known_after (λ b. terms (view b)) (λ b. entries (view b)) number handed ≡ known_after terms entries number (map seen handed) = λ k i. known_seen number handed i k in
-          subst (λ (us : List ℕ). AreReports tells closed us (known_after terms entries number (map seen handed)) reports before after) (sym (uids_seen handed))
-          (subst (λ (n : ℕ → Known). AreReports tells closed (uids_in handed) n reports before after) known told)
+          subst (λ (us : List ℕ). AreReports manner tells closed us (known_after terms entries number (map seen handed)) reports before after) (sym (uids_seen handed))
+          (subst (λ (n : ℕ → Known). AreReports manner tells closed (uids_in handed) n reports before after) known told)
 
       served_seen : (handed : List (ℕ × B)) (reports : List (LinkReport L)) (coming coming' : List (Option (List ℕ)))
-          → AreServed (λ b. terms (view b)) (λ b. entries (view b)) (λ b. faults (view b)) tells closed handed reports coming coming'
-          → AreServed terms entries faults tells closed (map seen handed) reports coming coming'
+          → AreServed (λ b. terms (view b)) (λ b. entries (view b)) (λ b. faults (view b)) manner tells closed handed reports coming coming'
+          → AreServed terms entries faults manner tells closed (map seen handed) reports coming coming'
       served_seen handed reports coming coming' served = record {
         lawful = λ i uid c at.
             (let b = seen_at handed i uid c at in
@@ -100,8 +101,8 @@ module _ {B C : Type 0} (view : B → C) where
       }
 
       pub term_seen : (given handed : List (ℕ × B)) (reports : List (LinkReport L)) (coming coming' : List (Option (List ℕ)))
-          → IsTerm (λ b. terms (view b)) (λ b. entries (view b)) (λ b. faults (view b)) tells closed given handed reports coming coming'
-          → IsTerm terms entries faults tells closed (map seen given) (map seen handed) reports coming coming'
+          → IsTerm (λ b. terms (view b)) (λ b. entries (view b)) (λ b. faults (view b)) manner tells closed given handed reports coming coming'
+          → IsTerm terms entries faults manner tells closed (map seen given) (map seen handed) reports coming coming'
       term_seen given handed reports coming coming' term = record {
         may = may_seen given term.may;
         order = map seen term.order;

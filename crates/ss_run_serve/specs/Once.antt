@@ -6,6 +6,7 @@ use Rattle.ss_outside.specs.Causes.{Rose}
 use Rattle.ss_links.specs.Counts.{RoseBy}
 use Rattle.ss_links.specs.Ports.{Accepts}
 use Rattle.ss_site.specs.Sites.{Counts, Term, HasAdded}
+use Rattle.ss_route.specs.declared.manner.Manner.{Manner}
 use Rattle.ss_serve.specs.declared.report.LinkReport.{LinkReport}
 use Rattle.ss_serve.specs.declared.report.TermStop.{TermStop}
 use Rattle.ss_serve.specs.declared.report.TermStop.TheVariants as ended
@@ -59,11 +60,11 @@ module _ {L : Type 0} where
     pub uids : IsPermutation (uids_in given) (uids_in handed)
     pub failed : Any HasFailed given → Any HasFailed handed
 
-  module _ (tells : L → Meanings) (closed : L → Bool) where
-    -- a term took place: its reports are of all links that the port gave, and its journals those of the accounts that come back
+  module _ (manner : Manner) (tells : L → Meanings) (closed : L → Bool) where
+    -- a term took place in this manner: its reports are of all links that the port gave, and its journals those of the accounts that come back
     pub record TookPlace (given handed : List (ℕ × Hosted)) (coming coming' : List (Option (List ℕ))) (connections : ℕ) (port port' : Accepts) (term : Term (LinkReport L)) : Type 0 where
       pub journals : term.journals ≡ map (λ account. (account.0, journal_in account.1)) handed
-      pub served : IsTerm (λ account. account.fixed) (λ account. account.entries) (λ account. account.faults) tells closed given handed term.reports coming coming'
+      pub served : IsTerm (λ account. account.fixed) (λ account. account.entries) (λ account. account.faults) manner tells closed given handed term.reports coming coming'
       pub links : RoseBy (length term.reports) port.links port'.links
       pub few : length term.reports ≤ connections
 

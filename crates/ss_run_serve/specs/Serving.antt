@@ -56,8 +56,8 @@ module _ {L : Type 0} where
   HasStopped command terms old new stops.Memory = ⊤
 
   module _ (tells : L → Meanings) (closed : L → Bool) where
-    -- the listed accounts were opened from their entries, with one clock for each worker, and then served by these terms, no more than
-    -- were asked, each of at most so many connections. There are as many reports as the port gave links, and what is kept of each
+    -- the listed accounts were opened from their entries, with one clock for each worker, and then served by these terms, in the
+    -- command's manner of reading conditions, no more than were asked, each of at most so many connections. There are as many reports as the port gave links, and what is kept of each
     -- listed account is what the last term left of it
     pub record AreServedBy (command : ServeCommand) (terms : List (Term (LinkReport L))) (old new : Sited (LinkReport L)) : Type 0 where
       pub opened : List (ℕ × Hosted)
@@ -67,7 +67,7 @@ module _ {L : Type 0} where
       pub workers : length coming ≡ command.workers
       pub handed : List (ℕ × Hosted)
       pub coming' : List (Option (List ℕ))
-      pub are : AreTerms tells closed opened coming terms handed coming'
+      pub are : AreTerms command.manner tells closed opened coming terms handed coming'
       pub within : AreWithin command.connections command.terms terms
       pub links : RoseBy (links_of terms) old.counts.links new.counts.links
       pub back : IsPermutation command.uids (uids_in handed)

@@ -18,6 +18,7 @@ use ss_keeper::Keeper;
 use ss_laws::Journal;
 use ss_links::{Gate, Port};
 use ss_outside::{Clock, Sink};
+use ss_route::Manner;
 use ss_serve::{LinkReport, TermEnd, TermStop, serve_term};
 use ss_site::{Site, SiteFault};
 use std::alloc::{AllocError, Global};
@@ -90,11 +91,12 @@ fn stop_after<P: Port>(ended: TermStop, port: &Watched<P>) -> Option<Stop>
     }
 }
 
-/// One term: the accounts are served, and the site is told what came of it. Why no further term begins comes with what
+/// One term: the accounts are served in this manner, and the site is told what came of it. Why no further term begins comes with what
 /// is handed back.
 pub(crate) fn serve_once<X, G, T, R>(
     rt: &R,
     alloc: Global,
+    manner: Manner,
     site: &mut X,
     port: &mut Watched<X::Port>,
     gate: &G,
@@ -115,7 +117,7 @@ where
     requires bare { AreBare (λ b. (journal_of b).entries) crew.accounts.items }
     requires begun { All (λ account. IsBegun account.1) (map (hosted_at X.Keeper.told X.Keeper.keep_faults)
         crew.accounts.items) }
-    ensures once { IsOnce X.Port.Link.Told.told X.Port.Link.closed (map (hosted_at X.Keeper.told X.Keeper.keep_faults)
+    ensures once { IsOnce manner X.Port.Link.Told.told X.Port.Link.closed (map (hosted_at X.Keeper.told X.Keeper.keep_faults)
         crew.accounts.items)
         (map (hosted_at X.Keeper.told X.Keeper.keep_faults) result.0.accounts.items) (map X.Clock.coming crew.clocks.items) (map X.Clock.coming result.0.clocks.items)
         (X.terms site.old) (X.terms site.new) (X.counts site.old) (X.counts site.new) connections (X.Port.counts (port_in port.old)) (X.Port.counts (port_in port.new)) result.1 }
@@ -128,7 +130,7 @@ where
         links,
         clocks,
         ended,
-    } = serve_term(rt, alloc, port, clocks, gate, accounts, connections);
+    } = serve_term(rt, alloc, manner, port, clocks, gate, accounts, connections);
     match ended {
         TermStop::Town(_) => {
             drop(links);

@@ -68,8 +68,8 @@ where
     requires range { HasRange (Serve command.now) }
     requires begun { All (λ account. IsBegun account.1) (map (hosted_at X.Keeper.told X.Keeper.keep_faults)
         accounts.items) }
-    ensures came { CameTo command.now.manner X.Port.Link.Told.told X.Port.Link.closed (map (hosted_at X.Keeper.told X.Keeper.keep_faults)
-        accounts.items) command.now.workers command.now.connections command.now.terms
+    ensures came { CameTo command.now.manner X.Port.Link.Told.told X.Port.Link.closed
+        (map (hosted_at X.Keeper.told X.Keeper.keep_faults) accounts.items) command.now.workers command.now.connections command.now.terms
         (X.terms site.old) (X.terms site.new) (X.counts site.old) (X.counts site.new) (map (hosted_at X.Keeper.told X.Keeper.keep_faults) result.0.items) result.1 }
     ensures kept { X.kept site.new ≡ X.kept site.old }
     ensures returned { AllAreBack (X.lent site.old) (X.lent site.new) }

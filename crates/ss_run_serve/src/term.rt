@@ -91,8 +91,8 @@ fn stop_after<P: Port>(ended: TermStop, port: &Watched<P>) -> Option<Stop>
     }
 }
 
-/// One term: the accounts are served in this manner, and the site is told what came of it. Why no further term begins comes with what
-/// is handed back.
+/// One term: the accounts are served in this manner, and the site is told what came of it. Why no further term begins
+/// comes with what is handed back.
 pub(crate) fn serve_once<X, G, T, R>(
     rt: &R,
     alloc: Global,
@@ -117,8 +117,8 @@ where
     requires bare { AreBare (λ b. (journal_of b).entries) crew.accounts.items }
     requires begun { All (λ account. IsBegun account.1) (map (hosted_at X.Keeper.told X.Keeper.keep_faults)
         crew.accounts.items) }
-    ensures once { IsOnce manner X.Port.Link.Told.told X.Port.Link.closed (map (hosted_at X.Keeper.told X.Keeper.keep_faults)
-        crew.accounts.items)
+    ensures once { IsOnce manner X.Port.Link.Told.told X.Port.Link.closed
+        (map (hosted_at X.Keeper.told X.Keeper.keep_faults) crew.accounts.items)
         (map (hosted_at X.Keeper.told X.Keeper.keep_faults) result.0.accounts.items) (map X.Clock.coming crew.clocks.items) (map X.Clock.coming result.0.clocks.items)
         (X.terms site.old) (X.terms site.new) (X.counts site.old) (X.counts site.new) connections (X.Port.counts (port_in port.old)) (X.Port.counts (port_in port.new)) result.1 }
     ensures kept { X.kept site.new ≡ X.kept site.old }

@@ -45,8 +45,8 @@ fn fold_all<K: Keeper>(accounts: &mut [(u32, Booked<K>)]) -> Result<(), AllocErr
     Ok(())
 }
 
-/// Serves terms one after the other, in the command's manner, until the server stops, and folds the journals between two. The accounts come back,
-/// and why it stopped.
+/// Serves terms one after the other, in the command's manner, until the server stops, and folds the journals between
+/// two. The accounts come back, and why it stopped.
 pub(crate) fn serve_terms<X, G, T, R>(
     rt: &R,
     alloc: Global,
@@ -71,8 +71,8 @@ where
     requires begun { All (λ account. IsBegun account.1) (map (hosted_at X.Keeper.told X.Keeper.keep_faults)
         crew.accounts.items) }
     requires idle { X.Port.counts (port_in port.old) ≡ idle_port }
-    ensures course { Course command.now.manner X.Port.Link.Told.told X.Port.Link.closed (map (hosted_at X.Keeper.told X.Keeper.keep_faults)
-        crew.accounts.items) (map X.Clock.coming crew.clocks.items)
+    ensures course { Course command.now.manner X.Port.Link.Told.told X.Port.Link.closed
+        (map (hosted_at X.Keeper.told X.Keeper.keep_faults) crew.accounts.items) (map X.Clock.coming crew.clocks.items)
         command.now.connections command.now.terms (X.terms site.old) (X.terms site.new) (X.counts site.old) (X.counts site.new) (X.Port.counts (port_in port.new))
         (map (hosted_at X.Keeper.told X.Keeper.keep_faults) result.0.items) result.1 }
     ensures kept { X.kept site.new ≡ X.kept site.old }

@@ -274,9 +274,7 @@ impl State {
                         || !records.parts.as_slice().is_empty()
                 }
             },
-            Request::DeleteIds { collection, .. } => {
-                self.is_listed(collection)
-            }
+            Request::DeleteIds { collection, .. } => { self.is_listed(collection) }
             Request::DeleteAll { .. }
             | Request::DeleteCollection { .. }
             | Request::Put { .. }

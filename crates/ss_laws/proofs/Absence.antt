@@ -149,9 +149,11 @@ stops_there : (account : Plain) (request : Request) (there : Bool) → is_there 
     → (status_told request (refused_by account request (option_map why_stopped (cond there (Some 412) None))) ≡ 412) ↔ (there ≡ true)
 stops_there account request true is =
     ((λ e. refl), (λ e. stopped (misses_item account request) (behind account request) request (found account request is)))
-stops_there account request false is =
-    ((λ e. absurd (not_stopped request (misses_item account request) (lacks_room account request) (misses_batch account request) (overfills_batch account request)
-    (is_write account request && nat_le last_stamp account.store) (is_write account request && is_over (effect account request)) e)), (λ e. cc))
+stops_there account request false is = (
+  (λ e. absurd (not_stopped request (misses_item account request) (lacks_room account request) (misses_batch account request) (overfills_batch account request)
+      (is_write account request && nat_le last_stamp account.store) (is_write account request && is_over (effect account request)) e)),
+  (λ e. cc),
+)
 
 pub absence_law : (account : Plain) (now : ℕ) (request : Request) → AbsenceLaw account now request
 unfolding status_by

@@ -73,7 +73,7 @@ CommitLaw account now collection records number cond =
 pub record AbsenceLaw (account : Plain) (now : ℕ) (request : Request) : Type 0 where
   pub stops : ((api account now (with_condition IfAbsent request)).reply.status ≡ 412) ↔ (is_there (tick account now) request ≡ true)
   pub unmodified : is_there (tick account now) request ≡ nat_lt 0 (target_time (tick account now) request)
-    → api account now (with_condition IfAbsent request) ≡ api account now (with_condition (IfUnmodified 0) request)
+      → api account now (with_condition IfAbsent request) ≡ api account now (with_condition (IfUnmodified 0) request)
 
 -- what a write makes of the times: the store's time rises, and the moment is the store's time
 pub record Rises (before after : Plain) : Type 0 where

@@ -192,11 +192,7 @@ impl Cond {
             } else {
                 None
             },
-            Cond::IfAbsent => if is_there {
-                Some(412)
-            } else {
-                None
-            },
+            Cond::IfAbsent => if is_there { Some(412) } else { None },
         }
     }
 }

@@ -7,15 +7,18 @@ use Rattle.ss_query.specs.declared.requests.Request.TheVariants.{Post, List as L
 use Rattle.ss_desk.specs.declared.journaled.Full.{Full}
 use Rattle.ss_laws.specs.declared.journal.Entry.{Entry}
 use Rattle.ss_laws.specs.Journal.{Journal}
-use Rattle.ss_booked.specs.declared.limits.TheConstants.{ENTRY_BYTES, MOST_ENTRIES, MOST_JOURNAL_BYTES}
 
 -- the most entries of a journal
 abbrev pub most_entries : ℕ
-most_entries = MOST_ENTRIES
+most_entries = 200000
 
 -- a journal of so many bytes is full
 abbrev pub most_journal_bytes : ℕ
-most_journal_bytes = MOST_JOURNAL_BYTES
+most_journal_bytes = 67108864
+
+-- what a journal counts for an entry beside its payloads, and once more for each part, failed record and listed id
+abbrev pub entry_bytes : ℕ
+entry_bytes = 256
 
 -- the parts, the failed records and the listed ids of a request
 abbrev pub listed : Request → ℕ
@@ -32,7 +35,7 @@ payload_of _ = 0
 
 -- the bytes that a journal counts for a request: 256, 256 more for each part, failed record and listed id, and the payload bytes
 abbrev pub request_bytes : Request → ℕ
-request_bytes request = ENTRY_BYTES + ENTRY_BYTES * listed request + payload_of request
+request_bytes request = entry_bytes + entry_bytes * listed request + payload_of request
 
 -- the bytes that a journal counts for its entries
 abbrev pub journal_bytes : List Entry → ℕ

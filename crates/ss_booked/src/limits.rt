@@ -1,4 +1,4 @@
-//! The limits of a journal (this project), and what it counts for an entry.
+//! The limits of a journal (this project), and what it counts for an entry, as `specs/Sizes.antt` states them.
 
 /// The most entries of a journal.
 pub const MOST_ENTRIES: u32 = 200_000;

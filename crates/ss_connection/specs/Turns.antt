@@ -24,14 +24,13 @@ use Rattle.ss_route.specs.Routing.{routed}
 use Rattle.ss_route.specs.Wire.{wire, local_wire, not_listed}
 use Rattle.ss_connection.specs.Known.{Known}
 use Rattle.ss_connection.specs.Sending.{clamped, OrMemory}
-use Rattle.ss_connection.specs.declared.limits.TheConstants.{MOST_MESSAGES}
 use Rattle.ss_connection.specs.declared.notes.Turn.{Turn}
 use Rattle.ss_connection.specs.declared.notes.Turn.TheVariants as turns
 use Rattle.ss_connection.specs.declared.notes.TurnNote.{TurnNote}
 
--- how many messages of one connection are answered
+-- how many messages of one connection are answered (this project)
 abbrev pub most_messages : ℕ
-most_messages = MOST_MESSAGES
+most_messages = 1000
 
 -- whether the response to a message closes, before which so many were answered: the message asks for it, or it is the last that
 -- is answered

@@ -30,7 +30,6 @@ use Rattle.ss_run_answer.specs.declared.answer.Ending.{Ending}
 use Rattle.ss_run_answer.specs.declared.answer.Ending.TheVariants as endings
 use Rattle.ss_run_answer.specs.declared.response.Response.{Response}
 use Rattle.ss_run_answer.specs.declared.response.Response.TheVariants.{Whole, Short}
-use Rattle.ss_run_answer.specs.declared.answer.TheConstants.{MOST}
 
 -- what a message asks of the account that is served, and whether lists are wanted in lines; or what it is told at once
 pub data Asked : Type 0 where
@@ -97,9 +96,9 @@ abbrev pub AreTurns : ℕ → List Turn → Type 0
 AreTurns uid [] = ⊤
 AreTurns uid (turn ∷ turns) = IsCourseOf turn.course (asked uid turn.message) × AreTurns uid turns
 
--- how many messages one run answers
+-- how many messages one run answers (this project)
 abbrev pub most_messages : ℕ
-most_messages = MOST
+most_messages = 1000000
 
 -- whether a response closes: its message asks for it, or it is the last that is answered
 abbrev pub closes : ℕ → Message → Bool

@@ -24,12 +24,13 @@ use Rattle.ss_route.specs.Sending.{IsSent, IsTyped, IsReadable, IsReadableBatch,
 use Rattle.ss_route.proofs.Composed.{Pair, ArePlainSegments, ArePlainPairs, target_text, target_uri, target_utf8}
 use Rattle.ss_route.proofs.Sent.{bookmarks, configuration, bookmarks_plain, configuration_plain, IsTime, first_pairs, first_plain, later_pairs, later_plain, first_target, later_target, ids_target, configuration_target, mode_pairs, mode_plain, mode_target}
 use Rattle.ss_route.proofs.Tokens.{token_short}
-use Rattle.ss_http.specs.declared.limits.TheConstants.{BODY_ROOM, TARGET_ROOM, METHOD_ROOM}
+use Rattle.ss_http.specs.Limits.{most_method_bytes, most_target_bytes}
+use Rattle.ss_http.specs.declared.limits.TheConstants.{BODY_ROOM}
 
 -- ---- the size of a target
 
 abbrev IsTargetSize : List ℕ → Type 0
-IsTargetSize target = (0 < length target) × (length target ≤ TARGET_ROOM)
+IsTargetSize target = (0 < length target) × (length target ≤ most_target_bytes)
 
 behind_account : (uid : ℕ) (rest : List ℕ) → uid ≤ 4294967295 → length rest ≤ 7900 → IsTargetSize (account_path uid ++ rest)
 unfolding account_path
@@ -112,7 +113,7 @@ post_size uid records mode cond below readable =
 -- ---- the parts of a request make a message
 
 composed : (method target host : List ℕ) (cond : Cond) (body : Option (List ℕ)) (segments : List (List ℕ)) (pairs : List Pair)
-    → (is_token method ≡ true) × (length method ≤ METHOD_ROOM) → target ≡ target_text segments pairs → ArePlainSegments segments → ArePlainPairs pairs → IsTargetSize target
+    → (is_token method ≡ true) × (length method ≤ most_method_bytes) → target ≡ target_text segments pairs → ArePlainSegments segments → ArePlainPairs pairs → IsTargetSize target
     → IsHost host → IsCond cond → IfSome body (λ b. length b ≤ BODY_ROOM) → IsSendable method target host cond body
 composed method target host cond body segments pairs name same plain pairs_plain size visible stamp small = record {
   token = name;
@@ -125,11 +126,11 @@ composed method target host cond body segments pairs name same plain pairs_plain
   size = small;
 }
 
-get_name : (is_token (codes "GET") ≡ true) × (length (codes "GET") ≤ METHOD_ROOM)
+get_name : (is_token (codes "GET") ≡ true) × (length (codes "GET") ≤ most_method_bytes)
 unfolding is_token_byte
 get_name = (refl, omega arith)
 
-post_name : (is_token (codes "POST") ≡ true) × (length (codes "POST") ≤ METHOD_ROOM)
+post_name : (is_token (codes "POST") ≡ true) × (length (codes "POST") ≤ most_method_bytes)
 unfolding is_token_byte
 post_name = (refl, omega arith)
 

@@ -23,7 +23,7 @@ use Rattle.ss_route.specs.Conditions.{meant}
 use Rattle.ss_route.specs.Posts.{token}
 use Rattle.ss_route.specs.declared.manner.Manner.{Manner}
 use Rattle.ss_route.specs.Texts.{json_text, list_text}
-use Rattle.ss_http.specs.declared.limits.TheConstants.{BODY_ROOM, HOST_ROOM}
+use Rattle.ss_http.specs.Limits.{most_body_bytes, most_host_bytes}
 
 -- the query of a page of 1,000 whole records, the oldest first: of all, or of those that are newer than a time
 abbrev pub page : Option ℕ → ℕ → Query
@@ -72,7 +72,7 @@ request_meant manner request = with_condition (meant manner (condition_of reques
 
 -- a host of 1 to 1,030 visible bytes
 abbrev pub IsHost : List ℕ → Type 0
-IsHost host = (0 < length host) × (length host ≤ HOST_ROOM) × (list_all is_host_byte host ≡ true)
+IsHost host = (0 < length host) × (length host ≤ most_host_bytes) × (list_all is_host_byte host ≡ true)
 
 abbrev pub method_of : Request → List ℕ
 method_of (Post collection records mode cond) = codes "POST"
@@ -156,5 +156,5 @@ IsTyped _ = ⊤
 
 abbrev pub IsReadable : Request → Type 0
 IsReadable (ListOf collection query cond) = query.offset ≤ 999999999
-IsReadable (Post collection records mode cond) = IsReadableBatch mode × (length (uploads_text records.parts) ≤ BODY_ROOM)
+IsReadable (Post collection records mode cond) = IsReadableBatch mode × (length (uploads_text records.parts) ≤ most_body_bytes)
 IsReadable _ = ⊤

@@ -5,9 +5,8 @@ use Rattle.std.specs.List.{join_with_byte}
 use Rattle.serde_json.specs.Data.{string}
 use Rattle.serde_json.specs.Written.{compact_text}
 use Rattle.ss_text.specs.Time.{stamp_text}
-use Rattle.ss_bso.specs.declared.limits.TheConstants.{MOST_POST_RECORDS, MOST_POST_BYTES, MOST_BATCH_RECORDS, MOST_BATCH_BYTES, MOST_PAYLOAD}
-use Rattle.ss_bso.specs.Limits.{most_payload_bytes}
-use Rattle.ss_http.specs.declared.limits.TheConstants.{BODY_ROOM}
+use Rattle.ss_bso.specs.Limits.{most_post_records, most_post_bytes, most_batch_records, most_batch_bytes, most_payload, most_payload_bytes}
+use Rattle.ss_http.specs.Limits.{most_body_bytes}
 use Rattle.ss_bso.specs.declared.rows.Row.{Row}
 use Rattle.ss_bso.specs.declared.parts.Reason.{Reason}
 use Rattle.ss_bso.specs.declared.parts.Reason.TheVariants as reasons
@@ -99,8 +98,8 @@ word_text words.Type = codes "type"
 -- the limits of the server, by their names in its configuration
 abbrev pub limits : List (List ℕ × ℕ)
 limits =
-    (codes "max_request_bytes", BODY_ROOM) ∷ (codes "max_post_records", MOST_POST_RECORDS) ∷ (codes "max_post_bytes", MOST_POST_BYTES)
-    ∷ (codes "max_total_records", MOST_BATCH_RECORDS) ∷ (codes "max_total_bytes", MOST_BATCH_BYTES) ∷ (codes "max_record_payload_bytes", MOST_PAYLOAD)
+    (codes "max_request_bytes", most_body_bytes) ∷ (codes "max_post_records", most_post_records) ∷ (codes "max_post_bytes", most_post_bytes)
+    ∷ (codes "max_total_records", most_batch_records) ∷ (codes "max_total_bytes", most_batch_bytes) ∷ (codes "max_record_payload_bytes", most_payload)
     ∷ []
 
 unfoldable pub limits_text : List ℕ

@@ -9,7 +9,7 @@ use Rattle.ss_http.specs.declared.fault.MsgFault.{MsgFault}
 use Rattle.ss_http.specs.declared.fault.MsgFault.TheVariants as faults
 use Rattle.ss_http.specs.declared.heard.Heard.{Heard}
 use Rattle.ss_http.specs.declared.response.ResponseHead.{ResponseHead}
-use Rattle.ss_http.specs.declared.limits.TheConstants.{HEARD_ROOM}
+use Rattle.ss_http.specs.Limits.{most_heard_bytes}
 use Rattle.ss_http.specs.Hearing as hearing
 use Rattle.ss_http.specs.Responses.{response, reason_of}
 use Rattle.ss_route.specs.declared.routed.Local.{Local}
@@ -68,7 +68,7 @@ HasReason status = 0 < length (reason_of status)
 
 -- the body of the response to a reply is one that a client reads
 abbrev pub IsHeardWhole : Reply → Bool → Type 0
-IsHeardWhole reply newlines = length (content reply.status newlines reply.body) ≤ HEARD_ROOM
+IsHeardWhole reply newlines = length (content reply.status newlines reply.body) ≤ most_heard_bytes
 
 -- what a message is told whose account isn't listed
 abbrev pub not_listed : Local

@@ -1,6 +1,6 @@
 -- A run ends: how many requests may still follow the one under way.
 use Rattle.std.specs.Prelude.{◌≡◌, ℕ, ◌+◌, ◌-◌, ◌*◌, ◌<◌, ◌≤◌, Bool, true, false, length, ⊤}
-use Rattle.ss_bso.specs.declared.limits.TheConstants.{MOST_BATCH_RECORDS}
+use Rattle.ss_bso.specs.Limits.{most_batch_records}
 use Rattle.ss_client.specs.declared.runs.Run.{Run}
 use Rattle.ss_client.specs.declared.runs.Stage.{Stage}
 use Rattle.ss_client.specs.declared.runs.Stage.TheVariants.{Asks, Opens, Pages, Lists, Uploads}
@@ -35,11 +35,11 @@ IsWithin run Asks = ⊤
 IsWithin run Opens = ⊤
 IsWithin run (Pages p) = p.pages < 1000
 IsWithin run (Lists l) = run.newer ≡ true
-IsWithin run (Uploads u) = length u.parts ≤ MOST_BATCH_RECORDS
+IsWithin run (Uploads u) = length u.parts ≤ most_batch_records
 
 -- what holds of a run at a stage, so that it ends
 abbrev pub IsBounded : Run → Stage → Type 0
-IsBounded run stage = (run.limits.max_total_records ≤ MOST_BATCH_RECORDS) × IsWithin run stage
+IsBounded run stage = (run.limits.max_total_records ≤ most_batch_records) × IsWithin run stage
 
 -- where a request comes next, the run is nearer to its end than it was
 abbrev pub IsNearer : Run → Stage → Next → Type 0

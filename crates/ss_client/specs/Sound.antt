@@ -1,8 +1,7 @@
 -- Requests that can be sent.
 use Rattle.std.specs.Prelude.{◌≡◌, ℕ, ◌≤◌, length, All, ⊤}
-use Rattle.ss_bso.specs.declared.limits.TheConstants.{MOST_PAYLOAD, MOST_POST_RECORDS, MOST_POST_BYTES, MOST_BATCH_RECORDS}
 use Rattle.ss_bso.specs.declared.parts.Part.{Part}
-use Rattle.ss_bso.specs.Limits.{part_bytes}
+use Rattle.ss_bso.specs.Limits.{part_bytes, most_payload, most_post_records, most_post_bytes, most_batch_records}
 use Rattle.ss_plan.specs.declared.limits.Limits.{Limits}
 use Rattle.ss_plan.specs.Refusals.{payload_bytes}
 use Rattle.ss_route.specs.Sending.{IsUpload}
@@ -17,10 +16,10 @@ use Rattle.ss_client.specs.Machine.{Next, Send, Done, Stop}
 
 -- limits of a POST, and of the records of a batch, that are no greater than ours
 pub record AreOurs (limits : Limits) : Type 0 where
-  pub records : limits.max_post_records ≤ MOST_POST_RECORDS
-  pub bytes : limits.max_post_bytes ≤ MOST_POST_BYTES
-  pub payload : limits.max_record_payload_bytes ≤ MOST_PAYLOAD
-  pub total : limits.max_total_records ≤ MOST_BATCH_RECORDS
+  pub records : limits.max_post_records ≤ most_post_records
+  pub bytes : limits.max_post_bytes ≤ most_post_bytes
+  pub payload : limits.max_record_payload_bytes ≤ most_payload
+  pub total : limits.max_total_records ≤ most_batch_records
 
 -- the limits that an answer tells, if it tells any, are no greater than ours
 abbrev pub TellsOurs : Answer → Type 0
@@ -30,9 +29,9 @@ TellsOurs _ = ⊤
 -- an upload whose parts set their payloads, none too large, and whose POST is within the limits of one
 pub record CanUpload (u : UploadView) : Type 0 where
   pub uploads : All IsUpload u.parts
-  pub small : All (λ p. payload_bytes p ≤ MOST_PAYLOAD) u.parts
-  pub few : length (post_of u) ≤ MOST_POST_RECORDS
-  pub short : part_bytes (post_of u) ≤ MOST_POST_BYTES
+  pub small : All (λ p. payload_bytes p ≤ most_payload) u.parts
+  pub few : length (post_of u) ≤ most_post_records
+  pub short : part_bytes (post_of u) ≤ most_post_bytes
 
 abbrev pub CanGo : Stage → Type 0
 CanGo Asks = ⊤

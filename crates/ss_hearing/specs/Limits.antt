@@ -2,8 +2,8 @@
 use Rattle.std.specs.Prelude.{ℕ, min, List, Option, Some, option_map, option_and_then, codes}
 use Rattle.json.specs.Json.{Json}
 use Rattle.ss_text.specs.Numbers.{number_of}
-use Rattle.ss_bso.specs.declared.limits.TheConstants.{MOST_PAYLOAD, MOST_POST_RECORDS, MOST_POST_BYTES, MOST_BATCH_RECORDS, MOST_BATCH_BYTES}
-use Rattle.ss_http.specs.declared.limits.TheConstants.{BODY_ROOM}
+use Rattle.ss_bso.specs.Limits.{most_payload, most_post_records, most_post_bytes, most_batch_records, most_batch_bytes}
+use Rattle.ss_http.specs.Limits.{most_body_bytes}
 use Rattle.ss_plan.specs.declared.limits.Limits.{Limits}
 use Rattle.ss_hearing.specs.Bodies.{number_in, ◌>>=◌}
 
@@ -14,12 +14,12 @@ limit_in name ours d = option_map (λ limit. min limit ours) (option_and_then (n
 -- the limits that all six members say
 unfoldable pub limits_of : Json → Option Limits
 limits_of d = do
-  request_bytes ← limit_in (codes "max_request_bytes") BODY_ROOM d
-  post_records ← limit_in (codes "max_post_records") MOST_POST_RECORDS d
-  post_bytes ← limit_in (codes "max_post_bytes") MOST_POST_BYTES d
-  total_records ← limit_in (codes "max_total_records") MOST_BATCH_RECORDS d
-  total_bytes ← limit_in (codes "max_total_bytes") MOST_BATCH_BYTES d
-  payload_bytes ← limit_in (codes "max_record_payload_bytes") MOST_PAYLOAD d
+  request_bytes ← limit_in (codes "max_request_bytes") most_body_bytes d
+  post_records ← limit_in (codes "max_post_records") most_post_records d
+  post_bytes ← limit_in (codes "max_post_bytes") most_post_bytes d
+  total_records ← limit_in (codes "max_total_records") most_batch_records d
+  total_bytes ← limit_in (codes "max_total_bytes") most_batch_bytes d
+  payload_bytes ← limit_in (codes "max_record_payload_bytes") most_payload d
   Some (record {
     max_request_bytes = request_bytes;
     max_post_records = post_records;

@@ -6,8 +6,8 @@ use Rattle.ss_bso.specs.declared.rows.Row.{Row}
 use Rattle.ss_bso.specs.declared.parts.Part.{Part}
 use Rattle.ss_bso.specs.declared.parts.Records.{Records}
 use Rattle.ss_bso.specs.declared.parts.Reason.{Reason}
-use Rattle.ss_bso.specs.declared.limits.TheConstants.{MOST_PAYLOAD, MOST_POST_RECORDS, MOST_POST_BYTES, MOST_BATCH_RECORDS, MOST_BATCH_BYTES}
-use Rattle.ss_http.specs.declared.limits.TheConstants.{BODY_ROOM}
+use Rattle.ss_bso.specs.Limits.{most_payload, most_post_records, most_post_bytes, most_batch_records, most_batch_bytes}
+use Rattle.ss_http.specs.Limits.{most_body_bytes}
 use Rattle.ss_query.specs.declared.requests.Info.TheVariants.{Configuration}
 use Rattle.ss_query.specs.declared.requests.Mode.TheVariants.{Plain, Begin, Append, Commit}
 use Rattle.ss_query.specs.declared.requests.Request.{Request}
@@ -79,12 +79,12 @@ IsAskable first (PostLast condition batch parts) = (first < batch) × All IsUplo
 -- the limits that a server tells
 abbrev pub our_limits : Most
 our_limits = record {
-  max_request_bytes = BODY_ROOM;
-  max_post_records = MOST_POST_RECORDS;
-  max_post_bytes = MOST_POST_BYTES;
-  max_total_records = MOST_BATCH_RECORDS;
-  max_total_bytes = MOST_BATCH_BYTES;
-  max_record_payload_bytes = MOST_PAYLOAD;
+  max_request_bytes = most_body_bytes;
+  max_post_records = most_post_records;
+  max_post_bytes = most_post_bytes;
+  max_total_records = most_batch_records;
+  max_total_bytes = most_batch_bytes;
+  max_record_payload_bytes = most_payload;
 }
 
 -- the id of the record that failed first

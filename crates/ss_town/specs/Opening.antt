@@ -7,6 +7,7 @@ use Rattle.ss_desk.specs.declared.pass.RawPass.{RawPass}
 use Rattle.ss_desk.specs.Views.{opening_view}
 use Rattle.std.specs.List.Sorted.{IsPermutation}
 use Rattle.ss_desk.specs.Passes.{AreOf, view_at}
+use Rattle.ss_town.specs.Limits.{most_accounts}
 use Rattle.ss_town.specs.Places.{At}
 use Rattle.ss_town.specs.declared.opening.TownFault.{TownFault}
 use Rattle.ss_town.specs.declared.opening.TownFault.TheVariants.{Empty, TooMany, Twice, Zero, Memory}
@@ -18,7 +19,7 @@ module _ {T : Type 0} where
 
   -- at least 1 and at most 8
   abbrev pub AreFew : List (ℕ × T) → Type 0
-  AreFew accounts = (0 < length accounts) × (length accounts ≤ 8)
+  AreFew accounts = (0 < length accounts) × (length accounts ≤ most_accounts)
 
   -- no two have the same uid
   abbrev pub AreDistinct : List (ℕ × T) → Type 0
@@ -31,7 +32,7 @@ module _ {T : Type 0} where
   -- Each refusal exactly by its word, in this order. Want of memory has no cause here
   abbrev pub FaultSays : List (ℕ × T) → TownFault → Type 0
   FaultSays accounts Empty = length accounts ≡ 0
-  FaultSays accounts (TooMany n) = (n ≡ length accounts) × (8 < n)
+  FaultSays accounts (TooMany n) = (n ≡ length accounts) × (most_accounts < n)
   FaultSays accounts (Twice uid) = AreFew accounts × ((i : ℕ) × (j : ℕ) × (i < j) × HasUid accounts i uid × HasUid accounts j uid)
   FaultSays accounts Zero = AreFew accounts × AreDistinct accounts × ((i : ℕ) × HasUid accounts i 0)
   FaultSays accounts Memory = Unit {0}

@@ -3,6 +3,7 @@
 //! nothing that is known of the others. A closed town hands all values back, in the order of their uids.
 #![tactic(auto)]
 
+pub mod limits;
 mod opening;
 mod passes;
 mod town;

@@ -3,6 +3,7 @@ ghost use Rattle.std.specs.Prelude.{◌≡◌, ◌≤◌, ◌<◌, [], MatchOpti
 ghost use Rattle.std.specs.List.Sorted.{IsPermutation, IsNonDecreasingBy};
 ghost use Rattle.ss_town.specs.Opening.{FaultSays, MayOpen, IsOpened, IsTown, AreReturned, AreBare, BackAfter, ComeBack, RefusedSays};
 
+use crate::limits::MOST_ACCOUNTS;
 use crate::passes::Passes;
 use crate::town::{Room, Town, close_from};
 use ss_desk::{Desk, Journaled, Pass};
@@ -67,7 +68,7 @@ fn open_all<T: Journaled>(
     ensures returned { IfErr result (λ back. ComeBack T.fixed T.entries accounts.items back.items) }
 {
     sort_by_uid(&mut accounts);
-    let Ok(places) = Vec::with_capacity(alloc, 8) else {
+    let Ok(places) = Vec::with_capacity(alloc, MOST_ACCOUNTS) else {
         return Err(accounts);
     };
     let Ok(room) = room_for(alloc, accounts.len()) else {
@@ -164,7 +165,7 @@ fn fault_of<T>(accounts: &[(u32, T)]) -> Option<TownFault>
     if n == 0 {
         return Some(TownFault::Empty);
     }
-    if n > 8 {
+    if n > MOST_ACCOUNTS {
         return Some(TownFault::TooMany { n: n as u64 });
     }
     for j in 0..n {

@@ -4,6 +4,7 @@ ghost use Rattle.std.specs.List.Sorted.{IsStrictlyIncreasing};
 ghost use Rattle.ss_desk.specs.Views.{CoversAll};
 ghost use Rattle.ss_desk.specs.Calls.{Entered, Denied};
 ghost use Rattle.ss_desk.specs.Passes.{AreOf, view_at, SameOthers, Joins};
+ghost use Rattle.ss_town.specs.Limits.{most_accounts};
 ghost use Rattle.ss_town.specs.Places.{Handed};
 
 use crate::passes::Passes;
@@ -18,14 +19,14 @@ pub struct Town<T: Journaled> {
     pub(crate) room: Mutex<Room<T>>,
     ghost alike: { vec_len uids ≡ vec_len desks },
     ghost rise: { IsStrictlyIncreasing uids.items },
-    ghost few: { vec_len desks ≤ 8 },
+    ghost few: { vec_len desks ≤ most_accounts },
 }
 
 // Room for the accounts of a town, taken when it is opened. Behind a lock, so that an account need not be shared.
 #[derive(Drop)]
 pub(crate) struct Room<T: Journaled> {
     pub(crate) places: Vec<(u32, T)>,
-    ghost roomy: { 8 ≤ vec_capacity places },
+    ghost roomy: { most_accounts ≤ vec_capacity places },
     ghost empty: { places.items ≡ [] },
 }
 

@@ -5,6 +5,7 @@ use Rattle.std.specs.declared.net.socket_addr.SocketAddrV4.{SocketAddrV4}
 use Rattle.ss_route.specs.Targets.{uid_of}
 use Rattle.ss_route.specs.declared.manner.Manner.{Manner}
 use Rattle.ss_route.specs.declared.manner.Manner.TheVariants.{Profile, Browser}
+use Rattle.ss_town.specs.Limits.{most_connections, most_workers}
 use Rattle.ss_words.specs.declared.commands.Command.{Command}
 use Rattle.ss_words.specs.declared.commands.Command.TheVariants as asked
 use Rattle.ss_words.specs.declared.names.Name.{Name}
@@ -74,7 +75,7 @@ unfoldable pub serve_in : Line → Option Command
 serve_in line =
     option_and_then (λ workers. option_and_then (λ connections. option_and_then (λ terms. option_and_then (λ firefox.
     serve_words (unwrap_or workers 4) (unwrap_or connections 100) (unwrap_or terms 0) (manner_of firefox) line.positionals)
-    (given Firefox line)) (number_given Terms 0 most line)) (number_given Connections 1 1000 line)) (number_given Workers 1 16 line)
+    (given Firefox line)) (number_given Terms 0 most line)) (number_given Connections 1 most_connections line)) (number_given Workers 1 most_workers line)
 
 -- what the line of a command asks
 abbrev pub command_in : Name → Line → Option Command
@@ -98,7 +99,7 @@ HasRange asked.Merge = ⊤
 HasRange (asked.Rehearse command) = (1 ≤ command.items) × (command.items ≤ 15000) × (command.seed ≤ most)
 HasRange (asked.Sync command) = HasHost command.server
 HasRange (asked.Serve command) =
-    (1 ≤ command.workers) × (command.workers ≤ 16) × (1 ≤ command.connections) × (command.connections ≤ 1000) × (command.terms ≤ most) × (are_accounts command.uids ≡ true)
+    (1 ≤ command.workers) × (command.workers ≤ most_workers) × (1 ≤ command.connections) × (command.connections ≤ most_connections) × (command.terms ≤ most) × (are_accounts command.uids ≡ true)
 
 -- the words behind a command's name ask this
 pub record AsksOf (name : Name) (words : List (List ℕ)) (command : Command) : Type 0 where

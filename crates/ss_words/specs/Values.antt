@@ -4,6 +4,7 @@ use Rattle.std.specs.List.{list_any}
 use Rattle.ss_text.specs.Names.{is_id}
 use Rattle.ss_text.specs.Numbers.{number_of}
 use Rattle.ss_route.specs.Targets.{uid_of}
+use Rattle.ss_town.specs.Limits.{most_accounts}
 use Rattle.ss_words.specs.declared.names.OptionName.{OptionName}
 use Rattle.ss_words.specs.Names.{option_text}
 use Rattle.ss_words.specs.Lines.{Line}
@@ -50,7 +51,7 @@ are_distinct (uid ∷ uids) = not (list_any (λ other. other == uid) uids) && ar
 
 -- 1 to 8 accounts, none twice
 abbrev pub are_accounts : List ℕ → Bool
-are_accounts uids = nat_le 1 (length uids) && (nat_le (length uids) 8 && are_distinct uids)
+are_accounts uids = nat_le 1 (length uids) && (nat_le (length uids) most_accounts && are_distinct uids)
 
 unfoldable pub accounts_of : List (List ℕ) → Option (List ℕ)
 accounts_of words = option_and_then (λ uids. if are_accounts uids then Some uids else None) (uids_of words)

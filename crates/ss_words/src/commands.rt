@@ -4,6 +4,7 @@ ghost use Rattle.std.specs.Prelude.{◌≡◌, ◌≤◌, Some, None, map, strin
 ghost use Rattle.std.specs.Net.Grammar.{IsSocketV4Text};
 ghost use Rattle.std.specs.Option.{option_copied};
 ghost use Rattle.std.specs.declared.net.socket_addr.SocketAddrV4.{SocketAddrV4};
+ghost use Rattle.ss_town.specs.Limits.{most_connections, most_workers};
 ghost use Rattle.ss_words.specs.Refused.{IsRefused};
 ghost use Rattle.ss_words.specs.Commands.{answer_in, answer_words, edit_in, merge_words, rehearse_words, sync_in, sync_words, manner_of, serve_in, serve_words, command_in, HasAddress, HasRange, AsksOf, Asks};
 
@@ -15,6 +16,7 @@ use crate::urls::{Server, read_server};
 use crate::values::{Uids, accounts_in, copied, given, number_given, number_in, uid_in};
 use ss_route::Manner;
 use ss_text::Word;
+use ss_town::limits::{MOST_CONNECTIONS, MOST_WORKERS};
 use std::alloc::Global;
 use std::net::SocketAddrV4;
 
@@ -192,8 +194,8 @@ fn serve_words<'a>(
     manner: Manner,
     words: &[&'a str],
 ) -> Result<Command, WordsFault<'a>>
-    requires workers { (1 ≤ sizes.workers) × (sizes.workers ≤ 16) }
-    requires connections { (1 ≤ sizes.connections) × (sizes.connections ≤ 1000) }
+    requires workers { (1 ≤ sizes.workers) × (sizes.workers ≤ most_workers) }
+    requires connections { (1 ≤ sizes.connections) × (sizes.connections ≤ most_connections) }
     requires terms { sizes.terms ≤ 999999999999 }
     ensures ok { IfOk result (λ command. serve_words sizes.workers sizes.connections sizes.terms
         manner (map (λ word. word.now) words.now) ≡ Some command) }
@@ -221,8 +223,8 @@ fn serve_in<'a>(alloc: Global, line: &Line<'a>) -> Result<Command, WordsFault<'a
     ensures range { IfOk result HasRange }
     ensures refused { IfErr result (λ fault. IsRefused fault → serve_in line.now ≡ None) }
 {
-    let workers = number_given(line, OptionName::Workers, 1, 16)?;
-    let connections = number_given(line, OptionName::Connections, 1, 1_000)?;
+    let workers = number_given(line, OptionName::Workers, 1, MOST_WORKERS)?;
+    let connections = number_given(line, OptionName::Connections, 1, MOST_CONNECTIONS)?;
     let terms = number_given(line, OptionName::Terms, 0, MOST)?;
     let manner = manner_of(given(line, OptionName::Firefox)?);
     let sizes = Sizes {

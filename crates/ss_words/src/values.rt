@@ -10,11 +10,9 @@ use crate::lines::Line;
 use crate::names::OptionName;
 use crate::refusals::{Cause, WordsFault};
 use ss_text::{Id, Word, read_number};
+use ss_town::limits::MOST_ACCOUNTS;
 use std::alloc::{AllocError, Global};
 use std::marker::Model;
-
-/// The most accounts of one server.
-const MOST_ACCOUNTS: usize = 8;
 
 /// Numbers of accounts, which contracts see as a list.
 #[derive(Drop, Debug)]

@@ -1,5 +1,5 @@
 -- A request that is sent is routed as it was meant.
-use Rattle.std.proofs.Common.{◌≡◌, ℕ, suc, ◌+◌, ◌^◌, ◌<◌, ◌≤◌, List, [], ◌∷◌, length, Bool, true, false, ◌&&◌, cond, Option, Some, None, option_and_then, codes, decimal, refl, sym, ap, ap₂, ◌∙◌, subst, arith, lit<, le-leb, append_assoc, append-nil, ◌++◌, ⊎_elim}
+use Rattle.std.proofs.Common.{◌≡◌, ℕ, suc, ◌+◌, ◌^◌, ◌/◌, ◌%◌, ◌<◌, ◌≤◌, List, [], ◌∷◌, length, nat_le, Bool, true, false, ◌&&◌, cond, Option, Some, None, option_and_then, codes, decimal, refl, sym, ap, ap₂, ◌∙◌, subst, arith, lit<, le-leb, append_assoc, append-nil, ◌++◌, ⊎_elim}
 use Rattle.std.proofs.lemmas.Fmt.{decimal_nonempty}
 use Rattle.std.proofs.lemmas.List.Folds.{list_all-append}
 use Rattle.std.proofs.lemmas.List.Sums.{sum_by-cons}
@@ -146,7 +146,7 @@ has_point time =
     ∙ and_false (list_all is_ascii_digit (decimal (time / 100))) _ refl
 
 not_beyond : (time : ℕ) → is_beyond_stamps (stamp_text time) ≡ false
-not_beyond time = nor_false _ _ _ (has_point time)
+not_beyond time = nor_false (nat_le 11 (length (stamp_text time))) (nat_le (length (stamp_text time)) 18) (list_all is_ascii_digit (stamp_text time)) (has_point time)
 
 said_again : (manner : Manner) (time : ℕ) → time ≤ last_stamp → stamp_said manner (stamp_text time) ≡ Some time
 said_again Profile time h = stamp_again time h

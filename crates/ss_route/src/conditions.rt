@@ -1,5 +1,7 @@
 //! Conditions.
 
+ghost use Rattle.std.specs.Char.{is_ascii_digit};
+ghost use Rattle.std.specs.List.{list_all};
 ghost use Rattle.std.specs.Prelude.{◌≡◌, option_map};
 ghost use Rattle.ss_text.specs.declared.stamps.Cond.TheVariants.{IfUnmodified};
 ghost use Rattle.ss_route.specs.Conditions.{is_beyond_stamps, stamp_said, meant, time_in, condition_of, condition_in};
@@ -11,11 +13,17 @@ use ss_http::FieldLines;
 use ss_query::Said;
 use ss_text::{Cond, LAST, Stamp, read_stamp};
 
+fn are_digits(value: &[u8]) -> bool
+    ensures { result ≡ list_all is_ascii_digit value.now }
+{
+    value.iter().all(|digit| digit.is_ascii_digit())
+}
+
 /// Whether a value has 11 to 18 digits.
 fn is_beyond_stamps(value: &[u8]) -> bool
     ensures { result ≡ is_beyond_stamps value.now }
 {
-    11 <= value.len() && value.len() <= 18 && value.iter().all(|digit| digit.is_ascii_digit())
+    11 <= value.len() && value.len() <= 18 && are_digits(value)
 }
 
 fn stamp_said(manner: Manner, value: &[u8]) -> Option<Stamp>

@@ -37,7 +37,13 @@ impl SqlKeeper {
         ensures cause { IfErr result HasVersion }
     {
         match Connection::open(rt, path) {
-            Ok(connection) => SqlKeeper::adopt(connection),
+            Ok(connection) => match SqlKeeper::adopt(connection) {
+                Ok(keeper) => Ok(keeper),
+                Err((connection, fault)) => {
+                    drop(connection);
+                    Err(fault)
+                }
+            },
             Err(error) => Err(fault_of(error)),
         }
     }
@@ -45,16 +51,18 @@ impl SqlKeeper {
 
 impl<S: Alter + Drop> SqlKeeper<S> {
     /// Takes the database of a connection. One without tables gets them; one with tables of version 1 gets those of
-    /// version 2, and one with tables of another version is refused.
-    pub fn adopt(mut connection: Connection<S>) -> Result<SqlKeeper<S>, SqlFault>
+    /// version 2, and one with tables of another version is refused. The connection comes back where it isn't taken.
+    pub fn adopt(mut connection: Connection<S>) -> Result<SqlKeeper<S>, (Connection<S>, SqlFault)>
         ensures count { IfOk result (λ keeper. keeper ≡ 0) }
-        ensures cause { IfErr result HasVersion }
+        ensures cause { IfErr result (λ refused. HasVersion refused.1) }
     {
-        taken(ready(&mut connection))?;
-        Ok(SqlKeeper {
-            connection,
-            faults: 0,
-        })
+        match taken(ready(&mut connection)) {
+            Ok(()) => Ok(SqlKeeper {
+                connection,
+                faults: 0,
+            }),
+            Err(fault) => Err((connection, fault)),
+        }
     }
 
     /// The connection, for instance to close it.

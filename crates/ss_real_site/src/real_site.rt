@@ -133,9 +133,12 @@ impl<'a, N: Net + Clock> RealSite<'a, N> {
                 self.lend();
                 Ok(AccountFile::new(keeper))
             }
-            Err(SqlFault::Fault) => Err(self.fail(Trouble::Tables { uid })),
-            Err(SqlFault::Version { found }) => Err(self.fail(Trouble::Version { uid, found })),
-            Err(SqlFault::Memory) => Err(SiteFault::Memory),
+            Err((_, SqlFault::Fault)) => Err(self.fail(Trouble::Tables { uid })),
+            Err((_, SqlFault::Version { found })) => Err(self.fail(Trouble::Version {
+                uid,
+                found,
+            })),
+            Err((_, SqlFault::Memory)) => Err(SiteFault::Memory),
         }
     }
 }

@@ -1,0 +1,36 @@
+//! Runs over memory.
+
+use crate::answers::cases::Case;
+use anyhow::bail;
+use serde_json::Value;
+use ss_outside::{CountClock, MemSink, MemSource};
+use ss_run_answer::run_offline;
+use std::alloc::Global;
+
+/// How many bytes the output tells.
+const ROOM: usize = 65_536;
+
+/// The status of a run, and what it wrote.
+fn run(alloc: Global, case: Case) -> anyhow::Result<(u8, String)> {
+    let Case {
+        words,
+        pieces,
+        failing_read,
+        failing_write,
+    } = case;
+    let mut input = MemSource::new(pieces, vec![in alloc; failing_read]?);
+    let mut output = MemSink::new(alloc, ROOM, vec![in alloc; failing_write]?)?;
+    let mut clock = CountClock::new(0);
+    let status = run_offline(alloc, words.as_slice(), &mut input, &mut output, &mut clock);
+    let Some(written) = output.written() else {
+        bail!("too much was written");
+    };
+    Ok((status, String::from_utf8_lossy(alloc, written)?))
+}
+
+/// What came of a run: its status, and what was written, as a JSON text.
+pub fn told(alloc: Global, case: Case) -> anyhow::Result<String> {
+    let (status, written) = run(alloc, case)?;
+    let text = Value::String(written).to_string(alloc)?;
+    Ok(format!(in alloc; "{status} {text}")?)
+}

@@ -1,0 +1,261 @@
+//! Commits in short. A line has three texts, each of changes that are parted by bars: of rows, of collections and of
+//! batches.
+//! - A row that is put is `collection/id=payload`, with `^sortindex` and `~expiry` where it has them, and a payload `*`
+//!   is 2 MB of text; a row that is dropped is `collection/id`; `collection/#count` puts so many rows.
+//! - A collection that is set is `name@time`, one that is dropped `name`.
+//! - A batch that begins is `number:collection/parts`, one that gets parts `number+parts`, and one that ends `number`.
+//!   Commas part the parts: `id` says nothing of its fields, `id!` clears them, and `id=payload` sets the payload and,
+//!   with `^sortindex` and `~ttl`, those too.
+
+use crate::words::{id, name};
+use anyhow::{Context, bail};
+use serde_json::Value;
+use ss_bso::{
+    BatchChange, BatchChanges, Changes, CollectionChange, CollectionChanges, Field, Fields, Part,
+    Parts, Row, RowChange, RowChanges, Staged,
+};
+use ss_text::{Stamp, Word};
+use std::alloc::Global;
+
+fn payload(alloc: Global, text: &str) -> anyhow::Result<Word> {
+    if text != "*" {
+        return Ok(Word::new(String::from_str(alloc, text)?));
+    }
+    let mut large = String::new(alloc);
+    for _ in 0..131_072 {
+        large.push_str("sixteen letters ")?;
+    }
+    Ok(Word::new(large))
+}
+
+/// A text up to a mark, and the number behind it.
+fn marked(text: &str, mark: char) -> anyhow::Result<(&str, Option<&str>)> {
+    Ok(match text.split_once(mark) {
+        Some((front, number)) => (front, Some(number)),
+        None => (text, None),
+    })
+}
+
+fn put(alloc: Global, place: (&str, &str), text: &str) -> anyhow::Result<RowChange> {
+    let (text, expiry) = marked(text, '~')?;
+    let (text, sortindex) = marked(text, '^')?;
+    Ok(RowChange::Put(Row {
+        collection: name(alloc, place.0)?,
+        id: id(alloc, place.1)?,
+        modified: Stamp::clamp(999_999_999_999),
+        sortindex: match sortindex {
+            Some(number) => Some(number.parse::<i32>()?),
+            None => None,
+        },
+        payload: payload(alloc, text)?,
+        expires: match expiry {
+            Some(number) => Some(number.parse::<u64>()?),
+            None => None,
+        },
+    }))
+}
+
+fn drop_row(alloc: Global, place: (&str, &str)) -> anyhow::Result<RowChange> {
+    Ok(RowChange::Drop {
+        collection: name(alloc, place.0)?,
+        id: id(alloc, place.1)?,
+    })
+}
+
+fn row_change(alloc: Global, word: &str) -> anyhow::Result<RowChange> {
+    match word.split_once('=') {
+        Some((place, text)) => put(alloc, place.split_once('/').context("a place")?, text),
+        None => drop_row(alloc, word.split_once('/').context("a place")?),
+    }
+}
+
+/// So many rows of a collection.
+fn many(alloc: Global, collection: &str, count: u64) -> anyhow::Result<RowChanges> {
+    let mut changes = Vec::new(alloc);
+    for number in 0..count {
+        let of = format!(in alloc; "{number}")?;
+        changes.push(put(alloc, (collection, of.as_str()), "row")?)?;
+    }
+    Ok(RowChanges::new(changes))
+}
+
+fn row_changes(alloc: Global, words: &str) -> anyhow::Result<RowChanges> {
+    if let Some((collection, count)) = words.split_once("/#") {
+        return many(alloc, collection, count.parse::<u64>()?);
+    }
+    let mut changes = Vec::new(alloc);
+    for word in words.split('|') {
+        changes.push(row_change(alloc, word)?)?;
+    }
+    Ok(RowChanges::new(changes))
+}
+
+fn time_change(alloc: Global, word: &str) -> anyhow::Result<CollectionChange> {
+    match word.split_once('@') {
+        Some((collection, time)) => Ok(CollectionChange::Set {
+            name: name(alloc, collection)?,
+            time: Stamp::clamp(time.parse::<u64>()?),
+        }),
+        None => Ok(CollectionChange::Drop {
+            name: name(alloc, word)?,
+        }),
+    }
+}
+
+fn time_changes(alloc: Global, words: &str) -> anyhow::Result<CollectionChanges> {
+    let mut changes = Vec::new(alloc);
+    for word in words.split('|') {
+        changes.push(time_change(alloc, word)?)?;
+    }
+    Ok(CollectionChanges::new(changes))
+}
+
+fn part(alloc: Global, text: &str) -> anyhow::Result<Part> {
+    if let Some((of, _)) = text.split_once('!') {
+        return Ok(Part {
+            id: id(alloc, of)?,
+            fields: Fields {
+                payload: Field::Clear,
+                sortindex: Field::Clear,
+                ttl: Field::Clear,
+            },
+        });
+    }
+    let (text, ttl) = marked(text, '~')?;
+    let (text, sortindex) = marked(text, '^')?;
+    let (of, text) = marked(text, '=')?;
+    Ok(Part {
+        id: id(alloc, of)?,
+        fields: Fields {
+            payload: match text {
+                Some(text) => Field::Set(payload(alloc, text)?),
+                None => Field::Keep,
+            },
+            sortindex: match sortindex {
+                Some(number) => Field::Set(number.parse::<i32>()?),
+                None => Field::Keep,
+            },
+            ttl: match ttl {
+                Some(number) => Field::Set(number.parse::<u32>()?),
+                None => Field::Keep,
+            },
+        },
+    })
+}
+
+fn parts(alloc: Global, text: &str) -> anyhow::Result<Parts> {
+    let mut parts = Vec::new(alloc);
+    for word in text.split(',') {
+        if !word.is_empty() {
+            parts.push(part(alloc, word)?)?;
+        }
+    }
+    Ok(Parts::new(parts))
+}
+
+fn batch_change(alloc: Global, word: &str) -> anyhow::Result<BatchChange> {
+    if let Some((number, text)) = word.split_once(':') {
+        let (collection, text) = text.split_once('/').context("parts")?;
+        return Ok(BatchChange::Begin(Staged {
+            number: number.parse::<u64>()?,
+            collection: name(alloc, collection)?,
+            begun: Stamp::clamp(999_999_999_999),
+            parts: parts(alloc, text)?,
+        }));
+    }
+    match word.split_once('+') {
+        Some((number, text)) => Ok(BatchChange::Append {
+            number: number.parse::<u64>()?,
+            parts: parts(alloc, text)?,
+        }),
+        None => Ok(BatchChange::End {
+            number: word.parse::<u64>()?,
+        }),
+    }
+}
+
+fn batch_changes(alloc: Global, words: &str) -> anyhow::Result<BatchChanges> {
+    let mut changes = Vec::new(alloc);
+    for word in words.split('|') {
+        if !word.is_empty() {
+            changes.push(batch_change(alloc, word)?)?;
+        }
+    }
+    Ok(BatchChanges::new(changes))
+}
+
+/// A commit as its line tells it.
+#[derive(Drop)]
+struct Commit {
+    rows: String,
+    collections: String,
+    batches: String,
+}
+
+/// The commits of the lines so far, by their numbers from 0 on.
+#[derive(Drop)]
+pub struct Commits {
+    commits: Vec<Commit>,
+    /// The number of a commit, and the statements that make a database of version 1 with what it makes.
+    old: Option<(u64, String)>,
+}
+
+/// The text at a place of a line.
+fn text_in(alloc: Global, line: &Value, at: usize) -> anyhow::Result<String> {
+    let text = line.get(at).and_then(Value::as_str).context("a text")?;
+    Ok(String::from_str(alloc, text)?)
+}
+
+impl Commits {
+    pub fn new(alloc: Global) -> Commits {
+        Commits {
+            commits: Vec::new(alloc),
+            old: None,
+        }
+    }
+
+    /// Adds the commit of a line, a JSON list of its three texts.
+    pub fn add(&mut self, alloc: Global, json: &str) -> anyhow::Result<()> {
+        let line = Value::from_str(alloc, json)?;
+        self.commits.push(Commit {
+            rows: text_in(alloc, &line, 0)?,
+            collections: text_in(alloc, &line, 1)?,
+            batches: text_in(alloc, &line, 2)?,
+        })?;
+        Ok(())
+    }
+
+    /// Takes statements that make a database of version 1 with what the last commit makes.
+    pub fn add_old(&mut self, alloc: Global, sql: &str) -> anyhow::Result<()> {
+        let Some(last) = self.commits.len().checked_sub(1) else {
+            bail!("no commit");
+        };
+        self.old = Some((last as u64, String::from_str(alloc, sql)?));
+        Ok(())
+    }
+
+    /// The statements that make a database of version 1 with what a commit makes, where there are such.
+    pub fn old_tables(&self, number: u64) -> Option<&str> {
+        match &self.old {
+            Some((old, sql)) if *old == number => Some(sql.as_str()),
+            _ => None,
+        }
+    }
+
+    /// The changes of a commit. Its moment isn't its store's time, and the last deletion is later than both.
+    pub fn changes(&self, alloc: Global, number: u64) -> anyhow::Result<Changes> {
+        let commit = self
+            .commits
+            .get(usize::try_from(number)?)
+            .context("a commit")?;
+        Ok(Changes {
+            moment: Stamp::clamp(number.saturating_mul(10).saturating_add(10)),
+            rows: row_changes(alloc, commit.rows.as_str())?,
+            collections: time_changes(alloc, commit.collections.as_str())?,
+            store: Stamp::clamp(number.saturating_mul(10).saturating_add(4)),
+            last_delete: Stamp::clamp(number.saturating_add(1000)),
+            counter: u64::MAX.saturating_sub(number),
+            batches: batch_changes(alloc, commit.batches.as_str())?,
+        })
+    }
+}

@@ -1,0 +1,15 @@
+//! Terms of several workers over memory. Keepers that wait for each other's first commit are both answered; and the
+//! bytes of each link of a crowd are those that its turns' places give by the plain program over the journals that came
+//! back.
+
+mod crowd;
+mod meeting;
+mod messages;
+mod plain;
+
+/// Tells what came of both.
+pub fn tell_cases(rt: &HostRuntime) -> anyhow::Result<()> {
+    println!(rt; "{}", meeting::told(rt, rt.alloc())?)?;
+    println!(rt; "{}", crowd::told(rt, rt.alloc())?)?;
+    Ok(())
+}

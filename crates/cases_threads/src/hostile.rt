@@ -1,0 +1,28 @@
+//! Hostile links, in terms of one worker over account 7 in memory. A read or a write of a link fails, bytes are no
+//! message, a request is cut, a keeper's commit fails, a journal has no room. A line tells of each link how it ended,
+//! its turns (account and ticket) and what was written, with `|` for each end of a line.
+
+mod account;
+mod cases;
+mod links;
+mod telling;
+mod term;
+
+/// Tells what became of the links of each term.
+pub fn tell_cases(rt: &HostRuntime) -> anyhow::Result<()> {
+    for call in 1..=cases::CALLS {
+        println!(rt; "{}", cases::failing_call(rt, rt.alloc(), call)?)?;
+    }
+    println!(rt; "{}", cases::cut_anywhere(rt, rt.alloc())?)?;
+    println!(rt; "{}", cases::whole(rt, rt.alloc())?)?;
+    println!(rt; "{}", cases::endless(rt, rt.alloc())?)?;
+    for (title, text) in cases::REFUSED {
+        println!(rt; "{}", cases::refused(rt, rt.alloc(), title, text)?)?;
+    }
+    for commit in 1..=3 {
+        println!(rt; "{}", cases::failing_commit(rt, rt.alloc(), commit)?)?;
+    }
+    println!(rt; "{}", cases::full(rt, rt.alloc())?)?;
+    println!(rt; "{}", cases::full_before(rt, rt.alloc())?)?;
+    Ok(())
+}

@@ -1,0 +1,71 @@
+//! Connections, terms, servers and what they stand on, a case a line. `text NAME "..."` names a text. A line
+//! `connection` serves links one after the other over one town, `term` a port over two accounts, `server` a site, of
+//! which `status` tells only the status and how many terms there were.
+
+mod accounts;
+mod case;
+mod connections;
+mod fronts;
+mod held;
+mod ports;
+mod servers;
+mod sites;
+mod stores;
+mod telling;
+mod terms;
+mod texts;
+
+use anyhow::bail;
+use case::Case;
+use std::alloc::Global;
+use std::rt::Files;
+use std::sync::Wait;
+use std::thread::Threads;
+use texts::Texts;
+
+/// What came of a case that is played over accounts.
+fn served<R: Threads + Wait + Sync>(
+    rt: &R,
+    alloc: Global,
+    kind: &str,
+    case: Case,
+) -> anyhow::Result<String> {
+    match kind {
+        "connection" => connections::told(rt, alloc, case),
+        "fronts" => fronts::told(rt, alloc, case),
+        "term" => terms::told(rt, alloc, case),
+        "held" => held::told(rt, alloc, case),
+        "server" => servers::told(rt, alloc, case),
+        "status" => servers::status(rt, alloc, case),
+        _ => bail!("no kind of case"),
+    }
+}
+
+/// What came of the case of a line.
+fn told<R: Threads + Wait + Files + Sync>(
+    rt: &R,
+    alloc: Global,
+    texts: &Texts,
+    line: &str,
+) -> anyhow::Result<String> {
+    let (kind, rest) = line.split_once(' ').unwrap_or((line, ""));
+    match kind {
+        "site" => sites::told(alloc, rest),
+        "store" => stores::told(rt, alloc, rest),
+        "port" => ports::told(alloc, rest),
+        _ => served(rt, alloc, kind, case::read(alloc, texts, rest)?),
+    }
+}
+
+/// Tells what came of each line that is a case.
+pub fn tell_cases(rt: &HostRuntime, lines: &[String]) -> anyhow::Result<()> {
+    let mut texts = Texts::new(rt.alloc());
+    for line in lines {
+        if let Some(text) = line.as_str().strip_prefix("text ") {
+            texts.add(rt.alloc(), text)?;
+        } else {
+            println!(rt; "{line}: {}", told(rt, rt.alloc(), &texts, line.as_str())?)?;
+        }
+    }
+    Ok(())
+}

@@ -1,0 +1,110 @@
+//! A case as its line tells it: `most=ENTRIES` of a journal, `connections=LINKS` of a term, which call of the keepers,
+//! the port, the site or a link `fails`, and the texts that come from each link, with `/` between two links. Behind `
+//! -- ` are a server's words.
+
+use crate::terms::texts::Texts;
+use anyhow::bail;
+use std::alloc::Global;
+
+/// What comes from a link, and which of its calls fails, reads and writes counted together from 1; 0 is none.
+#[derive(Drop)]
+pub struct Planned {
+    pub pieces: Vec<Vec<u8>>,
+    pub failing: u64,
+}
+
+/// What fails, as the numbers of calls from 1; 0 is none.
+#[derive(Clone, Copy)]
+pub struct Failing {
+    /// The call of each keeper; its load is the first one.
+    pub keeper: u64,
+    pub port: u64,
+    pub site: u64,
+    /// The call of the site that finds no memory.
+    pub memory: u64,
+}
+
+#[derive(Drop)]
+pub struct Case {
+    /// The most entries of each account's journal.
+    pub most: u32,
+    /// The most links of a term.
+    pub connections: u32,
+    /// The account of which what is kept can't be opened; 0 is none.
+    pub damaged: u32,
+    pub failing: Failing,
+    pub links: Vec<Planned>,
+    pub words: String,
+}
+
+impl Case {
+    fn new(alloc: Global, words: &str) -> anyhow::Result<Case> {
+        Ok(Case {
+            most: 9,
+            connections: 5,
+            damaged: 0,
+            failing: Failing {
+                keeper: 0,
+                port: 0,
+                site: 0,
+                memory: 0,
+            },
+            links: Vec::new(alloc),
+            words: String::from_str(alloc, words)?,
+        })
+    }
+
+    /// Takes a setting of the case.
+    fn set(&mut self, name: &str, value: &str) -> anyhow::Result<()> {
+        let value = value.parse::<u64>()?;
+        match name {
+            "most" => self.most = u32::try_from(value)?,
+            "connections" => self.connections = u32::try_from(value)?,
+            "damaged" => self.damaged = u32::try_from(value)?,
+            "keeper" => self.failing.keeper = value,
+            "port" => self.failing.port = value,
+            "site" => self.failing.site = value,
+            "memory" => self.failing.memory = value,
+            _ => bail!("no such setting"),
+        }
+        Ok(())
+    }
+}
+
+/// A link of these words.
+fn link(alloc: Global, texts: &Texts, words: &str) -> anyhow::Result<Planned> {
+    let mut pieces = Vec::new(alloc);
+    let mut failing = 0;
+    for word in words.split(' ') {
+        match word.split_once('=') {
+            Some(("fails", call)) => failing = call.parse::<u64>()?,
+            _ => texts.add_pieces(alloc, word, &mut pieces)?,
+        }
+    }
+    Ok(Planned { pieces, failing })
+}
+
+/// The settings at the front of a line, and the rest of it.
+fn settings<'a>(case: &mut Case, line: &'a str) -> anyhow::Result<&'a str> {
+    let mut rest = line;
+    for _ in 0..line.len() {
+        let (word, behind) = rest.split_once(' ').unwrap_or((rest, ""));
+        match word.split_once('=') {
+            Some((name, value)) if name != "fails" => case.set(name, value)?,
+            _ => break,
+        }
+        rest = behind;
+    }
+    Ok(rest)
+}
+
+/// The case of a line, behind its kind.
+pub fn read(alloc: Global, texts: &Texts, line: &str) -> anyhow::Result<Case> {
+    let (front, words) = line.split_once(" -- ").unwrap_or((line, ""));
+    let mut case = Case::new(alloc, words)?;
+    let rest = settings(&mut case, front)?;
+    for words in rest.split(" / ") {
+        case.links.push(link(alloc, texts, words)?)?;
+    }
+    Ok(case)
+}

@@ -1,0 +1,129 @@
+//! Servers over a site in memory, whose one port gives the links of the case, and ends; its clocks count from 10.00.
+
+use crate::terms::case::{Case, Failing, Planned};
+use crate::terms::terms::{lines, port};
+use anyhow::bail;
+use ss_bso::{Kept, Times};
+use ss_links::{MemLink, MemPort, OpenGate};
+use ss_outside::SureSink;
+use ss_run_serve::run_serve;
+use ss_serve::LinkReport;
+use ss_site::{KeptTerm, MemSite};
+use ss_text::{Name, Stamp};
+use std::alloc::{AllocError, Global};
+use std::sync::Wait;
+use std::thread::Threads;
+
+type Terms = MemSite<LinkReport<MemLink>>;
+
+/// What is kept at first: of this account in the folder `f` a collection that is later than its store, which can't be
+/// opened; of 0 nothing.
+fn kept_of(alloc: Global, uid: u32) -> anyhow::Result<Vec<(String, u32, Kept)>> {
+    if uid == 0 {
+        return Ok(Vec::new(alloc));
+    }
+    let Some(forms) = Name::new(alloc, b"forms")? else {
+        bail!("no name");
+    };
+    let folder = String::from_str(alloc, "f")?;
+    let times = vec![in alloc; (forms, Stamp::clamp(5))]?;
+    let mut kept = Kept::fresh(alloc);
+    kept.collections = Times::new(times);
+    Ok(vec![in alloc; (folder, uid, kept)]?)
+}
+
+/// The one port of a site.
+fn ports(alloc: Global, links: Vec<Planned>, failing: u64) -> Result<Vec<MemPort>, AllocError> {
+    let port = port(alloc, links, failing)?;
+    Ok(vec![in alloc; port]?)
+}
+
+/// A site that keeps these entries, some of whose calls fail or find no memory.
+fn failing_site(
+    alloc: Global,
+    ports: Vec<MemPort>,
+    kept: Vec<(String, u32, Kept)>,
+    failing: Failing,
+) -> Result<Terms, AllocError> {
+    let wanting = vec![in alloc; failing.memory]?;
+    let failing = vec![in alloc; failing.site]?;
+    let site = MemSite::new(alloc, ports, 1000, kept, failing)?;
+    Ok(site.without_memory(wanting))
+}
+
+/// The site of a case.
+fn site(alloc: Global, case: Case) -> anyhow::Result<Terms> {
+    let Case {
+        damaged,
+        failing,
+        links,
+        most: _,
+        connections: _,
+        words: _,
+    } = case;
+    let ports = ports(alloc, links, failing.port)?;
+    let kept = kept_of(alloc, damaged)?;
+    Ok(failing_site(alloc, ports, kept, failing)?)
+}
+
+/// Words, with one blank between two of them.
+fn words(alloc: Global, text: &str) -> Result<Vec<String>, AllocError> {
+    let mut words = Vec::new(alloc);
+    for word in text.split(' ') {
+        words.push(String::from_str(alloc, word)?)?;
+    }
+    Ok(words)
+}
+
+/// The site after a server of the case's words, and the server's status.
+fn served<R: Threads + Wait + Sync>(
+    rt: &R,
+    alloc: Global,
+    case: Case,
+) -> anyhow::Result<(Terms, u8)> {
+    let words = words(alloc, case.words.as_str())?;
+    let mut err = SureSink::new(alloc, 4096)?;
+    let mut site = site(alloc, case)?;
+    let status = run_serve(rt, alloc, words.as_slice(), &mut site, &OpenGate, &mut err);
+    Ok((site, status))
+}
+
+/// What is told of a server: its status, and how many terms the site was told.
+pub fn status<R: Threads + Wait + Sync>(
+    rt: &R,
+    alloc: Global,
+    case: Case,
+) -> anyhow::Result<String> {
+    let (site, status) = served(rt, alloc, case)?;
+    let count = site.terms().len();
+    drop(site);
+    Ok(format!(in alloc; "status {status}, {count} terms")?)
+}
+
+/// A line on a term, and one on each of its links: each journal's account, and how many entries it has.
+fn term(alloc: Global, term: &KeptTerm<LinkReport<MemLink>>) -> anyhow::Result<String> {
+    let mut text = String::from_str(alloc, "\n term, journals")?;
+    for (uid, journal) in term.journals.iter() {
+        let count = journal.entries().len();
+        text.push_str(format!(in alloc; " {uid} with {count}")?.as_str())?;
+    }
+    text.push_str(lines(alloc, term.reports.as_slice())?.as_str())?;
+    Ok(text)
+}
+
+/// A server's status, and each term that the site was told.
+fn reported(alloc: Global, site: &Terms, status: u8) -> anyhow::Result<String> {
+    let mut text = format!(in alloc; "status {status}, {} terms", site.terms().len())?;
+    for told in site.terms() {
+        text.push_str(term(alloc, told)?.as_str())?;
+    }
+    Ok(text)
+}
+
+/// What is told of the server of a case.
+pub fn told<R: Threads + Wait + Sync>(rt: &R, alloc: Global, case: Case) -> anyhow::Result<String> {
+    let (site, status) = served(rt, alloc, case)?;
+    let text = reported(alloc, &site, status);
+    drop(site);
+    text
+}

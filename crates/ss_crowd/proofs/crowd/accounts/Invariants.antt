@@ -1,6 +1,0 @@
-use Rattle.ss_booked.specs.Booked.{journal_of}
-use Rattle.ss_town.specs.Opening.{AreBare}
-use Rattle.ss_crowd.proofs.crowd.accounts.Given as goal
-
-abbrev pub invariant-loop-uid : goal.invariant-loop-uid
-invariant-loop-uid l = AreBare (λ b. (journal_of b).entries) l.accounts.items

@@ -1,6 +1,0 @@
-use Rattle.std.specs.Prelude.{All}
-use Rattle.ss_links.specs.Links.{IsUnused, link_tells}
-use Rattle.ss_crowd.proofs.crowd.links.Given as goal
-
-abbrev pub invariant-loop-number : goal.invariant-loop-number
-invariant-loop-number l = All (λ link. IsUnused (link_tells link)) l.links.items

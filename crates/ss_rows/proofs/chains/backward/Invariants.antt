@@ -1,6 +1,0 @@
-use Rattle.std.specs.Prelude.{IfSome}
-use Rattle.ss_list.specs.Chain.{IsLive}
-use Rattle.ss_rows.proofs.chains.backward.Given as goal
-
-abbrev pub invariant-loop : goal.invariant-loop
-invariant-loop g l = IfSome l.at (IsLive l.chain)

@@ -1,6 +1,0 @@
-use Rattle.std.specs.Prelude.{All}
-use Rattle.ss_links.specs.Links.{IsUnused, link_tells}
-use Rattle.ss_terms.proofs.terms.links.Given as goal
-
-abbrev pub invariant-loop-planned : goal.invariant-loop-planned
-invariant-loop-planned l = All (λ link. IsUnused (link_tells link)) l.links.items

@@ -1,4 +1,0 @@
-use Rattle.ss_turns.proofs.account.called_four.Goals as goal
-
-pub close-booked-requires-clause-all : goal.close-booked-requires-clause-all
-close-booked-requires-clause-all g c n h = c.call_puts-pass.ensures.covers n (c.in_ok-desk.ensures.all n h)

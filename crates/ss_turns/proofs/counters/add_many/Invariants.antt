@@ -1,6 +1,0 @@
-use Rattle.ss_desk.specs.Views.{CoversNoLess}
-use Rattle.ss_desk.specs.Desks.{view, IsPassOf}
-use Rattle.ss_turns.proofs.counters.add_many.Given as goal
-
-abbrev pub invariant-loop-k : goal.invariant-loop-k
-invariant-loop-k g l = IsPassOf l.desk l.pass × CoversNoLess (view l.initial.pass) (view l.pass)

@@ -2,11 +2,14 @@
 
 use ss_bso::Kept;
 use ss_http::Message;
+use ss_route::Manner;
 
 /// A message, and the reading of the clock at which it comes (hundredths of a second).
 #[derive(Drop)]
 pub struct Timed {
     pub now: u64,
+    /// How its conditions are read.
+    pub manner: Manner,
     pub message: Message,
     /// Whether only the status of its answer is told.
     pub is_quiet: bool,

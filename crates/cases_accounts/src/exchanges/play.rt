@@ -54,7 +54,7 @@ fn response<K: Keeper>(
     account: &mut Account<K>,
     timed: &Timed,
 ) -> anyhow::Result<Vec<u8>> {
-    match route(alloc, &timed.message) {
+    match route(alloc, timed.manner, &timed.message) {
         Routed::Memory => bail!("no memory"),
         Routed::Local(told) => local(alloc, &told, timed.now),
         Routed::Ask {

@@ -1,6 +1,6 @@
 //! Exchanges as text. A line `exchange TITLE` begins one; then come lines on what is kept at first, `failing CALL` and
-//! `once`; and then a line for each message, before which lines `field NAME: VALUE` tell its fields. `times COUNT`
-//! before a message repeats it.
+//! `once`, and `manner browser` where conditions are read as browsers mean them; and then a line for each message,
+//! before which lines `field NAME: VALUE` tell its fields. `times COUNT` before a message repeats it.
 
 use crate::exchanges::bodies::body;
 use crate::exchanges::exchange::{Exchange, Timed};
@@ -8,6 +8,7 @@ use crate::exchanges::kept::Gathered;
 use crate::words::number;
 use anyhow::bail;
 use ss_http::{FieldLines, Message};
+use ss_route::Manner;
 use ss_text::Bytes;
 use std::alloc::Global;
 
@@ -15,6 +16,7 @@ use std::alloc::Global;
 /// body. In the target `#` stands for the turn of a line that is repeated.
 fn message(
     alloc: Global,
+    manner: Manner,
     line: &str,
     fields: Vec<(Bytes, Bytes)>,
     turn: u64,
@@ -39,6 +41,7 @@ fn message(
         .replace(alloc, "#", turn.to_string(alloc)?.as_str())?;
     Ok(Timed {
         now: number(now)?,
+        manner,
         message: Message {
             method: Bytes::from_slice(alloc, method.as_bytes())?,
             target: Bytes::from_slice(alloc, target.as_str().as_bytes())?,
@@ -68,6 +71,7 @@ struct Reader {
     kept: Gathered,
     failing: Option<u64>,
     is_once: bool,
+    manner: Manner,
     fields: Vec<(Bytes, Bytes)>,
     messages: Vec<Timed>,
 }
@@ -79,6 +83,7 @@ impl Reader {
             kept: Gathered::new(alloc),
             failing: None,
             is_once: false,
+            manner: Manner::Profile,
             fields: Vec::new(alloc),
             messages: Vec::new(alloc),
         })
@@ -90,6 +95,7 @@ impl Reader {
             kept,
             failing,
             is_once,
+            manner: _,
             fields,
             messages,
         } = self;
@@ -111,7 +117,7 @@ impl Reader {
         for turn in 0..number(count)? {
             let fields = Vec::new(alloc);
             self.messages
-                .push(message(alloc, line, fields, turn, true)?)?;
+                .push(message(alloc, self.manner, line, fields, turn, true)?)?;
         }
         Ok(())
     }
@@ -125,12 +131,14 @@ impl Reader {
                 self.failing = Some(number(call)?);
                 self.is_once = true;
             }
+            Some(("manner", "browser")) => self.manner = Manner::Browser,
             Some(("field", text)) => self.fields.push(field(alloc, text)?)?,
             Some(("times", text)) => self.repeat(alloc, text)?,
             None => self.is_once = true,
             Some(_) => {
                 let fields = std::mem::replace(&mut self.fields, Vec::new(alloc));
-                self.messages.push(message(alloc, line, fields, 0, false)?)?;
+                self.messages
+                    .push(message(alloc, self.manner, line, fields, 0, false)?)?;
             }
         }
         Ok(())

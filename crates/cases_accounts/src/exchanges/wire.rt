@@ -8,7 +8,7 @@ use anyhow::bail;
 use ss_http::{Buffer, Heard, read_message, read_response};
 use ss_outside::SureSource;
 use ss_query::{Body, Info, Query, Reply, Request, Said, Sort};
-use ss_route::{Routed, heard_of, render, route, write_request};
+use ss_route::{Manner, Routed, heard_of, render, route, write_request};
 use ss_text::{Cond, Name, Stamp};
 use std::alloc::{AllocError, Global};
 
@@ -102,7 +102,7 @@ fn tell_read(rt: &HostRuntime, bytes: Vec<u8>) -> anyhow::Result<()> {
     let Ok(message) = read_message(alloc, &mut buffer, &mut source) else {
         bail!("no message");
     };
-    match route(alloc, &message) {
+    match route(alloc, Manner::Profile, &message) {
         Routed::Ask { uid, request, .. } => tell_asked(rt, uid, &request),
         Routed::Local(_) | Routed::Memory => bail!("a request that isn't routed"),
     }

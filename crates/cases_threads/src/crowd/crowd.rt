@@ -16,7 +16,7 @@ use ss_keeper::SureKeeper;
 use ss_links::{MemLink, MemPort, OpenGate};
 use ss_outside::CountClock;
 use ss_query::Reply;
-use ss_route::render;
+use ss_route::{Manner, render};
 use ss_serve::{LinkReport, TermEnd, TermStop, serve_term};
 use std::alloc::Global;
 use std::sync::Wait;
@@ -77,7 +77,10 @@ fn serve<R: Threads + Wait + Sync>(rt: &R, alloc: Global) -> anyhow::Result<Ende
         CountClock::new(3000),
     ]?;
     let accounts = accounts(alloc)?;
-    Ok(serve_term(rt, alloc, &mut port, clocks, &OpenGate, accounts, LINKS))
+    let manner = Manner::Profile;
+    Ok(serve_term(
+        rt, alloc, manner, &mut port, clocks, &OpenGate, accounts, LINKS,
+    ))
 }
 
 /// The replies at the places of the journals of the accounts, each with its ticket.

@@ -11,6 +11,7 @@ use ss_bso::{Changes, Kept};
 use ss_keeper::{KeepFault, Keeper, SureKeeper};
 use ss_links::{MemLink, MemPort, OpenGate};
 use ss_outside::CountClock;
+use ss_route::Manner;
 use ss_serve::serve_term;
 use std::alloc::{AllocError, Global};
 use std::sync::Wait;
@@ -110,7 +111,8 @@ pub fn told<R: Threads + Wait + Sync>(rt: &R, alloc: Global) -> anyhow::Result<S
     let mut port = MemPort::new(links, Vec::new(alloc));
     let clocks = vec![in alloc; CountClock::new(1000), CountClock::new(1000)]?;
     let accounts = accounts(alloc, &meeting)?;
-    let ended = serve_term(rt, alloc, &mut port, clocks, &OpenGate, accounts, 2);
+    let manner = Manner::Profile;
+    let ended = serve_term(rt, alloc, manner, &mut port, clocks, &OpenGate, accounts, 2);
     let mut answered: u32 = 0;
     for report in ended.links.iter() {
         let written = report.link.written().unwrap_or(b"untold");

@@ -9,6 +9,7 @@ use ss_booked::Booked;
 use ss_keeper::MemKeeper;
 use ss_links::{MemLink, MemPort, OpenGate};
 use ss_outside::CountClock;
+use ss_route::Manner;
 use ss_serve::{TermEnd, serve_term};
 use std::alloc::{AllocError, Global};
 use std::sync::Wait;
@@ -31,5 +32,8 @@ pub fn serve<R: Threads + Wait + Sync>(
 {
     let clocks = vec![in alloc; CountClock::new(1000)]?;
     let mut port = MemPort::new(links, Vec::new(alloc));
-    Ok(serve_term(rt, alloc, &mut port, clocks, &OpenGate, accounts, LINKS))
+    let manner = Manner::Profile;
+    Ok(serve_term(
+        rt, alloc, manner, &mut port, clocks, &OpenGate, accounts, LINKS,
+    ))
 }

@@ -1,9 +1,10 @@
-//! A case as its line tells it: `most=ENTRIES` of a journal, `connections=LINKS` of a term, which call of the keepers,
+//! A case as its line tells it: `manner=browser` of reading conditions, `most=ENTRIES` of a journal, `connections=LINKS` of a term, which call of the keepers,
 //! the port, the site or a link `fails`, and the texts that come from each link, with `/` between two links. Behind `
 //! -- ` are a server's words.
 
 use crate::terms::texts::Texts;
 use anyhow::bail;
+use ss_route::Manner;
 use std::alloc::Global;
 
 /// What comes from a link, and which of its calls fails, reads and writes counted together from 1; 0 is none.
@@ -26,6 +27,8 @@ pub struct Failing {
 
 #[derive(Drop)]
 pub struct Case {
+    /// How the conditions of messages are read; a server's is told by its words.
+    pub manner: Manner,
     /// The most entries of each account's journal.
     pub most: u32,
     /// The most links of a term.
@@ -40,6 +43,7 @@ pub struct Case {
 impl Case {
     fn new(alloc: Global, words: &str) -> anyhow::Result<Case> {
         Ok(Case {
+            manner: Manner::Profile,
             most: 9,
             connections: 5,
             damaged: 0,
@@ -56,7 +60,17 @@ impl Case {
 
     /// Takes a setting of the case.
     fn set(&mut self, name: &str, value: &str) -> anyhow::Result<()> {
-        let value = value.parse::<u64>()?;
+        match (name, value) {
+            ("manner", "browser") => {
+                self.manner = Manner::Browser;
+                Ok(())
+            }
+            _ => self.set_number(name, value.parse::<u64>()?),
+        }
+    }
+
+    /// Takes a setting that is a number.
+    fn set_number(&mut self, name: &str, value: u64) -> anyhow::Result<()> {
         match name {
             "most" => self.most = u32::try_from(value)?,
             "connections" => self.connections = u32::try_from(value)?,

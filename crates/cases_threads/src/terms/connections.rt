@@ -13,6 +13,7 @@ use ss_connection::{End, TurnNote, serve_connection};
 use ss_keeper::MemKeeper;
 use ss_links::{MemLink, OpenGate};
 use ss_outside::MemClock;
+use ss_route::Manner;
 use ss_town::{Passes, Town};
 use std::alloc::{AllocError, Global};
 use std::sync::Wait;
@@ -45,10 +46,11 @@ pub fn open(
     }
 }
 
-/// Serves a link.
+/// Serves a link, whose conditions are read in this manner.
 pub fn serve<R: Wait>(
     rt: &R,
     alloc: Global,
+    manner: Manner,
     town: &Town<Booked<MemKeeper>>,
     passes: &mut Passes<Booked<MemKeeper>>,
     planned: Planned,
@@ -61,7 +63,7 @@ pub fn serve<R: Wait>(
     let mut clock = MemClock::new(vec![in alloc; 1000u64; 16]?);
     let mut turns = Vec::new(alloc);
     let end = serve_connection(
-        rt, alloc, &mut link, &mut clock, &OpenGate, 0, town, passes, &mut turns,
+        rt, alloc, manner, &mut link, &mut clock, &OpenGate, 0, town, passes, &mut turns,
     );
     Ok(Outcome { end, turns, link })
 }
@@ -70,6 +72,7 @@ pub fn serve<R: Wait>(
 fn served<R: Wait>(
     rt: &R,
     alloc: Global,
+    manner: Manner,
     town: &Town<Booked<MemKeeper>>,
     passes: &mut Passes<Booked<MemKeeper>>,
     planned: Planned,
@@ -77,7 +80,7 @@ fn served<R: Wait>(
     requires of { AreOf (desks_of town.now) (passes_of passes.old) }
     ensures of { AreOf (desks_of town.now) (passes_of passes.new) }
 {
-    let outcome = serve(rt, alloc, town, passes, planned)?;
+    let outcome = serve(rt, alloc, manner, town, passes, planned)?;
     link(alloc, outcome.end, outcome.turns.as_slice(), &outcome.link)
 }
 
@@ -85,6 +88,7 @@ fn served<R: Wait>(
 fn lines<R: Wait>(
     rt: &R,
     alloc: Global,
+    manner: Manner,
     town: &Town<Booked<MemKeeper>>,
     passes: &mut Passes<Booked<MemKeeper>>,
     links: Vec<Planned>,
@@ -93,7 +97,7 @@ fn lines<R: Wait>(
 {
     let mut text = format!(in alloc; "{} links", links.len())?;
     for planned in links {
-        let line = served(rt, alloc, town, passes, planned)?;
+        let line = served(rt, alloc, manner, town, passes, planned)?;
         text.push_str(line.as_str())?;
     }
     Ok(text)
@@ -102,6 +106,7 @@ fn lines<R: Wait>(
 /// What is told of links over one town.
 pub fn told<R: Wait>(rt: &R, alloc: Global, case: Case) -> anyhow::Result<String> {
     let Case {
+        manner,
         most,
         failing,
         links,
@@ -110,7 +115,7 @@ pub fn told<R: Wait>(rt: &R, alloc: Global, case: Case) -> anyhow::Result<String
         words: _,
     } = case;
     let (town, mut passes) = open(alloc, most, failing.keeper)?;
-    let text = lines(rt, alloc, &town, &mut passes, links);
+    let text = lines(rt, alloc, manner, &town, &mut passes, links);
     drop(passes);
     drop(town);
     text

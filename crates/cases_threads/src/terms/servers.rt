@@ -57,6 +57,7 @@ fn site(alloc: Global, case: Case) -> anyhow::Result<Terms> {
         damaged,
         failing,
         links,
+        manner: _,
         most: _,
         connections: _,
         words: _,

@@ -61,6 +61,7 @@ pub fn serve<G: Gate + Sync, R: Threads + Wait + Sync>(
     gate: &G,
 ) -> anyhow::Result<Ended> {
     let Case {
+        manner,
         most,
         connections,
         failing,
@@ -74,7 +75,16 @@ pub fn serve<G: Gate + Sync, R: Threads + Wait + Sync>(
     let mut port = port(alloc, links, failing.port)?;
     let clocks = clocks(alloc)?;
     let accounts = accounts(alloc, most, failing.keeper)?;
-    Ok(serve_term(rt, alloc, &mut port, clocks, gate, accounts, connections))
+    Ok(serve_term(
+        rt,
+        alloc,
+        manner,
+        &mut port,
+        clocks,
+        gate,
+        accounts,
+        connections,
+    ))
 }
 
 /// A line on each link, in the order of their texts, since workers report in any order.

@@ -11,7 +11,7 @@ use ss_http::{Buffer, FieldLines, Message, read_message};
 use ss_keeper::SureKeeper;
 use ss_outside::SureSource;
 use ss_query::Request;
-use ss_route::{Local, Routed, not_listed, render, render_local, route};
+use ss_route::{Local, Manner, Routed, not_listed, render, render_local, route};
 use ss_text::{Bytes, Stamp};
 use std::alloc::{AllocError, Global};
 
@@ -179,7 +179,7 @@ impl Server {
 
     /// The response to a message.
     fn respond(&mut self, alloc: Global, message: &Message) -> anyhow::Result<Response> {
-        let response = match route(alloc, message) {
+        let response = match route(alloc, Manner::Profile, message) {
             Routed::Memory => bail!("no memory"),
             Routed::Ask { uid, request, .. } if uid == UID => asked(
                 alloc,

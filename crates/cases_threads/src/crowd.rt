@@ -7,9 +7,13 @@ mod meeting;
 mod messages;
 mod plain;
 
+use std::alloc::Global;
+use std::sync::Wait;
+use std::thread::Threads;
+
 /// Tells what came of both.
-pub fn tell_cases(rt: &HostRuntime) -> anyhow::Result<()> {
-    println!(rt; "{}", meeting::told(rt, rt.alloc())?)?;
-    println!(rt; "{}", crowd::told(rt, rt.alloc())?)?;
+pub fn tell_cases<R: Threads + Wait + Print + Sync>(rt: &R, alloc: Global) -> anyhow::Result<()> {
+    println!(rt; "{}", meeting::told(rt, alloc)?)?;
+    println!(rt; "{}", crowd::told(rt, alloc)?)?;
     Ok(())
 }

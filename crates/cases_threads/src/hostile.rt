@@ -8,21 +8,25 @@ mod links;
 mod telling;
 mod term;
 
+use std::alloc::Global;
+use std::sync::Wait;
+use std::thread::Threads;
+
 /// Tells what became of the links of each term.
-pub fn tell_cases(rt: &HostRuntime) -> anyhow::Result<()> {
+pub fn tell_cases<R: Threads + Wait + Print + Sync>(rt: &R, alloc: Global) -> anyhow::Result<()> {
     for call in 1..=cases::CALLS {
-        println!(rt; "{}", cases::failing_call(rt, rt.alloc(), call)?)?;
+        println!(rt; "{}", cases::failing_call(rt, alloc, call)?)?;
     }
-    println!(rt; "{}", cases::cut_anywhere(rt, rt.alloc())?)?;
-    println!(rt; "{}", cases::whole(rt, rt.alloc())?)?;
-    println!(rt; "{}", cases::endless(rt, rt.alloc())?)?;
+    println!(rt; "{}", cases::cut_anywhere(rt, alloc)?)?;
+    println!(rt; "{}", cases::whole(rt, alloc)?)?;
+    println!(rt; "{}", cases::endless(rt, alloc)?)?;
     for (title, text) in cases::REFUSED {
-        println!(rt; "{}", cases::refused(rt, rt.alloc(), title, text)?)?;
+        println!(rt; "{}", cases::refused(rt, alloc, title, text)?)?;
     }
     for commit in 1..=3 {
-        println!(rt; "{}", cases::failing_commit(rt, rt.alloc(), commit)?)?;
+        println!(rt; "{}", cases::failing_commit(rt, alloc, commit)?)?;
     }
-    println!(rt; "{}", cases::full(rt, rt.alloc())?)?;
-    println!(rt; "{}", cases::full_before(rt, rt.alloc())?)?;
+    println!(rt; "{}", cases::full(rt, alloc)?)?;
+    println!(rt; "{}", cases::full_before(rt, alloc)?)?;
     Ok(())
 }

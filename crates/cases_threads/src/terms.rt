@@ -58,13 +58,17 @@ fn told<R: Threads + Wait + Files + Sync>(
 }
 
 /// Tells what came of each line that is a case.
-pub fn tell_cases(rt: &HostRuntime, lines: &[String]) -> anyhow::Result<()> {
-    let mut texts = Texts::new(rt.alloc());
+pub fn tell_cases<R: Threads + Wait + Files + Print + Sync>(
+    rt: &R,
+    alloc: Global,
+    lines: &[String],
+) -> anyhow::Result<()> {
+    let mut texts = Texts::new(alloc);
     for line in lines {
         if let Some(text) = line.as_str().strip_prefix("text ") {
-            texts.add(rt.alloc(), text)?;
+            texts.add(alloc, text)?;
         } else {
-            println!(rt; "{line}: {}", told(rt, rt.alloc(), &texts, line.as_str())?)?;
+            println!(rt; "{line}: {}", told(rt, alloc, &texts, line.as_str())?)?;
         }
     }
     Ok(())

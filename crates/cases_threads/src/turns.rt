@@ -32,9 +32,15 @@ fn told<R: Threads + Wait + Sync>(rt: &R, alloc: Global, line: &str) -> anyhow::
 }
 
 /// Tells what came of each line.
-pub fn tell_cases(rt: &HostRuntime, lines: &[String]) -> anyhow::Result<()> {
+pub fn tell_cases<R: Threads + Wait + Print + Sync>(
+    rt: &R,
+    alloc: Global,
+    lines: &[String],
+) -> anyhow::Result<()>
+    requires shared { IsSync R.row }
+{
     for line in lines {
-        println!(rt; "{line}: {}", told(rt, rt.alloc(), line.as_str())?)?;
+        println!(rt; "{line}: {}", told(rt, alloc, line.as_str())?)?;
     }
     Ok(())
 }

@@ -14,7 +14,7 @@ use Rattle.ss_world.specs.declared.seats.Seat.{Seat}
 use Rattle.ss_world.specs.declared.seats.Seat.TheVariants.{Idle, Syncs}
 use Rattle.ss_world.specs.Happening.{Edits, Happens, IsEdited, Step, edit_fault}
 use Rattle.ss_world.proofs.Lists.{at_set}
-use Rattle.ss_script.specs.Draws.{drawn, drawn_after}
+use Rattle.ss_rehearse.specs.Draws.{drawn, drawn_after}
 use Rattle.ss_rehearse.specs.Scripts.{addition, additions, change_events, move, moves, numbers, renaming, renamings}
 use Rattle.ss_rehearse.specs.Plays.{IsChanged, Leads}
 use Rattle.ss_rehearse.specs.Syncing.{AreIdle}

@@ -17,7 +17,7 @@ use Rattle.ss_world.specs.Happening.{Happens, Runs, Step, last}
 use Rattle.ss_world.specs.Promises.{IsTrusted}
 use Rattle.ss_world.specs.Reaching.{IsReached, Promised}
 use Rattle.ss_world.proofs.Reaching as reaching
-use Rattle.ss_script.specs.Summaries.{summary_of, summary_text}
+use Rattle.ss_rehearse.specs.Summaries.{summary_of, summary_text}
 use Rattle.ss_rehearse.specs.Scripts.{Act, changes, sync, script}
 use Rattle.ss_rehearse.specs.Plays.{Acts, Asks, IsChanged, IsSynced, Leads, PlayView, Plays}
 use Rattle.ss_rehearse.specs.Rehearsals.{ArePromised, IsFresh, IsOpen, IsPromised, IsSummary, all_trusted, tree_at}

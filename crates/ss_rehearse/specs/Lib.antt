@@ -1,6 +1,9 @@
-pub mod Scripts
-pub mod Plays
-pub mod Syncing
-pub mod Rehearsals
+pub mod Bookmarks
+pub mod Draws
 pub mod Endings
+pub mod Plays
+pub mod Rehearsals
 pub mod Runs
+pub mod Scripts
+pub mod Summaries
+pub mod Syncing

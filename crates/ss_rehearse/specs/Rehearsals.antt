@@ -9,7 +9,7 @@ use Rattle.ss_world.specs.Worlds.{WorldView}
 use Rattle.ss_world.specs.declared.seats.Seat.TheVariants.{Idle}
 use Rattle.ss_world.specs.Happening.{Step}
 use Rattle.ss_world.specs.Reaching.{IsReached, IsWellDelivered, IsWholeFetch, Promised}
-use Rattle.ss_script.specs.Summaries.{summary_of, summary_text}
+use Rattle.ss_rehearse.specs.Summaries.{summary_of, summary_text}
 use Rattle.ss_rehearse.specs.Scripts.{script}
 use Rattle.ss_rehearse.specs.Plays.{PlayView, Plays}
 

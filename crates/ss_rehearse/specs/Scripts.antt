@@ -4,8 +4,8 @@ use Rattle.ss_world.specs.declared.events.Edit.{Edit}
 use Rattle.ss_world.specs.declared.events.Edit.TheVariants as edit
 use Rattle.ss_world.specs.declared.events.Event.{Event}
 use Rattle.ss_world.specs.declared.events.Event.TheVariants.{Change}
-use Rattle.ss_script.specs.Draws.{drawn}
-use Rattle.ss_script.specs.Bookmarks.{bookmark, bookmark_id, new_title, root_of}
+use Rattle.ss_rehearse.specs.Draws.{drawn}
+use Rattle.ss_rehearse.specs.Bookmarks.{bookmark, bookmark_id, new_title, root_of}
 
 -- the numbers of the bookmarks, from 1 on
 abbrev pub numbers : ℕ → List ℕ

@@ -6,8 +6,9 @@ ghost use Rattle.ss_rehearse.specs.Scripts.{additions, moves, renamings};
 ghost use Rattle.ss_rehearse.specs.Plays.{IsChanged};
 ghost use Rattle.ss_rehearse.specs.Syncing.{AreIdle};
 
+use crate::bookmarks::{bookmark, bookmark_id, menu, new_title, root_of};
+use crate::draws::drawn_after;
 use crate::events::change;
-use ss_script::{bookmark, bookmark_id, drawn_after, menu, new_title, root_of};
 use ss_world::{Edit, World};
 use std::alloc::{AllocError, Global};
 

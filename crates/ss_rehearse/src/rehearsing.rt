@@ -1,15 +1,15 @@
 //! A rehearsal, and its summary.
 
 ghost use Rattle.std.specs.Prelude.{◌≡◌, ◌≤◌, ◌<◌, ◌+◌, [], ◌∷◌, IfOk, OnOk};
-ghost use Rattle.ss_script.specs.Summaries.{summary_of, summary_text};
+ghost use Rattle.ss_rehearse.specs.Summaries.{summary_of, summary_text};
 ghost use Rattle.ss_rehearse.specs.Scripts.{filling, parting, meeting};
 ghost use Rattle.ss_rehearse.specs.Syncing.{AreIdle, ArePlayed};
 ghost use Rattle.ss_rehearse.specs.Rehearsals.{IsSummary, tree_at};
 
 use crate::changing::{add_all, move_some, rename_some};
 use crate::opening::open;
+use crate::summaries::{summary_of, summary_text};
 use crate::syncing::sync;
-use ss_script::{summary_of, summary_text};
 use ss_tree::Tree;
 use ss_world::World;
 use std::alloc::{AllocError, Global};

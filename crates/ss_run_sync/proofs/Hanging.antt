@@ -7,9 +7,9 @@ use Rattle.ss_outside.specs.Causes.{Rose}
 use Rattle.ss_links.specs.Links.{AreNone, IsUnused}
 use Rattle.ss_links.specs.Dials.{Hung, Tells, HasHung, HangUpCounts}
 use Rattle.ss_device.specs.Device.{DeviceView}
-use Rattle.ss_converse.specs.Moves.{Moves, IsUnfaulted, Fails}
-use Rattle.ss_converse.specs.Course.{Account}
-use Rattle.ss_converse.specs.Talks.{Talked, taken_of, written_of}
+use Rattle.ss_run_sync.specs.Moves.{Moves, IsUnfaulted, Fails}
+use Rattle.ss_run_sync.specs.Course.{Account}
+use Rattle.ss_run_sync.specs.Talks.{Talked, taken_of, written_of}
 use Rattle.ss_run_sync.specs.Links.{Used, hung_of, Hangs}
 
 pub hangs_none : (account : Account) (d : DeviceView) (a b : Option (List Hung)) → b ≡ a → Hangs account d [] a b

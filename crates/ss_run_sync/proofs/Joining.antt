@@ -10,8 +10,8 @@ use Rattle.ss_links.specs.Dials.{Address, Hung}
 use Rattle.ss_device.specs.Device.{DeviceView}
 use Rattle.ss_client.specs.Runs.{MachineView}
 use Rattle.ss_client.specs.Machine.{Next}
-use Rattle.ss_converse.specs.Moves.{IsFront}
-use Rattle.ss_converse.specs.Course.{Account, Exchange, request_at, request_next}
+use Rattle.ss_run_sync.specs.Moves.{IsFront}
+use Rattle.ss_run_sync.specs.Course.{Account, Exchange, request_at, request_next}
 use Rattle.ss_run_sync.specs.declared.linking.Came.{Came}
 use Rattle.ss_run_sync.specs.declared.linking.Came.TheVariants as came
 use Rattle.ss_run_sync.specs.Links.{Used, hung_of, exchanges_of, IsLeft, listed, IsEnded, Comes, IsRun}

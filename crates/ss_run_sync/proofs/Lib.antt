@@ -1,6 +1,10 @@
-pub mod HostName
-pub mod Hanging
+pub mod Coursing
 pub mod Dialling
-pub mod LinkByLink
 pub mod Ending
+pub mod Hanging
+pub mod HostName
 pub mod Joining
+pub mod LinkByLink
+pub mod Moving
+pub mod OneRequest
+pub mod Talking

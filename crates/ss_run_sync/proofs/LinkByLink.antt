@@ -12,12 +12,12 @@ use Rattle.ss_links.specs.declared.dial.DialFault.TheVariants.{Fault, Memory}
 use Rattle.ss_device.specs.Device.{DeviceView}
 use Rattle.ss_client.specs.Runs.{MachineView}
 use Rattle.ss_client.specs.Machine.{Next, Send, Stop}
-use Rattle.ss_converse.specs.declared.talk.Talk.{Talk}
-use Rattle.ss_converse.specs.declared.talk.Talk.TheVariants as talks
-use Rattle.ss_converse.specs.Moves.{IsFront, Fails}
-use Rattle.ss_converse.specs.Course.{Account, request_next, IsCourse}
-use Rattle.ss_converse.specs.Talks.{EndsIn, IsWhole, IsBadReply, Talks}
-use Rattle.ss_converse.proofs.Coursing.{course_then}
+use Rattle.ss_run_sync.specs.declared.talk.Talk.{Talk}
+use Rattle.ss_run_sync.specs.declared.talk.Talk.TheVariants as talks
+use Rattle.ss_run_sync.specs.Moves.{IsFront, Fails}
+use Rattle.ss_run_sync.specs.Course.{Account, request_next, IsCourse}
+use Rattle.ss_run_sync.specs.Talks.{EndsIn, IsWhole, IsBadReply, Talks}
+use Rattle.ss_run_sync.proofs.Coursing.{course_then}
 use Rattle.ss_run_sync.specs.declared.linking.Came.{Came}
 use Rattle.ss_run_sync.specs.declared.linking.Leg.{Leg}
 use Rattle.ss_run_sync.specs.Links.{Used, Dials, Hangs, missed, exchanges_of, IsLeft, listed, IsEnded, IsUnheard, Comes, IsRun, leg_of, came_of, Goes, IsLeg}

@@ -5,8 +5,8 @@ use Rattle.ss_links.specs.Dials.{Hung}
 use Rattle.ss_device.specs.Device.{DeviceView}
 use Rattle.ss_client.specs.Runs.{MachineView}
 use Rattle.ss_client.specs.Machine.{Next, Send}
-use Rattle.ss_converse.specs.Moves.{IsFront}
-use Rattle.ss_converse.specs.Course.{Account, Exchange, request_next, requests, responses, IsCourse}
+use Rattle.ss_run_sync.specs.Moves.{IsFront}
+use Rattle.ss_run_sync.specs.Course.{Account, Exchange, request_next, requests, responses, IsCourse}
 use Rattle.ss_words.specs.declared.commands.SyncCommand.{SyncCommand}
 use Rattle.ss_words.specs.declared.commands.Command.TheVariants.{Sync}
 use Rattle.ss_words.specs.Commands.{Asks}

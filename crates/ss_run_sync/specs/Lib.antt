@@ -1,6 +1,11 @@
-pub mod Naming
+pub mod Answers
+pub mod Course
 pub mod Endings
-pub mod Links
-pub mod Syncs
 pub mod Joined
+pub mod Links
+pub mod Moves
+pub mod Naming
 pub mod Runs
+pub mod Syncs
+pub mod Talks
+pub mod Turns

@@ -13,11 +13,11 @@ use Rattle.ss_client.specs.declared.runs.Stage.{Stage}
 use Rattle.ss_client.specs.Runs.{MachineView}
 use Rattle.ss_client.specs.Asking.{ask}
 use Rattle.ss_client.specs.Machine.{Next, Send, Done, Stop}
-use Rattle.ss_converse.specs.declared.talk.Talk.{Talk}
-use Rattle.ss_converse.specs.declared.talk.Talk.TheVariants as talks
-use Rattle.ss_converse.specs.Moves.{IsFront}
-use Rattle.ss_converse.specs.Course.{Account, Exchange, request_next, IsCourse}
-use Rattle.ss_converse.specs.Talks.{Talked, taken_of, written_of, GoesOn, EndsIn, IsWhole, IsLast, IsBadReply, IsCloser}
+use Rattle.ss_run_sync.specs.declared.talk.Talk.{Talk}
+use Rattle.ss_run_sync.specs.declared.talk.Talk.TheVariants as talks
+use Rattle.ss_run_sync.specs.Moves.{IsFront}
+use Rattle.ss_run_sync.specs.Course.{Account, Exchange, request_next, IsCourse}
+use Rattle.ss_run_sync.specs.Talks.{Talked, taken_of, written_of, GoesOn, EndsIn, IsWhole, IsLast, IsBadReply, IsCloser}
 use Rattle.ss_run_sync.specs.declared.linking.Came.{Came}
 use Rattle.ss_run_sync.specs.declared.linking.Came.TheVariants as came
 use Rattle.ss_run_sync.specs.declared.linking.Leg.{Leg}

@@ -14,7 +14,7 @@ use Rattle.ss_client.specs.declared.summaries.Fetch.TheVariants.{Whole, Newer}
 use Rattle.ss_client.specs.declared.summaries.Summary.{Summary}
 use Rattle.ss_client.specs.declared.runs.Stage.TheVariants.{Asks}
 use Rattle.ss_client.specs.Runs.{MachineView, first_run, is_newer}
-use Rattle.ss_converse.specs.Course.{Account}
+use Rattle.ss_run_sync.specs.Course.{Account}
 use Rattle.ss_words.specs.declared.commands.SyncCommand.{SyncCommand}
 use Rattle.ss_run_sync.specs.declared.linking.Came.{Came}
 use Rattle.ss_run_sync.specs.declared.linking.Came.TheVariants as came

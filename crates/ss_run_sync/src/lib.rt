@@ -1,15 +1,19 @@
 //! A device's sync with an account of a server: the command `sync`. It reads the device's file, sends the machine's
 //! requests over as many links as it takes, saves the device and says in one line how it went; it stands on
-//! ss_converse, ss_device_file and ss_words. Its contract: what was dialled, written, read and saved, the line that was
+//! ss_client, ss_device_file and ss_words. Over one link each request follows the response before, until the run ends
+//! or the link does. Its contract: what was dialled, written, read and saved, the line that was
 //! printed, and the cause of the status.
 #![tactic(auto)]
 
+mod asking;
+mod conversing;
 mod files;
 mod lines;
 mod linking;
 mod naming;
 mod reports;
 mod running;
+mod talk;
 
 pub use linking::Came;
 pub use reports::Trouble;

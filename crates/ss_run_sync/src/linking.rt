@@ -8,8 +8,9 @@ ghost use Rattle.ss_run_sync.specs.declared.linking.Leg.TheVariants.{End};
 ghost use Rattle.ss_links.specs.Links.{IsUnused};
 ghost use Rattle.ss_links.specs.Dials.{Address, IsBehind};
 
+use crate::conversing::converse;
+use crate::talk::Talk;
 use ss_client::{Machine, Summary, SyncFault};
-use ss_converse::{Talk, converse};
 use ss_device::Device;
 use ss_links::{Dial, DialFault};
 use ss_query::Request;

@@ -1,6 +1,6 @@
 use Rattle.std.proofs.Common.{◌≡◌, ◌≤◌, ◌+◌, ◌*◌, ◌++◌, ◌∷◌, [], sym, ap, ap₂, ◌∙◌, refl, arith}
-use Rattle.ss_script.specs.Draws.{drawn, drawn_after}
-use Rattle.ss_script.specs.Bookmarks.{bookmark, root_of}
+use Rattle.ss_rehearse.specs.Draws.{drawn, drawn_after}
+use Rattle.ss_rehearse.specs.Bookmarks.{bookmark, root_of}
 use Rattle.ss_world.specs.declared.events.Edit.TheVariants as edit
 use Rattle.ss_rehearse.specs.Scripts.{addition, additions}
 use Rattle.ss_rehearse.proofs.Changes.{additions_more, change_idle, changed_none, drawn_more, more}

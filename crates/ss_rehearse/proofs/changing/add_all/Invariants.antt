@@ -1,5 +1,5 @@
 use Rattle.std.proofs.Common.{◌≡◌, ◌≤◌, ◌+◌, ◌*◌, List}
-use Rattle.ss_script.specs.Draws.{drawn}
+use Rattle.ss_rehearse.specs.Draws.{drawn}
 use Rattle.ss_world.specs.Happening.{Step}
 use Rattle.ss_rehearse.specs.Scripts.{additions}
 use Rattle.ss_rehearse.specs.Plays.{IsChanged}

@@ -1,4 +1,0 @@
-pub mod Moving
-pub mod Coursing
-pub mod OneRequest
-pub mod Talking

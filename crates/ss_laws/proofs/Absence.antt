@@ -86,7 +86,7 @@ found account (Put collection id fields x) e = refl
 found account (DeleteItem collection id x) e = is_found (row_at collection id account.rows) e
 
 -- the status of an outcome
-status_told : Request → Option Refusal → ℕ
+abbrev status_told : Request → Option Refusal → ℕ
 status_told request None = ok_status request
 status_told request (Some why) = status_of why
 
@@ -138,11 +138,10 @@ not_stopped request false false false false true e is = omega (arith, is)
 not_stopped request false false false false false true is = omega (arith, is)
 not_stopped request false false false false false false is = no_status request is
 
-status_by : (account : Plain) (request : Request) → ℕ
+abbrev status_by : (account : Plain) (request : Request) → ℕ
 status_by account request = (outcome account (with_condition IfAbsent request) (refusal account (with_condition IfAbsent request))).reply.status
 
 status_said : (account : Plain) (request : Request) → status_by account request ≡ status_told request (refused_by account request (option_map why_stopped (cond (is_there account request) (Some 412) None)))
-unfolding status_by
 status_said account request = status_is account IfAbsent request (refusal account (with_condition IfAbsent request)) ∙ ap (status_told request) (by_cause account IfAbsent request)
 
 stops_there : (account : Plain) (request : Request) (there : Bool) → is_there account request ≡ there
@@ -156,7 +155,6 @@ stops_there account request false is = (
 )
 
 pub absence_law : (account : Plain) (now : ℕ) (request : Request) → AbsenceLaw account now request
-unfolding status_by
 absence_law account now request =
     let ticked : Plain = tick account now in
     let said = status_said ticked request in

@@ -18,11 +18,11 @@ use Rattle.ss_record.proofs.Numbers.{exact_number}
 
 -- ---- the pieces of a compact text, before others
 
-abbrev lead : Bool → List Piece → List Piece
+abbrev pub lead : Bool → List Piece → List Piece
 lead later ps = cond later (byte 44 ∷ ps) ps
 
 abbrev mutual
-  cuts : Data → List Piece → List Piece
+  pub cuts : Data → List Piece → List Piece
   cuts null ps = byte 110 ∷ byte 117 ∷ byte 108 ∷ byte 108 ∷ ps
   cuts (boolean true) ps = byte 116 ∷ byte 114 ∷ byte 117 ∷ run (101 ∷ []) ∷ ps
   cuts (boolean false) ps = byte 102 ∷ byte 97 ∷ byte 108 ∷ byte 115 ∷ run (101 ∷ []) ∷ ps
@@ -31,11 +31,11 @@ abbrev mutual
   cuts (array ds) ps = byte 91 ∷ items_cuts false ds ps
   cuts (object ms) ps = byte 123 ∷ members_cuts false ms ps
 
-  items_cuts : Bool → Items → List Piece → List Piece
+  pub items_cuts : Bool → Items → List Piece → List Piece
   items_cuts later no_items ps = byte 93 ∷ ps
   items_cuts later (item d ds) ps = lead later (cuts d (items_cuts true ds ps))
 
-  members_cuts : Bool → Members → List Piece → List Piece
+  pub members_cuts : Bool → Members → List Piece → List Piece
   members_cuts later no_members ps = byte 125 ∷ ps
   members_cuts later (member k d ms) ps = lead later (text (escape k) ∷ byte 58 ∷ cuts d (members_cuts true ms ps))
 
@@ -153,9 +153,10 @@ mutual
 nothing_ok : Follow []
 nothing_ok = record { begin = record { whole = tt; cut = tt; back = refl }; fresh = refl; fresh_unmarked = refl }
 
+pub plain_cuts : (d : Data) → is_plain d ≡ true → pieces outside (compact_text d) ≡ cuts d []
+plain_cuts d h = ap (pieces outside) (sym (cuts_spelled d [] ∙ append-nil (compact_text d))) ∙ recut (cuts d []) (value_ok d h [] nothing_ok).whole
+
 pub marked_plain : (d : Data) → is_plain d ≡ true → marked (plain_text d) ≡ compact_text d
 marked_plain d h =
     let ok = value_ok d h [] nothing_ok in
-    let spell : flat_map spelled (cuts d []) ≡ compact_text d = cuts_spelled d [] ∙ append-nil (compact_text d) in
-    let cut : pieces outside (compact_text d) ≡ cuts d [] = ap (pieces outside) (sym spell) ∙ recut (cuts d []) ok.whole in
-    ap (λ ps. marked (flat_map spelled (all_unmarked ps))) cut ∙ marked-unmarked (cuts d []) ok.cut ok.back ∙ spell
+    ap (λ ps. marked (flat_map spelled (all_unmarked ps))) (plain_cuts d h) ∙ marked-unmarked (cuts d []) ok.cut ok.back ∙ cuts_spelled d [] ∙ append-nil (compact_text d)

@@ -18,7 +18,7 @@ use Rattle.serde_json.specs.View.{view, members_view}
 use Rattle.serde_json.proofs.Views.{Entry}
 use Rattle.ss_record.specs.Ids.{has, places, roots}
 use Rattle.ss_record.specs.Kinds.{is_folder, kind_of}
-use Rattle.ss_record.specs.Payloads.{without, lacks, is_string, is_true, payload_members}
+use Rattle.ss_record.specs.Payloads.{is_json, without, lacks, is_string, is_true, payload_members}
 use Rattle.ss_record.specs.Records.{parentid_of, children_of, item_of, members_reading, reading}
 use Rattle.ss_record.specs.Marks.{said_text, string_of, is_plain_number, is_plain, items_plain, members_plain, plain_text}
 use Rattle.ss_record.proofs.Sorted.{Below, MembersSorted}
@@ -43,8 +43,12 @@ payload_parts text ms e = (r.1 ∙ ap Some l.0, l.1, l.2)
     low d true false q k f = cc
     low d false c q k f = cc
 
+    tested : (b : Bool) (o : Option Members) → cond b o None ≡ Some ms → o ≡ Some ms
+    tested true o f = f
+    tested false o f = cc
+
     r : (d : Data) × (read (marked text) ≡ Some d) × (cond (nat_le (depth d) 126 && is_plain d) (as_object d) None ≡ Some ms)
-    r = and_then_some (λ d. cond (nat_le (depth d) 126 && is_plain d) (as_object d) None) (read (marked text)) ms e
+    r = and_then_some (λ d. cond (nat_le (depth d) 126 && is_plain d) (as_object d) None) (read (marked text)) ms (tested (is_json text) _ e)
 
     l : (r.0 ≡ object ms) × (depth (object ms) ≤ 126) × (members_plain ms ≡ true)
     l = low r.0 (nat_le (depth r.0) 126) (is_plain r.0) refl refl r.2

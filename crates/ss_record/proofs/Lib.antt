@@ -2,6 +2,7 @@ pub mod IdLists
 pub mod Strings
 pub mod Numbers
 pub mod Back
+pub mod PlainJson
 pub mod OfId
 pub mod Texts
 pub mod Sorted

@@ -2,10 +2,11 @@
 use Rattle.std.proofs.Common.{◌≡◌, ℕ, zero, suc, ◌<◌, ◌≤◌, List, [], ◌∷◌, ◌++◌, length, take, drop, Bool, true, false, not, cond, ◌&&◌, ◌||◌, ◌==◌, ◌⊎◌, inl, inr, refl, sym, ap, ap₂, ◌∙◌, subst, arith, Option, Some, None, is_some, bytes_eq}
 use Rattle.std.proofs.lemmas.Bool.{and_parts, false≢true, true≢false, eqb-true, cases_eq, cases_lt, ne_eqb}
 use Rattle.std.specs.List.{list_all}
-use Rattle.json.specs.Print.{escape_byte, escape, IsNumber}
+use Rattle.json.specs.Print.{escape_byte, escape, token_text, IsNumber}
+use Rattle.json.specs.Token.{Token}
 use Rattle.json.specs.Word.{after_number}
 use Rattle.json.proofs.Printed.Strings.{escape_byte_plain}
-use Rattle.ss_text.specs.Decimals.{Piece, run, text, is_number_byte, is_all, is_inexact, is_decimal, escape_mark, begins_marked as raw_marked, marked_piece, unmarked_piece}
+use Rattle.ss_text.specs.Decimals.{Piece, run, text, spelled, is_number_byte, is_all, is_inexact, is_decimal, escape_mark, begins_marked as raw_marked, marked_piece, unmarked_piece}
 use Rattle.ss_text.proofs.Pieces.{begins_run, Cut}
 use Rattle.ss_text.proofs.Marks.{run_unmarked}
 use Rattle.ss_text.proofs.Printed.{escape_raw}
@@ -136,31 +137,39 @@ decimal_number r h = all_is (after_number r) (and_parts (is_inexact r) (is_all (
 
 -- ---- a string unmarked, and marked again
 
+-- the token that a string is where its marks are undone
+abbrev pub told_token : Option (List ℕ) → List ℕ → Token
+told_token None s = Token.number (drop 1 s)
+told_token (Some t) s = Token.string t
+
 pub record Unmarks (s : List ℕ) : Type 0 where
   pub cut : (ps : List Piece) → begins_run ps ≡ false → Cut ps → Cut (unmarked_piece (text (escape s)) ∷ ps)
   pub back : marked_piece (unmarked_piece (text (escape s))) ≡ text (escape s)
+  pub told : spelled (unmarked_piece (text (escape s))) ≡ token_text (told_token (said_text s) s)
 
-as_it_is : (s : List ℕ) → raw_marked (escape s) ≡ false → Unmarks s
-as_it_is s e =
+as_it_is : (s : List ℕ) → raw_marked (escape s) ≡ false → said_text s ≡ Some s → Unmarks s
+as_it_is s e said =
     let same : unmarked_piece (text (escape s)) ≡ text (escape s) = ap (λ b. cond b (cond (raw_marked (drop 6 (escape s))) (text (drop 6 (escape s))) (run (drop 6 (escape s)))) (text (escape s))) e in
     record {
       cut = λ ps h c. subst (λ p. Cut (p ∷ ps)) (sym same) (escape_raw s, c);
       back = ap marked_piece same ∙ ap (λ b. cond b (text (escape_mark ++ escape s)) (text (escape s))) e;
+      told = ap spelled same ∙ ap (λ o. token_text (told_token o s)) (sym said);
     }
 
 -- behind the mark: another mark, or a decimal
-marked_text : (s : List ℕ) → raw_marked (escape s) ≡ true → Unmarks (1 ∷ s)
-unfolding escape_byte
-marked_text s e =
+marked_text : (s : List ℕ) → raw_marked (escape s) ≡ true → begins_marked s ≡ true → Unmarks (1 ∷ s)
+unfolding escape_byte said_text
+marked_text s e begins =
     let same : unmarked_piece (text (escape_mark ++ escape s)) ≡ text (escape s) = ap (λ b. cond b (text (escape s)) (run (escape s))) e in
     record {
       cut = λ ps h c. subst (λ p. Cut (p ∷ ps)) (sym same) (escape_raw s, c);
       back = ap marked_piece same ∙ ap (λ b. cond b (text (escape_mark ++ escape s)) (text (escape s))) e;
+      told = ap spelled same ∙ ap (λ b. token_text (told_token (cond b (Some s) None) (1 ∷ s))) (sym begins);
     }
 
-marked_number : (s : List ℕ) → is_decimal s ≡ true → Unmarks (1 ∷ s)
-unfolding escape_byte
-marked_number s d =
+marked_number : (s : List ℕ) → is_decimal s ≡ true → begins_marked s ≡ false → Unmarks (1 ∷ s)
+unfolding escape_byte said_text
+marked_number s d begins =
     let number = decimal_number s d in
     let bytes = number_bytes s number in
     let written = escape_number s bytes in
@@ -169,6 +178,7 @@ marked_number s d =
     record {
       cut = λ ps h c. subst (λ p. Cut (p ∷ ps)) (sym same) (bytes, some_front s number, h, c);
       back = ap marked_piece same ∙ ap (λ b. cond b (text (escape_mark ++ s)) (run s)) d ∙ ap (λ t. text (escape_mark ++ t)) (sym written);
+      told = ap spelled same ∙ ap (λ b. token_text (told_token (cond b (Some s) None) (1 ∷ s))) (sym begins);
     }
 
 marked_first : (s : List ℕ) → begins_marked s ≡ true → raw_marked (escape s) ≡ true
@@ -178,13 +188,13 @@ marked_first (x ∷ s) h = ap (λ y. raw_marked (escape (y ∷ s))) (eqb-true x 
 
 pub unmarks : (s : List ℕ) → is_string_or_decimal s ≡ true → Unmarks s
 unfolding is_string_or_decimal said_text
-unmarks [] h = as_it_is [] refl
+unmarks [] h = as_it_is [] refl refl
 unmarks (x ∷ s) h = go (x == 1) refl h
   where
     behind : (b : Bool) → begins_marked s ≡ b → (is_some (cond b (Some s) None) || is_decimal s) ≡ true → Unmarks (1 ∷ s)
-    behind true e k = marked_text s (marked_first s e)
-    behind false e k = marked_number s k
+    behind true e k = marked_text s (marked_first s e) e
+    behind false e k = marked_number s k e
 
     go : (b : Bool) → (x == 1) ≡ b → (is_some (cond b (cond (begins_marked s) (Some s) None) (Some (x ∷ s))) || is_decimal s) ≡ true → Unmarks (x ∷ s)
     go true e k = subst (λ y. Unmarks (y ∷ s)) (sym (eqb-true x 1 e)) (behind (begins_marked s) refl k)
-    go false e k = as_it_is (x ∷ s) (unmarked_front x s e)
+    go false e k = as_it_is (x ∷ s) (unmarked_front x s e) (ap (λ b. cond b (cond (begins_marked s) (Some s) None) (Some (x ∷ s))) e)

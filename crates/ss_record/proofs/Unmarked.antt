@@ -17,6 +17,7 @@ use Rattle.ss_record.specs.Records.{string_items}
 use Rattle.ss_record.proofs.Texts.{read_compact}
 use Rattle.ss_record.proofs.Strings.{said_marked, string_plain}
 use Rattle.ss_record.proofs.Back.{marked_plain}
+use Rattle.ss_record.proofs.PlainJson.{plain_is_json}
 use Rattle.ss_record.proofs.Sorted.{MembersSorted, HasNumbers-outline, depth-outline, of_json-outline}
 use Rattle.ss_text.proofs.Basics.{same_text}
 
@@ -29,7 +30,8 @@ payload_back ms s h shallow =
     let low : tree.depth (outline (object ms)) ≤ max_depth = let e : tree.depth (outline (object ms)) ≡ depth (object ms) = depth-outline (object ms) in omega arith in
     let value : read (marked (plain_text (object ms))) ≡ Some (object ms) = ap read (marked_plain (object ms) h) ∙ read_compact (object ms) numbers low ∙ of_json-outline (object ms) s h in
     let few : nat_le (depth (object ms)) 126 ≡ true = le-leb (depth (object ms)) 126 shallow in
-    ap (option_and_then (λ d. cond (nat_le (depth d) 126 && is_plain d) (as_object d) None)) value
+    ap (λ b. cond b (option_and_then (λ d. cond (nat_le (depth d) 126 && is_plain d) (as_object d) None) (read (marked (plain_text (object ms))))) None) (plain_is_json (object ms) h shallow)
+    ∙ ap (option_and_then (λ d. cond (nat_le (depth d) 126 && is_plain d) (as_object d) None)) value
     ∙ ap₂ (λ a b. cond (a && b) (Some ms) None) few h
 
 -- ---- the members of a record

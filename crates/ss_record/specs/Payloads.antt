@@ -1,5 +1,6 @@
 -- Payloads as JSON: which are read, and what stands in their members.
-use Rattle.std.specs.Prelude.{◌&&◌, nat_le, ℕ, List, [], ◌∷◌, Bool, true, false, not, if◌then◌else◌, Option, Some, None, option_map, option_and_then, unwrap_or, bytes_eq}
+use Rattle.std.specs.Prelude.{◌&&◌, nat_le, ℕ, List, [], ◌∷◌, Bool, true, false, not, if◌then◌else◌, Option, Some, None, option_map, option_and_then, unwrap_or, is_some, bytes_eq}
+use Rattle.json.specs.Json.{document}
 use Rattle.serde_json.specs.Data.{Data, null, boolean, number, string, array, object, Items, no_items, item, Members, no_members, member, depth}
 use Rattle.serde_json.specs.Read.{read}
 use Rattle.serde_json.specs.Find.{as_object}
@@ -7,10 +8,16 @@ use Rattle.ss_text.specs.Decimals.{marked}
 use Rattle.ss_record.specs.Ids.{has}
 use Rattle.ss_record.specs.Marks.{string_of, is_plain}
 
+-- the text is JSON (RFC 8259); so each name in it is a string, also in a member that a later one of its name replaces
+abbrev pub is_json : List ℕ → Bool
+is_json text = is_some (document text)
+
 -- the members of a text that is a JSON object of at most 126 levels, as its marked text is read: a number that would be
 -- rounded is kept as its characters, behind a mark
 unfoldable pub payload_members : List ℕ → Option Members
-payload_members text = option_and_then (λ d. if nat_le (depth d) 126 && is_plain d then as_object d else None) (read (marked text))
+payload_members text =
+    if is_json text then option_and_then (λ d. if nat_le (depth d) 126 && is_plain d then as_object d else None) (read (marked text))
+    else None
 
 -- ---- members
 

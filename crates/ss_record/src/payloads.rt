@@ -6,9 +6,10 @@ ghost use Rattle.serde_json.specs.Find.{get_member, as_object};
 ghost use Rattle.serde_json.specs.Read.{read};
 ghost use Rattle.serde_json.specs.View.{view, items_view, members_view};
 ghost use Rattle.ss_text.specs.Decimals.{marked};
-ghost use Rattle.ss_record.specs.Payloads.{payload_members, strings, string_list, is_string, is_true};
+ghost use Rattle.ss_record.specs.Payloads.{is_json, payload_members, strings, string_list, is_string, is_true};
 
 use crate::marks::{is_plain, string_of};
+use json::Scratch;
 use serde_json::{Map, Value};
 use ss_text::{Word, mark_decimals};
 use std::alloc::{AllocError, Global};
@@ -52,6 +53,14 @@ fn members_fit(members: &Map<String, Value>, levels: usize) -> bool
     true
 }
 
+/// Whether a text is JSON (RFC 8259), so that all names in it are strings. Marking makes strings of numbers, and a value
+/// has lost what stood in a member that a later one of its name replaces, so it is the text itself that is tested.
+fn is_json(alloc: Global, text: &str) -> Result<bool, AllocError>
+    ensures { IfOk result (λ valid. valid ≡ is_json text.now) }
+{
+    json::is_valid(text, &mut Scratch::new(alloc))
+}
+
 /// The value that a text is as JSON, its decimals marked first.
 fn read(alloc: Global, text: &str) -> Result<Option<Value>, AllocError>
     ensures { IfOk result (λ found. option_map view found ≡ read (marked text.now)) }
@@ -87,6 +96,9 @@ pub(crate) fn members_of(
 ) -> Result<Option<Map<String, Value>>, AllocError>
     ensures { IfOk result (λ found. option_map (λ m. members_view m.entries) found ≡ payload_members text.now) }
 {
+    if !is_json(alloc, text)? {
+        return Ok(None);
+    }
     match read(alloc, text)? {
         Some(value) if fits(&value, LEVELS) && is_plain(&value) => Ok(into_members(value)),
         _ => Ok(None),

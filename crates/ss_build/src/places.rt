@@ -7,11 +7,12 @@ ghost use Rattle.ss_build.specs.Places.{place};
 
 use crate::claims::Claim;
 use indexmap::IndexSet;
+use ss_seed::Seed;
 use ss_text::{Id, Word};
 use std::alloc::{AllocError, Global};
 
 /// The ids of the items, in the order of their list: each has its place as its index.
-pub(crate) type Places = IndexSet<Word>;
+pub(crate) type Places = IndexSet<Word, Seed>;
 
 pub(crate) fn word_of(alloc: Global, text: &str) -> Result<Word, AllocError>
     ensures { IfOk result (λ word. word ≡ text.now) }
@@ -48,7 +49,7 @@ pub(crate) fn ids_of(alloc: Global, claims: &[Claim]) -> Result<Places, AllocErr
     requires { Apart (ids claims.now) }
     ensures { IfOk result (λ places. places.keys ≡ ids claims.now) }
 {
-    let mut places = IndexSet::with_capacity(alloc, claims.len())?;
+    let mut places = IndexSet::with_capacity_and_hasher(alloc, claims.len(), Seed::random())?;
     for claim in claims {
         places.insert(word_of(alloc, claim.item.id().as_str())?)?;
     }

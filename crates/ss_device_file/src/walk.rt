@@ -11,6 +11,7 @@ ghost use Rattle.ss_device_file.specs.Files.{IsMisplaced};
 use crate::faults::DeviceFault;
 use crate::lines::ItemLine;
 use indexmap::IndexSet;
+use ss_seed::Seed;
 use ss_text::Id;
 use std::alloc::{AllocError, Global};
 
@@ -43,7 +44,7 @@ fn push_children(
 fn step(
     alloc: Global,
     waiting: &mut Vec<Waiting>,
-    met: &mut IndexSet<Id>,
+    met: &mut IndexSet<Id, Seed>,
     line: &ItemLine,
 ) -> Result<bool, AllocError>
     ensures right { IfOk result (λ right. right ≡ comes_next (seats_on waiting.old.items) met.old.keys line.now) }
@@ -116,7 +117,7 @@ pub(crate) fn check_places(alloc: Global, items: &[ItemLine]) -> Result<(), Devi
     ensures wrong { IfErr result (λ fault. IsMisplaced items.now fault) }
 {
     let mut waiting = roots(alloc)?;
-    let mut met = IndexSet::with_capacity(alloc, items.len())?;
+    let mut met = IndexSet::with_capacity_and_hasher(alloc, items.len(), Seed::random())?;
     for line in items {
         if !step(alloc, &mut waiting, &mut met, line)? {
             let id = line.item.id().copy(alloc)?;

@@ -10,6 +10,7 @@ ghost use Rattle.ss_dupe.specs.News.{AreApart, news_of};
 use crate::keys::key_of;
 use crate::plains::Plains;
 use crate::sides::Side;
+use ss_seed::Seed;
 use ss_text::{Id, Word};
 use std::alloc::{AllocError, Global};
 use std::collections::HashMap;
@@ -50,7 +51,7 @@ pub(crate) fn news_of(
     ensures { IfOk result (λ news. news.items ≡ news_of (view plains.now) side parent.now) }
 {
     let mut news = Vec::new(alloc);
-    let mut counts: HashMap<Word, usize> = HashMap::new(alloc);
+    let mut counts: HashMap<Word, usize, Seed> = HashMap::with_hasher(alloc, plains.seed());
     let Some(seat) = plains.of(side).get(parent) else {
         return Ok(news);
     };

@@ -8,6 +8,7 @@ ghost use Rattle.ss_dupe.specs.Plains.{AreIds, look_of, placed_at};
 ghost use Rattle.ss_dupe.specs.Reading.{ids_at, name_at};
 
 use ss_record::Item;
+use ss_seed::Seed;
 use ss_text::{Id, Stamp};
 use ss_tree::{Node, Tree};
 use std::alloc::{AllocError, Global};
@@ -26,7 +27,7 @@ pub struct Seat<'a> {
 /// A tree that was read out: each item in its place by its id, and the ids.
 #[derive(Drop)]
 pub struct PlainTree<'a> {
-    pub seats: HashMap<Id, Seat<'a>>,
+    pub seats: HashMap<Id, Seat<'a>, Seed>,
     pub ids: Vec<Id>,
 }
 
@@ -90,7 +91,7 @@ impl<'a> PlainTree<'a> {
         ensures ids { result.ids.items ≡ [] }
     {
         PlainTree {
-            seats: HashMap::new(alloc),
+            seats: HashMap::with_hasher(alloc, Seed::random()),
             ids: Vec::new(alloc),
         }
     }

@@ -12,6 +12,7 @@ ghost use Rattle.ss_dupe.specs.Shapes.{AreShaped};
 
 use crate::plain::PlainTree;
 use crate::sides::Side;
+use ss_seed::Seed;
 use ss_text::{Id, Ids};
 use ss_tree::Sides;
 use std::alloc::{AllocError, Global};
@@ -23,16 +24,16 @@ pub struct Plains<'a> {
     pub mirror: PlainTree<'a>,
     pub local: PlainTree<'a>,
     pub remote: PlainTree<'a>,
-    pub local_dead: HashSet<Id>,
-    pub remote_dead: HashSet<Id>,
+    pub local_dead: HashSet<Id, Seed>,
+    pub remote_dead: HashSet<Id, Seed>,
 }
 
 /// The set of some ids.
 #[tactic(auto, unfolding(ss_record::specs::Ids::has))]
-fn set_of(alloc: Global, ids: &Ids) -> Result<HashSet<Id>, AllocError>
+fn set_of(alloc: Global, ids: &Ids) -> Result<HashSet<Id, Seed>, AllocError>
     ensures { IfOk result (λ set. (x : Text) → contains_by (bytes_eq x) set ≡ has x ids.now) }
 {
-    let mut set = HashSet::new(alloc);
+    let mut set = HashSet::with_hasher(alloc, Seed::random());
     for id in ids.as_slice() {
         set.insert(id.copy(alloc)?)?;
     }
@@ -56,6 +57,11 @@ impl<'a> Plains<'a> {
             local_dead: set_of(alloc, sides.local_dead)?,
             remote_dead: set_of(alloc, sides.remote_dead)?,
         })
+    }
+
+    /// The seed of what is made for these sides.
+    pub fn seed(&self) -> Seed {
+        *self.local.seats.hasher()
     }
 
     /// A side's tree.

@@ -15,19 +15,24 @@ ghost use Rattle.ss_dupe.specs.News.{Adds, HasNew, has_pair, is_shared, same_mar
 use crate::news::{Mark, New, news_of};
 use crate::plains::Plains;
 use crate::sides::Side;
+use ss_seed::Seed;
 use ss_text::Id;
 use ss_tree::Sides;
 use std::alloc::{AllocError, Global};
 use std::collections::{BTreeMap, HashMap};
 
 /// New items by what tells them apart.
-fn index_of(alloc: Global, news: Vec<New>) -> Result<HashMap<Mark, Id>, AllocError>
+fn index_of(
+    alloc: Global,
+    seed: Seed,
+    news: Vec<New>,
+) -> Result<HashMap<Mark, Id, Seed>, AllocError>
     ensures found { IfOk result (λ index. (m : Sign) → (x : Text) → get same_mark index m ≡ Some x
         → HasNew m x news.items) }
     ensures all { IfOk result (λ index. (m : Sign) → (x : Text) → HasNew m x news.items
         → is_some (get same_mark index m) ≡ true) }
 {
-    let mut index = HashMap::new(alloc);
+    let mut index = HashMap::with_hasher(alloc, seed);
     for new in news {
         index.insert(new.mark, new.id)?;
     }
@@ -45,7 +50,11 @@ fn like_children(
     ensures { IfOk result (λ pairs. (l : Text) → (r : Text) → (has_pair l r pairs.items
         ≡ true) ↔ AreAlike (view plains.now) l r local.now remote.now) }
 {
-    let index = index_of(alloc, news_of(alloc, plains, Side::Remote, remote)?)?;
+    let index = index_of(
+        alloc,
+        plains.seed(),
+        news_of(alloc, plains, Side::Remote, remote)?,
+    )?;
     let mut pairs = Vec::new(alloc);
     for new in news_of(alloc, plains, Side::Local, local)? {
         if let Some(id) = index.get(&new.mark) {

@@ -15,13 +15,14 @@ use crate::survivors::{content_of, side_of, survives};
 use ss_build::Claim;
 use ss_dupe::{Plains, Side};
 use ss_record::{Item, ItemFault, Words, is_root};
+use ss_seed::Seed;
 use ss_text::{Id, Stamp, Word};
 use std::alloc::{AllocError, Global};
 use std::collections::HashMap;
 
 /// Whether an item survives, is no root, and has this parent.
 #[tactic(auto, unfolding(crate::specs::Links::is_under, ss_dupe::specs::Looks::is_root))]
-fn is_under(plains: &Plains, finals: &HashMap<Id, Id>, parent: &Id, id: &Id) -> bool
+fn is_under(plains: &Plains, finals: &HashMap<Id, Id, Seed>, parent: &Id, id: &Id) -> bool
     ensures { result ≡ is_under (view plains.now) (get bytes_eq finals.now) parent.now id.now }
 {
     if !survives(plains, id) || is_root(id) {
@@ -43,7 +44,7 @@ fn word_of(alloc: Global, id: &Id) -> Result<Word, AllocError>
 fn push_children(
     alloc: Global,
     plains: &Plains,
-    finals: &HashMap<Id, Id>,
+    finals: &HashMap<Id, Id, Seed>,
     parent: &Id,
     from: &[Id],
     children: &mut Vec<Word>,
@@ -76,7 +77,7 @@ fn children_on<'p>(plains: &'p Plains<'_>, side: Side, id: &Id) -> &'p [Id]
 fn children_of(
     alloc: Global,
     plains: &Plains,
-    finals: &HashMap<Id, Id>,
+    finals: &HashMap<Id, Id, Seed>,
     id: &Id,
 ) -> Result<Words, AllocError>
     ensures { IfOk result (λ children. children ≡ filter (is_under (view plains.now) (get bytes_eq finals.now) id.now)
@@ -118,7 +119,7 @@ fn item_of(alloc: Global, plains: &Plains, id: &Id) -> Result<Item, AllocError>
 
 /// The parent that an item claims; none of a root.
 #[tactic(auto, unfolding(ss_dupe::specs::Looks::is_root))]
-fn parentid_of(alloc: Global, finals: &HashMap<Id, Id>, id: &Id) -> Result<Option<Word>, AllocError>
+fn parentid_of(alloc: Global, finals: &HashMap<Id, Id, Seed>, id: &Id) -> Result<Option<Word>, AllocError>
     ensures { IfOk result (λ parent. parent ≡ (if is_root id.now then None else get bytes_eq finals.now id.now)) }
 {
     if is_root(id) {
@@ -135,7 +136,7 @@ fn parentid_of(alloc: Global, finals: &HashMap<Id, Id>, id: &Id) -> Result<Optio
 fn claim_of(
     alloc: Global,
     plains: &Plains,
-    finals: &HashMap<Id, Id>,
+    finals: &HashMap<Id, Id, Seed>,
     id: &Id,
 ) -> Result<Claim, AllocError>
     requires shaped { AreShaped (view plains.now) }
@@ -154,7 +155,7 @@ fn claim_of(
 pub(crate) fn claims_of(
     alloc: Global,
     plains: &Plains,
-    finals: &HashMap<Id, Id>,
+    finals: &HashMap<Id, Id, Seed>,
     ids: &[Id],
 ) -> Result<Vec<Claim>, AllocError>
     requires { AreShaped (view plains.now) }

@@ -8,6 +8,7 @@ ghost use Rattle.ss_dupe.specs.Plains.{AreIds, view};
 ghost use Rattle.ss_merge.specs.Links.{IsGathered};
 
 use ss_dupe::Plains;
+use ss_seed::Seed;
 use ss_text::Id;
 use std::alloc::{AllocError, Global};
 use std::collections::HashSet;
@@ -16,7 +17,7 @@ use std::collections::HashSet;
 fn add_id(
     alloc: Global,
     id: &Id,
-    seen: &mut HashSet<Id>,
+    seen: &mut HashSet<Id, Seed>,
     ids: &mut Vec<Id>,
 ) -> Result<(), AllocError>
     ensures ids { OnOk result (ids.new.items ≡ (if contains_by (bytes_eq id.now) seen.old then ids.old.items else
@@ -36,7 +37,7 @@ fn add_id(
 fn add_ids(
     alloc: Global,
     from: &[Id],
-    seen: &mut HashSet<Id>,
+    seen: &mut HashSet<Id, Seed>,
     ids: &mut Vec<Id>,
 ) -> Result<(), AllocError>
     requires { IsGathered (λ x. contains_by (bytes_eq x) seen.old) ids.old.items }
@@ -56,7 +57,7 @@ pub(crate) fn all_ids(alloc: Global, plains: &Plains) -> Result<Vec<Id>, AllocEr
     ensures { IfOk result (λ ids. (all : List Text) → Apart all → ((x : Text)
         → has x all ≡ (is_in (view plains.now).local x || is_in (view plains.now).remote x)) → ids.items ≡ by_id all) }
 {
-    let mut seen = HashSet::new(alloc);
+    let mut seen = HashSet::with_hasher(alloc, plains.seed());
     let mut ids = Vec::new(alloc);
     add_ids(alloc, &plains.local.ids, &mut seen, &mut ids)?;
     add_ids(alloc, &plains.remote.ids, &mut seen, &mut ids)?;

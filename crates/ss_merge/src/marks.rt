@@ -6,7 +6,8 @@ ghost use Rattle.ss_record.specs.Ids.{has};
 ghost use Rattle.ss_dupe.specs.Looks.{Id as Text};
 ghost use Rattle.ss_merge.specs.Ways.{AreMarks, HasShape, StaysIn, Told, Walked, nearest_on};
 
-use crate::ways::{Way, is_goal, next};
+use crate::ways::{Way, is_goal, next, seed_of};
+use ss_seed::Seed;
 use ss_text::Id;
 use std::alloc::{AllocError, Global};
 use std::collections::HashMap;
@@ -27,7 +28,7 @@ fn walk(
     way: &Way,
     ids: &[Id],
     id: &Id,
-    marks: &mut HashMap<Id, Option<Id>>,
+    marks: &mut HashMap<Id, Option<Id>, Seed>,
     path: &mut Vec<Id>,
 ) -> Result<Option<Id>, AllocError>
     requires shape { HasShape way.now }
@@ -61,7 +62,7 @@ fn mark_path(
     alloc: Global,
     path: &[Id],
     goal: &Id,
-    marks: &mut HashMap<Id, Option<Id>>,
+    marks: &mut HashMap<Id, Option<Id>, Seed>,
 ) -> Result<(), AllocError>
     ensures { OnOk result (Told (get bytes_eq marks.old) (get bytes_eq marks.new) path.now (Some goal.now)) }
 {
@@ -77,7 +78,7 @@ fn mark(
     way: &Way,
     ids: &[Id],
     id: &Id,
-    marks: &mut HashMap<Id, Option<Id>>,
+    marks: &mut HashMap<Id, Option<Id>, Seed>,
 ) -> Result<(), AllocError>
     requires shape { HasShape way.now }
     requires inside { StaysIn way.now ids.now }
@@ -101,13 +102,13 @@ pub(crate) fn nearest_of(
     alloc: Global,
     way: &Way,
     ids: &[Id],
-) -> Result<HashMap<Id, Option<Id>>, AllocError>
+) -> Result<HashMap<Id, Option<Id>, Seed>, AllocError>
     requires shape { HasShape way.now }
     requires inside { StaysIn way.now ids.now }
     ensures { IfOk result (λ marks. (x : Text) → has x ids.now ≡ true → get bytes_eq marks x
         ≡ Some (nearest_on way.now (length ids.now) x)) }
 {
-    let mut marks = HashMap::new(alloc);
+    let mut marks = HashMap::with_hasher(alloc, seed_of(way));
     for id in ids {
         mark(alloc, way, ids, id, &mut marks)?;
     }

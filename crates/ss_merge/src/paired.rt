@@ -13,17 +13,22 @@ ghost use Rattle.ss_dupe.specs.Sides.{asked};
 ghost use Rattle.ss_merge.specs.Links.{AreNames, IsRenamed, TakesIn, by_map, look_by};
 
 use ss_dupe::{PlainTree, Plains, Seat, pair_read};
+use ss_seed::Seed;
 use ss_text::Id;
 use ss_tree::Sides;
 use std::alloc::{AllocError, Global};
 use std::collections::HashMap;
 
 /// The remote id of each local id that is in a pair.
-fn names_of(alloc: Global, pairs: &[(Id, Id)]) -> Result<HashMap<Id, Id>, AllocError>
+fn names_of(
+    alloc: Global,
+    seed: Seed,
+    pairs: &[(Id, Id)],
+) -> Result<HashMap<Id, Id, Seed>, AllocError>
     requires { Apart (map (λ p. p.0) pairs.now) }
     ensures { IfOk result (λ names. (x : Text) → get bytes_eq names x ≡ lookup (bytes_eq x) pairs.now) }
 {
-    let mut names = HashMap::new(alloc);
+    let mut names = HashMap::with_hasher(alloc, seed);
     for pair in pairs {
         names.insert(pair.0.copy(alloc)?, pair.1.copy(alloc)?)?;
     }
@@ -31,7 +36,7 @@ fn names_of(alloc: Global, pairs: &[(Id, Id)]) -> Result<HashMap<Id, Id>, AllocE
 }
 
 /// The name that an id gets; it stays where it gets none.
-fn name_of(alloc: Global, names: &HashMap<Id, Id>, id: Id) -> Result<Id, AllocError>
+fn name_of(alloc: Global, names: &HashMap<Id, Id, Seed>, id: Id) -> Result<Id, AllocError>
     ensures { IfOk result (λ name. name ≡ by_map (get bytes_eq names.now) id) }
 {
     match names.get(&id) {
@@ -42,7 +47,7 @@ fn name_of(alloc: Global, names: &HashMap<Id, Id>, id: Id) -> Result<Id, AllocEr
 
 fn name_of_parent(
     alloc: Global,
-    names: &HashMap<Id, Id>,
+    names: &HashMap<Id, Id, Seed>,
     parent: Option<Id>,
 ) -> Result<Option<Id>, AllocError>
     ensures { IfOk result (λ name. name ≡ option_map (by_map (get bytes_eq names.now)) parent) }
@@ -53,7 +58,7 @@ fn name_of_parent(
     }
 }
 
-fn names_of_all(alloc: Global, names: &HashMap<Id, Id>, ids: Vec<Id>) -> Result<Vec<Id>, AllocError>
+fn names_of_all(alloc: Global, names: &HashMap<Id, Id, Seed>, ids: Vec<Id>) -> Result<Vec<Id>, AllocError>
     ensures { IfOk result (λ found. found.items ≡ map (by_map (get bytes_eq names.now)) ids.items) }
 {
     let mut found = Vec::with_capacity(alloc, ids.len())?;
@@ -66,7 +71,7 @@ fn names_of_all(alloc: Global, names: &HashMap<Id, Id>, ids: Vec<Id>) -> Result<
 /// An item in its place, by other names.
 fn rename_seat<'a>(
     alloc: Global,
-    names: &HashMap<Id, Id>,
+    names: &HashMap<Id, Id, Seed>,
     seat: Seat<'a>,
 ) -> Result<Seat<'a>, AllocError>
     ensures { IfOk result (λ named. placed_at named ≡ renamed_item (by_map (get bytes_eq names.now))
@@ -91,10 +96,10 @@ fn rename_seat<'a>(
 /// Moves the item of an id, where there is one, from its tree to that of other names.
 fn move_seat<'a>(
     alloc: Global,
-    names: &HashMap<Id, Id>,
+    names: &HashMap<Id, Id, Seed>,
     id: &Id,
-    rest: &mut HashMap<Id, Seat<'a>>,
-    named: &mut HashMap<Id, Seat<'a>>,
+    rest: &mut HashMap<Id, Seat<'a>, Seed>,
+    named: &mut HashMap<Id, Seat<'a>, Seed>,
 ) -> Result<(), AllocError>
     ensures rest { OnOk result ((x : Text) → get bytes_eq rest.new x ≡
         (if bytes_eq id.now x then None else get bytes_eq rest.old x)) }
@@ -114,17 +119,17 @@ fn move_seat<'a>(
 /// The items of some ids, which are all that there are, by other names.
 fn rename_seats<'a>(
     alloc: Global,
-    names: &HashMap<Id, Id>,
-    seats: HashMap<Id, Seat<'a>>,
+    names: &HashMap<Id, Id, Seed>,
+    seats: HashMap<Id, Seat<'a>, Seed>,
     ids: &[Id],
-) -> Result<HashMap<Id, Seat<'a>>, AllocError>
+) -> Result<HashMap<Id, Seat<'a>, Seed>, AllocError>
     requires ids { (x : Text) → has x ids.now ≡ is_in (look_by (get bytes_eq seats)) x }
     requires names { AreNames (look_by (get bytes_eq seats)) (by_map (get bytes_eq names.now)) }
     ensures { IfOk result (λ named. IsRenamed (look_by (get bytes_eq seats.entry)) (by_map (get bytes_eq names.now))
         (look_by (get bytes_eq named))) }
 {
+    let mut named = HashMap::with_hasher(alloc, *seats.hasher());
     let mut rest = seats;
-    let mut named = HashMap::new(alloc);
     for id in ids {
         move_seat(alloc, names, id, &mut rest, &mut named)?;
     }
@@ -134,7 +139,7 @@ fn rename_seats<'a>(
 /// A tree that was read out, by other names. Its items and ids are moved there; only the names are copied.
 fn rename<'a>(
     alloc: Global,
-    names: &HashMap<Id, Id>,
+    names: &HashMap<Id, Id, Seed>,
     plain: PlainTree<'a>,
 ) -> Result<PlainTree<'a>, AllocError>
     requires ids { AreIds plain }
@@ -167,7 +172,7 @@ pub(crate) fn read_paired<'a>(alloc: Global, sides: &Sides<'a>) -> Result<Paired
 {
     let read = Plains::read(alloc, sides)?;
     let renamed = pair_read(alloc, &read)?;
-    let names = names_of(alloc, &renamed)?;
+    let names = names_of(alloc, read.seed(), &renamed)?;
     let Plains {
         mirror,
         local,

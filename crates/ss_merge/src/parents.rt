@@ -18,6 +18,7 @@ use crate::survivors::side_of;
 use crate::ways::Way;
 use ss_dupe::{Plains, Side};
 use ss_record::is_root;
+use ss_seed::Seed;
 use ss_text::Id;
 use std::alloc::{AllocError, Global};
 use std::collections::HashMap;
@@ -25,12 +26,12 @@ use std::collections::HashMap;
 /// The nearest ancestor of each id that survives as a folder, on each side; None where there is none.
 #[derive(Drop)]
 struct Folders {
-    local: HashMap<Id, Option<Id>>,
-    remote: HashMap<Id, Option<Id>>,
+    local: HashMap<Id, Option<Id>, Seed>,
+    remote: HashMap<Id, Option<Id>, Seed>,
 }
 
 /// What an id is marked with.
-fn found<'m>(marks: &'m HashMap<Id, Option<Id>>, id: &Id) -> Option<&'m Id>
+fn found<'m>(marks: &'m HashMap<Id, Option<Id>, Seed>, id: &Id) -> Option<&'m Id>
     ensures { option_map (λ p. p.now) result ≡ unwrap_or (get bytes_eq marks.now id.now) None }
 {
     match marks.get(id) {
@@ -83,7 +84,7 @@ fn fallback<'m>(plains: &Plains, folders: &'m Folders, id: &Id) -> Option<&'m Id
 /// Gives an id its parent in a map, where there is one.
 fn link(
     alloc: Global,
-    found: &mut HashMap<Id, Id>,
+    found: &mut HashMap<Id, Id, Seed>,
     id: &Id,
     parent: Option<&Id>,
 ) -> Result<(), AllocError>
@@ -102,11 +103,11 @@ fn chosen_of(
     plains: &Plains,
     folders: &Folders,
     ids: &[Id],
-) -> Result<HashMap<Id, Id>, AllocError>
+) -> Result<HashMap<Id, Id, Seed>, AllocError>
     requires { AreFolders (view plains.now) ids.now folders.now }
     ensures { IfOk result (λ found. Holds (get bytes_eq found) (chosen (view plains.now) (length ids.now)) ids.now) }
 {
-    let mut found = HashMap::new(alloc);
+    let mut found = HashMap::with_hasher(alloc, plains.seed());
     for id in ids {
         link(alloc, &mut found, id, chosen(plains, folders, id))?;
     }
@@ -118,8 +119,8 @@ fn chosen_of(
 fn final_of<'m>(
     plains: &Plains,
     folders: &'m Folders,
-    chosen: &'m HashMap<Id, Id>,
-    roots: &HashMap<Id, Option<Id>>,
+    chosen: &'m HashMap<Id, Id, Seed>,
+    roots: &HashMap<Id, Option<Id>, Seed>,
     id: &Id,
 ) -> Option<&'m Id>
     ensures { option_map (λ p. p.now) result ≡ final_by (view plains.now) folders.now (get bytes_eq chosen.now)
@@ -137,14 +138,14 @@ pub(crate) fn finals_of(
     alloc: Global,
     plains: &Plains,
     ids: &[Id],
-) -> Result<HashMap<Id, Id>, AllocError>
+) -> Result<HashMap<Id, Id, Seed>, AllocError>
     requires { AreMerging (view plains.now) ids.now }
     ensures { IfOk result (λ found. Holds (get bytes_eq found) (final (view plains.now) (length ids.now)) ids.now) }
 {
     let folders = folders_of(alloc, plains, ids)?;
     let chosen = chosen_of(alloc, plains, &folders, ids)?;
     let roots = nearest_of(alloc, &Way::Chosen(&chosen), ids)?;
-    let mut found = HashMap::new(alloc);
+    let mut found = HashMap::with_hasher(alloc, plains.seed());
     for id in ids {
         let parent = final_of(plains, &folders, &chosen, &roots, id);
         link(alloc, &mut found, id, parent)?;

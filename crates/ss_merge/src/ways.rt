@@ -9,6 +9,7 @@ ghost use Rattle.ss_merge.specs.Ways.{HasShape, is_goal_on, next_on};
 use crate::survivors::is_merged_folder;
 use ss_dupe::{Plains, Side};
 use ss_record::is_root;
+use ss_seed::Seed;
 use ss_text::Id;
 use std::collections::HashMap;
 
@@ -18,7 +19,7 @@ pub(crate) enum Way<'w, 'a> {
     /// Up a side's tree, to the items that survive as folders.
     Up(&'w Plains<'a>, Side),
     /// Along chosen parents, to the roots.
-    Chosen(&'w HashMap<Id, Id>),
+    Chosen(&'w HashMap<Id, Id, Seed>),
 }
 
 /// The parent of an item in a side's tree.
@@ -29,6 +30,14 @@ fn parent_on<'p>(plains: &'p Plains<'_>, side: Side, id: &Id) -> Option<&'p Id>
     match plains.of(side).get(id) {
         Some(seat) => seat.parent.as_ref(),
         None => None,
+    }
+}
+
+/// The seed of the maps that a way goes by.
+pub(crate) fn seed_of(way: &Way) -> Seed {
+    match *way {
+        Way::Up(plains, _) => plains.seed(),
+        Way::Chosen(chosen) => *chosen.hasher(),
     }
 }
 

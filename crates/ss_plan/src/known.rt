@@ -5,6 +5,7 @@ ghost use Rattle.std.specs.HashMap.{get};
 ghost use Rattle.ss_plan.specs.Plan.{reading_at};
 
 use ss_record::Reading;
+use ss_seed::Seed;
 use ss_text::Id;
 use std::alloc::{AllocError, Global};
 use std::collections::HashMap;
@@ -13,11 +14,11 @@ use std::collections::HashMap;
 pub(crate) fn known<'a>(
     alloc: Global,
     readings: &'a [(Id, Reading)],
-) -> Result<HashMap<Id, &'a Reading>, AllocError>
+) -> Result<HashMap<Id, &'a Reading, Seed>, AllocError>
     ensures { IfOk result (λ known. (x : List ℕ) → option_map (λ r. r.now) (get bytes_eq known x)
         ≡ reading_at x readings.now) }
 {
-    let mut known = HashMap::new(alloc);
+    let mut known = HashMap::with_hasher(alloc, Seed::random());
     let mut at = readings.len();
     while at > 0 {
         at -= 1;

@@ -8,6 +8,7 @@ ghost use Rattle.ss_sync.specs.Fetched.{are_known};
 
 use indexmap::IndexSet;
 use ss_record::Sheet;
+use ss_seed::Seed;
 use ss_text::{Id, Ids};
 use std::alloc::{AllocError, Global};
 use std::marker::Model;
@@ -16,7 +17,7 @@ use std::marker::Model;
 #[derive(Drop)]
 pub struct Fetched {
     rows: Vec<Sheet>,
-    ids: IndexSet<Id>,
+    ids: IndexSet<Id, Seed>,
 }
 
 impl Model for Fetched {
@@ -51,7 +52,7 @@ impl Fetched {
     {
         Fetched {
             rows: Vec::new(alloc),
-            ids: IndexSet::new(alloc),
+            ids: IndexSet::with_hasher(alloc, Seed::random()),
         }
     }
 
@@ -119,20 +120,20 @@ impl Fetched {
     }
 }
 
-fn set_of(alloc: Global, ids: &Ids) -> Result<IndexSet<Id>, AllocError>
+fn set_of(alloc: Global, ids: &Ids) -> Result<IndexSet<Id, Seed>, AllocError>
     ensures { IfOk result (λ set. (x : List ℕ) → contains bytes_eq set x ≡ has x ids.now) }
 {
-    let mut set = IndexSet::with_capacity(alloc, ids.as_slice().len())?;
+    let mut set = IndexSet::with_capacity_and_hasher(alloc, ids.as_slice().len(), Seed::random())?;
     for id in ids.as_slice() {
         set.insert(id.copy(alloc)?)?;
     }
     Ok(set)
 }
 
-fn ids_of(alloc: Global, sheets: &[Sheet]) -> Result<IndexSet<Id>, AllocError>
+fn ids_of(alloc: Global, sheets: &[Sheet]) -> Result<IndexSet<Id, Seed>, AllocError>
     ensures { IfOk result (λ set. (x : List ℕ) → contains bytes_eq set x ≡ has x (ids_of sheets.now)) }
 {
-    let mut set = IndexSet::with_capacity(alloc, sheets.len())?;
+    let mut set = IndexSet::with_capacity_and_hasher(alloc, sheets.len(), Seed::random())?;
     for sheet in sheets {
         set.insert(sheet.id.copy(alloc)?)?;
     }

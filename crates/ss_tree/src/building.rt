@@ -9,6 +9,7 @@ ghost use Rattle.ss_tree.specs.Built.{Adds, IsReady, Places};
 use crate::cells::{Cell, END, attach, fill};
 use crate::entries::{Entry, Node};
 use crate::index::enter;
+use ss_seed::Seed;
 use ss_text::{Id, Stamp};
 use std::alloc::{AllocError, Global};
 use std::collections::HashMap;
@@ -17,7 +18,7 @@ use std::collections::HashMap;
 pub(crate) fn add(
     alloc: Global,
     cells: &mut Vec<Cell>,
-    index: &mut HashMap<Id, Node>,
+    index: &mut HashMap<Id, Node, Seed>,
     entry: Entry,
 ) -> Result<(), AllocError>
     requires { IsReady cells.old.items entry }
@@ -65,7 +66,7 @@ pub(crate) fn blanks(alloc: Global, count: usize) -> Result<Vec<Cell>, AllocErro
 pub(crate) fn place(
     alloc: Global,
     cells: &mut Vec<Cell>,
-    index: &mut HashMap<Id, Node>,
+    index: &mut HashMap<Id, Node, Seed>,
     entry: Entry,
 ) -> Result<(), AllocError>
     requires inside { entry.node < length cells.old.items }

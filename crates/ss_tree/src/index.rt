@@ -4,6 +4,7 @@ ghost use Rattle.std.specs.Prelude.{◌≡◌, ℕ, List, Some, None, OnOk, OnEr
 ghost use Rattle.std.specs.HashMap.{get};
 
 use crate::entries::Node;
+use ss_seed::Seed;
 use ss_text::Id;
 use std::alloc::{AllocError, Global};
 use std::collections::HashMap;
@@ -11,7 +12,7 @@ use std::collections::HashMap;
 /// Gives an id its node.
 pub(crate) fn enter(
     alloc: Global,
-    index: &mut HashMap<Id, Node>,
+    index: &mut HashMap<Id, Node, Seed>,
     id: &Id,
     node: Node,
 ) -> Result<(), AllocError>
@@ -23,7 +24,7 @@ pub(crate) fn enter(
 }
 
 /// Takes an id out.
-pub(crate) fn leave(index: &mut HashMap<Id, Node>, id: &Id)
+pub(crate) fn leave(index: &mut HashMap<Id, Node, Seed>, id: &Id)
     ensures { (x : List ℕ) → get bytes_eq index.new x ≡ (if bytes_eq id.now x then None else get bytes_eq index.old x) }
 {
     index.remove(id);

@@ -22,6 +22,7 @@ use crate::entries::{Entry, Node};
 use crate::faults::{MoveFault, RemoveFault, TreeFault};
 use crate::index::{enter, leave};
 use ss_record::Item;
+use ss_seed::Seed;
 use ss_text::{Id, Stamp, Word};
 use std::alloc::{AllocError, Global};
 use std::collections::HashMap;
@@ -31,7 +32,7 @@ use std::marker::Model;
 #[derive(Drop, Debug)]
 pub struct Tree {
     cells: Vec<Cell>,
-    index: HashMap<Id, Node>,
+    index: HashMap<Id, Node, Seed>,
     /// The place that was left last, which leads to the others; `END` where there is none.
     vacant: usize,
 }
@@ -117,7 +118,7 @@ impl Tree {
         ensures valid { IfOk result IsTree }
     {
         let mut cells = Vec::with_capacity(alloc, entries.len())?;
-        let mut index = HashMap::new(alloc);
+        let mut index = HashMap::with_hasher(alloc, Seed::random());
         for entry in entries {
             add(alloc, &mut cells, &mut index, entry)?;
         }
@@ -139,7 +140,7 @@ impl Tree {
         ensures valid { IfOk result IsTree }
     {
         let mut cells = blanks(alloc, entries.len())?;
-        let mut index = HashMap::new(alloc);
+        let mut index = HashMap::with_hasher(alloc, Seed::random());
         for entry in entries {
             place(alloc, &mut cells, &mut index, entry)?;
         }
@@ -493,11 +494,11 @@ impl Tree {
         Ok(nodes)
     }
 
-    /// The index of the ids, made anew.
-    fn copy_index(&self, alloc: Global) -> Result<HashMap<Id, Node>, AllocError>
+    /// The index of the ids, made anew with the same seed.
+    fn copy_index(&self, alloc: Global) -> Result<HashMap<Id, Node, Seed>, AllocError>
         ensures { IfOk result (λ index. (x : List ℕ) → get bytes_eq index x ≡ node_of x self.now) }
     {
-        let mut index = HashMap::new(alloc);
+        let mut index = HashMap::with_hasher(alloc, *self.index.hasher());
         for place in 0..self.cells.len() {
             let node = Node::new(place);
             if let Some(item) = self.item_of(node) {

@@ -11,7 +11,7 @@ use Rattle.ss_merge.proofs.ByIds.{by_id_same}
 use Rattle.ss_merge.proofs.ids.all_ids.Goals as goal
 
 pub add_ids-requires : goal.add_ids-requires
-add_ids-requires c = nothing_gathered (λ x. contains_by (bytes_eq x) c.new-seen.result) c.new-ids.result.items (λ x. ap (list_any (bytes_eq x)) c.new-seen.ensures.empty) c.new-ids.ensures.items
+add_ids-requires c = nothing_gathered (λ x. contains_by (bytes_eq x) c.with_hasher-seen.result) c.new-ids.result.items (λ x. ap (list_any (bytes_eq x)) c.with_hasher-seen.ensures.empty) c.new-ids.ensures.items
 
 pub returns : goal.returns
 returns c = λ all apart is.

@@ -10,7 +10,7 @@ use Rattle.ss_text.proofs.Basics.{no_way}
 
 pub loop-id-init : goal.loop-id-init
 loop-id-init c = record {
-  right = λ x near e. (let none : get bytes_eq c.new-marks.result x ≡ None = ap (lookup (bytes_eq x)) c.new-marks.ensures.empty in cc);
+  right = λ x near e. (let none : get bytes_eq c.with_hasher-marks.result x ≡ None = ap (lookup (bytes_eq x)) c.with_hasher-marks.ensures.empty in cc);
   met = λ x h. no_way (has x []) h (has-nil x);
 }
 

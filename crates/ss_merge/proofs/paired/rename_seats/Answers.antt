@@ -7,7 +7,7 @@ use Rattle.ss_merge.proofs.Naming.{all_moved, none_moved, one_moved}
 use Rattle.ss_merge.proofs.paired.rename_seats.Goals as goal
 
 pub loop-id-init : goal.loop-id-init
-loop-id-init c = none_moved (by_map (get bytes_eq c.args.names.now)) (get bytes_eq c.args.seats) (look_by (get bytes_eq c.new-named.result)) (λ x. ap (λ es. option_map placed_at (lookup (bytes_eq x) es)) c.new-named.ensures.empty)
+loop-id-init c = none_moved (by_map (get bytes_eq c.args.names.now)) (get bytes_eq c.args.seats) (look_by (get bytes_eq c.with_hasher-named.result)) (λ x. ap (λ es. option_map placed_at (lookup (bytes_eq x) es)) c.with_hasher-named.ensures.empty)
 
 pub loop-id-preserved : goal.loop-id-preserved
 loop-id-preserved c =

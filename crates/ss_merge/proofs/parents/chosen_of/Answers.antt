@@ -10,7 +10,7 @@ use Rattle.ss_merge.proofs.parents.chosen_of.Goals as goal
 use Rattle.ss_dupe.proofs.Newness.{has-at}
 
 pub loop-id-init : goal.loop-id-init
-loop-id-init c = holds_none (get bytes_eq c.new-found.result) (chosen (view c.args.plains.now) (length c.args.ids.now)) c.args.ids.now (λ x. ap (lookup (bytes_eq x)) c.new-found.ensures.empty)
+loop-id-init c = holds_none (get bytes_eq c.with_hasher-found.result) (chosen (view c.args.plains.now) (length c.args.ids.now)) c.args.ids.now (λ x. ap (lookup (bytes_eq x)) c.with_hasher-found.ensures.empty)
 
 pub loop-id-preserved : goal.loop-id-preserved
 loop-id-preserved c =

@@ -13,7 +13,7 @@ pub nearest_of-requires-clause-inside : goal.nearest_of-requires-clause-inside
 nearest_of-requires-clause-inside c = chosen_stays (view c.args.plains.now) c.args.ids.now c.requires (get bytes_eq c.in_ok-chosen.chosen) c.in_ok-chosen.ensures
 
 pub loop-id-init : goal.loop-id-init
-loop-id-init c = holds_none (get bytes_eq c.new-found.result) (final (view c.args.plains.now) (length c.args.ids.now)) c.args.ids.now (λ x. ap (lookup (bytes_eq x)) c.new-found.ensures.empty)
+loop-id-init c = holds_none (get bytes_eq c.with_hasher-found.result) (final (view c.args.plains.now) (length c.args.ids.now)) c.args.ids.now (λ x. ap (lookup (bytes_eq x)) c.with_hasher-found.ensures.empty)
 
 pub loop-id-preserved : goal.loop-id-preserved
 loop-id-preserved c =

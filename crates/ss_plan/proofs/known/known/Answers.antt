@@ -8,7 +8,7 @@ use Rattle.ss_plan.proofs.known.known.Goals as goal
 pub loop-at-init : goal.loop-at-init
 loop-at-init c = record {
   inside = omega arith;
-  known = λ x. ap (λ es. option_map (λ (r : Bor Reading). r.now) (lookup (bytes_eq x) es)) c.new-known.ensures.empty ∙ sym (none_known x c.args.readings.now (length c.args.readings.now) refl);
+  known = λ x. ap (λ es. option_map (λ (r : Bor Reading). r.now) (lookup (bytes_eq x) es)) c.with_hasher-known.ensures.empty ∙ sym (none_known x c.args.readings.now (length c.args.readings.now) refl);
 }
 
 pub loop-at-preserved : goal.loop-at-preserved

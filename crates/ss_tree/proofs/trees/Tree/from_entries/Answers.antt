@@ -18,7 +18,7 @@ loop-entry-init c =
       built = built_blank c.in_ok-cells.cells.items c.in_ok-cells.ensures.blank;
       rest_long = gives.1 ∙ (c.args.entries.ok.0 ∙ sym (ap length gives.0));
       long = c.in_ok-cells.ensures.long ∙ (c.len.ensures ∙ c.args.entries.ok.0);
-      ids = λ x. rw c.new-index.ensures.empty (sym (node_none x));
+      ids = λ x. rw c.with_hasher-index.ensures.empty (sym (node_none x));
     }
 
 pub place-requires-clause-inside : goal.place-requires-clause-inside

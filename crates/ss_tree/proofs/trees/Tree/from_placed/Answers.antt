@@ -15,7 +15,7 @@ loop-entry-init c =
       built = subst (λ cs. Built cs []) (sym c.in_ok-cells.ensures.items) built_nil;
       rest_long = gives.1 ∙ (c.args.entries.ok.0 ∙ sym (ap length gives.0));
       long = ap length c.in_ok-cells.ensures.items;
-      ids = λ x. rw c.new-index.ensures.empty (sym (node_none x));
+      ids = λ x. rw c.with_hasher-index.ensures.empty (sym (node_none x));
     }
 
 pub add-requires : goal.add-requires

@@ -180,7 +180,7 @@ struct Sizes {
 
 /// How a server reads conditions, by the option `--firefox`.
 fn manner_of(firefox: Option<&str>) -> Manner
-    ensures { result ≡ manner_of (option_copied firefox) }
+    ensures { result ≡ manner_of (option_copied firefox.entry) }
 {
     match firefox {
         None => Manner::Profile,

@@ -119,7 +119,11 @@ fn item_of(alloc: Global, plains: &Plains, id: &Id) -> Result<Item, AllocError>
 
 /// The parent that an item claims; none of a root.
 #[tactic(auto, unfolding(ss_dupe::specs::Looks::is_root))]
-fn parentid_of(alloc: Global, finals: &HashMap<Id, Id, Seed>, id: &Id) -> Result<Option<Word>, AllocError>
+fn parentid_of(
+    alloc: Global,
+    finals: &HashMap<Id, Id, Seed>,
+    id: &Id,
+) -> Result<Option<Word>, AllocError>
     ensures { IfOk result (λ parent. parent ≡ (if is_root id.now then None else get bytes_eq finals.now id.now)) }
 {
     if is_root(id) {

@@ -58,7 +58,11 @@ fn name_of_parent(
     }
 }
 
-fn names_of_all(alloc: Global, names: &HashMap<Id, Id, Seed>, ids: Vec<Id>) -> Result<Vec<Id>, AllocError>
+fn names_of_all(
+    alloc: Global,
+    names: &HashMap<Id, Id, Seed>,
+    ids: Vec<Id>,
+) -> Result<Vec<Id>, AllocError>
     ensures { IfOk result (λ found. found.items ≡ map (by_map (get bytes_eq names.now)) ids.items) }
 {
     let mut found = Vec::with_capacity(alloc, ids.len())?;

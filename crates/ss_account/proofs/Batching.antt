@@ -280,6 +280,7 @@ admitted account request in_first e =
 pub record IsRefusedSo (account : Plain) (request : Request) (body : Body) : Type 0 where
   pub reply : plain_reply account.moment 400 None body ≡ (outcome account request (refusal account request)).reply
   pub account_left : (outcome account request (refusal account request)).account ≡ account
+  pub refuses : is_none (refusal account request) ≡ false
 
 told : (account : Plain) (request : Request) (p q r : Bool) (body : Body) (why : Refusal) → first_some (where_so p NoMoreBatches ∷ where_so q NoBatch ∷ where_so r BatchFull ∷ []) ≡ Some why → body ≡ said_by why
     → plain_reply account.moment 400 None body ≡ (outcome account request (Some why)).reply
@@ -303,4 +304,17 @@ refused-by_batch account request body in_first e = by (batch_cause account reque
         record {
           reply = told account request (lacks_room account request) (misses_batch account request) (overfills_batch account request) body why is same ∙ ap (λ w. (outcome account request w).reply) (sym refused);
           account_left = ap (λ w. (outcome account request w).account) refused;
+          refuses = ap is_none refused;
         }
+
+-- where an item isn't missed the time is the target's
+pub found_time : (missed : Bool) (time target : ℕ) → Some time ≡ cond missed None (Some target) → (missed ≡ false) × (time ≡ target)
+found_time true time target e = cc
+found_time false time target e = (refl, cc)
+
+-- a request whose target has a time that its condition lets pass comes in
+pub comes_in : (account : Plain) (request : Request) (time : ℕ) → Some time ≡ cond (misses_item account request) None (Some (target_time account request))
+    → stops (condition_of request) (is_there account request) time ≡ None → ComesIn account request
+comes_in account request time found free =
+    let at = found_time (misses_item account request) time (target_time account request) found in
+    record { item = at.0; free = subst (λ t. stops (condition_of request) (is_there account request) t ≡ None) at.1 free }

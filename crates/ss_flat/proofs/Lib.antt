@@ -1,0 +1,14 @@
+pub mod Contained
+pub mod Greatest
+pub mod Joined
+pub mod Keeping
+pub mod Listing
+pub mod NoFloats
+pub mod Orders
+pub mod Putting
+pub mod SameSets
+pub mod Sorted
+pub mod SortedBy
+pub mod StateLemmas
+pub mod Taking
+pub mod VisitLemmas

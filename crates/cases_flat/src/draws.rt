@@ -66,7 +66,9 @@ fn payload(alloc: Global, history: bool, drawn: &Drawn) -> anyhow::Result<String
             visits,
         } => if history {
             let visits = visits_text(alloc, visits.as_slice())?;
-            format!(in alloc; "{{\"title\":\"t{second}\",\"visits\":[{visits}],\"id\":\"i{id}\",\"histUri\":\"a{first}\"}}")?
+            format!(in alloc;
+                "{{\"title\":\"t{second}\",\"visits\":[{visits}],\"id\":\"i{id}\",\"histUri\":\"a{first}\"}}"
+            )?
         } else {
             format!(in alloc; "{{\"value\":\"t{second}\",\"id\":\"i{id}\",\"name\":\"a{first}\"}}")?
         },

@@ -15,11 +15,16 @@ pub fn grown(alloc: Global, text: &str) -> anyhow::Result<String> {
     let mut flat = Flat::new(alloc, FlatKind::History);
     for number in 0..count {
         let place = if apart { number } else { 0 };
-        let payload = format!(in alloc; "{{\"id\":\"h{place}\",\"histUri\":\"http://a/{place}\",\"title\":\"A\",\"visits\":[{{\"date\":{number},\"type\":1}}]}}")?;
+        let payload = format!(in alloc;
+            "{{\"id\":\"h{place}\",\"histUri\":\"http://a/{place}\",\"title\":\"A\",\"visits\":[{{\"date\":{number},\"type\":1}}]}}"
+        )?;
         let id = format!(in alloc; "h{place}")?;
         flat.see(alloc, &row(alloc, "10.00", id.as_str(), payload.as_str())?)?;
     }
     let shown = flat.shown(alloc)?;
-    let bytes = shown.iter().fold(0u64, |sum, item| sum.saturating_add(item.text.as_str().len() as u64));
+    let bytes = shown.iter().fold(
+        0u64,
+        |sum, item| sum.saturating_add(item.text.as_str().len() as u64),
+    );
     Ok(format!(in alloc; "{} items of {bytes} bytes\n", shown.len())?)
 }

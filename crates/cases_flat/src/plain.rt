@@ -92,9 +92,13 @@ pub fn told(alloc: Global, history: bool, rows: &[Drawn]) -> anyhow::Result<Stri
         }
         let line = if history {
             let visits = visits(alloc, rows, id)?;
-            format!(in alloc; "item i{id} {{\"histUri\":\"a{first}\",\"id\":\"i{id}\",\"title\":\"t{second}\",\"visits\":[{visits}]}}\n")?
+            format!(in alloc;
+                "item i{id} {{\"histUri\":\"a{first}\",\"id\":\"i{id}\",\"title\":\"t{second}\",\"visits\":[{visits}]}}\n"
+            )?
         } else {
-            format!(in alloc; "item i{id} {{\"id\":\"i{id}\",\"name\":\"a{first}\",\"value\":\"t{second}\"}}\n")?
+            format!(in alloc;
+                "item i{id} {{\"id\":\"i{id}\",\"name\":\"a{first}\",\"value\":\"t{second}\"}}\n"
+            )?
         };
         lines.push_str(line.as_str())?;
     }
@@ -106,7 +110,10 @@ pub fn told(alloc: Global, history: bool, rows: &[Drawn]) -> anyhow::Result<Stri
         }
     }
     for id in 0..FEW {
-        if rows.iter().any(|row| row.id == id && matches!(row.fact, Fact::Nothing)) {
+        if rows
+            .iter()
+            .any(|row| row.id == id && matches!(row.fact, Fact::Nothing))
+        {
             lines.push_str(format!(in alloc; "skipped i{id}\n")?.as_str())?;
         }
     }

@@ -8,7 +8,11 @@ use std::alloc::Global;
 pub fn told(alloc: Global, flat: &Flat) -> anyhow::Result<String> {
     let mut lines = String::new(alloc);
     for shown in &flat.shown(alloc)? {
-        lines.push_str(format!(in alloc; "item {} {}\n", shown.id.as_str(), shown.text.as_str())?.as_str())?;
+        lines.push_str(format!(in alloc;
+            "item {} {}\n",
+            shown.id.as_str(),
+            shown.text.as_str()
+        )?.as_str())?;
     }
     for (id, time) in &flat.gone(alloc)? {
         let mut stamp = Vec::new(alloc);

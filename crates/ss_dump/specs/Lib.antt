@@ -1,0 +1,5 @@
+pub mod Dumps
+pub mod Telling
+pub mod Stages
+pub mod Undumped
+pub mod Refilled

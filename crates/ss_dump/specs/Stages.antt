@@ -1,0 +1,63 @@
+-- What a text has told, as the code has it, for private clauses.
+use Rattle.std.specs.Prelude.{◌≡◌, ◌≤◌, ℕ, List, Bool, true, false, Some, length, take, ⊤}
+use Rattle.std.specs.List.{AllByRecursion}
+use Rattle.ss_bso.specs.declared.changes.Kept.{Kept}
+use Rattle.ss_lines.specs.Lines.{IsLine}
+use Rattle.ss_lines.specs.declared.lines.Line.{Line}
+use Rattle.ss_lines.specs.declared.lines.Line.TheVariants.{Digest}
+use Rattle.ss_dump.specs.declared.telling.Draft.{Draft}
+use Rattle.ss_dump.specs.declared.telling.Stage.{Stage}
+use Rattle.ss_dump.specs.declared.telling.Stage.TheVariants.{Nothing, Begun, Account, Closed, Whole}
+use Rattle.ss_dump.specs.declared.faults.DumpFault.{DumpFault}
+use Rattle.ss_dump.specs.declared.faults.DumpFault.TheVariants.{BadLine, BadDigest, BadCollection, BadRow, BadBatch, Memory}
+use Rattle.ss_dump.specs.Dumps.{account_lines, text_of}
+use Rattle.ss_dump.specs.Telling.{State, nothing, begun, account, closed, whole, IsBadLine, told}
+
+abbrev pub kept_in : Draft → Kept
+kept_in d = record {
+  rows = d.rows.items;
+  collections = d.collections.items;
+  store = d.store;
+  last_delete = d.last_delete;
+  counter = d.counter;
+  batches = d.batches.items;
+}
+
+abbrev pub seen : Stage → State
+seen Nothing = nothing
+seen Begun = begun
+seen (Account d) = account (kept_in d)
+seen (Closed d digest) = closed (kept_in d) digest
+seen (Whole d digest) = whole (kept_in d) digest
+
+abbrev pub is_digest_line : Line → Bool
+is_digest_line (Digest digest) = true
+is_digest_line _ = false
+
+-- so many bytes are the account's lines, where these are over
+abbrev pub HasBody : List ℕ → ℕ → State → Type 0
+HasBody text body nothing = ⊤
+HasBody text body begun = ⊤
+HasBody text body (account kept) = ⊤
+HasBody text body (closed kept digest) = (body ≤ length text) × (take body text ≡ text_of (account_lines kept))
+HasBody text body (whole kept digest) = (body ≤ length text) × (take body text ≡ text_of (account_lines kept))
+
+-- so many bytes are so many lines, which have told this
+pub record IsReadTo (text : List ℕ) (state : State) (used body count : ℕ) : Type 0 where
+  pub lines : List Line
+  pub are : AllByRecursion IsLine lines
+  pub tell : told lines ≡ Some state
+  pub inside : used ≤ length text
+  pub text_is : take used text ≡ text_of lines
+  pub counted : count ≡ length lines
+  pub few : count ≤ used
+  pub body_is : HasBody text body state
+
+-- a line is bad, or memory is wanting
+abbrev pub IsLineFault : List ℕ → DumpFault → Type 0
+IsLineFault text (BadLine n) = IsBadLine text n
+IsLineFault text (BadDigest stated found) = ⊥
+IsLineFault text (BadCollection n) = ⊥
+IsLineFault text (BadRow n) = ⊥
+IsLineFault text (BadBatch n) = ⊥
+IsLineFault text Memory = ⊤

@@ -1,0 +1,18 @@
+//! Moving an account: its dump as a text with a digest, what a dump tells, and a keeper that is filled from it.
+//! Its contracts: `dump` writes the definition's text, `undump` reads exactly the dumps, as their accounts, and after
+//! `refill` a keeper holds exactly what it was given.
+#![tactic(auto)]
+
+mod dumping;
+mod faults;
+mod laws;
+mod reading;
+mod refilling;
+mod telling;
+mod undumping;
+
+pub use dumping::{dump, push_kept};
+pub use faults::{DumpFault, RefillFault};
+pub use laws::{a_dump_is_not_refused, one_account};
+pub use refilling::refill;
+pub use undumping::undump;

@@ -1,0 +1,89 @@
+-- Lines in texts: each ends at its one newline.
+use Rattle.std.proofs.Common.{◌≡◌, ◌≢◌, ℕ, ◌+◌, ◌==◌, List, [], ◌∷◌, ◌++◌, length, take, Some, None, position, append_assoc, refl, sym, ap, ap₂, ◌∙◌, arith, length-append}
+use Rattle.std.proofs.Math.Seq.{take-append_seam}
+use Rattle.serde_json.specs.Data.{array}
+use Rattle.serde_json.specs.Read.{read}
+use Rattle.serde_json.specs.Written.{compact_text}
+use Rattle.ss_text.proofs.Basics.{some_same, none_some}
+use Rattle.ss_lines.specs.Lines.{IsLine, NoneBegins, line_text, list_of}
+use Rattle.ss_lines.specs.declared.lines.Line.{Line}
+use Rattle.ss_lines.specs.Values.{line_from}
+use Rattle.ss_lines.proofs.Flat.{list_back, list_noline}
+use Rattle.ss_lines.proofs.OneLine.{NoLine, break_at, cut}
+use Rattle.ss_lines.proofs.Told.{line_flat, told_again}
+
+-- the text of a line without its newline
+pub body : Line → List ℕ
+body l = compact_text (array (list_of l))
+
+pub body_is : (l : Line) → line_text l ≡ body l ++ 10 ∷ []
+unfolding line_text body
+body_is l = refl
+
+pub body_noline : (l : Line) → IsLine l → NoLine (body l)
+unfolding body
+body_noline l h = list_noline (list_of l) (line_flat l h)
+
+shifted : (l : Line) (back : List ℕ) → line_text l ++ back ≡ body l ++ 10 ∷ back
+shifted l back = ap (λ t. t ++ back) (body_is l) ∙ append_assoc (body l) (10 ∷ []) back
+
+-- ---- one text, one line
+
+same_body : (l m : Line) → IsLine l → IsLine m → body l ≡ body m → l ≡ m
+unfolding body
+same_body l m h k e =
+    let same = some_same (sym (list_back (list_of l) (line_flat l h)) ∙ (ap read e ∙ list_back (list_of m) (line_flat m k))) in
+    some_same (sym (told_again l h) ∙ (ap line_from same ∙ told_again m k))
+
+pub told_apart : (l m : Line) (behind other : List ℕ) → IsLine l → IsLine m → line_text l ++ behind ≡ line_text m ++ other → (l ≡ m) × (behind ≡ other)
+told_apart l m behind other h k e =
+    let r = cut (body l) (body m) behind other (body_noline l h) (body_noline m k) (sym (shifted l behind) ∙ (e ∙ shifted m other)) in
+    (same_body l m h k r.0, r.1)
+
+-- ---- the last byte
+
+ends_so : (xs ys : List ℕ) (a b : ℕ) → xs ++ a ∷ [] ≡ ys ++ b ∷ [] → (xs ≡ ys) × (a ≡ b)
+ends_so [] [] a b e = (refl, cc)
+ends_so [] (y ∷ ys) a b e =
+    let l : length ([] ++ a ∷ []) ≡ length ((y ∷ ys) ++ b ∷ []) = ap length e in
+    let m : length ((y ∷ ys) ++ b ∷ []) ≡ length (y ∷ ys) + 1 = length-append (y ∷ ys) (b ∷ []) in
+    absurd (omega arith)
+ends_so (x ∷ xs) [] a b e =
+    let l : length ((x ∷ xs) ++ a ∷ []) ≡ length ([] ++ b ∷ []) = ap length e in
+    let m : length ((x ∷ xs) ++ a ∷ []) ≡ length (x ∷ xs) + 1 = length-append (x ∷ xs) (a ∷ []) in
+    absurd (omega arith)
+ends_so (x ∷ xs) (y ∷ ys) a b e =
+    let h : x ≡ y = cc in
+    let t : xs ++ a ∷ [] ≡ ys ++ b ∷ [] = cc in
+    let r = ends_so xs ys a b t in
+    (ap₂ (λ u w. u ∷ w) h r.0, r.1)
+
+pub ends_line : (l : Line) (text : List ℕ) (b : ℕ) → line_text l ≡ text ++ b ∷ [] → (compact_text (array (list_of l)) ≡ text) × (b ≡ 10)
+unfolding body
+ends_line l text b e = let r = ends_so (body l) text 10 b (sym (body_is l) ∙ e) in (r.0, sym r.1)
+
+pub some_text : (l : Line) → line_text l ≢ []
+some_text l e =
+    let n : length (body l ++ 10 ∷ []) ≡ length (body l) + 1 = length-append (body l) (10 ∷ []) in
+    let z : length (body l ++ 10 ∷ []) ≡ 0 = ap length (sym (body_is l) ∙ e) in
+    omega arith
+
+-- ---- the first newline
+
+-- where a text begins with a line its first newline is that line's
+begins_so : (l : Line) → IsLine l → (text back : List ℕ) → line_text l ++ back ≡ text → (k : ℕ) × (Some k ≡ position (λ b. b == 10) text) × (take (k + 1) text ≡ line_text l)
+begins_so l h text back is = (
+  length (body l),
+  sym (ap (position (λ x. x == 10)) (sym is ∙ shifted l back) ∙ break_at (body l) back (body_noline l h)),
+  let n : length (body l ++ 10 ∷ []) ≡ length (body l) + 1 = length-append (body l) (10 ∷ []) in
+      ap₂ take (sym n) (sym is ∙ ap (λ t. t ++ back) (body_is l)) ∙ (take-append_seam (body l ++ 10 ∷ []) back ∙ sym (body_is l)),
+)
+
+pub none_there : (text : List ℕ) → None ≡ position (λ b. b == 10) text → NoneBegins text
+none_there text at l back h is = none_some (at ∙ sym (begins_so l h text back is).1)
+
+pub none_read : (text : List ℕ) (k : ℕ) → Some k ≡ position (λ b. b == 10) text → ((l : Line) → IsLine l → line_text l ≡ take (k + 1) text → ⊥) → NoneBegins text
+none_read text k at none l back h is =
+    let g = begins_so l h text back is in
+    let same : g.0 ≡ k = some_same (g.1 ∙ sym at) in
+    none l h (sym g.2 ∙ ap (λ m. take (m + 1) text) same)

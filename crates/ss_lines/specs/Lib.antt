@@ -1,0 +1,4 @@
+pub mod Digests
+pub mod Lines
+pub mod Cells
+pub mod Values

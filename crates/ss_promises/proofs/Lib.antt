@@ -1,0 +1,16 @@
+pub mod Listed
+pub mod Reopening
+pub mod Typed
+pub mod Meaning
+pub mod Telling
+pub mod Delivering
+pub mod Aging
+pub mod Uploading
+pub mod Numbers
+pub mod Sending
+pub mod Replying
+pub mod Failing
+pub mod Running
+pub mod Readying
+pub mod Coursing
+pub mod Lasting

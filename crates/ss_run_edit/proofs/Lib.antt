@@ -1,4 +1,3 @@
-pub mod Reading
 pub mod RemoteLines
 pub mod LastIds
 pub mod Rows

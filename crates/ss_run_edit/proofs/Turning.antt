@@ -1,9 +1,9 @@
 -- An input that is turned into an output.
 use Rattle.std.proofs.Common.{◌≡◌, List, ℕ, refl, subst}
 use Rattle.ss_outside.specs.Told.{Meanings}
+use Rattle.ss_input.specs.Inputs.{IsWhole}
 use Rattle.ss_run_edit.specs.declared.endings.Ending.{Ending}
 use Rattle.ss_run_edit.specs.Endings.{Wrote}
-use Rattle.ss_run_edit.specs.Inputs.{IsWhole}
 use Rattle.ss_run_edit.specs.Runs.{Turns, written, refused}
 
 pub made_of : (Makes : List ℕ → List ℕ → Type 0) (Refuses : List ℕ → Ending → Type 0) (text slice out piece : List ℕ) (e : Ending) (a b c d : Meanings) → IsWhole text a b → slice ≡ text → Makes slice out → piece ≡ out → Wrote piece e c d

@@ -2,6 +2,8 @@
 use Rattle.std.specs.Prelude.{◌≡◌, ℕ, List, ◌++◌}
 use Rattle.ss_outside.specs.Told.{Meanings, HasWritten}
 use Rattle.ss_outside.specs.Causes.{Rose}
+use Rattle.ss_input.specs.declared.faults.InputFault.{InputFault}
+use Rattle.ss_input.specs.declared.faults.InputFault.TheVariants as fault
 use Rattle.ss_run_edit.specs.declared.endings.Ending.{Ending}
 use Rattle.ss_run_edit.specs.declared.endings.Ending.TheVariants.{Done, Unfit, Input, Output, Cut, BadLine, BadTree, Refused, TooLong, Memory}
 
@@ -16,6 +18,12 @@ status_of (BadTree id) = 5
 status_of (Refused fault) = 5
 status_of TooLong = 6
 status_of Memory = 8
+
+-- how a run ends whose input is not read whole
+abbrev pub ending_of : InputFault → Ending
+ending_of fault.Failed = Input
+ending_of fault.TooLong = TooLong
+ending_of fault.Memory = Memory
 
 -- All of a text was written; or a write failed, and a front of it was written
 abbrev pub Wrote : List ℕ → Ending → Meanings → Meanings → Type 0

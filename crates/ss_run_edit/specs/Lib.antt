@@ -1,5 +1,4 @@
 pub mod Endings
-pub mod Inputs
 pub mod Files
 pub mod Changes
 pub mod Items

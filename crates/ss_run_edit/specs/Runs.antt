@@ -2,14 +2,15 @@
 use Rattle.std.specs.Prelude.{◌≡◌, ℕ, List, Option, Some, None, IfSome, true, false}
 use Rattle.ss_outside.specs.Told.{Meanings, TakesFirst}
 use Rattle.ss_device_file.specs.Fresh.{fresh_text}
+use Rattle.ss_input.specs.declared.faults.InputFault.{InputFault}
+use Rattle.ss_input.specs.Inputs.{IsUnread, IsWhole}
 use Rattle.ss_words.specs.declared.commands.EditCommand.{EditCommand}
 use Rattle.ss_words.specs.declared.commands.Command.TheVariants.{Edit, Merge}
 use Rattle.ss_words.specs.Commands.{Asks}
 use Rattle.ss_run_edit.specs.declared.changes.Change.{Change}
 use Rattle.ss_run_edit.specs.declared.endings.Ending.{Ending}
 use Rattle.ss_run_edit.specs.declared.endings.Ending.TheVariants.{Unfit, Memory}
-use Rattle.ss_run_edit.specs.Endings.{Wrote, status_of}
-use Rattle.ss_run_edit.specs.Inputs.{IsUnread, IsWhole}
+use Rattle.ss_run_edit.specs.Endings.{Wrote, ending_of, status_of}
 use Rattle.ss_run_edit.specs.Changes.{IsEditOf, RefusesEdit, change_of, fits}
 use Rattle.ss_run_edit.specs.Merging.{IsMergeOf, RefusesMerge}
 
@@ -18,7 +19,7 @@ use Rattle.ss_run_edit.specs.Merging.{IsMergeOf, RefusesMerge}
 pub data Turns (Makes : List ℕ → List ℕ → Type 0) (Refuses : List ℕ → Ending → Type 0) (ending : Ending) (input input' output output' : Meanings) : Type 0 where
   written : (text out : List ℕ) → IsWhole text input input' → Makes text out → Wrote out ending output output' → Turns Makes Refuses ending input input' output output'
   refused : (text : List ℕ) → IsWhole text input input' → Refuses text ending → output' ≡ output → Turns Makes Refuses ending input input' output output'
-  unread : IsUnread ending input input' → output' ≡ output → Turns Makes Refuses ending input input' output output'
+  unread : (fault : InputFault) → ending ≡ ending_of fault → IsUnread fault input input' → output' ≡ output → Turns Makes Refuses ending input input' output output'
 
 -- nothing was read or written, and the clock was not read
 pub record IsUntouched (input input' output output' : Meanings) (coming coming' : Option (List ℕ)) : Type 0 where

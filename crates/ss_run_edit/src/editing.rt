@@ -9,9 +9,9 @@ ghost use Rattle.ss_run_edit.specs.Runs.{Edits, IsTime, Turns, WritesNew};
 use crate::changes::{Change, apply, change_of};
 use crate::endings::Ending;
 use crate::files::device_in;
-use crate::inputs::read_input;
 use crate::outputs::write_out;
 use ss_device::{Device, EditFault, write_device};
+use ss_input::read_whole;
 use ss_outside::{Clock, Sink, Source};
 use ss_words::EditCommand;
 use std::alloc::Global;
@@ -40,9 +40,9 @@ fn edit_input<S: Source, T: Sink>(
     ensures { Turns (IsEditOf change now) (RefusesEdit change) result (S.Told.told input.old) (S.Told.told input.new)
         (T.Told.told output.old) (T.Told.told output.new) }
 {
-    let text = match read_input(alloc, input) {
+    let text = match read_whole(alloc, input) {
         Ok(text) => text,
-        Err(ending) => return ending,
+        Err(fault) => return Ending::from(fault),
     };
     match edited(alloc, change, now, text.as_slice()) {
         Ok(out) => write_out(out.as_slice(), output),

@@ -1,10 +1,11 @@
 //! How a run ends.
 
 ghost use Rattle.std.specs.Prelude.{◌≡◌};
-ghost use Rattle.ss_run_edit.specs.Endings.{status_of};
+ghost use Rattle.ss_run_edit.specs.Endings.{ending_of, status_of};
 ghost use Rattle.ss_run_edit.specs.declared.endings.Ending.TheVariants.{Memory};
 
 use ss_device::EditFault;
+use ss_input::InputFault;
 use ss_text::Id;
 use std::alloc::AllocError;
 use std::fmt::{self, Display, Formatter, Write};
@@ -66,6 +67,18 @@ impl From<AllocError> for Ending {
 
     fn from(_: AllocError) -> Ending {
         Ending::Memory
+    }
+}
+
+impl From<InputFault> for Ending {
+    ghost from_gives = { λ fault e. e ≡ ending_of fault };
+
+    fn from(fault: InputFault) -> Ending {
+        match fault {
+            InputFault::Failed => Ending::Input,
+            InputFault::TooLong => Ending::TooLong,
+            InputFault::Memory => Ending::Memory,
+        }
     }
 }
 

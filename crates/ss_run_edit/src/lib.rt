@@ -1,6 +1,6 @@
 //! A device's file and its edits and merges from the command line: the commands `edit` and `merge`. They read a text
 //! whole, and write the file of the device as the edit makes it, or what a merge with remote rows comes to; it stands
-//! on ss_device_file, ss_merge, ss_plan and ss_words. Its contract: the bytes that are written are the text for what
+//! on ss_device_file, ss_merge, ss_plan, ss_input and ss_words. Its contract: the bytes that are written are the text for what
 //! was read, or nothing is written, by its cause.
 #![tactic(auto)]
 
@@ -8,7 +8,6 @@ mod changes;
 mod editing;
 mod endings;
 mod files;
-mod inputs;
 mod items;
 mod merging;
 mod outputs;

@@ -7,13 +7,13 @@ ghost use Rattle.ss_run_edit.specs.Runs.{Merges};
 
 use crate::endings::Ending;
 use crate::files::{device_told, front_of};
-use crate::inputs::read_input;
 use crate::outputs::write_out;
 use crate::remotes::read_remotes;
 use crate::tellings::merge_text;
 use ss_build::build;
 use ss_device::Device;
 use ss_device_file::Front;
+use ss_input::read_whole;
 use ss_merge::merge as merge_sides;
 use ss_outside::{Sink, Source};
 use ss_plan::changes;
@@ -99,9 +99,9 @@ pub fn merge<S: Source, T: Sink>(alloc: Global, input: &mut S, output: &mut T) -
     ensures { Merges result (S.Told.told input.old) (S.Told.told input.new) (T.Told.told output.old)
         (T.Told.told output.new) }
 {
-    let text = match read_input(alloc, input) {
+    let text = match read_whole(alloc, input) {
         Ok(text) => text,
-        Err(ending) => return ending,
+        Err(fault) => return Ending::from(fault),
     };
     match merged(alloc, text.as_slice()) {
         Ok(out) => write_out(out.as_slice(), output),

@@ -1,6 +1,11 @@
+use Rattle.std.proofs.Common.{refl}
 use Rattle.ss_run_edit.specs.Changes.{IsEditOf, RefusesEdit}
+use Rattle.ss_run_edit.specs.Runs.{unread}
 use Rattle.ss_run_edit.proofs.Turning.{made_of, none_made}
 use Rattle.ss_run_edit.proofs.editing.edit_input.Goals as goal
+
+pub returns-in-Err : goal.returns-in-Err
+returns-in-Err g c = unread c.in-Err.fault c.from.ensures c.in-Err.ensures.unread refl
 
 pub returns-in-Ok-edited : goal.returns-in-Ok-edited
 returns-in-Ok-edited g c =

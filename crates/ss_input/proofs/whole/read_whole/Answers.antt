@@ -1,7 +1,7 @@
 use Rattle.std.proofs.Common.{List, ℕ, sym, ap, subst, ◌∙◌, arith, rules, length}
-use Rattle.ss_run_edit.specs.Inputs.{IsPart}
-use Rattle.ss_run_edit.proofs.Reading.{all_got, as_long, gets_more, part_none, unread_later}
-use Rattle.ss_run_edit.proofs.inputs.read_input.Goals as goal
+use Rattle.ss_input.specs.Inputs.{IsPart}
+use Rattle.ss_input.proofs.Pieces.{all_got, as_long, gets_more, part_none, unread_later}
+use Rattle.ss_input.proofs.whole.read_whole.Goals as goal
 
 pub pieces-init : goal.pieces-init
 pieces-init g c = record {
@@ -22,4 +22,4 @@ returns-in-Ok-eq0-clause-whole g c =
 
 pub returns-in-Err-clause-unread : goal.returns-in-Err-clause-unread
 returns-in-Err-clause-unread g c =
-    unread_later c.pieces.text.items c.in-Err.ending (g.S.Told.told c.args.input.now) (g.S.Told.told c.pieces.input) (g.S.Told.told c.read_piece.new.input) c.pieces.invariant.part c.in-Err.ensures.unread
+    unread_later c.pieces.text.items c.in-Err.fault (g.S.Told.told c.args.input.now) (g.S.Told.told c.pieces.input) (g.S.Told.told c.read_piece.new.input) c.pieces.invariant.part c.in-Err.ensures.unread

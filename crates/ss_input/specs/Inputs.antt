@@ -2,8 +2,8 @@
 use Rattle.std.specs.Prelude.{◌≡◌, ◌≤◌, ◌<◌, ◌++◌, ℕ, List, length}
 use Rattle.ss_outside.specs.Told.{Meanings, HasRead, IsUsedUp}
 use Rattle.ss_outside.specs.Causes.{Rose}
-use Rattle.ss_run_edit.specs.declared.endings.Ending.{Ending}
-use Rattle.ss_run_edit.specs.declared.endings.Ending.TheVariants.{Input, TooLong, Memory}
+use Rattle.ss_input.specs.declared.faults.InputFault.{InputFault}
+use Rattle.ss_input.specs.declared.faults.InputFault.TheVariants.{Failed, TooLong, Memory}
 
 -- the most bytes of an input
 abbrev pub most : ℕ
@@ -22,11 +22,10 @@ pub record IsPart (got : List ℕ) (old new : Meanings) : Type 0 where
   pub faultless : new.read_faults ≡ old.read_faults
 
 -- Why an input was not read whole: a read failed, it has too many bytes, or no memory was found for them
-abbrev pub IsUnread : Ending → Meanings → Meanings → Type 0
-IsUnread Input old new = (got : List ℕ) × HasRead got old new × Rose old.read_faults new.read_faults
+abbrev pub IsUnread : InputFault → Meanings → Meanings → Type 0
+IsUnread Failed old new = (got : List ℕ) × HasRead got old new × Rose old.read_faults new.read_faults
 IsUnread TooLong old new = (got : List ℕ) × IsPart got old new × (most < length got)
 IsUnread Memory old new = (got : List ℕ) × IsPart got old new
-IsUnread ending old new = ⊥
 
 -- a read brought so many bytes, which stand behind the text; none at the input's end
 pub record Gets (before now : List ℕ) (count : ℕ) (old new : Meanings) : Type 0 where

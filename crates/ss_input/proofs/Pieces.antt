@@ -3,9 +3,9 @@ use Rattle.std.proofs.Common.{◌≡◌, ◌≤◌, ◌<◌, ◌+◌, ℕ, List,
 use Rattle.ss_outside.specs.Told.{Meanings}
 use Rattle.ss_outside.specs.Causes.{Rose}
 use Rattle.ss_outside.proofs.Telling.{HasRead-append, HasRead-none}
-use Rattle.ss_run_edit.specs.declared.endings.Ending.{Ending}
-use Rattle.ss_run_edit.specs.declared.endings.Ending.TheVariants as ending
-use Rattle.ss_run_edit.specs.Inputs.{Gets, IsPart, IsUnread, IsWhole, most}
+use Rattle.ss_input.specs.declared.faults.InputFault.{InputFault}
+use Rattle.ss_input.specs.declared.faults.InputFault.TheVariants.{Failed, TooLong, Memory}
+use Rattle.ss_input.specs.Inputs.{Gets, IsPart, IsUnread, IsWhole, most}
 
 pub part_none : (a : Meanings) → IsPart [] a a
 part_none a = record { read = HasRead-none a; faultless = refl }
@@ -17,17 +17,10 @@ longer : (s t : List ℕ) → most < length t → most < length (s ++ t)
 longer s t h = let l : length (s ++ t) ≡ length s + length t = length-append s t in omega arith
 
 -- what was read before makes no difference to the cause
-pub unread_later : (s : List ℕ) (e : Ending) (a b c : Meanings) → IsPart s a b → IsUnread e b c → IsUnread e a c
-unread_later s ending.Input a b c p u = (s ++ u.0, HasRead-append s u.0 a b c p.read u.1, subst (λ n. Rose n c.read_faults) p.faultless u.2)
-unread_later s ending.TooLong a b c p u = (s ++ u.0, part_append s u.0 a b c p u.1, longer s u.0 u.2)
-unread_later s ending.Memory a b c p u = (s ++ u.0, part_append s u.0 a b c p u.1)
-unread_later s ending.Done a b c p u = absurd u
-unread_later s ending.Unfit a b c p u = absurd u
-unread_later s ending.Output a b c p u = absurd u
-unread_later s (ending.Cut n) a b c p u = absurd u
-unread_later s (ending.BadLine n) a b c p u = absurd u
-unread_later s (ending.BadTree id) a b c p u = absurd u
-unread_later s (ending.Refused f) a b c p u = absurd u
+pub unread_later : (s : List ℕ) (fault : InputFault) (a b c : Meanings) → IsPart s a b → IsUnread fault b c → IsUnread fault a c
+unread_later s Failed a b c p u = (s ++ u.0, HasRead-append s u.0 a b c p.read u.1, subst (λ n. Rose n c.read_faults) p.faultless u.2)
+unread_later s TooLong a b c p u = (s ++ u.0, part_append s u.0 a b c p u.1, longer s u.0 u.2)
+unread_later s Memory a b c p u = (s ++ u.0, part_append s u.0 a b c p u.1)
 
 pub gets_more : (t u : List ℕ) (n : ℕ) (a b c : Meanings) → IsPart t a b → Gets t u n b c → IsPart u a c
 gets_more t u n a b c p g = subst (λ x. IsPart x a c) (sym g.text_is) (part_append t g.got a b c p g.part)

@@ -1,6 +1,6 @@
 use Rattle.std.proofs.Common.{◌≡◌, ◌-◌, ◌+◌, length}
-use Rattle.ss_run_edit.specs.Inputs.{IsPart, most}
-use Rattle.ss_run_edit.proofs.inputs.read_input.Given as goal
+use Rattle.ss_input.specs.Inputs.{IsPart, most}
+use Rattle.ss_input.proofs.whole.read_whole.Given as goal
 
 abbrev pub invariant-pieces : goal.invariant-pieces
 invariant-pieces g l = record {

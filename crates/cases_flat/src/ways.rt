@@ -1,0 +1,90 @@
+//! The ways to a set of rows.
+
+ghost use Rattle.std.specs.Prelude.{◌≡◌, IfOk};
+
+use anyhow::bail;
+use ss_flat::{Flat, FlatKind};
+use ss_run_flat::{state_of, telling};
+use std::alloc::{AllocError, Global};
+
+/// What is told where two ways tell otherwise.
+const OTHERWISE: &str = "told otherwise\n";
+
+/// The last line of a file.
+const END: &str = "[\"end\"]\n";
+
+/// The file of some lines.
+fn file(alloc: Global, lines: &[String]) -> Result<String, AllocError> {
+    let mut file = String::new(alloc);
+    for line in lines {
+        file.push_str(line.as_str())?;
+        file.push_str("\n")?;
+    }
+    file.push_str(END)?;
+    Ok(file)
+}
+
+/// The file of some lines from the last to the first, each of them twice.
+fn turned(alloc: Global, lines: &[String]) -> Result<String, AllocError> {
+    let mut file = String::new(alloc);
+    for line in lines.iter().rev() {
+        file.push_str(line.as_str())?;
+        file.push_str("\n")?;
+        file.push_str(line.as_str())?;
+        file.push_str("\n")?;
+    }
+    file.push_str(END)?;
+    Ok(file)
+}
+
+/// The state of a file.
+fn state(alloc: Global, kind: FlatKind, file: &str) -> anyhow::Result<Flat>
+    ensures { IfOk result (λ flat. flat.kind ≡ kind) }
+{
+    match state_of(alloc, kind, file.as_bytes()) {
+        Ok(flat) => Ok(flat),
+        Err(ending) => bail!("{ending}"),
+    }
+}
+
+/// Whether the states of two parts of some rows, joined, tell this.
+fn joined(
+    alloc: Global,
+    kind: FlatKind,
+    front: &[String],
+    back: &[String],
+    wanted: &[u8],
+) -> anyhow::Result<bool> {
+    let mut flat = state(alloc, kind, file(alloc, front)?.as_str())?;
+    let other = state(alloc, kind, file(alloc, back)?.as_str())?;
+    flat.join(alloc, &other)?;
+    Ok(telling(alloc, &flat)?.as_slice() == wanted)
+}
+
+/// Whether every two parts of some rows, joined either way, tell this.
+fn all_joined(
+    alloc: Global,
+    kind: FlatKind,
+    lines: &[String],
+    wanted: &[u8],
+) -> anyhow::Result<bool> {
+    for cut in 0..lines.len() {
+        let (front, back) = lines.split_at(cut);
+        if !joined(alloc, kind, front, back, wanted)?
+            || !joined(alloc, kind, back, front, wanted)?
+        {
+            return Ok(false);
+        }
+    }
+    Ok(true)
+}
+
+/// What some rows come to, where all ways to their set tell the same.
+pub fn told(alloc: Global, kind: FlatKind, lines: &[String]) -> anyhow::Result<String> {
+    let told = telling(alloc, &state(alloc, kind, file(alloc, lines)?.as_str())?)?;
+    let other = telling(alloc, &state(alloc, kind, turned(alloc, lines)?.as_str())?)?;
+    if told.as_slice() != other.as_slice() || !all_joined(alloc, kind, lines, told.as_slice())? {
+        return Ok(String::from_str(alloc, OTHERWISE)?);
+    }
+    Ok(String::from_utf8_lossy(alloc, told.as_slice())?)
+}

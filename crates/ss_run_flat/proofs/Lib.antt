@@ -1,0 +1,5 @@
+pub mod Lines
+pub mod SeenRows
+pub mod Unique
+pub mod Flattened
+pub mod Turning

@@ -1,0 +1,7 @@
+use Rattle.std.proofs.Common.{◌≡◌, ◌++◌, take}
+use Rattle.std.specs.List.{flat_map}
+use Rattle.ss_run_flat.specs.Tellings.{skipped_line}
+use Rattle.ss_run_flat.proofs.tellings.push_all_skipped.Given as goal
+
+abbrev pub invariant-loop-id : goal.invariant-loop-id
+invariant-loop-id l = l.out.items ≡ l.initial.out.items ++ flat_map skipped_line (take l.id-index l.ids)

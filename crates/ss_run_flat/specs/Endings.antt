@@ -1,0 +1,29 @@
+-- How a run ends: its status, and what is written (this project's).
+use Rattle.std.specs.Prelude.{◌≡◌, ℕ, List, ◌++◌}
+use Rattle.ss_outside.specs.Told.{Meanings, HasWritten}
+use Rattle.ss_outside.specs.Causes.{Rose}
+use Rattle.ss_input.specs.declared.faults.InputFault.{InputFault}
+use Rattle.ss_input.specs.declared.faults.InputFault.TheVariants as fault
+use Rattle.ss_run_flat.specs.declared.endings.Ending.{Ending}
+use Rattle.ss_run_flat.specs.declared.endings.Ending.TheVariants.{Done, Input, Output, Cut, BadLine, TooLong, Memory}
+
+abbrev pub status_of : Ending → ℕ
+status_of Done = 0
+status_of Input = 2
+status_of Output = 3
+status_of (Cut n) = 4
+status_of (BadLine n) = 5
+status_of TooLong = 6
+status_of Memory = 8
+
+-- how a run ends whose input is not read whole
+abbrev pub ending_of : InputFault → Ending
+ending_of fault.Failed = Input
+ending_of fault.TooLong = TooLong
+ending_of fault.Memory = Memory
+
+-- All of a text was written; or a write failed, and a front of it was written
+abbrev pub Wrote : List ℕ → Ending → Meanings → Meanings → Type 0
+Wrote text Done output output' = HasWritten text output output' × (output'.write_faults ≡ output.write_faults)
+Wrote text Output output output' = (sent : List ℕ) × (rest : List ℕ) × (text ≡ sent ++ rest) × HasWritten sent output output' × Rose output.write_faults output'.write_faults
+Wrote text ending output output' = ⊥

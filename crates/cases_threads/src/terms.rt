@@ -5,6 +5,7 @@
 mod accounts;
 mod case;
 mod connections;
+mod ending;
 mod fronts;
 mod held;
 mod ports;

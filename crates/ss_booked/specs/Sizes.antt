@@ -1,5 +1,5 @@
 -- What a journal counts for its entries, and when it is full (limits of this project).
-use Rattle.std.specs.Prelude.{ℕ, ◌+◌, ◌*◌, ◌==◌, Bool, ◌||◌, nat_le, List, length, sum_by, Option, Some, None, if◌then◌else◌}
+use Rattle.std.specs.Prelude.{ℕ, ◌+◌, ◌*◌, ◌/◌, ◌==◌, Bool, ◌||◌, nat_le, nat_lt, List, length, sum_by, Option, Some, None, if◌then◌else◌}
 use Rattle.std.specs.Option.{option_map_or}
 use Rattle.ss_bso.specs.Limits.{part_bytes, payload_size}
 use Rattle.ss_query.specs.declared.requests.Request.{Request}
@@ -44,6 +44,10 @@ journal_bytes entries = sum_by (λ entry. request_bytes entry.request) entries
 -- whether a journal has no room for a call
 abbrev pub is_full : Journal → Bool
 is_full journal = (length journal.entries == journal.most) || nat_le most_journal_bytes (journal_bytes journal.entries)
+
+-- whether a journal is more than half full, by its entries or by its bytes
+abbrev pub is_half_full : Journal → Bool
+is_half_full journal = nat_lt (journal.most / 2) (length journal.entries) || nat_lt (most_journal_bytes / 2) (journal_bytes journal.entries)
 
 -- the two numbers of a journal that is full
 abbrev pub full_of : Journal → Option Full

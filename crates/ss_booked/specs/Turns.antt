@@ -1,13 +1,13 @@
 -- The journal as the desk sees it: what no call changes, and the entries.
 use Rattle.std.specs.Prelude.{◌≡◌, ◌-◌, ℕ, List, length, Option, Some}
-use Rattle.ss_query.specs.declared.replies.Reply.{Reply}
 use Rattle.ss_desk.specs.declared.journaled.Full.{Full}
 use Rattle.ss_laws.specs.declared.journal.Entry.{Entry}
 use Rattle.ss_laws.specs.Journal.{Journal}
 use Rattle.ss_laws.specs.Journals.{reply_at, IsLegal}
+use Rattle.ss_booked.specs.declared.booked.Answered.{Answered}
 use Rattle.ss_booked.specs.declared.booked.Asked.{Asked}
 use Rattle.ss_booked.specs.declared.booked.Terms.{Terms}
-use Rattle.ss_booked.specs.Sizes.{full_of}
+use Rattle.ss_booked.specs.Sizes.{full_of, is_half_full}
 
 -- what was asked by the call of an entry
 abbrev pub ask_of : Entry → Asked
@@ -21,9 +21,9 @@ journal_on terms entries = record { opening = terms.opening; most = terms.most; 
 abbrev pub IsLegalOn : Terms → List Entry → Type 0
 IsLegalOn terms entries = IsLegal (journal_on terms entries)
 
--- the reply at its last place
-abbrev pub RepliesLast : Terms → List Entry → Reply → Type 0
-RepliesLast terms entries reply = reply_at (journal_on terms entries) (length entries - 1) ≡ Some reply
+-- the reply at its last place, and whether it is more than half full with that
+abbrev pub RepliesLast : Terms → List Entry → Answered → Type 0
+RepliesLast terms entries answered = (reply_at (journal_on terms entries) (length entries - 1) ≡ Some answered.reply) × (answered.half_full ≡ is_half_full (journal_on terms entries))
 
 -- where it is full, its two numbers
 abbrev pub full_on : Terms → List Entry → Option Full

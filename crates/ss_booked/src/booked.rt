@@ -29,6 +29,13 @@ pub struct Asked {
     pub request: Request,
 }
 
+/// What an account on a desk answers: the reply, and whether its journal is then more than half full.
+#[derive(Drop)]
+pub struct Answered {
+    pub reply: Reply,
+    pub half_full: bool,
+}
+
 /// What no call changes: whose account it is, the opening of the journal, the most entries, and the keeper's count of
 /// faults at the opening. It is for the proofs: no value of it is made.
 pub struct Terms {
@@ -157,7 +164,7 @@ impl<K: Keeper + Drop> Journaled for Booked<K> {
 
     type Ask = Asked;
 
-    type Reply = Reply;
+    type Reply = Answered;
 
     ghost fixed = { λ b. terms_of K.keep_faults b };
 
@@ -177,9 +184,11 @@ impl<K: Keeper + Drop> Journaled for Booked<K> {
 
     ghost full = { full_on };
 
-    fn step(&mut self, ticket: u64, pass: u32, ask: Asked) -> Result<Reply, Full> {
+    fn step(&mut self, ticket: u64, pass: u32, ask: Asked) -> Result<Answered, Full> {
         let Asked { now, request } = ask;
-        self.call(ticket, pass, now, request)
+        let reply = self.call(ticket, pass, now, request)?;
+        let half_full = self.bound.is_half_full();
+        Ok(Answered { reply, half_full })
     }
 
     ghost starts = { λ b empty. starts_legal b.bound.journal empty b.legal };

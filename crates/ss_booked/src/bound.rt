@@ -9,7 +9,7 @@ ghost use Rattle.ss_query.specs.Marks.{mark_of};
 ghost use Rattle.ss_laws.specs.Journals.{account_after, begun, with_entry, reply_at, IsLegal};
 ghost use Rattle.ss_account.specs.Keeping.{IsKeptBy};
 ghost use Rattle.ss_account.specs.Opening.{IsGood};
-ghost use Rattle.ss_booked.specs.Sizes.{full_of, most_entries};
+ghost use Rattle.ss_booked.specs.Sizes.{full_of, is_half_full, most_entries};
 ghost use Rattle.ss_booked.specs.Sound.{RoseBy, keeper_marks};
 
 use crate::limits::MOST_JOURNAL_BYTES;
@@ -143,6 +143,14 @@ impl<K: Keeper> Bound<K> {
         } else {
             None
         }
+    }
+
+    /// Whether the journal is more than half full, by its entries or by its bytes.
+    pub(crate) fn is_half_full(&self) -> bool
+        ensures { result ≡ is_half_full self.now.journal }
+    {
+        self.journal.entries().len() > (self.journal.most() / 2) as usize
+            || self.bytes > MOST_JOURNAL_BYTES / 2
     }
 
     /// The journal, lent, with what holds of the two.

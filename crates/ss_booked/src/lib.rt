@@ -9,7 +9,7 @@ mod bound;
 mod limits;
 mod sizes;
 
-pub use booked::{Asked, Booked, Terms};
+pub use booked::{Answered, Asked, Booked, Terms};
 pub use limits::{ENTRY_BYTES, MOST_ENTRIES, MOST_JOURNAL_BYTES};
 pub use ss_desk::Full;
 pub use ss_laws::{Entry, Journal};

@@ -1,11 +1,13 @@
 -- One message more that was answered.
-use Rattle.std.proofs.Common.{◌≡◌, inl, inr, ℕ, ◌≤◌, List, [], ◌∷◌, ◌++◌, length, length-append, map, drop, Option, refl, sym, ap, ◌∙◌, subst, append_assoc, arith}
+use Rattle.std.proofs.Common.{◌≡◌, inl, inr, ℕ, ◌≤◌, Bool, List, [], ◌∷◌, ◌++◌, length, length-append, map, drop, Option, refl, sym, ap, ◌∙◌, subst, append_assoc, arith}
 use Rattle.std.specs.Prelude.{IsFalse}
 use Rattle.std.proofs.lemmas.List.{append-nil, map-append, drop-append-le}
 use Rattle.std.proofs.lemmas.List.Elements.{All-push}
 use Rattle.std.proofs.lemmas.Grind.{flat_map-append}
 use Rattle.std.proofs.Math.Seq.{drop-append_seam}
 use Rattle.std.specs.List.{flat_map}
+use mathlib.Core.Option.{some, some-ne-none}
+use lib.ListN.{get_elem?}
 use Rattle.ss_desk.proofs.Lists.{at_end}
 use Rattle.ss_desk.specs.Journal.{Begins}
 use Rattle.ss_outside.specs.Told.{TakesFirst}
@@ -14,7 +16,7 @@ use Rattle.ss_http.specs.Messages.{Reads, ReadsMessage}
 use Rattle.ss_http.proofs.MessageLemmas.{reads_append, reads_further}
 use Rattle.ss_route.specs.declared.manner.Manner.{Manner}
 use Rattle.ss_connection.specs.Known.{Known}
-use Rattle.ss_connection.specs.Turns.{Exchange, SaysEach, SaysTurn, closes}
+use Rattle.ss_connection.specs.Turns.{AreGated, Exchange, SaysEach, SaysTurn, closes}
 use Rattle.ss_connection.specs.Calls.{added}
 use Rattle.ss_connection.specs.Ends.{AreRead, AreReadings, GoesOn}
 use Rattle.ss_connection.specs.declared.notes.TurnNote.{TurnNote}
@@ -35,12 +37,18 @@ abbrev pub got_in : Exchange → List ℕ
 got_in x = x.got
 
 pub says_push : (manner : Manner) (uids : List ℕ) (known : ℕ → Known) (xs : List Exchange) (x : Exchange) → SaysEach manner uids known xs
-    → SaysTurn manner uids known x.message x.note.now (closes (length xs) x.message) x.note.turn x.response → SaysEach manner uids known (xs ++ x ∷ [])
+    → SaysTurn manner uids known x.message x.note.now (closes (length xs) x.message x.note.closed_by_gate) x.note.turn x.response → SaysEach manner uids known (xs ++ x ∷ [])
 says_push manner uids known xs x each one k y at = elim (at_end xs x y k at) [
   | inl old ↦ each k y old
   | inr new ↦
-      let S : ℕ → Exchange → Type 0 = λ n z. SaysTurn manner uids known z.message z.note.now (closes n z.message) z.note.turn z.response in
+      let S : ℕ → Exchange → Type 0 = λ n z. SaysTurn manner uids known z.message z.note.now (closes n z.message z.note.closed_by_gate) z.note.turn z.response in
       subst (λ n. S n y) (sym new.0) (subst (λ z. S (length xs) z) new.1 one)
+]
+
+pub gated_push : (says : ℕ → Bool → Type 0) (notes : List TurnNote) (note : TurnNote) → AreGated says notes → says (length notes) note.closed_by_gate → AreGated says (notes ++ note ∷ [])
+gated_push says notes note each one k y at = elim (at_end notes note y k at) [
+  | inl old ↦ each k y old
+  | inr new ↦ subst (λ n. says n y.closed_by_gate) (sym new.0) (subst (λ (z : TurnNote). says (length notes) z.closed_by_gate) new.1 one)
 ]
 
 pub readings_push : (rs : List ℕ) (now : ℕ) (coming coming' coming2 : Option (List ℕ)) → AreReadings rs coming coming' → TakesFirst coming' coming2 now → AreReadings (rs ++ now ∷ []) coming coming2
@@ -65,8 +73,8 @@ split_push taken got xs x kept kept' split reads =
     subst P (sym (map-append message_in xs (x ∷ [])))
     (reads_further (taken ++ got) (map message_in xs) x.message (kept ++ got) kept' (reads_append taken got (map message_in xs) kept split) reads)
 
-pub goes_push : (xs : List Exchange) (x : Exchange) → GoesOn xs → IsFalse x.message.last → GoesOn (xs ++ x ∷ [])
-goes_push xs x on one = All-push (λ (y : Exchange). IsFalse y.message.last) xs x on one
+pub goes_push : (xs : List Exchange) (x : Exchange) → GoesOn xs → IsFalse x.message.last → IsFalse x.note.closed_by_gate → GoesOn (xs ++ x ∷ [])
+goes_push xs x on asked gate = All-push (λ (y : Exchange). IsFalse y.message.last × IsFalse y.note.closed_by_gate) xs x on (asked, gate)
 
 pub sends_push : (sent : List ℕ) (xs : List Exchange) (x : Exchange) → sent ≡ flat_map response_in xs → sent ++ x.response ≡ flat_map response_in (xs ++ x ∷ [])
 sends_push sent xs x is =
@@ -97,6 +105,9 @@ added_push turns turns' note begins =
 -- where none was added
 pub added_nothing : (turns : List TurnNote) → added turns turns ≡ []
 added_nothing turns = ap (drop (length turns)) (sym (append-nil turns)) ∙ drop-append_seam turns []
+
+pub nothing_added : (turns : List TurnNote) (k : ℕ) (note : TurnNote) → get_elem? (added turns turns) k ≡ some note → ⊥
+nothing_added turns k note at = some-ne-none note (sym at ∙ ap (λ (ts : List TurnNote). get_elem? ts k) (added_nothing turns))
 
 pub pushed_on : (new now old : List TurnNote) (note : TurnNote) → new ≡ now ++ note ∷ [] → now ≡ old → new ≡ old ++ note ∷ []
 pushed_on new now old note is same = is ∙ ap (λ ts. ts ++ note ∷ []) same

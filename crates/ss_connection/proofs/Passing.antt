@@ -18,9 +18,9 @@ use Rattle.ss_desk.specs.Passes.{view_at, SameOthers}
 use Rattle.ss_desk.proofs.Served.{begins_itself, begins_then, entered_own, entered_begins, denied_own, denied_begins}
 use Rattle.ss_town.specs.Places.{At}
 use Rattle.ss_town.proofs.Sorting.{one_place}
-use Rattle.ss_query.specs.declared.replies.Reply.{Reply}
 use Rattle.ss_laws.specs.declared.journal.Entry.{Entry}
 use Rattle.ss_laws.specs.Journals.{reply_at}
+use Rattle.ss_booked.specs.declared.booked.Answered.{Answered}
 use Rattle.ss_booked.specs.declared.booked.Asked.{Asked}
 use Rattle.ss_booked.specs.declared.booked.Terms.{Terms}
 use Rattle.ss_booked.specs.Turns.{ask_of, full_on, journal_on, IsLegalOn, RepliesLast}
@@ -32,8 +32,8 @@ use Rattle.ss_connection.specs.declared.notes.TurnNote.{TurnNote}
 use Rattle.ss_connection.proofs.Exchanges.{added_push, added_nothing}
 
 -- a call of an account that was entered, and one that found its journal full
-abbrev pub IsEntered : View Terms Entry → View Terms Entry → ℕ → Asked → Reply → Type 0
-IsEntered v w ticket asked reply = Entered (λ entry. entry.ticket) (λ entry. entry.pass) ask_of IsLegalOn RepliesLast full_on v w ticket asked reply
+abbrev pub IsEntered : View Terms Entry → View Terms Entry → ℕ → Asked → Answered → Type 0
+IsEntered v w ticket asked answered = Entered (λ entry. entry.ticket) (λ entry. entry.pass) ask_of IsLegalOn RepliesLast full_on v w ticket asked answered
 
 abbrev pub IsDenied : View Terms Entry → View Terms Entry → Full → Type 0
 IsDenied v w full = Denied (λ entry. entry.ticket) (λ entry. entry.pass) IsLegalOn full_on v w full
@@ -74,13 +74,13 @@ pub record Steps (v w : View Terms Entry) : Type 0 where
 steps_itself : (v : View Terms Entry) → Steps v v
 steps_itself v = record { fixed = refl; range = refl; taken = refl; book = refl; seen = begins_itself v.seen }
 
-pub entered_steps : (v w : View Terms Entry) (ticket : ℕ) (asked : Asked) (reply : Reply) → IsEntered v w ticket asked reply → Steps v w
-entered_steps v w ticket asked reply e = record {
+pub entered_steps : (v w : View Terms Entry) (ticket : ℕ) (asked : Asked) (answered : Answered) → IsEntered v w ticket asked answered → Steps v w
+entered_steps v w ticket asked answered e = record {
   fixed = ap (λ (u : View Terms Entry). u.fixed) e.view;
   range = ap (λ (u : View Terms Entry). u.range) e.view;
   taken = ap (λ (u : View Terms Entry). u.taken) e.view;
   book = ap (λ (u : View Terms Entry). u.book) e.view;
-  seen = entered_begins (λ entry. entry.ticket) (λ entry. entry.pass) ask_of IsLegalOn RepliesLast full_on v w ticket asked reply e;
+  seen = entered_begins (λ entry. entry.ticket) (λ entry. entry.pass) ask_of IsLegalOn RepliesLast full_on v w ticket asked answered e;
 }
 
 pub denied_steps : (v w : View Terms Entry) (full : Full) → IsDenied v w full → Steps v w
@@ -109,9 +109,9 @@ module _ {T : Type 0} where
       }
 
   -- the place that a call was entered at
-  pub called_by : (ps qs : List (RawPass T Terms Entry)) (i ticket : ℕ) (asked : Asked) (reply : Reply)
-      → IsEntered (view_at ps i) (view_at qs i) ticket asked reply → Called (known_by qs i) ticket asked reply
-  called_by ps qs i ticket asked reply e =
+  pub called_by : (ps qs : List (RawPass T Terms Entry)) (i ticket : ℕ) (asked : Asked) (answered : Answered)
+      → IsEntered (view_at ps i) (view_at qs i) ticket asked answered → Called (known_by qs i) ticket asked answered.reply
+  called_by ps qs i ticket asked answered e =
       let v = view_at ps i in let w = view_at qs i in
       let seen : w.seen ≡ (v.seen ++ e.between) ++ e.entry ∷ [] = ap (λ (u : View Terms Entry). u.seen) e.view in
       let place : length w.seen - 1 ≡ length (v.seen ++ e.between) = omega (arith, ap length seen, length-append (v.seen ++ e.between) (e.entry ∷ [])) in
@@ -125,7 +125,7 @@ module _ {T : Type 0} where
         drawn = e.drawn;
         number = e.number ∙ sym (ap (λ (u : View Terms Entry). u.range.first) e.view);
         asked_is = e.asked;
-        answered = subst (λ n. reply_at (journal_on e.fix w.seen) n ≡ Some reply) place e.answered;
+        answered = subst (λ n. reply_at (journal_on e.fix w.seen) n ≡ Some answered.reply) place e.answered.0;
       }
 
   -- the journal that a call found full
@@ -139,13 +139,13 @@ module _ {T : Type 0} where
   }
 
 -- the tickets of this pass's entries where a call was entered, and where none was
-own_entered : (v w : View Terms Entry) (ticket : ℕ) (asked : Asked) (reply : Reply) → IsEntered v w ticket asked reply
+own_entered : (v w : View Terms Entry) (ticket : ℕ) (asked : Asked) (answered : Answered) → IsEntered v w ticket asked answered
     → map (λ (entry : Entry). entry.ticket) (entries_of (λ (entry : Entry). entry.pass) w.range.first w.seen)
     ≡ map (λ (entry : Entry). entry.ticket) (entries_of (λ (entry : Entry). entry.pass) v.range.first v.seen) ++ ticket ∷ []
-own_entered v w ticket asked reply e =
+own_entered v w ticket asked answered e =
     let first : w.range.first ≡ v.range.first = ap (λ (u : View Terms Entry). u.range.first) e.view in
     ap (λ n. map (λ (entry : Entry). entry.ticket) (entries_of (λ (entry : Entry). entry.pass) n w.seen)) first
-    ∙ (ap (map (λ (entry : Entry). entry.ticket)) (entered_own (λ entry. entry.ticket) (λ entry. entry.pass) ask_of IsLegalOn RepliesLast full_on v w ticket asked reply e)
+    ∙ (ap (map (λ (entry : Entry). entry.ticket)) (entered_own (λ entry. entry.ticket) (λ entry. entry.pass) ask_of IsLegalOn RepliesLast full_on v w ticket asked answered e)
     ∙ (map-append (λ (entry : Entry). entry.ticket) (entries_of (λ (entry : Entry). entry.pass) v.range.first v.seen) (e.entry ∷ [])
     ∙ ap (λ t. map (λ (entry : Entry). entry.ticket) (entries_of (λ (entry : Entry). entry.pass) v.range.first v.seen) ++ t ∷ []) e.drawn))
 
@@ -176,22 +176,22 @@ module _ {T : Type 0} (uids : List ℕ) where
   pub enters_none : (ps : List (RawPass T Terms Entry)) (notes : List TurnNote) → ((uid : ℕ) → calls_to uid notes ≡ []) → Enters uids ps ps notes
   enters_none ps notes none = λ i uid at. unseen ps ps i (calls_to uid notes) (none uid) refl
 
-  pub enters_call : IsStrictlyIncreasing uids → (ps qs : List (RawPass T Terms Entry)) (place uid ticket now : ℕ) (asked : Asked) (reply : Reply) → At uids place uid
-      → SameOthers place ps qs → IsEntered (view_at ps place) (view_at qs place) ticket asked reply → Enters uids ps qs (record { now = now; turn = turns.Call uid ticket } ∷ [])
-  enters_call rise ps qs place uid ticket now asked reply at same e = λ i u here. dite (ℕ_discrete i place)
+  pub enters_call : IsStrictlyIncreasing uids → (ps qs : List (RawPass T Terms Entry)) (place uid ticket now : ℕ) (by_gate : Bool) (asked : Asked) (answered : Answered) → At uids place uid
+      → SameOthers place ps qs → IsEntered (view_at ps place) (view_at qs place) ticket asked answered → Enters uids ps qs (record { now = now; closed_by_gate = by_gate; turn = turns.Call uid ticket } ∷ [])
+  enters_call rise ps qs place uid ticket now by_gate asked answered at same e = λ i u here. dite (ℕ_discrete i place)
       (λ is.
       let one : uid ≡ u = some-injective uid u (sym at ∙ (ap (get_elem? uids) (sym is) ∙ here)) in
-      subst (λ n. own_tickets (known_by qs n) ≡ own_tickets (known_by ps n) ++ calls_to u (record { now = now; turn = turns.Call uid ticket } ∷ [])) (sym is)
-      (own_entered (view_at ps place) (view_at qs place) ticket asked reply e
+      subst (λ n. own_tickets (known_by qs n) ≡ own_tickets (known_by ps n) ++ calls_to u (record { now = now; closed_by_gate = by_gate; turn = turns.Call uid ticket } ∷ [])) (sym is)
+      (own_entered (view_at ps place) (view_at qs place) ticket asked answered e
       ∙ ap (λ l. own_tickets (known_by ps place) ++ l) (sym (called_here u uid ticket one))))
       (λ ne.
       let other : uid ≢ u = λ is. ne (one_place uids rise i place u here (at ∙ ap some is)) in
-      unseen ps qs i (calls_to u (record { now = now; turn = turns.Call uid ticket } ∷ [])) (called_else u uid ticket other) (same.1 i ne))
+      unseen ps qs i (calls_to u (record { now = now; closed_by_gate = by_gate; turn = turns.Call uid ticket } ∷ [])) (called_else u uid ticket other) (same.1 i ne))
 
-  pub enters_full : (ps qs : List (RawPass T Terms Entry)) (place uid now : ℕ) (full : Full)
+  pub enters_full : (ps qs : List (RawPass T Terms Entry)) (place uid now : ℕ) (by_gate : Bool) (full : Full)
       → SameOthers place ps qs → IsDenied (view_at ps place) (view_at qs place) full
-      → Enters uids ps qs (record { now = now; turn = turns.Full uid full.entries full.bytes } ∷ [])
-  enters_full ps qs place uid now full same e = λ i u here. dite (ℕ_discrete i place)
+      → Enters uids ps qs (record { now = now; closed_by_gate = by_gate; turn = turns.Full uid full.entries full.bytes } ∷ [])
+  enters_full ps qs place uid now by_gate full same e = λ i u here. dite (ℕ_discrete i place)
       (λ is. subst (λ n. own_tickets (known_by qs n) ≡ own_tickets (known_by ps n) ++ []) (sym is) (own_denied (view_at ps place) (view_at qs place) full e))
       (λ ne. unseen ps qs i [] refl (same.1 i ne))
 

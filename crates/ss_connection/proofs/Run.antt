@@ -1,8 +1,8 @@
 -- What one message more, and an end, make of the progress of a connection.
-use Rattle.std.proofs.Common.{◌≡◌, ◌<◌, ◌≤◌, ℕ, ◌+◌, true, false, List, [], ◌∷◌, ◌++◌, length, length-append, map, drop, Option, None, Some, refl, sym, ◌∙◌, ap, subst, append_assoc, inl, inr, arith}
-use Rattle.std.specs.Prelude.{IsFalse}
+use Rattle.std.proofs.Common.{◌≡◌, ◌<◌, ◌≤◌, ℕ, ◌+◌, Bool, true, false, List, [], ◌∷◌, ◌++◌, length, length-append, map, drop, Option, None, Some, refl, sym, ◌∙◌, ap, subst, append_assoc, inl, inr, arith}
+use Rattle.std.specs.Prelude.{IsFalse, IsTrue}
 use Rattle.std.specs.List.{flat_map}
-use Rattle.std.proofs.lemmas.List.{append-nil}
+use Rattle.std.proofs.lemmas.List.{append-nil, length-map}
 use Rattle.std.proofs.lemmas.List.Elements.{All-nil}
 use Rattle.std.proofs.Math.Seq.{drop-append_seam}
 use Rattle.ss_desk.specs.Journal.{Begins}
@@ -23,16 +23,16 @@ use Rattle.ss_route.specs.Wire.{refusal_of}
 use Rattle.ss_route.specs.declared.manner.Manner.{Manner}
 use Rattle.ss_connection.specs.Known.{Known, KnowsMore}
 use Rattle.ss_connection.specs.Sending.{WasSent, WasCut}
-use Rattle.ss_connection.specs.Turns.{Exchange, SaysEach, SaysTurn, closes, most_messages}
+use Rattle.ss_connection.specs.Turns.{AreGated, Exchange, SaysEach, SaysTurn, closes, most_messages}
 use Rattle.ss_connection.specs.Calls.{added}
-use Rattle.ss_connection.specs.Ends.{AreRead, AreReadings, IsSparing, IsRefused, responses, readings, Served}
+use Rattle.ss_connection.specs.Ends.{AreRead, AreReadings, Cause, IsFewer, IsSparing, IsRefused, Sends, TakesNoMore, Unfaulted, responses, readings, Served}
 use Rattle.ss_connection.specs.Progress.{Progress, Refuses, Stops, end_of}
 use Rattle.ss_connection.specs.declared.notes.End.{End}
 use Rattle.ss_connection.specs.declared.notes.End.TheVariants as ends
 use Rattle.ss_connection.specs.declared.notes.TurnNote.{TurnNote}
 use Rattle.ss_connection.proofs.Later.{each_later}
 use Rattle.ss_connection.proofs.Moving.{moves_none, moves_read, moves_write, took_nothing, still_told}
-use Rattle.ss_connection.proofs.Exchanges.{message_in, note_in, now_in, response_in, got_in, gets_push, read_push, says_push, readings_push, clock_push, split_push, goes_push, sends_push, noted_push}
+use Rattle.ss_connection.proofs.Exchanges.{message_in, note_in, now_in, response_in, got_in, added_push, gated_push, gets_push, read_push, says_push, readings_push, clock_push, split_push, goes_push, sends_push, noted_push}
 use Rattle.ss_route.proofs.Quiet.{quiet}
 
 no_exchange : (x : Exchange) (k : ℕ) → get_elem? {A = Exchange} [] k ≡ some x → ⊥
@@ -53,7 +53,7 @@ begun manner uids known link coming turns = record {
   sparing = λ bytes told. refl;
   sends = refl;
   clock = refl;
-  goes_on = All-nil (λ (x : Exchange). IsFalse x.message.last);
+  goes_on = All-nil (λ (x : Exchange). IsFalse x.message.last × IsFalse x.note.closed_by_gate);
   going_on = refl;
   counted = refl;
   within = omega arith;
@@ -71,7 +71,7 @@ pub record Answers (manner : Manner) (uids : List ℕ) (known : ℕ → Known) (
   pub quiet : link'.read_faults ≡ link.read_faults
   pub spare : (m : Message) (rest : List ℕ) → ReadsMessage kept.bytes m rest → link' ≡ link
   pub reading : TakesFirst coming coming' note.now
-  pub says : SaysTurn manner uids known message note.now (closes count message) note.turn bytes
+  pub says : SaysTurn manner uids known message note.now (closes count message note.closed_by_gate) note.turn bytes
 
 abbrev pub exchange : List ℕ → Message → TurnNote → List ℕ → Exchange
 exchange got message note bytes = record { got = got; message = message; note = note; response = bytes }
@@ -81,7 +81,7 @@ module _ (manner : Manner) (uids : List ℕ) (known known' : ℕ → Known) (mor
     (a : Answers manner uids known' link' link2 coming' coming2 kept kept' count message note bytes) where
   says_one : SaysEach manner uids known' (p.exchanges ++ exchange a.got message note bytes ∷ [])
   says_one =
-      let S : ℕ → Type 0 = λ n. SaysTurn manner uids known' message note.now (closes n message) note.turn bytes in
+      let S : ℕ → Type 0 = λ n. SaysTurn manner uids known' message note.now (closes n message note.closed_by_gate) note.turn bytes in
       says_push manner uids known' p.exchanges (exchange a.got message note bytes) (each_later manner uids known known' more p.exchanges p.says) (subst S p.counted a.says)
 
   long_one : length (p.exchanges ++ exchange a.got message note bytes ∷ []) ≡ count + 1
@@ -104,8 +104,8 @@ module _ (manner : Manner) (uids : List ℕ) (known known' : ℕ → Known) (mor
   added_one = ap (drop (length turns)) (noted_push turns turns' p.exchanges (exchange a.got message note bytes) p.noted) ∙ drop-append_seam turns (map note_in (p.exchanges ++ exchange a.got message note bytes ∷ []))
 
   -- it was answered, and the connection goes on
-  pub goes_on : WasSent bytes link2 link3 → message.last ≡ false → Progress manner uids known' link link3 coming coming2 kept' turns (turns' ++ note ∷ []) (count + 1)
-  goes_on sent stays = record {
+  pub goes_on : WasSent bytes link2 link3 → message.last ≡ false → note.closed_by_gate ≡ false → Progress manner uids known' link link3 coming coming2 kept' turns (turns' ++ note ∷ []) (count + 1)
+  goes_on sent stays stands = record {
     exchanges = p.exchanges ++ exchange a.got message note bytes ∷ [];
     taken = p.taken ++ a.got;
     sent = p.sent ++ bytes;
@@ -117,7 +117,7 @@ module _ (manner : Manner) (uids : List ℕ) (known known' : ℕ → Known) (mor
     sparing = read_one;
     sends = sends_push p.sent p.exchanges (exchange a.got message note bytes) p.sends;
     clock = clock_push p.exchanges (exchange a.got message note bytes) coming coming' coming2 p.clock a.reading;
-    goes_on = goes_push p.exchanges (exchange a.got message note bytes) p.goes_on stays;
+    goes_on = goes_push p.exchanges (exchange a.got message note bytes) p.goes_on stays stands;
     going_on = a.going_on;
     counted = sym long_one;
     within = (let few = a.few in omega arith);
@@ -125,9 +125,12 @@ module _ (manner : Manner) (uids : List ℕ) (known known' : ℕ → Known) (mor
     write_faults = sent.faults ∙ (a.read.write_faults ∙ p.write_faults);
   }
 
-  -- it was answered, and had asked to close
-  pub ended_asked : WasSent bytes link2 link3 → message.last ≡ true → Served manner uids known' ends.Asked link link3 coming coming2 (added turns (turns' ++ note ∷ []))
-  ended_asked sent closed = record {
+  -- it was answered whole, and is the last one
+  ended_with : (end : End) → Cause end (p.exchanges ++ exchange a.got message note bytes ∷ []) None kept'.bytes link link3 → TakesNoMore end None [] → Unfaulted end link link3
+      → IsFewer end (length (p.exchanges ++ exchange a.got message note bytes ∷ []))
+      → Sends end (p.sent ++ bytes) (responses (p.exchanges ++ exchange a.got message note bytes ∷ []) None)
+      → WasSent bytes link2 link3 → Served manner uids known' end link link3 coming coming2 (added turns (turns' ++ note ∷ []))
+  ended_with end cause no_more faults fewer sends sent = record {
     exchanges = p.exchanges ++ exchange a.got message note bytes ∷ [];
     refusal = None;
     taken = p.taken ++ a.got;
@@ -140,14 +143,28 @@ module _ (manner : Manner) (uids : List ℕ) (known known' : ℕ → Known) (mor
     more = [];
     gets = gets_one ∙ sym (append-nil (flat_map got_in (p.exchanges ++ exchange a.got message note bytes ∷ [])));
     sparing = sparing_one;
-    no_more = refl;
-    sends = sends_push p.sent p.exchanges (exchange a.got message note bytes) p.sends ∙ sym (append-nil (flat_map response_in (p.exchanges ++ exchange a.got message note bytes ∷ [])));
+    no_more = no_more;
+    sends = sends;
     clock = (let P : List ℕ → Type 0 = λ rs. AreReadings rs coming coming2 in
         subst P (sym (append-nil (map now_in (p.exchanges ++ exchange a.got message note bytes ∷ [])))) (clock_push p.exchanges (exchange a.got message note bytes) coming coming' coming2 p.clock a.reading));
-    cause = (record { before = p.exchanges; last = exchange a.got message note bytes; all = refl; goes_on = p.goes_on }, closed, refl);
-    faults = (sent.write.read_faults ∙ (a.quiet ∙ p.read_faults), sent.faults ∙ (a.read.write_faults ∙ p.write_faults));
-    fewer = few_one;
+    cause = cause;
+    faults = faults;
+    fewer = fewer;
   }
+
+  faults_one : WasSent bytes link2 link3 → (link3.read_faults ≡ link.read_faults) × (link3.write_faults ≡ link.write_faults)
+  faults_one sent = (sent.write.read_faults ∙ (a.quiet ∙ p.read_faults), sent.faults ∙ (a.read.write_faults ∙ p.write_faults))
+
+  sends_one : p.sent ++ bytes ≡ responses (p.exchanges ++ exchange a.got message note bytes ∷ []) None
+  sends_one = sends_push p.sent p.exchanges (exchange a.got message note bytes) p.sends ∙ sym (append-nil (flat_map response_in (p.exchanges ++ exchange a.got message note bytes ∷ [])))
+
+  -- it had asked to close
+  pub ended_asked : WasSent bytes link2 link3 → message.last ≡ true → Served manner uids known' ends.Asked link link3 coming coming2 (added turns (turns' ++ note ∷ []))
+  ended_asked sent closed = ended_with ends.Asked (record { before = p.exchanges; last = exchange a.got message note bytes; all = refl; goes_on = p.goes_on }, closed, refl) refl (faults_one sent) few_one sends_one sent
+
+  -- it hadn't, and the gate said that its response closes
+  pub ended_by_gate : WasSent bytes link2 link3 → message.last ≡ false → note.closed_by_gate ≡ true → Served manner uids known' ends.Gate link link3 coming coming2 (added turns (turns' ++ note ∷ []))
+  ended_by_gate sent stays closed = ended_with ends.Gate (record { before = p.exchanges; last = exchange a.got message note bytes; all = refl; goes_on = p.goes_on }, stays, closed, refl) refl (faults_one sent) few_one sends_one sent
 
   -- of its response a front was written
   pub ended_cut : WasCut bytes link2 link3 → Served manner uids known' ends.WriteFault link link3 coming coming2 (added turns (turns' ++ note ∷ []))
@@ -400,6 +417,8 @@ stopped manner uids known link link' link2 link3 coming coming' coming2 kept tur
     unanswered manner uids known link link' link2 link3 coming coming' coming2 kept turns turns' count fault ends.Closed p f stops
 stopped manner uids known link link' link2 link3 coming coming' coming2 kept turns turns' count fault ends.Asked p f stops =
     unanswered manner uids known link link' link2 link3 coming coming' coming2 kept turns turns' count fault ends.Asked p f stops
+stopped manner uids known link link' link2 link3 coming coming' coming2 kept turns turns' count fault ends.Gate p f stops =
+    unanswered manner uids known link link' link2 link3 coming coming' coming2 kept turns turns' count fault ends.Gate p f stops
 stopped manner uids known link link' link2 link3 coming coming' coming2 kept turns turns' count fault ends.Count p f stops =
     unanswered manner uids known link link' link2 link3 coming coming' coming2 kept turns turns' count fault ends.Count p f stops
 stopped manner uids known link link' link2 link3 coming coming' coming2 kept turns turns' count fault ends.Cut p f stops =
@@ -459,6 +478,13 @@ module _ (manner : Manner) (uids : List ℕ) (known : ℕ → Known) (link link'
     faults = (p.read_faults, p.write_faults);
     fewer = few_none manner uids known link link' link' link' coming coming' coming' kept turns turns' count faults.End p few;
   }
+
+  -- what the gate was asked of the turns, after one more
+  pub gated_more : (says : ℕ → Bool → Type 0) (note : TurnNote) → AreGated says (added turns turns') → says count note.closed_by_gate → AreGated says (added turns (turns' ++ note ∷ []))
+  gated_more says note each one =
+      let long : count ≡ length (added turns turns') = p.counted ∙ (sym (length-map p.exchanges note_in) ∙ ap length (sym (added_none manner uids known link link' link' link' coming coming' coming' kept turns turns' count faults.End p))) in
+      subst (AreGated says) (sym (added_push turns turns' note (map note_in p.exchanges, p.noted)))
+      (gated_push says (added turns turns') note each (subst (λ n. says n note.closed_by_gate) long one))
 
   -- the turns were added to those that were there
   pub begins : Begins turns turns'

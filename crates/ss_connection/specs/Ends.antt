@@ -52,11 +52,11 @@ responses exchanges refusal = flat_map (λ x. x.response) exchanges ++ option_ma
 abbrev pub readings : List Exchange → Option Refusal → List ℕ
 readings exchanges refusal = map (λ x. x.note.now) exchanges ++ option_map_or (λ refused. refused.now ∷ []) refusal []
 
--- no message so far asked to close
+-- no message so far asked to close, and of no response the gate said that it does
 abbrev pub GoesOn : List Exchange → Type 0
-GoesOn exchanges = All (λ x. IsFalse x.message.last) exchanges
+GoesOn exchanges = All (λ x. IsFalse x.message.last × IsFalse x.note.closed_by_gate) exchanges
 
--- there is a last message, and none before it asked to close
+-- there is a last message, and up to it none asked to close, and of no response the gate said that it does
 pub record EndsIn (exchanges : List Exchange) : Type 0 where
   pub before : List Exchange
   pub last : Exchange
@@ -67,6 +67,8 @@ pub record EndsIn (exchanges : List Exchange) : Type 0 where
 abbrev pub Cause : End → List Exchange → Option Refusal → List ℕ → Meanings → Meanings → Type 0
 Cause ends.Closed exchanges refusal rest link link' = (rest ≡ []) × IsUsedUp link' × GoesOn exchanges × (refusal ≡ None)
 Cause ends.Asked exchanges refusal rest link link' = (end : EndsIn exchanges) × IsTrue end.last.message.last × (refusal ≡ None)
+Cause ends.Gate exchanges refusal rest link link' =
+    (end : EndsIn exchanges) × IsFalse end.last.message.last × IsTrue end.last.note.closed_by_gate × (refusal ≡ None)
 Cause ends.Count exchanges refusal rest link link' = (length exchanges ≡ most_messages) × GoesOn exchanges × (refusal ≡ None)
 Cause ends.Cut exchanges refusal rest link link' = IsMessageFault faults.Cut rest × IsUsedUp link' × GoesOn exchanges × (refusal ≡ None)
 Cause (ends.BadMessage now) exchanges refusal rest link link' =
@@ -99,6 +101,7 @@ AreRead kept (x ∷ exchanges) kept' =
 -- the bytes that were taken after the last message that was answered: none, where no further one was looked for
 abbrev pub TakesNoMore : End → Option Refusal → List ℕ → Type 0
 TakesNoMore ends.Asked refusal more = more ≡ []
+TakesNoMore ends.Gate refusal more = more ≡ []
 TakesNoMore ends.Count refusal more = more ≡ []
 TakesNoMore ends.WriteFault refusal more = refusal ≡ None → more ≡ []
 TakesNoMore _ refusal more = ⊤
@@ -112,6 +115,7 @@ pub record IsSparing (exchanges : List Exchange) (rest more : List ℕ) : Type 0
 -- how many messages there were: who looked for one more had answered fewer than may be
 abbrev pub IsFewer : End → ℕ → Type 0
 IsFewer ends.Asked count = count ≤ most_messages
+IsFewer ends.Gate count = count ≤ most_messages
 IsFewer ends.Count count = count ≤ most_messages
 IsFewer ends.WriteFault count = count ≤ most_messages
 IsFewer _ count = count < most_messages

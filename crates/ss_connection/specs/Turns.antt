@@ -32,10 +32,10 @@ use Rattle.ss_connection.specs.declared.notes.TurnNote.{TurnNote}
 abbrev pub most_messages : ℕ
 most_messages = 1000
 
--- whether the response to a message closes, before which so many were answered: the message asks for it, or it is the last that
--- is answered
-abbrev pub closes : ℕ → Message → Bool
-closes count message = message.last || nat_eq (count + 1) most_messages
+-- whether the response to a message closes, before which so many were answered: the message asks for it, the gate says so, or it is
+-- the last that is answered
+abbrev pub closes : ℕ → Message → Bool → Bool
+closes count message by_gate = message.last || by_gate || nat_eq (count + 1) most_messages
 
 -- what a client is told whose account's journal has no room for one more call in this term
 abbrev pub term_is_full : Local
@@ -115,7 +115,11 @@ pub record Exchange : Type 0 where
   pub note : TurnNote
   pub response : List ℕ
 
+-- the notes say of each response what the gate may say of it
+abbrev pub AreGated : (ℕ → Bool → Type 0) → List TurnNote → Type 0
+AreGated says notes = (k : ℕ) (note : TurnNote) → get_elem? notes k ≡ some note → says k note.closed_by_gate
+
 -- each message's response is what its turn says
 abbrev pub SaysEach : Manner → List ℕ → (ℕ → Known) → List Exchange → Type 0
 SaysEach manner uids known exchanges = (k : ℕ) (x : Exchange) → get_elem? exchanges k ≡ some x
-    → SaysTurn manner uids known x.message x.note.now (closes k x.message) x.note.turn x.response
+    → SaysTurn manner uids known x.message x.note.now (closes k x.message x.note.closed_by_gate) x.note.turn x.response

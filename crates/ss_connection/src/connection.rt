@@ -6,7 +6,7 @@ ghost use Rattle.ss_desk.specs.Passes.{AreOf};
 ghost use Rattle.ss_town.specs.Town.{uids_of, desks_of, passes_of};
 ghost use Rattle.ss_connection.specs.Known.{known_by, SeeMore};
 ghost use Rattle.ss_connection.specs.Calls.{added, Enters};
-ghost use Rattle.ss_connection.specs.Turns.{closes};
+ghost use Rattle.ss_connection.specs.Turns.{closes, AreGated};
 ghost use Rattle.ss_connection.specs.Ends.{Served};
 ghost use Rattle.ss_connection.specs.Progress.{end_of, Stops};
 
@@ -24,12 +24,12 @@ use ss_town::{Passes, Town};
 use std::alloc::Global;
 use std::sync::Wait;
 
-/// Whether the response to a message closes, before which so many were answered.
-fn closes(count: u64, message: &Message) -> bool
+/// Whether the response to a message closes, before which so many were answered, and of which the gate says this.
+fn closes(count: u64, message: &Message, by_gate: bool) -> bool
     requires { count < MOST_MESSAGES }
-    ensures { result ≡ closes count message.now }
+    ensures { result ≡ closes count message.now by_gate }
 {
-    message.last || count + 1 == MOST_MESSAGES
+    message.last || by_gate || count + 1 == MOST_MESSAGES
 }
 
 /// The end to which a fault leads that isn't answered.
@@ -62,7 +62,8 @@ fn stop<L: Sink, C: Clock>(alloc: Global, fault: MsgFault, link: &mut L, clock: 
 
 /// Answers the messages of a link, whose conditions are read in this manner, one reading of the clock and one turn
 /// each, until one of the connection's ends. The worker passes the gate with its own number and the number of the
-/// message, both from 0, after each message was read. The turns are added to those that are there. Nothing is said of
+/// message, both from 0, after each message was read; where the gate says that the response closes, it is the last one.
+/// The turns are added to those that are there. Nothing is said of
 /// how long a worker waits for its turn at an account.
 pub fn serve_connection<L: Source + Sink, C: Clock, K: Keeper + Drop, G: Gate, R: Wait>(
     rt: &R,
@@ -87,6 +88,8 @@ pub fn serve_connection<L: Source + Sink, C: Clock, K: Keeper + Drop, G: Gate, R
     ensures served { Served manner (uids_of town.now) (known_by (passes_of passes.new)) result (L.Told.told link.old)
         (L.Told.told link.new)
         (C.coming clock.old) (C.coming clock.new) (added turns.old.items turns.new.items) }
+    // Of each response the gate was asked whether it closes, by the worker's number and the message's.
+    ensures gated { AreGated (G.says gate.now worker) (added turns.old.items turns.new.items) }
     // The passes' new entries are those of the calls, in order, account by account.
     ensures enters { Enters (uids_of town.now) (passes_of passes.old) (passes_of passes.new)
         (added turns.old.items turns.new.items) }
@@ -103,16 +106,23 @@ pub fn serve_connection<L: Source + Sink, C: Clock, K: Keeper + Drop, G: Gate, R
             Err(fault) => return stop(alloc, fault, link, clock),
         };
         let now = clock.now();
-        gate.pass(worker, count);
-        let last = closes(count, &message);
-        let (turn, response) = answer(rt, alloc, manner, town, passes, now, last, &message);
-        turns.push_reserved(TurnNote { now, turn });
+        let closed_by_gate = gate.pass(worker, count);
+        let last = closes(count, &message, closed_by_gate);
+        let (turn, response) = answer(rt, alloc, manner, gate, town, passes, now, last, &message);
+        turns.push_reserved(TurnNote {
+            now,
+            closed_by_gate,
+            turn,
+        });
         match response.write(link) {
             Ok(()) => {}
             Err(_) => return End::WriteFault,
         }
         if message.last {
             return End::Asked;
+        }
+        if closed_by_gate {
+            return End::Gate;
         }
     }
     End::Count

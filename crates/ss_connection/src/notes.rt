@@ -16,10 +16,12 @@ pub enum Turn {
     Memory,
 }
 
-/// A message that was answered: the reading of the clock (hundredths of a second since 1970), and its turn.
+/// A message that was answered: the reading of the clock (hundredths of a second since 1970), whether the gate said that
+/// the response closes its link, and the turn.
 #[derive(Debug, Clone, Copy, PartialEq, Eq)]
 pub struct TurnNote {
     pub now: u64,
+    pub closed_by_gate: bool,
     pub turn: Turn,
 }
 
@@ -32,7 +34,10 @@ pub enum End {
     /// The last message asked to close, or is HTTP/1.0 (RFC 9112).
     Asked,
 
-    /// As many messages were answered as may be, and the last one didn't ask to close.
+    /// The gate said that the last response closes, and its message didn't ask for that. It was written whole.
+    Gate,
+
+    /// As many messages were answered as may be, the last one didn't ask to close, and the gate didn't say so.
     Count,
 
     /// The input ended inside a message, for which nothing was written.

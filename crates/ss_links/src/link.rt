@@ -13,4 +13,7 @@ pub trait Closable: Source + Sink {
     fn close(&mut self)
         ensures told { Self.Told.told self.new ≡ Self.Told.told self.old }
         ensures closed { IsTrue (closed self.new) };
+
+    /// Whether rules of waiting ended it, and not its client: for what people are told. Nothing is promised of it.
+    fn is_dismissed(&self) -> bool;
 }

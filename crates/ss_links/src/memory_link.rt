@@ -168,4 +168,8 @@ impl<F: Faults + Drop> Closable for LinkUnder<F> {
     {
         self.is_closed = true;
     }
+
+    fn is_dismissed(&self) -> bool {
+        false
+    }
 }

@@ -1,10 +1,21 @@
 //! Ports.
 
-ghost use Rattle.std.specs.Prelude.{◌≡◌, OnOk, IfOk, IfSome};
+ghost use Rattle.std.specs.Prelude.{◌≡◌, OnOk, IfOk};
 ghost use Rattle.ss_links.specs.Links.{IsUnused};
-ghost use Rattle.ss_links.specs.Ports.{Accepts, HasAccepted};
+ghost use Rattle.ss_links.specs.Ports.{Accepts, HasAccepted, IfLink};
 
 use crate::link::Closable;
+
+/// What a port gives.
+#[derive(Drop, Debug)]
+pub enum Accepted<L> {
+    /// The next link.
+    Link(L),
+    /// The port rests: it asks for the end of a term, and goes on after it.
+    Rest,
+    /// The port's end.
+    End,
+}
 
 /// Why a port gave no link.
 #[derive(Clone, Copy, Debug, PartialEq, Eq)]
@@ -19,11 +30,11 @@ pub enum PortFault {
 pub trait Port {
     type Link: Closable;
 
-    /// How many of its calls failed, how many found its end, and how many links it gave.
+    /// How many of its calls failed, how many found its end, how many links it gave, and how often it rested.
     ghost counts: { Self → Accepts };
 
-    /// Waits for the next link. None is the port's end.
-    fn accept(&mut self) -> Result<Option<Self::Link>, PortFault>
+    /// Waits for the next link.
+    fn accept(&mut self) -> Result<Accepted<Self::Link>, PortFault>
         ensures counted { HasAccepted result (counts self.old) (counts self.new) }
-        ensures unused { IfOk result (λ given. IfSome given (λ link. IsUnused (Self.Link.Told.told link))) };
+        ensures unused { IfOk result (λ given. IfLink given (λ link. IsUnused (Self.Link.Told.told link))) };
 }

@@ -5,12 +5,11 @@ ghost use Rattle.ss_links.specs.Links.{idle_link};
 
 use crate::dial::{Dial, DialFault};
 use crate::tcp_link::TcpLink;
-use crate::waiting::WAIT_SECONDS;
 use std::io;
 use std::io::ErrorKind;
 use std::marker::Model;
 use std::net::{Net, ToSocketAddrs};
-use std::time::{Clock, Duration};
+use std::time::Clock;
 
 /// A dial over TCP. A host must answer within 30 seconds, as a message of its links must be there.
 #[derive(Drop)]
@@ -40,11 +39,8 @@ impl<'a, R: Net + Clock> TcpDial<'a, R> {
     {
         let mut last = io::Error::from(ErrorKind::NotFound);
         'addresses: for address in (host, port).to_socket_addrs(self.system)? {
-            match self
-                .system
-                .connect_timeout(address, Duration::from_secs(WAIT_SECONDS))
-            {
-                Ok(stream) => return TcpLink::new(self.system, stream),
+            match TcpLink::dial(self.system, address) {
+                Ok(link) => return Ok(link),
                 Err(error) => last = error,
             }
         }

@@ -1,27 +1,34 @@
-//! A link over TCP: the trusted edge. It counts its faults, and tells no content.
+//! A link of a client's over TCP: the trusted edge. It counts its faults, and tells no content.
 
 ghost use Rattle.std.specs.Prelude.{◌≡◌, ◌≢◌, ◌⊎◌, ◌↔◌, ◌≤◌, IfOk, IsTrue, length};
 ghost use Rattle.ss_outside.specs.Told.{counts_alone};
 ghost use Rattle.ss_links.specs.Links.{idle_link};
 
 use crate::link::Closable;
-use crate::waiting::Awaited;
+use crate::waiting::{Awaited, WAIT_SECONDS};
+use libc::net::{POLLIN, POLLRDHUP, poll};
+use libc::types::pollfd;
 use ss_outside::{ReadFault, Sink, Source, Told, WriteFault};
 use std::io;
 use std::io::{ErrorKind, Read, Write};
 use std::marker::Model;
-use std::net::{Net, OpenStream, Shutdown};
-use std::time::Clock;
+use std::net::{Net, OpenStream, Shutdown, SocketAddr};
+use std::os::fd::AsRawFd;
+use std::time::{Clock, Duration};
 
-/// A link over TCP. A read fails where the message isn't there in time, and a write where the response isn't taken in time
-/// (`WAIT_SECONDS`). A write that takes its whole piece ends a response.
+/// A link of a client's over TCP. A read fails where the response isn't there in time, and a write where the request
+/// isn't taken in time (`WAIT_SECONDS`). A write that takes its whole piece ends a request. Where the server has closed
+/// the connection since the last response, it is dialled anew before a further request is written.
 #[derive(Drop)]
 pub struct TcpLink<'a, R: Net + Clock> {
     system: &'a R,
+    address: SocketAddr,
     // None once it was closed.
     stream: Option<R::Stream>,
-    message: Awaited,
-    response: Option<Awaited>,
+    response: Awaited,
+    request: Option<Awaited>,
+    // Whether bytes of a response were read since the last request.
+    is_answered: bool,
     read_faults: u64,
     write_faults: u64,
 }
@@ -32,20 +39,42 @@ impl<'a, R: Net + Clock> Model for TcpLink<'a, R> {
 
     ghost Value = { Connection };
 
-    ghost view = { λ l. record { read_faults = l.read_faults; write_faults = l.write_faults; is_closed = is_none l.stream } };
+    ghost view = { λ l. record {
+      read_faults = l.read_faults;
+      write_faults = l.write_faults;
+      is_closed = is_none l.stream;
+    } };
+}
+
+/// A connection to this address, which sends without delay.
+fn connect<R: Net>(system: &R, address: SocketAddr) -> io::Result<R::Stream> {
+    let stream = system.connect_timeout(address, Duration::from_secs(WAIT_SECONDS))?;
+    stream.set_nodelay(true)?;
+    Ok(stream)
+}
+
+/// Whether something is there of a stream of which nothing is awaited, as its end is.
+fn has_come<S: AsRawFd>(stream: &S) -> bool {
+    let mut asked = [pollfd {
+        fd: stream.as_raw_fd(),
+        events: POLLIN | POLLRDHUP,
+        revents: 0,
+    }];
+    poll(&mut asked, 0) > 0
 }
 
 impl<'a, R: Net + Clock> TcpLink<'a, R> {
-    /// A link over this stream, which sends without delay. Its first message is awaited from now on.
-    pub(crate) fn new(system: &'a R, stream: R::Stream) -> io::Result<TcpLink<'a, R>>
+    /// A link to this address. The host must answer within `WAIT_SECONDS`.
+    pub(crate) fn dial(system: &'a R, address: SocketAddr) -> io::Result<TcpLink<'a, R>>
         ensures { IfOk result (λ link. link ≡ idle_link) }
     {
-        stream.set_nodelay(true)?;
         Ok(TcpLink {
             system,
-            stream: Some(stream),
-            message: Awaited::from_now(system)?,
-            response: None,
+            address,
+            stream: Some(connect(system, address)?),
+            response: Awaited::from_now(system)?,
+            request: None,
+            is_answered: false,
             read_faults: 0,
             write_faults: 0,
         })
@@ -66,35 +95,50 @@ impl<'a, R: Net + Clock> TcpLink<'a, R> {
         let Some(stream) = &mut self.stream else {
             return Err(io::Error::from(ErrorKind::NotConnected));
         };
-        let Some(left) = self.message.time_left(self.system)? else {
+        let Some(left) = self.response.time_left(self.system)? else {
             return Err(io::Error::from(ErrorKind::TimedOut));
         };
         stream.set_read_timeout(Some(left))?;
+        self.is_answered = true;
         stream.read(into)
+    }
+
+    // Before a further request: where the server closed the connection meanwhile, another one takes its place.
+    fn renew(&mut self) -> io::Result<()>
+        ensures { self.new ≡ self.old }
+    {
+        if let Some(stream) = &mut self.stream {
+            if self.is_answered && has_come(&*stream) {
+                *stream = connect(self.system, self.address)?;
+            }
+        }
+        self.is_answered = false;
+        Ok(())
     }
 
     fn write_in_time(&mut self, from: &[u8]) -> io::Result<usize>
         ensures bound { IfOk result (λ count. count ≤ length from.now) }
         ensures same { self.new ≡ self.old }
     {
+        self.renew()?;
         let Some(stream) = &mut self.stream else {
             return Err(io::Error::from(ErrorKind::NotConnected));
         };
-        let mut response = match self.response {
-            Some(response) => response,
+        let request = match self.request {
+            Some(request) => request,
             None => Awaited::from_now(self.system)?,
         };
-        let left = response.time_left(self.system)?;
-        self.response = Some(response);
+        let left = request.time_left(self.system)?;
+        self.request = Some(request);
         let Some(left) = left else {
             return Err(io::Error::from(ErrorKind::TimedOut));
         };
         stream.set_write_timeout(Some(left))?;
         let count = stream.write(from)?;
         if count == from.len() {
-            self.response = None;
+            self.request = None;
             if let Ok(next) = Awaited::from_now(self.system) {
-                self.message = next;
+                self.response = next;
             }
         }
         Ok(count)
@@ -141,5 +185,9 @@ impl<'a, R: Net + Clock> Closable for TcpLink<'a, R> {
             let _ = stream.shutdown(Shutdown::Both);
         }
         self.stream = None;
+    }
+
+    fn is_dismissed(&self) -> bool {
+        false
     }
 }

@@ -3,7 +3,7 @@
 ghost use Rattle.std.specs.Prelude.{◌≡◌, [], Err, IfOk, None, OnOk, OnErr};
 ghost use Rattle.ss_links.specs.Counts.{RoseBy};
 ghost use Rattle.ss_site.specs.Counted.{faults_of};
-ghost use Rattle.ss_site.specs.Sites.{HasCause, HasLent, AddsTerm};
+ghost use Rattle.ss_site.specs.Sites.{HasCause, HasLent, AddsTerm, RoseUnless};
 ghost use Rattle.ss_real_site.specs.Files.{counted_in};
 ghost use Rattle.ss_real_site.specs.Real.{no_entries, no_terms};
 
@@ -12,7 +12,7 @@ use crate::trouble::Trouble;
 use sqlite::{Connection, Error, ErrorCode, File, FileStore};
 use ss_keep_sql::{SqlFault, SqlKeeper};
 use ss_laws::Journal;
-use ss_links::{TcpLink, TcpPort};
+use ss_links::{ServedLink, TcpPort, Traffic};
 use ss_outside::SystemClock;
 use ss_serve::LinkReport;
 use ss_site::{CountedPort, Site, SiteFault};
@@ -29,11 +29,14 @@ use std::time::Clock;
 pub struct RealSite<'a, N: Net + Clock> {
     // The ports and the clocks of the system.
     network: &'a N,
+    // What a port and its links share with the gate.
+    traffic: &'a Traffic,
     files: &'a HostRuntime,
     trouble: Option<Trouble>,
     faults: u64,
     links: u64,
     ends: u64,
+    rests: u64,
     given: u64,
     back: u64,
     // Of the ports that it gave.
@@ -47,24 +50,27 @@ impl<'a, N: Net + Clock> Model for RealSite<'a, N> {
     ghost Value = { Tally };
 
     ghost view = { λ site. record {
-      counts = record { faults = site.faults; links = site.links; ends = site.ends };
+      counts = record { faults = site.faults; links = site.links; ends = site.ends; rests = site.rests };
       lent = record { given = site.given; back = site.back; addresses = map string_bytes site.addresses.items };
     } };
 }
 
 impl<'a, N: Net + Clock> RealSite<'a, N> {
-    /// A site whose ports and clocks are of this network, and whose databases are files of the system.
-    pub fn new(network: &'a N, files: &'a HostRuntime) -> RealSite<'a, N>
-        ensures counts { result.counts ≡ record { faults = 0; links = 0; ends = 0 } }
+    /// A site whose ports and clocks are of this network, and whose databases are files of the system. The traffic is
+    /// that of its port; who serves passes the gate over the same.
+    pub fn new(network: &'a N, files: &'a HostRuntime, traffic: &'a Traffic) -> RealSite<'a, N>
+        ensures counts { result.counts ≡ record { faults = 0; links = 0; ends = 0; rests = 0 } }
         ensures lent { result.lent ≡ record { given = 0; back = 0; addresses = [] } }
     {
         RealSite {
             network,
+            traffic,
             files,
             trouble: None,
             faults: 0,
             links: 0,
             ends: 0,
+            rests: 0,
             given: 0,
             back: 0,
             addresses: Vec::new(files.alloc()),
@@ -94,6 +100,27 @@ impl<'a, N: Net + Clock> RealSite<'a, N> {
         ensures counts { self.new.counts ≡ self.old.counts }
     {
         self.given = self.given.saturating_add(1);
+    }
+
+    // Counts a port that failed so often.
+    fn count_failed_port(&mut self, faults: u64)
+        ensures faults { RoseUnless faults self.old.counts.faults self.new.counts.faults }
+        ensures rest { self.new ≡ record self.old { counts = record self.old.counts { faults = self.new.counts.faults } } }
+    {
+        if faults != 0 {
+            self.trouble = Some(Trouble::Port);
+            self.faults = self.faults.saturating_add(1);
+        }
+    }
+
+    // Counts a port that found its end so often.
+    fn count_ended_port(&mut self, ends: u64)
+        ensures ends { RoseUnless ends self.old.counts.ends self.new.counts.ends }
+        ensures rest { self.new ≡ record self.old { counts = record self.old.counts { ends = self.new.counts.ends } } }
+    {
+        if ends != 0 {
+            self.ends = self.ends.saturating_add(1);
+        }
     }
 
     // What an error of the system is to the site, which counts it where memory isn't all that is wanting.
@@ -158,7 +185,7 @@ impl<'a, N: Net + Clock> Site for RealSite<'a, N> {
 
     type Clock = SystemClock<'a, N>;
 
-    type Report = LinkReport<TcpLink<'a, N>>;
+    type Report = LinkReport<ServedLink<'a, N>>;
 
     ghost counts = { λ site. site.counts };
 
@@ -179,7 +206,7 @@ impl<'a, N: Net + Clock> Site for RealSite<'a, N> {
         if self.addresses.reserve(1).is_err() {
             return Err(SiteFault::Memory);
         }
-        match TcpPort::listen(self.network, address) {
+        match TcpPort::listen(self.network, alloc, self.traffic, address) {
             Ok(port) => {
                 self.addresses.push_reserved(copy);
                 self.lend();
@@ -218,14 +245,10 @@ impl<'a, N: Net + Clock> Site for RealSite<'a, N> {
 
     fn shut(&mut self, port: CountedPort<TcpPort<'a, N>>) {
         self.back = self.back.saturating_add(1);
-        if port.faults() != 0 {
-            self.trouble = Some(Trouble::Port);
-            self.faults = self.faults.saturating_add(1);
-        }
-        if port.ends() != 0 {
-            self.ends = self.ends.saturating_add(1);
-        }
+        self.count_failed_port(port.faults());
+        self.count_ended_port(port.ends());
         self.links = self.links.saturating_add(port.links());
+        self.rests = self.rests.saturating_add(port.rests());
         drop(port);
     }
 
@@ -236,7 +259,7 @@ impl<'a, N: Net + Clock> Site for RealSite<'a, N> {
     fn ended(
         &mut self,
         _alloc: Global,
-        reports: Vec<LinkReport<TcpLink<'a, N>>>,
+        reports: Vec<LinkReport<ServedLink<'a, N>>>,
         journals: &[(u32, &Journal)],
     ) -> Result<(), SiteFault>
         ensures added { OnOk result (AddsTerm reports.entry.items journals.now (no_terms reports.entry.items)

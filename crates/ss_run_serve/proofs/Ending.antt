@@ -47,14 +47,17 @@ use Rattle.ss_bso.proofs.Reordering.{same-self}
 -- why no further term follows, or that one does
 last_is : (stop : TermStop) (connections : ℕ) (old new : Accepts) (next : Option Stop) → ((fault : TownFault) → stop ≡ ended.Town fault → ⊥) → HasEnded stop connections old new → Follows stop new next
     → IsLast connections old new next
-last_is ended.Port connections old new next town why follows = subst (λ (n : Option Stop). IsLast connections old new n) (sym follows) (rose_some old.faults new.faults why)
-last_is ended.PortEnded connections old new next town why follows = subst (λ (n : Option Stop). IsLast connections old new n) (sym follows) (rose_some old.ends new.ends why)
+last_is ended.Port connections old new next town why follows = subst (λ (n : Option Stop). IsLast connections old new n) (sym follows) (rose_some old.faults new.faults why.0)
+last_is ended.PortEnded connections old new next town why follows = subst (λ (n : Option Stop). IsLast connections old new n) (sym follows) (rose_some old.ends new.ends why.0)
 last_is ended.Memory connections old new next town why follows = subst (λ (n : Option Stop). IsLast connections old new n) (sym follows) tt
 last_is (ended.Town fault) connections old new next town why follows = absurd (town fault refl)
-last_is ended.Connections connections old new next town why (inl on) = subst (λ (n : Option Stop). IsLast connections old new n) (sym on.0) (why, on.1)
+last_is ended.Connections connections old new next town why (inl on) = subst (λ (n : Option Stop). IsLast connections old new n) (sym on.0) (inl why, on.1)
 last_is ended.Connections connections old new next town why (inr over) = subst (λ (n : Option Stop). IsLast connections old new n) (sym over.0) over.1
-last_is (ended.Full uid) connections old new next town (inl rose) (inl on) = absurd (rose_some old.ends new.ends rose on.1)
-last_is (ended.Full uid) connections old new next town (inr given) (inl on) = subst (λ (n : Option Stop). IsLast connections old new n) (sym on.0) (given, on.1)
+last_is ended.Rested connections old new next town why (inl on) = subst (λ (n : Option Stop). IsLast connections old new n) (sym on.0) (inr why, on.1)
+last_is ended.Rested connections old new next town why (inr over) = subst (λ (n : Option Stop). IsLast connections old new n) (sym over.0) over.1
+last_is (ended.Full uid) connections old new next town (inl end) (inl on) = absurd (rose_some old.ends new.ends end.0 on.1)
+last_is (ended.Full uid) connections old new next town (inr (inl rest)) (inl on) = subst (λ (n : Option Stop). IsLast connections old new n) (sym on.0) (inr rest, on.1)
+last_is (ended.Full uid) connections old new next town (inr (inr all)) (inl on) = subst (λ (n : Option Stop). IsLast connections old new n) (sym on.0) (inl all, on.1)
 last_is (ended.Full uid) connections old new next town why (inr over) = subst (λ (n : Option Stop). IsLast connections old new n) (sym over.0) over.1
 
 -- of accounts that begin, one whose keeper had failed has failed
@@ -106,6 +109,7 @@ module _ {K : Type 0} {G : Ghosts K} (told : K → Option Kept) (faults : K → 
         → TermSays fixed entries_in failures manner tells closed given handed reports coming coming' stop → Term_of given handed reports coming coming'
     term_of given handed reports coming coming' ended.Connections town says = says
     term_of given handed reports coming coming' ended.PortEnded town says = says
+    term_of given handed reports coming coming' ended.Rested town says = says
     term_of given handed reports coming coming' ended.Port town says = says
     term_of given handed reports coming coming' (ended.Full uid) town says = says
     term_of given handed reports coming coming' ended.Memory town says = says

@@ -1,9 +1,10 @@
 -- The terms of a server so far, and one term more.
-use Rattle.std.specs.Prelude.{◌≡◌, ◌≢◌, ◌⊎◌, ◌<◌, ◌≤◌, ◌+◌, ◌*◌, ◌-◌, ◌^◌, ℕ, zero, suc, Bool, List, [], ◌∷◌, ◌++◌, length, map, sum_by, Option, Some, None, All, Any, Contains, refl}
+use Rattle.std.specs.Prelude.{◌≡◌, ◌≢◌, ◌⊎◌, ◌<◌, ◌≤◌, ◌+◌, ◌*◌, ◌-◌, ◌^◌, ℕ, zero, suc, Bool, true, false, nat_lt, if◌then◌else◌, List, [], ◌∷◌, ◌++◌, length, map, sum_by, Option, Some, None, All, Any, Contains, refl}
 use Rattle.std.specs.Option.{option_map}
 use Rattle.std.specs.List.{AllZip}
 use Rattle.std.specs.List.Sorted.{IsPermutation}
 use Rattle.std.proofs.Common.{sym, ap, subst, ◌∙◌, inl, inr, arith, append_assoc, append-nil}
+use Rattle.std.proofs.lemmas.Bool.Decides.{nat_tests}
 use Rattle.std.proofs.lemmas.List.{length-append, length-map}
 use Rattle.std.proofs.lemmas.List.Elements.{All-append, All-contains, All-cons, All-head, All-nil, All-push, All-tail, Contains-get_or, Contains-push, Contains-push_cases}
 use Rattle.std.proofs.lemmas.List.Sorted.{IsPermutation-map, IsPermutation-refl, IsPermutation-trans, Contains-permutation}
@@ -27,11 +28,11 @@ use Rattle.ss_run_serve.specs.declared.stop.Stop.TheVariants as stops
 use Rattle.ss_run_serve.specs.Hosted.{Hosted, IsBegun, Stands, journal_in, left_by}
 use Rattle.ss_run_serve.specs.Opening.{CountsFaults}
 use Rattle.ss_run_serve.specs.Retiring.{uids_in}
-use Rattle.ss_run_serve.specs.Terms.{BeginsAnew, links_of, AreTerms, AreTold, IsLeft, IsTermOf, KeeperFailed}
+use Rattle.ss_run_serve.specs.Terms.{BeginsAnew, links_of, short_of, AreTerms, AreTold, IsLeft, IsTermOf, KeeperFailed}
 use Rattle.ss_run_serve.specs.Once.{HasFailed, IsDone, IsLast, IsLost, IsOnce, IsUnheard, IsUntold, TookPlace}
 use Rattle.ss_run_serve.specs.Course.{AreWithin, Course, IsToldOf, SameKeeper, Stops}
 use Rattle.ss_run_serve.proofs.Handed.{contains_at}
-use Rattle.ss_run_serve.proofs.Rising.{rose_then, rose_once}
+use Rattle.ss_run_serve.proofs.Rising.{rose_less, rose_none, rose_then, rose_once}
 use Rattle.ss_run_serve.proofs.Anew.{begin_themselves, left_anew, left_themselves, left_through, left_zip}
 
 -- the keeper of an account has failed
@@ -153,6 +154,18 @@ module _ {L : Type 0} (manner : Manner) (tells : L → Meanings) (closed : L →
   links_more : (terms : List (Term (LinkReport L))) (term : Term (LinkReport L)) → links_of (terms ++ term ∷ []) ≡ links_of terms + length term.reports
   links_more terms term = omega (arith, sum_by-append (λ (t : Term (LinkReport L)). length t.reports) terms (term ∷ []))
 
+  abbrev is_short : ℕ → Term (LinkReport L) → ℕ
+  is_short connections term = if nat_lt (length term.reports) connections then 1 else 0
+
+  short_more : (connections : ℕ) (terms : List (Term (LinkReport L))) (term : Term (LinkReport L)) → short_of connections (terms ++ term ∷ []) ≡ short_of connections terms + is_short connections term
+  short_more connections terms term = omega (arith, sum_by-append (is_short connections) terms (term ∷ []))
+
+  is_whole : (connections : ℕ) (term : Term (LinkReport L)) → length term.reports ≡ connections → is_short connections term ≡ 0
+  is_whole connections term whole = let t : nat_lt (length term.reports) connections ≡ false = grind (arith, nat_tests) in ap (λ (b : Bool). if b then 1 else 0) t
+
+  is_less : (connections : ℕ) (term : Term (LinkReport L)) → length term.reports < connections → is_short connections term ≡ 1
+  is_less connections term fewer = let t : nat_lt (length term.reports) connections ≡ true = grind (arith, nat_tests) in ap (λ (b : Bool). if b then 1 else 0) t
+
   one_more : (terms : List (Term (LinkReport L))) (term : Term (LinkReport L)) → terms ++ term ∷ [] ≢ []
   one_more terms term = λ none. absurd (omega (arith, length-append terms (term ∷ []), ap length none))
 
@@ -188,7 +201,7 @@ module _ {L : Type 0} (manner : Manner) (tells : L → Meanings) (closed : L →
     pub stage : Stage opened coming port terms handed coming'
     pub anew : AllZip BeginsAnew handed accounts
     pub few : All (λ (term : Term (LinkReport L)). length term.reports ≤ connections) terms
-    pub each : asked ≢ 0 → All (λ (term : Term (LinkReport L)). length term.reports ≡ connections) terms
+    pub rested : asked ≢ 0 → RoseBy (short_of connections terms) 0 port.rests
     pub remaining : Remaining asked left (length terms)
     pub counts : new ≡ old
 
@@ -211,7 +224,7 @@ module _ {L : Type 0} (manner : Manner) (tells : L → Meanings) (closed : L →
     };
     anew = begin_themselves opened begun;
     few = All-nil (λ (term : Term (LinkReport L)). length term.reports ≤ connections);
-    each = λ asks. All-nil (λ (term : Term (LinkReport L)). length term.reports ≡ connections);
+    rested = λ asks. subst (λ (p : Accepts). RoseBy 0 0 p.rests) (sym idle) (record { later = omega arith; risen = omega arith; most = omega arith });
     remaining = record { endless = λ none. none; some = λ asks. (omega arith, omega (arith, asks)) };
     counts = refl;
   }
@@ -230,7 +243,7 @@ module _ {L : Type 0} (manner : Manner) (tells : L → Meanings) (closed : L →
   all_of terms (stops.Account uid fault) = refl
 
   no_faults : (old : Counts) → CountsFaults old old
-  no_faults old = record { faults = omega arith; links = refl; ends = refl }
+  no_faults old = record { faults = omega arith; links = refl; ends = refl; rests = refl }
 
   module _ (opened : List (ℕ × Hosted)) (coming : List (Option (List ℕ))) (connections asked : ℕ) (told told' told'' : Option (List (Term (LinkReport L)))) (old mid new : Counts) (port port' : Accepts) (left : ℕ)
       (given handed : List (ℕ × Hosted)) (coming' coming'' : List (Option (List ℕ))) where
@@ -282,7 +295,7 @@ module _ {L : Type 0} (manner : Manner) (tells : L → Meanings) (closed : L →
         stopped terms (stops.Account uid fault) why any = absurd why
 
     untold_counts : (stop : Stop) → IsUntold old new stop → CountsFaults old new
-    untold_counts stops.Site why = record { faults = why.0.later; links = why.1; ends = why.2 }
+    untold_counts stops.Site why = record { faults = why.0.later; links = why.1; ends = why.2; rests = why.3 }
     untold_counts stops.Memory why = subst (λ (c : Counts). CountsFaults old c) (sym why) (no_faults old)
     untold_counts stops.PortEnded why = absurd why
     untold_counts stops.Terms why = absurd why
@@ -360,15 +373,24 @@ module _ {L : Type 0} (manner : Manner) (tells : L → Meanings) (closed : L →
         but_last terms term (stops.Keeper uid) why = absurd why
         but_last terms term (stops.Account uid fault) why = absurd why
 
-    -- each term so far had all its connections
-    each_more : connections ≤ 1000 → asked ≤ 999999999999 → (progress : Progress opened coming connections asked told told' old mid port left given coming')
+    -- of the terms so far as many were short as the port rested times
+    rested_more : connections ≤ 1000 → asked ≤ 999999999999 → (progress : Progress opened coming connections asked told told' old mid port left given coming')
         → (done : IsDone manner tells closed given handed coming' coming'' told' told'' mid new connections port port' None) → asked ≢ 0
-        → All (λ (term : Term (LinkReport L)). length term.reports ≡ connections) (progress.terms ++ done.term ∷ [])
-    each_more small most progress done asks =
+        → RoseBy (short_of connections (progress.terms ++ done.term ∷ [])) 0 port'.rests
+    rested_more small most progress done asks =
         let counted = progress.remaining.some asks in
         let bound : links_of progress.terms + connections < 2 ^ 64 - 1 = omega (arith, progress.stage.few, counted.0, counted.1, small, most) in
-        All-push (λ (term : Term (LinkReport L)). length term.reports ≡ connections) progress.terms done.term (progress.each asks)
-        (rose_once connections (length done.term.reports) port.links port'.links (links_of progress.terms) progress.stage.links done.why.0 done.took.links done.took.few bound)
+        let both : (one : ℕ) → is_short connections done.term ≡ one → RoseBy one port.rests port'.rests → RoseBy (short_of connections (progress.terms ++ done.term ∷ [])) 0 port'.rests =
+        λ one is rose. subst (λ (n : ℕ). RoseBy n 0 port'.rests) (sym (short_more connections progress.terms done.term ∙ ap (λ (n : ℕ). short_of connections progress.terms + n) is))
+        (rose_then (short_of connections progress.terms) one 0 port.rests port'.rests (progress.rested asks) rose) in
+        elim done.why.0 [
+          | inl all ↦
+              let whole = rose_once connections (length done.term.reports) port.links port'.links (links_of progress.terms) progress.stage.links all.0 done.took.links done.took.few bound in
+              both 0 (is_whole connections done.term whole) (rose_none port.rests port'.rests all.3)
+          | inr rest ↦
+              let fewer = rose_less connections rest.3.count (length done.term.reports) port.links port'.links (links_of progress.terms) progress.stage.links rest.3.rose done.took.links rest.3.few bound in
+              both 1 (is_less connections done.term fewer) rest.0
+        ]
 
     -- the last term that was asked took place
     pub progress_terms : connections ≤ 1000 → asked ≤ 999999999999 → left ≡ 1 → Progress opened coming connections asked told told' old mid port left given coming'
@@ -393,7 +415,7 @@ module _ {L : Type 0} (manner : Manner) (tells : L → Meanings) (closed : L →
           failed = λ any. failed_of handed (stage.failed any);
           uids = stage.uids;
           counts = subst (λ (c : Counts). CountsFaults old c) (sym (done.counts ∙ progress.counts)) (no_faults old);
-          stops = (asks, long, each_more small most progress done asks);
+          stops = (asks, long, rested_more small most progress done asks);
         }
 
     -- a term took place, and the accounts couldn't all begin anew
@@ -431,7 +453,7 @@ module _ {L : Type 0} (manner : Manner) (tells : L → Meanings) (closed : L →
       stage = stage_more opened coming port port' progress.terms progress.handed given handed coming' coming'' connections done.term small progress.stage progress.anew done.took;
       anew = anew;
       few = few_more progress done.term done.took;
-      each = each_more small most progress done;
+      rested = rested_more small most progress done;
       remaining = record {
         endless = λ none. omega (arith, progress.remaining.endless none);
         some = λ asks. (let counted = progress.remaining.some asks in

@@ -65,7 +65,7 @@ as_before_then old mid new first then = λ after is.
     (f.0, f.1, λ folder uid. t.2 folder uid ∙ f.2 folder uid)
 
 pub counts_one : (n : ℕ) (old new : Counts) → CountsKeeper n old new → CountsFaults old new
-counts_one n old new counted = record { faults = later n old.faults new.faults counted.faults; links = counted.links; ends = counted.ends }
+counts_one n old new counted = record { faults = later n old.faults new.faults counted.faults; links = counted.links; ends = counted.ends; rests = counted.rests }
   where
     later : (n before now : ℕ) → RoseUnless n before now → before ≤ now
     later zero before now rose = omega (arith, rose.none refl)
@@ -110,7 +110,7 @@ pub none_retired : (folder : List ℕ) (old : Option Entries) → HaveRetired fo
 none_retired folder old = λ after is. (after, is, record { listed = λ uid c. absurd (omega (arith, c.1)); others = λ f u apart. refl })
 
 pub none_counted : (old : Counts) → CountsKeepers [] old old
-none_counted old = record { some = λ any. absurd (omega (arith, any.2)); none = λ all. refl; later = omega arith; links = refl; ends = refl }
+none_counted old = record { some = λ any. absurd (omega (arith, any.2)); none = λ all. refl; later = omega arith; links = refl; ends = refl; rests = refl }
 
 -- an entry that a keeper told, where the entries are as they were
 pub entry_as_before : (folder : List ℕ) (uid : ℕ) (told : Option Kept) (old new : Option Entries) → AreAsBefore old new → IsEntry folder uid told old → IsEntry folder uid told new
@@ -138,13 +138,14 @@ refused_then folder kept old mid new accounts uids uid stop why counted there = 
     later stops.Port why = absurd why
 
 pub counts_then : (old mid new : Counts) (accounts : List (ℕ × Hosted)) → CountsFaults old mid → CountsKeepers accounts mid new → CountsFaults old new
-counts_then old mid new accounts first then = record { faults = omega (arith, first.faults, then.later); links = then.links ∙ first.links; ends = then.ends ∙ first.ends }
+counts_then old mid new accounts first then = record { faults = omega (arith, first.faults, then.later); links = then.links ∙ first.links; ends = then.ends ∙ first.ends; rests = then.rests ∙ first.rests }
 
 pub counts_unchanged : (old new : Counts) → new ≡ old → CountsFaults old new
 counts_unchanged old new same = record {
   faults = omega (arith, ap (λ (c : Counts). c.faults) same);
   links = ap (λ (c : Counts). c.links) same;
   ends = ap (λ (c : Counts). c.ends) same;
+  rests = ap (λ (c : Counts). c.rests) same;
 }
 
 -- all keepers told their entries: each entry is as it was
@@ -177,6 +178,7 @@ counts_more done account old mid new first now = record {
   later = omega (arith, first.later, later);
   links = now.links ∙ first.links;
   ends = now.ends ∙ first.ends;
+  rests = now.rests ∙ first.rests;
 }
   where
     later : mid.faults ≤ new.faults

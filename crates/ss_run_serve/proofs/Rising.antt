@@ -16,6 +16,13 @@ rose_by_count n p a b one two = record { later = two.later; risen = omega (arith
 pub rose_once : (n m a b t : ℕ) → RoseBy t 0 a → RoseBy n a b → RoseBy m a b → m ≤ n → t + n < 2 ^ 64 - 1 → m ≡ n
 rose_once n m a b t first one other few small = omega (arith, first.most, one.risen, other.most, few, small)
 
+-- a count that rose by less than what it may, by both numbers, and is far from its greatest value
+pub rose_less : (n k m a b t : ℕ) → RoseBy t 0 a → RoseBy k a b → RoseBy m a b → k < n → t + n < 2 ^ 64 - 1 → m < n
+rose_less n k m a b t first one other few small = omega (arith, first.most, one.most, other.risen, few, small)
+
+pub rose_none : (a b : ℕ) → b ≡ a → RoseBy 0 a b
+rose_none a b same = record { later = omega (arith, same); risen = omega (arith, same); most = omega (arith, same) }
+
 pub rose_some : (a b : ℕ) → Rose a b → b ≢ 0
 rose_some a b rose = λ none. omega (arith, rose.risen, none)
 

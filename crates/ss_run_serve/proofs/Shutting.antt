@@ -16,7 +16,7 @@ use Rattle.ss_run_serve.specs.declared.stop.Stop.{Stop}
 use Rattle.ss_run_serve.specs.declared.stop.Stop.TheVariants as stops
 use Rattle.ss_run_serve.specs.Hosted.{Hosted}
 use Rattle.ss_run_serve.specs.Retiring.{uids_in}
-use Rattle.ss_run_serve.specs.Terms.{links_of, AreTold, KeeperFailed}
+use Rattle.ss_run_serve.specs.Terms.{links_of, short_of, AreTold, KeeperFailed}
 use Rattle.ss_run_serve.specs.Once.{IsUntold}
 use Rattle.ss_run_serve.specs.Course.{CameTo, Course, ServedUntil, Stops}
 use Rattle.ss_run_serve.proofs.Anew.{left_themselves}
@@ -57,7 +57,11 @@ module _ {L : Type 0} (manner : Manner) (tells : L → Meanings) (closed : L →
 
       stopped : (terms : List (Term (LinkReport L))) (stop : Stop) → Stops connections asked terms port old mid stop → ServedUntil connections asked terms old new stop
       stopped terms stops.PortEnded why = (ends why.0, why.1)
-      stopped terms stops.Terms why = record { stated = why.0; count = why.1; each = why.2 }
+      stopped terms stops.Terms why = record {
+        stated = why.0;
+        count = why.1;
+        rested = subst (λ (n : ℕ). RoseBy (short_of connections terms) n new.rests) course.counts.rests (rose_by_count (short_of connections terms) port.rests mid.rests new.rests why.2 shut.rests);
+      }
       stopped terms stops.Port why = (rose_after old.faults mid.faults new.faults course.counts.faults (shut.faults.some why.0), why.1)
       stopped terms stops.Site why = rose_on old.faults mid.faults new.faults why later
       stopped terms stops.Memory why = tt

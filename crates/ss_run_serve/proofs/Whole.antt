@@ -18,7 +18,7 @@ use Rattle.ss_run_serve.specs.declared.stop.Stop.TheVariants as stops
 use Rattle.ss_run_serve.specs.Hosted.{Hosted, IsBegun, Stands, left_by}
 use Rattle.ss_run_serve.specs.Opening.{AreAsBefore, CountsFaults, IsOpened, IsUnopened, RefusesOne}
 use Rattle.ss_run_serve.specs.Retiring.{uids_in, ComeBack, CountsKeepers, HaveRetired}
-use Rattle.ss_run_serve.specs.Terms.{links_of, AreTerms, AreTold, IsLeft, KeeperFailed}
+use Rattle.ss_run_serve.specs.Terms.{links_of, short_of, AreTerms, AreTold, IsLeft, KeeperFailed}
 use Rattle.ss_run_serve.specs.Once.{HasFailed}
 use Rattle.ss_run_serve.specs.Course.{CameTo, ServedUntil}
 use Rattle.ss_run_serve.specs.Serving.{AreServedBy, AreKept, HasStopped, IsServed, NoneServed, OthersStay, Sited}
@@ -163,7 +163,7 @@ module _ {L : Type 0} (tells : L → Meanings) (closed : L → Bool) where
 
       stopped : (s : Stop) → ServedUntil command.connections command.terms came.terms old.counts mid.counts s → HasStopped command came.terms old new s
       stopped stops.PortEnded why = (subst (λ (n : ℕ). Rose old.counts.ends n) (sym counted.ends) why.0, why.1)
-      stopped stops.Terms why = why
+      stopped stops.Terms why = record { stated = why.stated; count = why.count; rested = subst (λ (n : ℕ). RoseBy (short_of command.connections came.terms) old.counts.rests n) (sym counted.rests) why.rested }
       stopped stops.Port why = (rose why.0, why.1)
       stopped stops.Site why = rose why
       stopped stops.Memory why = tt

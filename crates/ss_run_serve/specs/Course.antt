@@ -14,7 +14,7 @@ use Rattle.ss_run_serve.specs.declared.stop.Stop.TheVariants as stops
 use Rattle.ss_run_serve.specs.Hosted.{Hosted, left_by}
 use Rattle.ss_run_serve.specs.Opening.{CountsFaults}
 use Rattle.ss_run_serve.specs.Retiring.{uids_in}
-use Rattle.ss_run_serve.specs.Terms.{links_of, AreTerms, AreTold, IsLeft, KeeperFailed}
+use Rattle.ss_run_serve.specs.Terms.{links_of, short_of, AreTerms, AreTold, IsLeft, KeeperFailed}
 use Rattle.ss_run_serve.specs.Once.{HasFailed}
 
 -- the same account, over a keeper that has not failed meanwhile
@@ -42,7 +42,7 @@ module _ {L : Type 0} where
   -- why no further term begins, by the port's counts and the site's
   abbrev pub Stops : ℕ → ℕ → List (Term (LinkReport L)) → Accepts → Counts → Counts → Stop → Type 0
   Stops connections asked terms port old new stops.PortEnded = (port.ends ≢ 0) × (terms ≢ [])
-  Stops connections asked terms port old new stops.Terms = (asked ≢ 0) × (length terms ≡ asked) × All (λ term. length term.reports ≡ connections) terms
+  Stops connections asked terms port old new stops.Terms = (asked ≢ 0) × (length terms ≡ asked) × RoseBy (short_of connections terms) 0 port.rests
   Stops connections asked terms port old new stops.Port = (port.faults ≢ 0) × (terms ≢ [])
   Stops connections asked terms port old new stops.Site = Rose old.faults new.faults
   Stops connections asked terms port old new stops.Memory = ⊤
@@ -70,16 +70,17 @@ module _ {L : Type 0} where
       pub stops : Stops connections asked terms port old new stop
 
 module _ {L : Type 0} where
-  -- as many terms were served as was asked, each with as many connections as one may have
-  pub record IsServedOut (connections asked : ℕ) (terms : List (Term (LinkReport L))) : Type 0 where
+  -- as many terms were served as was asked, each with as many connections as one may have, but for those in which the port rested: as
+  -- many as it rested times
+  pub record IsServedOut (connections asked : ℕ) (terms : List (Term (LinkReport L))) (old new : Counts) : Type 0 where
     pub stated : asked ≢ 0
     pub count : length terms ≡ asked
-    pub each : All (λ term. length term.reports ≡ connections) terms
+    pub rested : RoseBy (short_of connections terms) old.rests new.rests
 
   -- why accounts that are open are served no longer, by the site's counts once the port was shut
   abbrev pub ServedUntil : ℕ → ℕ → List (Term (LinkReport L)) → Counts → Counts → Stop → Type 0
   ServedUntil connections asked terms old new stops.PortEnded = Rose old.ends new.ends × (terms ≢ [])
-  ServedUntil connections asked terms old new stops.Terms = IsServedOut connections asked terms
+  ServedUntil connections asked terms old new stops.Terms = IsServedOut connections asked terms old new
   ServedUntil connections asked terms old new stops.Port = Rose old.faults new.faults × (terms ≢ [])
   ServedUntil connections asked terms old new stops.Site = Rose old.faults new.faults
   ServedUntil connections asked terms old new stops.Memory = ⊤

@@ -10,7 +10,7 @@ use Rattle.ss_route.specs.declared.manner.Manner.{Manner}
 use Rattle.ss_serve.specs.declared.report.LinkReport.{LinkReport}
 use Rattle.ss_serve.specs.declared.report.TermStop.{TermStop}
 use Rattle.ss_serve.specs.declared.report.TermStop.TheVariants as ended
-use Rattle.ss_serve.specs.Terms.{IsTerm}
+use Rattle.ss_serve.specs.Terms.{GaveAll, HasRested, IsTerm}
 use Rattle.ss_run_serve.specs.declared.stop.Stop.{Stop}
 use Rattle.ss_run_serve.specs.declared.stop.Stop.TheVariants as stops
 use Rattle.ss_run_serve.specs.Hosted.{Hosted, journal_in}
@@ -19,7 +19,7 @@ use Rattle.ss_run_serve.specs.Terms.{IsLeft}
 
 -- a site that isn't told a term failed and counts that, or no memory was found
 abbrev pub IsUntold : Counts → Counts → Stop → Type 0
-IsUntold old new stops.Site = Rose old.faults new.faults × (new.links ≡ old.links) × (new.ends ≡ old.ends)
+IsUntold old new stops.Site = Rose old.faults new.faults × (new.links ≡ old.links) × (new.ends ≡ old.ends) × (new.rests ≡ old.rests)
 IsUntold old new stops.Memory = new ≡ old
 IsUntold old new _ = ⊥
 
@@ -31,18 +31,20 @@ HasFailed account = (account.1.fixed.faults ≢ 0) ⊎ (account.1.faults ≢ 0)
 abbrev pub TermsGoOn : Accepts → Option Stop → Type 0
 TermsGoOn port next = ((next ≡ None) × (port.ends ≡ 0)) ⊎ ((next ≡ Some stops.PortEnded) × (port.ends ≢ 0))
 
--- what follows on how a term ended: where the port gave all its links and has not ended, a further term
+-- what follows on how a term ended: where the port gave all its links or rested, and has not ended, a further term
 abbrev pub Follows : TermStop → Accepts → Option Stop → Type 0
 Follows ended.Port port next = next ≡ Some stops.Port
 Follows ended.PortEnded port next = next ≡ Some stops.PortEnded
 Follows ended.Memory port next = next ≡ Some stops.Memory
 Follows (ended.Town fault) port next = next ≡ Some stops.Memory
 Follows ended.Connections port next = TermsGoOn port next
+Follows ended.Rested port next = TermsGoOn port next
 Follows (ended.Full uid) port next = TermsGoOn port next
 
--- Why no term follows, by the port's counts: where one follows, the port gave all the links of a term and has not ended
+-- Why no term follows, by the port's counts: where one follows, the port gave all the links of a term or rested in it, and has not
+-- ended
 abbrev pub IsLast : ℕ → Accepts → Accepts → Option Stop → Type 0
-IsLast connections old new None = RoseBy connections old.links new.links × (new.ends ≡ 0)
+IsLast connections old new None = (GaveAll connections old new ⊎ HasRested connections old new) × (new.ends ≡ 0)
 IsLast connections old new (Some stops.PortEnded) = new.ends ≢ 0
 IsLast connections old new (Some stops.Port) = new.faults ≢ 0
 IsLast connections old new (Some stops.Memory) = ⊤

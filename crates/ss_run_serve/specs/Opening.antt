@@ -51,11 +51,12 @@ IsUnopened folder kept old new uid _ = ⊥
 abbrev pub RefusesOne : List ℕ → Option Entries → Counts → Counts → List ℕ → Stop → Type 0
 RefusesOne folder kept old new uids stop = (stop ≡ stops.Memory) ⊎ Any (λ uid. IsUnopened folder kept old new uid stop) uids
 
--- no links and no ends were counted
+-- no links, ends and rests were counted
 pub record CountsFaults (old new : Counts) : Type 0 where
   pub faults : old.faults ≤ new.faults
   pub links : new.links ≡ old.links
   pub ends : new.ends ≡ old.ends
+  pub rests : new.rests ≡ old.rests
 
 -- where the entries are told afterwards they were told before, and each is as it was
 abbrev pub AreAsBefore : Option Entries → Option Entries → Type 0

@@ -47,7 +47,7 @@ module _ {L : Type 0} where
   -- Why a server stopped. Want of memory has no cause here
   abbrev pub HasStopped : ServeCommand → List (Term (LinkReport L)) → Sited (LinkReport L) → Sited (LinkReport L) → Stop → Type 0
   HasStopped command terms old new stops.PortEnded = Rose old.counts.ends new.counts.ends × (terms ≢ [])
-  HasStopped command terms old new stops.Terms = IsServedOut command.connections command.terms terms
+  HasStopped command terms old new stops.Terms = IsServedOut command.connections command.terms terms old.counts new.counts
   HasStopped command terms old new stops.Port = Rose old.counts.faults new.counts.faults × (terms ≢ [])
   HasStopped command terms old new stops.Site = Rose old.counts.faults new.counts.faults
   HasStopped command terms old new (stops.Keeper uid) = Contains command.uids uid × Rose old.counts.faults new.counts.faults × NoneServed terms old new

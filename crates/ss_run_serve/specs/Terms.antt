@@ -1,5 +1,5 @@
 -- The terms of a server, one after the other.
-use Rattle.std.specs.Prelude.{◌≡◌, ◌≢◌, ℕ, ◌+◌, Bool, List, [], ◌∷◌, ◌++◌, length, map, sum_by, Option, All, Any}
+use Rattle.std.specs.Prelude.{◌≡◌, ◌≢◌, ℕ, ◌+◌, nat_lt, if◌then◌else◌, Bool, List, [], ◌∷◌, ◌++◌, length, map, sum_by, Option, All, Any}
 use Rattle.std.specs.Option.{option_map}
 use Rattle.std.specs.List.{AllZip}
 use Rattle.ss_outside.specs.Told.{Meanings}
@@ -31,6 +31,10 @@ module _ {L : Type 0} where
   -- as many links as terms have reports
   abbrev pub links_of : List (Term (LinkReport L)) → ℕ
   links_of terms = sum_by (λ term. length term.reports) terms
+
+  -- how many of the terms have fewer reports than a term may have
+  abbrev pub short_of : ℕ → List (Term (LinkReport L)) → ℕ
+  short_of connections terms = sum_by (λ term. if nat_lt (length term.reports) connections then 1 else 0) terms
 
   -- a journal of some term says that a keeper failed
   abbrev pub KeeperFailed : List (Term (LinkReport L)) → Type 0

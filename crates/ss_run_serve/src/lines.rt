@@ -3,6 +3,7 @@
 
 use crate::stop::Stop;
 use ss_connection::{End, Turn};
+use ss_links::Closable;
 use ss_outside::{Sink, write_all};
 use ss_serve::{LinkReport, TermStop};
 use ss_words::ServeCommand;
@@ -23,7 +24,10 @@ struct Sums {
     /// Messages that were refused since their account's journal was full.
     full: u64,
 
-    /// Connections that ended with a failed read or write, or inside a message.
+    /// Connections that rules of waiting ended, so that others are served.
+    dismissed: u64,
+
+    /// Other connections that ended with a failed read or write, or inside a message.
     broken: u64,
 }
 
@@ -45,29 +49,36 @@ impl Display for Sums {
             messages,
             calls,
             full,
+            dismissed,
             broken,
         } = *self;
         write!(
             f,
-            "{connections} connections, {broken} of them broken off; {messages} messages, {calls} calls, {full} refused by full journals"
+            "{connections} connections, {dismissed} of them closed so that others are served and {broken} broken off; {messages} messages, {calls} calls, {full} refused by full journals"
         )
     }
 }
 
-fn sums_of<L>(reports: &[LinkReport<L>]) -> Sums {
+fn sums_of<L: Closable>(reports: &[LinkReport<L>]) -> Sums {
     let mut sums = Sums {
         connections: reports.len(),
         messages: 0,
         calls: 0,
         full: 0,
+        dismissed: 0,
         broken: 0,
     };
     for report in reports {
         for note in report.turns.iter() {
             sums.add(&note.turn);
         }
-        if let End::Cut | End::ReadFault | End::WriteFault = report.end {
-            sums.broken = sums.broken.saturating_add(1);
+        match report.end {
+            End::Gate => sums.dismissed = sums.dismissed.saturating_add(1),
+            _ if report.link.is_dismissed() => sums.dismissed = sums.dismissed.saturating_add(1),
+            End::Cut | End::ReadFault | End::WriteFault => {
+                sums.broken = sums.broken.saturating_add(1)
+            }
+            _ => {}
         }
     }
     sums
@@ -100,14 +111,17 @@ pub(crate) fn tell_listening<T: Sink>(alloc: Global, err: &mut T, command: &Serv
     say(err, listening(alloc, command));
 }
 
-/// What a term came to.
-pub(crate) fn tell_term<L, T: Sink>(
+/// What a term came to, where something was asked in it.
+pub(crate) fn tell_term<L: Closable, T: Sink>(
     alloc: Global,
     err: &mut T,
     reports: &[LinkReport<L>],
     ended: TermStop,
 ) {
     let sums = sums_of(reports);
+    if sums.messages == 0 {
+        return;
+    }
     say(err, format!(in alloc; "syncstore: a term of {sums}\n"));
     if let TermStop::Full { uid } = ended {
         say(

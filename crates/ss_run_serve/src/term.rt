@@ -86,8 +86,10 @@ fn stop_after<P: Port>(ended: TermStop, port: &Watched<P>) -> Option<Stop>
         TermStop::Port => Some(Stop::Port),
         TermStop::PortEnded => Some(Stop::PortEnded),
         TermStop::Memory | TermStop::Town(_) => Some(Stop::Memory),
-        TermStop::Connections | TermStop::Full { .. } if port.has_ended() => Some(Stop::PortEnded),
-        TermStop::Connections | TermStop::Full { .. } => None,
+        TermStop::Connections | TermStop::Rested | TermStop::Full { .. } if port.has_ended() => {
+            Some(Stop::PortEnded)
+        }
+        TermStop::Connections | TermStop::Rested | TermStop::Full { .. } => None,
     }
 }
 

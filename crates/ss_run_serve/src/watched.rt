@@ -3,7 +3,7 @@
 ghost use Rattle.std.specs.Prelude.{◌≡◌, ◌≢◌, ◌↔◌, IsTrue};
 ghost use Rattle.ss_links.specs.Ports.{idle_port};
 
-use ss_links::{Port, PortFault};
+use ss_links::{Accepted, Port, PortFault};
 
 /// A port, and whether one of its calls found its end since it was given.
 pub(crate) struct Watched<P: Port> {
@@ -48,9 +48,9 @@ impl<P: Port> Port for Watched<P> {
 
     ghost counts = { λ p. P.counts (port_in p) };
 
-    fn accept(&mut self) -> Result<Option<P::Link>, PortFault> {
+    fn accept(&mut self) -> Result<Accepted<P::Link>, PortFault> {
         let given = self.port.accept();
-        if let Ok(None) = &given {
+        if let Ok(Accepted::End) = &given {
             self.has_ended = true;
         }
         given

@@ -1,3 +1,4 @@
+pub mod Giving
 pub mod Working
 pub mod Shares
 pub mod Crews

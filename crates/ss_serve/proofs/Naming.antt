@@ -98,8 +98,8 @@ module _ {L : Type 0} where
     report_tells a b r k note uid entries h at names =
         let x = under (λ (x : Exchange). x.note) h.served.exchanges k note (ap (λ (l : List TurnNote). get_elem? l k) (sym h.served.noted) ∙ at) in
         let says = h.served.says k x.0 x.1 in
-        turn_tells manner uids known x.0.message x.0.note.now (closes k x.0.message) note.turn x.0.response uid entries
-        (subst (λ (n : TurnNote). SaysTurn manner uids known x.0.message x.0.note.now (closes k x.0.message) n.turn x.0.response) x.2 says) names
+        turn_tells manner uids known x.0.message x.0.note.now (closes k x.0.message x.0.note.closed_by_gate) note.turn x.0.response uid entries
+        (subst (λ (n : TurnNote). SaysTurn manner uids known x.0.message x.0.note.now (closes k x.0.message x.0.note.closed_by_gate) n.turn x.0.response) x.2 says) names
 
 module _ {B L : Type 0} (terms : B → Terms) (entries : B → List Entry) (faults : B → ℕ) (manner : Manner) (tells : L → Meanings) (closed : L → Bool) (handed : List (ℕ × B)) (reports : List (LinkReport L)) (coming coming' : List (Option (List ℕ)))
     (h : AreServed terms entries faults manner tells closed handed reports coming coming') (sorted : IsStrictlyIncreasing (uids_in handed)) where

@@ -103,6 +103,7 @@ module _ {B L : Type 0} (terms : B → Terms) (entries : B → List Entry) (faul
       → IsTerm terms entries faults manner tells closed given handed reports coming coming' → TermSays terms entries faults manner tells closed given handed reports coming coming' ended
   says_open stop.Connections given handed reports coming coming' o h = h
   says_open stop.PortEnded given handed reports coming coming' o h = h
+  says_open stop.Rested given handed reports coming coming' o h = h
   says_open stop.Port given handed reports coming coming' o h = h
   says_open (stop.Full uid) given handed reports coming coming' o h = h
   says_open stop.Memory given handed reports coming coming' o h = h
@@ -136,6 +137,7 @@ module _ {B L : Type 0} (terms : B → Terms) (entries : B → List Entry) (hand
   full_says full (stop.Full uid) k s = subst Found k s
   full_says full stop.Connections k s = subst Found k s
   full_says full stop.PortEnded k s = subst Found k s
+  full_says full stop.Rested k s = subst Found k s
   full_says full stop.Port k s = tt
   full_says full (stop.Town x) k s = tt
   full_says full stop.Memory k s = tt

@@ -15,9 +15,9 @@ use Rattle.ss_desk.specs.declared.view.View.{View}
 use Rattle.ss_desk.specs.Passes.{AreOf, view_at}
 use Rattle.ss_desk.specs.Views.{range_of}
 use Rattle.ss_outside.specs.Told.{Meanings}
-use Rattle.ss_accept.specs.declared.channel.Job.{Job}
-use Rattle.ss_accept.specs.declared.channel.Tally.{Tally}
-use Rattle.ss_accept.specs.Tallies.{tally}
+use Rattle.ss_serve.specs.declared.channel.Job.{Job}
+use Rattle.ss_serve.specs.declared.channel.Tally.{Tally}
+use Rattle.ss_serve.specs.Tallies.{tally}
 use Rattle.ss_town.specs.Places.{At}
 use Rattle.ss_town.specs.Town.{passes_of}
 use Rattle.ss_laws.specs.declared.journal.Entry.{Entry}

@@ -48,4 +48,5 @@ abbrev pub FullKind : Option ℕ → TermStop → Type 0
 FullKind full (stop.Full uid) = full ≡ Some uid
 FullKind full stop.Connections = full ≡ None
 FullKind full stop.PortEnded = full ≡ None
+FullKind full stop.Rested = full ≡ None
 FullKind full _ = Unit {0}

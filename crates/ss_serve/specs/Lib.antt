@@ -1,3 +1,5 @@
+pub mod Tallies
+pub mod Accepting
 pub mod Workers
 pub mod Reports
 pub mod Terms

@@ -9,6 +9,7 @@ use Rattle.ss_outside.specs.Told.{Meanings}
 use Rattle.ss_outside.specs.Causes.{Rose}
 use Rattle.ss_links.specs.Counts.{RoseBy as GivenBy}
 use Rattle.ss_links.specs.Ports.{Accepts}
+use Rattle.ss_serve.specs.Accepting.{GaveFewer}
 use Rattle.ss_town.specs.Opening.{FaultSays, BackAfter, MayOpen}
 use Rattle.ss_town.specs.declared.opening.TownFault.{TownFault}
 use Rattle.ss_laws.specs.declared.journal.Entry.{Entry}
@@ -79,6 +80,7 @@ module _ {B : Type 0} (terms : B → Terms) (entries : B → List Entry) where
     FullSays handed reports (stop.Full uid) = Smallest (IsFull reports) handed (length handed) (Some uid)
     FullSays handed reports stop.Connections = Smallest (IsFull reports) handed (length handed) None
     FullSays handed reports stop.PortEnded = Smallest (IsFull reports) handed (length handed) None
+    FullSays handed reports stop.Rested = Smallest (IsFull reports) handed (length handed) None
     FullSays handed reports _ = Unit {0}
 
     -- no town was opened: the accounts and the clocks come back, and there are no reports
@@ -122,15 +124,29 @@ module _ {B : Type 0} (terms : B → Terms) (entries : B → List Entry) where
       TermSays given handed reports coming coming' (stop.Town fault) = IsRefused fault given handed reports coming coming'
       TermSays given handed reports coming coming' stop.Connections = IsTerm given handed reports coming coming'
       TermSays given handed reports coming coming' stop.PortEnded = IsTerm given handed reports coming coming'
+      TermSays given handed reports coming coming' stop.Rested = IsTerm given handed reports coming coming'
       TermSays given handed reports coming coming' stop.Port = IsTerm given handed reports coming coming'
       TermSays given handed reports coming coming' (stop.Full uid) = IsTerm given handed reports coming coming'
       TermSays given handed reports coming coming' stop.Memory = IsTerm given handed reports coming coming'
 
--- Why a term ended, by the port's counts before and after. Want of memory has no cause here
+-- the port gave as many links as were wanted, and had neither failed nor ended nor rested
+abbrev pub GaveAll : ℕ → Accepts → Accepts → Type 0
+GaveAll n old new = GivenBy n old.links new.links × (new.faults ≡ old.faults) × (new.ends ≡ old.ends) × (new.rests ≡ old.rests)
+
+-- it ended, and had neither failed nor rested
+abbrev pub CameToEnd : Accepts → Accepts → Type 0
+CameToEnd old new = Rose old.ends new.ends × (new.faults ≡ old.faults) × (new.rests ≡ old.rests)
+
+-- it rested once, before it had given all links, and had neither failed nor ended
+abbrev pub HasRested : ℕ → Accepts → Accepts → Type 0
+HasRested n old new = GivenBy 1 old.rests new.rests × (new.faults ≡ old.faults) × (new.ends ≡ old.ends) × GaveFewer n old.links new.links
+
+-- Why a term ended, by the port's counts before and after. Want of memory has no other cause here
 abbrev pub HasEnded : TermStop → ℕ → Accepts → Accepts → Type 0
-HasEnded stop.Connections n old new = GivenBy n old.links new.links
-HasEnded stop.PortEnded n old new = Rose old.ends new.ends
-HasEnded stop.Port n old new = Rose old.faults new.faults
-HasEnded (stop.Full uid) n old new = Rose old.ends new.ends ⊎ GivenBy n old.links new.links
+HasEnded stop.Connections n old new = GaveAll n old new
+HasEnded stop.PortEnded n old new = CameToEnd old new
+HasEnded stop.Rested n old new = HasRested n old new
+HasEnded stop.Port n old new = Rose old.faults new.faults × (new.ends ≡ old.ends) × (new.rests ≡ old.rests)
+HasEnded (stop.Full uid) n old new = CameToEnd old new ⊎ HasRested n old new ⊎ GaveAll n old new
 HasEnded (stop.Town fault) n old new = new ≡ old
-HasEnded stop.Memory n old new = Unit {0}
+HasEnded stop.Memory n old new = (new.faults ≡ old.faults) × (new.ends ≡ old.ends) × (new.rests ≡ old.rests)

@@ -5,12 +5,12 @@ ghost use Rattle.crossbeam_channel.specs.Claims.{view, IsSeatAt};
 ghost use Rattle.crossbeam_channel.specs.Ends.{sends_on};
 ghost use Rattle.ss_desk.specs.Passes.{AreOf, view_at};
 ghost use Rattle.ss_town.specs.Town.{uids_of, desks_of, passes_of};
-ghost use Rattle.ss_accept.specs.Tallies.{tally};
+ghost use Rattle.ss_serve.specs.Tallies.{tally};
 ghost use Rattle.ss_serve.specs.Crew.{IsReady, HasWorked, IsStart, AreLeft, Signed, fixed_at, sign, starts, count_reports};
 
+use crate::channel::{Bare, Cut, Job, Links, Tally};
 use crate::worker::Worker;
 use crossbeam_channel::{Pass, RuledSender};
-use ss_accept::{Bare, Cut, Job, Links, Tally};
 use ss_booked::Booked;
 use ss_keeper::Keeper;
 use ss_links::Closable;

@@ -5,6 +5,8 @@
 //! are as many reports as the port gave links.
 #![tactic(auto)]
 
+mod accept;
+mod channel;
 mod crew;
 mod ending;
 mod fullness;

@@ -20,7 +20,7 @@ pub struct LinkReport<L> {
 }
 
 /// Why a term ended (this project). Where several reasons hold, the first in this order is given: `Port`, `Full`,
-/// `PortEnded`, `Connections`.
+/// `PortEnded`, `Rested`, `Connections`.
 #[derive(Drop, Debug, Clone, Copy, PartialEq, Eq)]
 pub enum TermStop {
     /// The port gave as many links as were wanted.
@@ -29,8 +29,11 @@ pub enum TermStop {
     /// The port ended.
     PortEnded,
 
+    /// The port rested: it gave fewer links than were wanted, and asked for the end of the term.
+    Rested,
+
     /// A turn was refused for want of room in this account's journal, which is full; it is the smallest such uid. The
-    /// port had ended, or had given as many links as were wanted.
+    /// port had ended, had rested, or had given as many links as were wanted.
     Full { uid: u32 },
 
     /// The port failed.

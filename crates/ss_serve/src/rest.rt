@@ -3,13 +3,13 @@
 ghost use Rattle.std.specs.Prelude.{◌≡◌, ◌≤◌, ◌<◌, ◌+◌, All, map, length, vec_len, vec_capacity};
 ghost use Rattle.crossbeam_channel.specs.Claims.{view, IsSeatAt};
 ghost use Rattle.crossbeam_channel.specs.Ends.{receives_on};
-ghost use Rattle.ss_accept.specs.Accepting.{AreUnused};
+ghost use Rattle.ss_serve.specs.Accepting.{AreUnused};
 ghost use Rattle.ss_town.specs.Town.{uids_of, desks_of};
 ghost use Rattle.ss_serve.specs.Crew.{HasWorked, sign, count_reports};
 
+use crate::channel::{Job, Links, Take, Tally};
 use crate::worker::{Worker, serve_one};
 use crossbeam_channel::{Pass, RuledReceiver};
-use ss_accept::{Job, Links, Take, Tally};
 use ss_booked::Booked;
 use ss_keeper::Keeper;
 use ss_links::{Closable, Gate};

@@ -3,12 +3,12 @@
 ghost use Rattle.std.specs.Prelude.{◌≡◌, ◌≤◌, ◌<◌, ◌+◌, [], IfOk, vec_capacity};
 ghost use Rattle.crossbeam_channel.specs.Claims.{view, IsSeatAt};
 ghost use Rattle.crossbeam_channel.specs.Ends.{sends_on, receives_on};
-ghost use Rattle.ss_accept.specs.Tallies.{tally};
+ghost use Rattle.ss_serve.specs.Tallies.{tally};
 
+use crate::channel::{Job, Links, Tally};
 use crate::report::LinkReport;
 use crate::worker::Worker;
 use crossbeam_channel::{Pass, RuledReceiver, RuledSender, bounded_with};
-use ss_accept::{Job, Links, Tally};
 use ss_desk::Journaled;
 use ss_links::Closable;
 use std::alloc::{AllocError, Global};

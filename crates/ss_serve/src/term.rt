@@ -6,16 +6,18 @@ ghost use Rattle.crossbeam_channel.specs.Ends.{sends_on, receives_on};
 ghost use Rattle.ss_desk.specs.Passes.{AreOf, view_at};
 ghost use Rattle.ss_links.specs.Counts.{RoseBy as GivenBy};
 ghost use Rattle.ss_links.specs.Ports.{Accepts};
-ghost use Rattle.ss_accept.specs.Accepting.{HasCause, HasGiven};
+ghost use Rattle.ss_serve.specs.Accepting.{HasCause, HasGiven};
 ghost use Rattle.ss_town.specs.Town.{uids_of, desks_of, passes_of};
 ghost use Rattle.ss_town.specs.Opening.{AreBare};
 ghost use Rattle.ss_booked.specs.Booked.{account_of, journal_of, terms_of};
 ghost use Rattle.ss_route.specs.declared.manner.Manner.{Manner};
 ghost use Rattle.ss_serve.specs.Crew.{AreLeft, AreHanded, Have, HasWorked, IsReady, IsWhole, count_reports, sign, starts};
-ghost use Rattle.ss_accept.specs.Tallies.{tally};
+ghost use Rattle.ss_serve.specs.Tallies.{tally};
 ghost use Rattle.ss_serve.specs.Terms.{TermSays, FullSays, HasEnded, AreServed};
 ghost use Rattle.ss_serve.specs.Fullness.{IsOpenStop, FullKind};
 
+use crate::accept::Stopped;
+use crate::channel::{Job, Links, Tally};
 use crate::crew::{lay_all_down, recruit_all};
 use crate::ending::{finish, move_all};
 use crate::fullness::smallest_full;
@@ -25,7 +27,6 @@ use crate::room::{Room, room_for};
 use crate::threads::{Crew, Front, run};
 use crate::worker::Worker;
 use crossbeam_channel::{RuledReceiver, RuledSender};
-use ss_accept::{Job, Links, Stopped, Tally};
 use ss_booked::Booked;
 use ss_keeper::Keeper;
 use ss_links::{Closable, Gate, Port};
@@ -64,6 +65,10 @@ fn stop_of(stopped: Stopped, full: Option<u32>) -> TermStop
         Stopped::PortEnded => match full {
             Some(uid) => TermStop::Full { uid },
             None => TermStop::PortEnded,
+        },
+        Stopped::Rested => match full {
+            Some(uid) => TermStop::Full { uid },
+            None => TermStop::Rested,
         },
         Stopped::Connections => match full {
             Some(uid) => TermStop::Full { uid },

@@ -4,13 +4,14 @@ ghost use Rattle.std.specs.Prelude.{◌≡◌, ◌≤◌, ◌<◌, ◌+◌, [], 
 ghost use denote.Param.Send.{IsSync};
 ghost use Rattle.crossbeam_channel.specs.Claims.{view, IsSeatAt};
 ghost use Rattle.crossbeam_channel.specs.Ends.{sends_on, receives_on};
-ghost use Rattle.ss_accept.specs.Accepting.{HasCause, HasGiven, AreUnused};
+ghost use Rattle.ss_serve.specs.Accepting.{HasCause, HasGiven, AreUnused};
 ghost use Rattle.ss_town.specs.Town.{uids_of, desks_of};
 ghost use Rattle.ss_serve.specs.Crew.{IsReady, sign};
 
+use crate::accept::{Stopped, accept_all};
+use crate::channel::{Job, Links, Tally};
 use crate::worker::{Worker, work};
 use crossbeam_channel::{Pass, RuledReceiver, RuledSender};
-use ss_accept::{Job, Links, Stopped, Tally, accept_all};
 use ss_booked::Booked;
 use ss_desk::Journaled;
 use ss_keeper::Keeper;

@@ -6,11 +6,11 @@ ghost use Rattle.ss_links.specs.Links.{IsUnused};
 ghost use Rattle.ss_town.specs.Town.{uids_of, desks_of};
 ghost use Rattle.ss_serve.specs.Crew.{HasWorked, IsReady, sign};
 
+use crate::channel::{Job, Links, Take, Tally};
 use crate::report::LinkReport;
 use crossbeam_channel::{Pass, RuledReceiver};
-use ss_accept::{Job, Links, Take, Tally};
 use ss_booked::Booked;
-use ss_connection::serve_connection;
+use ss_connection::{End, serve_connection};
 use ss_desk::Journaled;
 use ss_keeper::Keeper;
 use ss_links::{Closable, Gate};
@@ -64,6 +64,9 @@ pub(crate) fn serve_one<L: Closable + Drop, C: Clock + Drop, K: Keeper + Drop, G
         &mut worker.passes,
         &mut turns,
     );
+    if let End::Memory = end {
+        gate.starves();
+    }
     link.close();
     worker.reports.push_reserved(LinkReport {
         worker: worker.number,

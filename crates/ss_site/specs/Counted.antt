@@ -18,4 +18,4 @@ module _ {P : Type 0} where
   port_in p = p.port
 
   abbrev pub accepts_of : CountedPort P → Accepts
-  accepts_of p = record { faults = p.faults; ends = p.ends; links = p.links }
+  accepts_of p = record { faults = p.faults; ends = p.ends; links = p.links; rests = p.rests }

@@ -10,7 +10,7 @@ module _ {T : Type 0} where
   term_of t = record { reports = t.reports.items; journals = t.journals.items }
 
   abbrev pub site_counts : MemSite T → Counts
-  site_counts s = record { faults = s.faults; links = s.links; ends = s.ends }
+  site_counts s = record { faults = s.faults; links = s.links; ends = s.ends; rests = s.rests }
 
   abbrev pub site_lent : MemSite T → Lent
   site_lent s = record { given = s.given; back = s.back; addresses = map string_bytes s.addresses.items }

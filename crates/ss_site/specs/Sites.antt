@@ -10,11 +10,12 @@ use Rattle.ss_site.specs.declared.site.SiteFault.{SiteFault}
 use Rattle.ss_site.specs.declared.site.SiteFault.TheVariants.{Fault, Memory}
 
 -- what a site counts: its calls that failed, and the keepers and ports that came back after a fault; the links of the ports that
--- were shut; and those of these ports that had ended
+-- were shut; those of these ports that had ended; and how often these ports rested
 pub record Counts : Type 0 where
   pub faults : ℕ
   pub links : ℕ
   pub ends : ℕ
+  pub rests : ℕ
 
 -- how many keepers and ports a site gave, and how many of them came back; and the address of each port that it gave, in order
 pub record Lent : Type 0 where
@@ -34,7 +35,7 @@ Entries = List ℕ → ℕ → Kept
 -- the count of faults rises in a call that answers a fault, and in no other; the other counts stay
 abbrev pub HasCause : {T : Type 0} → Result T SiteFault → Counts → Counts → Type 0
 HasCause (Ok value) old new = new ≡ old
-HasCause (Err Fault) old new = Rose old.faults new.faults × (new.links ≡ old.links) × (new.ends ≡ old.ends)
+HasCause (Err Fault) old new = Rose old.faults new.faults × (new.links ≡ old.links) × (new.ends ≡ old.ends) × (new.rests ≡ old.rests)
 HasCause (Err Memory) old new = new ≡ old
 
 -- a keeper was given where the answer is one, and nothing where it is a fault
@@ -77,12 +78,14 @@ pub record CountsKeeper (n : ℕ) (old new : Counts) : Type 0 where
   pub faults : RoseUnless n old.faults new.faults
   pub links : new.links ≡ old.links
   pub ends : new.ends ≡ old.ends
+  pub rests : new.rests ≡ old.rests
 
 -- the counts after a port was shut
 pub record CountsPort (port : Accepts) (old new : Counts) : Type 0 where
   pub faults : RoseUnless port.faults old.faults new.faults
   pub links : RoseBy port.links old.links new.links
   pub ends : RoseUnless port.ends old.ends new.ends
+  pub rests : RoseBy port.rests old.rests new.rests
 
 -- a term stands at the end, where terms are told
 abbrev pub HasAdded : {R : Type 0} → Term R → Option (List (Term R)) → Option (List (Term R)) → Type 0

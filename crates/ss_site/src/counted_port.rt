@@ -3,7 +3,7 @@
 ghost use Rattle.std.specs.Prelude.{◌≡◌};
 ghost use Rattle.ss_links.specs.Ports.{HasAccepted, idle_port};
 
-use ss_links::{Port, PortFault};
+use ss_links::{Accepted, Port, PortFault};
 
 /// A port, and counts of its answers since it was given.
 #[derive(Drop, Debug)]
@@ -12,6 +12,7 @@ pub struct CountedPort<P> {
     faults: u64,
     ends: u64,
     links: u64,
+    rests: u64,
 }
 
 impl<P> CountedPort<P> {
@@ -26,6 +27,7 @@ impl<P> CountedPort<P> {
             faults: 0,
             ends: 0,
             links: 0,
+            rests: 0,
         }
     }
 
@@ -49,6 +51,13 @@ impl<P> CountedPort<P> {
     {
         self.links
     }
+
+    /// How often it rested.
+    pub fn rests(&self) -> u64
+        ensures { result ≡ (accepts_of self.now).rests }
+    {
+        self.rests
+    }
 }
 
 impl<P: Port> Port for CountedPort<P> {
@@ -58,15 +67,19 @@ impl<P: Port> Port for CountedPort<P> {
 
     ghost counts = { λ p. accepts_of p };
 
-    fn accept(&mut self) -> Result<Option<P::Link>, PortFault> {
+    fn accept(&mut self) -> Result<Accepted<P::Link>, PortFault> {
         match self.port.accept() {
-            Ok(Some(link)) => {
+            Ok(Accepted::Link(link)) => {
                 self.links = self.links.saturating_add(1);
-                Ok(Some(link))
+                Ok(Accepted::Link(link))
             }
-            Ok(None) => {
+            Ok(Accepted::Rest) => {
+                self.rests = self.rests.saturating_add(1);
+                Ok(Accepted::Rest)
+            }
+            Ok(Accepted::End) => {
                 self.ends = self.ends.saturating_add(1);
-                Ok(None)
+                Ok(Accepted::End)
             }
             Err(PortFault::Fault) => {
                 self.faults = self.faults.saturating_add(1);

@@ -37,6 +37,7 @@ pub struct MemSite<T> {
     faults: u64,
     links: u64,
     ends: u64,
+    rests: u64,
     given: u64,
     back: u64,
     // Of the ports that it gave.
@@ -56,7 +57,7 @@ impl<T> MemSite<T> {
         kept: Vec<(String, u32, Kept)>,
         failing: Vec<u64>,
     ) -> Result<MemSite<T>, AllocError>
-        ensures counts { IfOk result (λ site. site_counts site ≡ record { faults = 0; links = 0; ends = 0 }) }
+        ensures counts { IfOk result (λ site. site_counts site ≡ record { faults = 0; links = 0; ends = 0; rests = 0 }) }
         ensures lent { IfOk result (λ site. site_lent site ≡ record { given = 0; back = 0; addresses = [] }) }
         ensures terms { IfOk result (λ site. site_terms site ≡ Some []) }
         ensures kept { IfOk result (λ site. site_kept site ≡ Some (entries_of (map held_of kept.items))) }
@@ -75,6 +76,7 @@ impl<T> MemSite<T> {
             faults: 0,
             links: 0,
             ends: 0,
+            rests: 0,
             given: 0,
             back: 0,
             addresses: Vec::new(alloc),
@@ -226,6 +228,7 @@ impl<T: Drop> Site for MemSite<T> {
             self.ends = self.ends.saturating_add(1);
         }
         self.links = self.links.saturating_add(port.links());
+        self.rests = self.rests.saturating_add(port.rests());
         drop(port);
     }
 

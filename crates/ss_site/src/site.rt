@@ -68,7 +68,7 @@ pub trait Site {
         ensures back { IsBack (lent self.old) (lent self.new) }
         ensures terms { terms self.new ≡ terms self.old };
 
-    /// Takes a port back. That it came back is counted, that it had failed or ended, and its links.
+    /// Takes a port back. That it came back is counted, that it had failed or ended, its links, and how often it rested.
     fn shut(&mut self, port: Self::Port)
         ensures counted { CountsPort (Self.Port.counts port) (counts self.old) (counts self.new) }
         ensures back { IsBack (lent self.old) (lent self.new) }

@@ -1,5 +1,5 @@
 //! A case as its line tells it: `manner=browser` of reading conditions, `most=ENTRIES` of a journal, `connections=LINKS` of a term, which call of the keepers,
-//! the port, the site or a link `fails`, and the texts that come from each link, with `/` between two links. Behind `
+//! the port, the site or a link `fails`, `gate=MESSAGE` from which on the gate ends a link, `rests=1` where the port rests after each link, and the texts that come from each link, with `/` between two links. Behind `
 //! -- ` are a server's words.
 
 use crate::terms::texts::Texts;
@@ -36,6 +36,10 @@ pub struct Case {
     /// The account of which what is kept can't be opened; 0 is none.
     pub damaged: u32,
     pub failing: Failing,
+    /// The message of a link from which on the gate ends it, counted from 1; 0 is none.
+    pub gate: u64,
+    /// Whether the port rests after each link.
+    pub rests: bool,
     pub links: Vec<Planned>,
     pub words: String,
 }
@@ -53,6 +57,8 @@ impl Case {
                 site: 0,
                 memory: 0,
             },
+            gate: 0,
+            rests: false,
             links: Vec::new(alloc),
             words: String::from_str(alloc, words)?,
         })
@@ -79,6 +85,8 @@ impl Case {
             "port" => self.failing.port = value,
             "site" => self.failing.site = value,
             "memory" => self.failing.memory = value,
+            "gate" => self.gate = value,
+            "rests" => self.rests = value == 1,
             _ => bail!("no such setting"),
         }
         Ok(())

@@ -6,12 +6,13 @@ ghost use Rattle.ss_town.specs.Town.{desks_of, passes_of};
 
 use crate::terms::accounts::accounts;
 use crate::terms::case::{Case, Planned};
+use crate::terms::ending::Ending;
 use crate::terms::telling::link;
 use anyhow::anyhow;
 use ss_booked::Booked;
 use ss_connection::{End, TurnNote, serve_connection};
 use ss_keeper::MemKeeper;
-use ss_links::{MemLink, OpenGate};
+use ss_links::MemLink;
 use ss_outside::MemClock;
 use ss_route::Manner;
 use ss_town::{Passes, Town};
@@ -46,11 +47,12 @@ pub fn open(
     }
 }
 
-/// Serves a link, whose conditions are read in this manner.
+/// Serves a link, whose conditions are read in this manner, through this gate.
 pub fn serve<R: Wait>(
     rt: &R,
     alloc: Global,
     manner: Manner,
+    gate: Ending,
     town: &Town<Booked<MemKeeper>>,
     passes: &mut Passes<Booked<MemKeeper>>,
     planned: Planned,
@@ -63,7 +65,7 @@ pub fn serve<R: Wait>(
     let mut clock = MemClock::new(vec![in alloc; 1000u64; 16]?);
     let mut turns = Vec::new(alloc);
     let end = serve_connection(
-        rt, alloc, manner, &mut link, &mut clock, &OpenGate, 0, town, passes, &mut turns,
+        rt, alloc, manner, &mut link, &mut clock, &gate, 0, town, passes, &mut turns,
     );
     Ok(Outcome { end, turns, link })
 }
@@ -73,6 +75,7 @@ fn served<R: Wait>(
     rt: &R,
     alloc: Global,
     manner: Manner,
+    gate: Ending,
     town: &Town<Booked<MemKeeper>>,
     passes: &mut Passes<Booked<MemKeeper>>,
     planned: Planned,
@@ -80,7 +83,7 @@ fn served<R: Wait>(
     requires of { AreOf (desks_of town.now) (passes_of passes.old) }
     ensures of { AreOf (desks_of town.now) (passes_of passes.new) }
 {
-    let outcome = serve(rt, alloc, manner, town, passes, planned)?;
+    let outcome = serve(rt, alloc, manner, gate, town, passes, planned)?;
     link(alloc, outcome.end, outcome.turns.as_slice(), &outcome.link)
 }
 
@@ -89,6 +92,7 @@ fn lines<R: Wait>(
     rt: &R,
     alloc: Global,
     manner: Manner,
+    gate: Ending,
     town: &Town<Booked<MemKeeper>>,
     passes: &mut Passes<Booked<MemKeeper>>,
     links: Vec<Planned>,
@@ -97,7 +101,7 @@ fn lines<R: Wait>(
 {
     let mut text = format!(in alloc; "{} links", links.len())?;
     for planned in links {
-        let line = served(rt, alloc, manner, town, passes, planned)?;
+        let line = served(rt, alloc, manner, gate, town, passes, planned)?;
         text.push_str(line.as_str())?;
     }
     Ok(text)
@@ -109,13 +113,23 @@ pub fn told<R: Wait>(rt: &R, alloc: Global, case: Case) -> anyhow::Result<String
         manner,
         most,
         failing,
+        gate,
         links,
         connections: _,
+        rests: _,
         damaged: _,
         words: _,
     } = case;
     let (town, mut passes) = open(alloc, most, failing.keeper)?;
-    let text = lines(rt, alloc, manner, &town, &mut passes, links);
+    let text = lines(
+        rt,
+        alloc,
+        manner,
+        Ending { from: gate },
+        &town,
+        &mut passes,
+        links,
+    );
     drop(passes);
     drop(town);
     text

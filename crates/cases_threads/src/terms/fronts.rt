@@ -2,6 +2,7 @@
 
 use crate::terms::case::{Case, Planned};
 use crate::terms::connections::{Outcome, open, serve};
+use crate::terms::ending::Ending;
 use anyhow::bail;
 use ss_connection::End;
 use ss_route::Manner;
@@ -11,7 +12,16 @@ use std::sync::Wait;
 /// What a connection of a fresh town does.
 fn served<R: Wait>(rt: &R, alloc: Global, planned: Planned) -> anyhow::Result<Outcome> {
     let (town, mut passes) = open(alloc, 9, 0)?;
-    let outcome = serve(rt, alloc, Manner::Profile, &town, &mut passes, planned);
+    let gate = Ending { from: 0 };
+    let outcome = serve(
+        rt,
+        alloc,
+        Manner::Profile,
+        gate,
+        &town,
+        &mut passes,
+        planned,
+    );
     drop(passes);
     drop(town);
     Ok(outcome?)

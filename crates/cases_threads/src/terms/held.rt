@@ -21,22 +21,31 @@ struct Holding {
 }
 
 impl Gate for Holding {
-    fn pass(&self, _worker: u32, turn: u64) {
+    ghost use Rattle.std.specs.Prelude.{⊤};
+
+    ghost says = { λ gate worker turn closes. ⊤ };
+
+    fn pass(&self, _worker: u32, turn: u64) -> bool {
         if turn > 0 {
             self.answered.store(1, Ordering::SeqCst);
-            return;
+            return false;
         }
         if self.comers.fetch_add(1, Ordering::SeqCst) > 0 {
-            return;
+            return false;
         }
         for _ in 0..LOOKS {
             if self.answered.load(Ordering::SeqCst) > 0 {
-                return;
+                return false;
             }
             yield_now();
         }
         self.late.store(1, Ordering::SeqCst);
+        false
     }
+
+    fn fills(&self) {}
+
+    fn starves(&self) {}
 }
 
 /// The numbers of the workers that served links, from the least on.

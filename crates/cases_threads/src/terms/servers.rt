@@ -1,10 +1,11 @@
 //! Servers over a site in memory, whose one port gives the links of the case, and ends; its clocks count from 10.00.
 
 use crate::terms::case::{Case, Failing, Planned};
+use crate::terms::ending::Ending;
 use crate::terms::terms::{lines, port};
 use anyhow::bail;
 use ss_bso::{Kept, Times};
-use ss_links::{MemLink, MemPort, OpenGate};
+use ss_links::{MemLink, MemPort};
 use ss_outside::SureSink;
 use ss_run_serve::run_serve;
 use ss_serve::LinkReport;
@@ -33,8 +34,13 @@ fn kept_of(alloc: Global, uid: u32) -> anyhow::Result<Vec<(String, u32, Kept)>> 
 }
 
 /// The one port of a site.
-fn ports(alloc: Global, links: Vec<Planned>, failing: u64) -> Result<Vec<MemPort>, AllocError> {
-    let port = port(alloc, links, failing)?;
+fn ports(
+    alloc: Global,
+    links: Vec<Planned>,
+    failing: u64,
+    rests: bool,
+) -> Result<Vec<MemPort>, AllocError> {
+    let port = port(alloc, links, failing, rests)?;
     Ok(vec![in alloc; port]?)
 }
 
@@ -56,13 +62,15 @@ fn site(alloc: Global, case: Case) -> anyhow::Result<Terms> {
     let Case {
         damaged,
         failing,
+        rests,
         links,
+        gate: _,
         manner: _,
         most: _,
         connections: _,
         words: _,
     } = case;
-    let ports = ports(alloc, links, failing.port)?;
+    let ports = ports(alloc, links, failing.port, rests)?;
     let kept = kept_of(alloc, damaged)?;
     Ok(failing_site(alloc, ports, kept, failing)?)
 }
@@ -84,8 +92,9 @@ fn served<R: Threads + Wait + Sync>(
 ) -> anyhow::Result<(Terms, u8)> {
     let words = words(alloc, case.words.as_str())?;
     let mut err = SureSink::new(alloc, 4096)?;
+    let gate = Ending { from: case.gate };
     let mut site = site(alloc, case)?;
-    let status = run_serve(rt, alloc, words.as_slice(), &mut site, &OpenGate, &mut err);
+    let status = run_serve(rt, alloc, words.as_slice(), &mut site, &gate, &mut err);
     Ok((site, status))
 }
 

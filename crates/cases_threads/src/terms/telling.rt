@@ -6,12 +6,13 @@ use ss_connection::{End, Turn, TurnNote};
 use ss_links::MemLink;
 use std::alloc::Global;
 
-/// A turn as text, behind the reading of the clock: account and ticket of a call.
+/// A turn as text, behind the reading of the clock: account and ticket of a call, and whether the gate closed the link.
 fn turn(alloc: Global, note: TurnNote) -> anyhow::Result<String> {
     let now = note.now;
+    let closed = if note.closed_by_gate { "=last" } else { "" };
     Ok(match note.turn {
-        Turn::Call { uid, ticket } => format!(in alloc; " {now}:{uid}/{ticket}")?,
-        other => format!(in alloc; " {now}:{other:?}")?,
+        Turn::Call { uid, ticket } => format!(in alloc; " {now}:{uid}/{ticket}{closed}")?,
+        other => format!(in alloc; " {now}:{other:?}{closed}")?,
     })
 }
 

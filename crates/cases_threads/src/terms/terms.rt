@@ -6,11 +6,12 @@ ghost use Rattle.ss_links.specs.Links.{IsUnused, link_tells};
 use crate::terms::accounts::accounts;
 use crate::terms::case::{Case, Planned};
 use crate::terms::connections::ROOM;
+use crate::terms::ending::Ending;
 use crate::terms::telling::link as link_line;
 use anyhow::bail;
 use ss_booked::Booked;
 use ss_keeper::MemKeeper;
-use ss_links::{Gate, MemLink, MemPort, OpenGate};
+use ss_links::{Gate, MemLink, MemPort};
 use ss_outside::MemClock;
 use ss_serve::{LinkReport, TermEnd, serve_term};
 use std::alloc::{AllocError, Global};
@@ -38,10 +39,16 @@ fn links(alloc: Global, planned: Vec<Planned>) -> Result<Vec<MemLink>, AllocErro
     Ok(links)
 }
 
-/// A port that gives these links, and whose call with this number fails; 0 is none.
-pub fn port(alloc: Global, planned: Vec<Planned>, failing: u64) -> Result<MemPort, AllocError> {
+/// A port that gives these links, and whose call with this number fails; 0 is none. It may rest after each link.
+pub fn port(
+    alloc: Global,
+    planned: Vec<Planned>,
+    failing: u64,
+    rests: bool,
+) -> Result<MemPort, AllocError> {
     let links = links(alloc, planned)?;
-    Ok(MemPort::new(links, vec![in alloc; failing]?))
+    let port = MemPort::new(links, vec![in alloc; failing]?);
+    Ok(if rests { port.resting() } else { port })
 }
 
 /// The clocks of two workers.
@@ -65,6 +72,8 @@ pub fn serve<G: Gate + Sync, R: Threads + Wait + Sync>(
         most,
         connections,
         failing,
+        gate: _,
+        rests,
         links,
         damaged: _,
         words: _,
@@ -72,7 +81,7 @@ pub fn serve<G: Gate + Sync, R: Threads + Wait + Sync>(
     if connections > 1000 {
         bail!("too many links");
     }
-    let mut port = port(alloc, links, failing.port)?;
+    let mut port = port(alloc, links, failing.port, rests)?;
     let clocks = clocks(alloc)?;
     let accounts = accounts(alloc, most, failing.keeper)?;
     Ok(serve_term(
@@ -120,7 +129,8 @@ fn reported(alloc: Global, ended: &Ended) -> anyhow::Result<String> {
 
 /// What is told of the term of a case.
 pub fn told<R: Threads + Wait + Sync>(rt: &R, alloc: Global, case: Case) -> anyhow::Result<String> {
-    let ended = serve(rt, alloc, case, &OpenGate)?;
+    let gate = Ending { from: case.gate };
+    let ended = serve(rt, alloc, case, &gate)?;
     let text = reported(alloc, &ended);
     drop(ended);
     text

@@ -9,7 +9,7 @@ ghost use Rattle.ss_booked.specs.Booked.{journal_of};
 
 use crate::accounts::booked;
 use anyhow::bail;
-use ss_booked::{Asked, Booked, Full, MOST_ENTRIES};
+use ss_booked::{Answered, Asked, Booked, Full, MOST_ENTRIES};
 use ss_bso::{Field, Fields, Kept};
 use ss_desk::{Desk, Pass};
 use ss_keeper::{Keeper, SureKeeper};
@@ -89,7 +89,13 @@ fn call<R: Wait, K: Keeper + Drop>(
     ensures covers { CoversNoLess (view pass) (view result.0) }
 {
     let told = match desk.call(rt, &mut pass, ask) {
-        Ok((ticket, reply)) => Ok((ticket, reply.modified)),
+        Ok((ticket, answered)) => {
+            let Answered {
+                reply,
+                half_full: _,
+            } = answered;
+            Ok((ticket, reply.modified))
+        }
         Err(full) => Err(full),
     };
     (pass, told)

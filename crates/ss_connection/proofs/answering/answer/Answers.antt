@@ -11,7 +11,7 @@ pub returns-in-Reply-clause-more : goal.returns-in-Reply-clause-more
 returns-in-Reply-clause-more g c =
     let h = c.in-Reply.ensures.says in let ps = c.args.passes.now.passes.items in let qs = c.ask.new.passes.passes.items in
     let asked : Asked = record { now = c.args.now; request = c.in-Ask.request } in
-    one_steps ps qs h.0 h.2 (entered_steps (view_at ps h.0) (view_at qs h.0) c.in-Reply.ticket asked c.in-Reply.reply h.3)
+    one_steps ps qs h.0 h.2 (entered_steps (view_at ps h.0) (view_at qs h.0) c.in-Reply.ticket asked c.in-Reply.answered h.3)
 
 pub returns-in-Reply-clause-says : goal.returns-in-Reply-clause-says
 returns-in-Reply-clause-says g c =
@@ -19,8 +19,8 @@ returns-in-Reply-clause-says g c =
     let asked : Asked = record { now = c.args.now; request = c.in-Ask.request } in
     record {
       asks = record { place = h.0; listed = h.1; request = c.in-Ask.request; newlines = c.in-Ask.newlines; routes = c.in-Ask.ensures.routed };
-      reply = c.in-Reply.reply;
-      called = called_by ps qs h.0 c.in-Reply.ticket asked c.in-Reply.reply h.3;
+      reply = c.in-Reply.answered.reply;
+      called = called_by ps qs h.0 c.in-Reply.ticket asked c.in-Reply.answered h.3;
       response = c.to_reply.ensures;
     }
 
@@ -28,7 +28,7 @@ pub returns-in-Reply-clause-enters : goal.returns-in-Reply-clause-enters
 returns-in-Reply-clause-enters g c =
     let h = c.in-Reply.ensures.says in let ps = c.args.passes.now.passes.items in let qs = c.ask.new.passes.passes.items in
     let asked : Asked = record { now = c.args.now; request = c.in-Ask.request } in
-    enters_call c.args.town.now.uids.items c.args.town.now.rise ps qs h.0 c.in-Ask.uid c.in-Reply.ticket c.args.now asked c.in-Reply.reply h.1 h.2 h.3
+    λ by_gate. enters_call c.args.town.now.uids.items c.args.town.now.rise ps qs h.0 c.in-Ask.uid c.in-Reply.ticket c.args.now by_gate asked c.in-Reply.answered h.1 h.2 h.3
 
 pub returns-in-Full-clause-more : goal.returns-in-Full-clause-more
 returns-in-Full-clause-more g c =
@@ -48,4 +48,4 @@ returns-in-Full-clause-says g c =
 pub returns-in-Full-clause-enters : goal.returns-in-Full-clause-enters
 returns-in-Full-clause-enters g c =
     let h = c.in-Full.ensures.says in let ps = c.args.passes.now.passes.items in let qs = c.ask.new.passes.passes.items in
-    enters_full c.args.town.now.uids.items ps qs h.0 c.in-Ask.uid c.args.now c.in-Full.full h.2 h.3
+    λ by_gate. enters_full c.args.town.now.uids.items ps qs h.0 c.in-Ask.uid c.args.now by_gate c.in-Full.full h.2 h.3

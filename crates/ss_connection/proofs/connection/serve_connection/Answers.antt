@@ -2,15 +2,15 @@ use Rattle.std.proofs.Common.{◌≡◌, ◌+◌, ◌++◌, ◌∷◌, [], Bool,
 use Rattle.ss_http.specs.Buffers.{Kept}
 use Rattle.ss_connection.specs.Known.{known_by}
 use Rattle.ss_connection.specs.Sending.{bytes_of}
-use Rattle.ss_connection.specs.Turns.{SaysTurn}
+use Rattle.ss_connection.specs.Turns.{AreGated, SaysTurn}
 use Rattle.ss_connection.specs.Calls.{added, Enters}
 use Rattle.ss_connection.specs.Ends.{Served}
 use Rattle.ss_connection.specs.Progress.{Progress}
-use Rattle.ss_connection.specs.declared.notes.End.TheVariants.{WriteFault, Asked, Memory}
+use Rattle.ss_connection.specs.declared.notes.End.TheVariants.{WriteFault, Asked, Gate, Memory}
 use Rattle.ss_connection.specs.declared.notes.TurnNote.{TurnNote}
 use Rattle.ss_connection.proofs.Passing.{see_itself, see_then, knows_more, enters_nothing, enters_push}
-use Rattle.ss_connection.proofs.Exchanges.{pushed_on}
-use Rattle.ss_connection.proofs.Run.{Answers, begins, begun, ended_asked, ended_counting, ended_cut, ended_early, goes_on, stopped, unserved}
+use Rattle.ss_connection.proofs.Exchanges.{nothing_added, pushed_on}
+use Rattle.ss_connection.proofs.Run.{Answers, begins, begun, ended_asked, ended_by_gate, ended_counting, ended_cut, ended_early, gated_more, goes_on, stopped, unserved}
 use Rattle.ss_connection.proofs.connection.serve_connection.Goals as goal
 
 pub returns-in_default-clause-served : goal.returns-in_default-clause-served
@@ -24,6 +24,7 @@ messages-init g c =
       of = c.requires.of;
       more = see_itself ps;
       progress = subst K (sym c.in-Ok.ensures) (begun manner uids (known_by ps) link coming c.args.turns.now.items);
+      gated = λ k note at. absurd (nothing_added c.args.turns.now.items k note at);
       enters = enters_nothing uids ps c.args.turns.now.items;
     }
 
@@ -48,7 +49,7 @@ returns-in-Err-write-clause-served g c =
     let i = c.messages.invariant in let p = i.progress in
     let manner = c.args.manner in let uids = c.args.town.now.uids.items in let ps = c.args.passes.now.passes.items in let qs = c.messages.passes.passes.items in let rs = c.answer-turn.new.passes.passes.items in
     let m = c.in-Ok-read_message.message in
-    let note : TurnNote = record { now = c.now-now.result; turn = c.answer-turn.result.0 } in
+    let note : TurnNote = record { now = c.now-now.result; closed_by_gate = c.pass-closed_by_gate.result; turn = c.answer-turn.result.0 } in
     let turns : c.push_reserved.new.self.items ≡ c.messages.turns.items ++ note ∷ [] = pushed_on c.push_reserved.new.self.items c.reserve.new.self.items c.messages.turns.items note c.push_reserved.ensures.items c.reserve.ensures.items in
     let link = g.L.Told.told c.args.link.now in let link' = g.L.Told.told c.messages.link in let link2 = g.L.Told.told c.read_message.new.source in let link3 = g.L.Told.told c.write.new.link in
     let coming = g.C.Clock.coming c.args.clock.now in let coming' = g.C.Clock.coming c.messages.clock in let coming2 = g.C.Clock.coming c.now-now.new.self in
@@ -72,10 +73,19 @@ pub returns-in-Err-write-clause-enters : goal.returns-in-Err-write-clause-enters
 returns-in-Err-write-clause-enters g c =
     let i = c.messages.invariant in let p = i.progress in
     let manner = c.args.manner in let uids = c.args.town.now.uids.items in let ps = c.args.passes.now.passes.items in let qs = c.messages.passes.passes.items in let rs = c.answer-turn.new.passes.passes.items in
-    let note : TurnNote = record { now = c.now-now.result; turn = c.answer-turn.result.0 } in
+    let note : TurnNote = record { now = c.now-now.result; closed_by_gate = c.pass-closed_by_gate.result; turn = c.answer-turn.result.0 } in
     let turns : c.push_reserved.new.self.items ≡ c.messages.turns.items ++ note ∷ [] = pushed_on c.push_reserved.new.self.items c.reserve.new.self.items c.messages.turns.items note c.push_reserved.ensures.items c.reserve.ensures.items in
     subst (λ ts. Enters uids ps rs (added c.args.turns.now.items ts)) (sym {A = List TurnNote} turns)
-    (enters_push uids ps qs rs c.args.turns.now.items c.messages.turns.items note (begins manner uids (known_by qs) (g.L.Told.told c.args.link.now) (g.L.Told.told c.messages.link) (g.C.Clock.coming c.args.clock.now) (g.C.Clock.coming c.messages.clock) c.messages.buffer c.args.turns.now.items c.messages.turns.items c.messages.count p) i.enters c.answer-turn.ensures.enters)
+    (enters_push uids ps qs rs c.args.turns.now.items c.messages.turns.items note (begins manner uids (known_by qs) (g.L.Told.told c.args.link.now) (g.L.Told.told c.messages.link) (g.C.Clock.coming c.args.clock.now) (g.C.Clock.coming c.messages.clock) c.messages.buffer c.args.turns.now.items c.messages.turns.items c.messages.count p) i.enters (c.answer-turn.ensures.enters c.pass-closed_by_gate.result))
+
+pub returns-in-Err-write-clause-gated : goal.returns-in-Err-write-clause-gated
+returns-in-Err-write-clause-gated g c =
+    let i = c.messages.invariant in let manner = c.args.manner in let uids = c.args.town.now.uids.items in let qs = c.messages.passes.passes.items in
+    let note : TurnNote = record { now = c.now-now.result; closed_by_gate = c.pass-closed_by_gate.result; turn = c.answer-turn.result.0 } in
+    let turns : c.push_reserved.new.self.items ≡ c.messages.turns.items ++ note ∷ [] = pushed_on c.push_reserved.new.self.items c.reserve.new.self.items c.messages.turns.items note c.push_reserved.ensures.items c.reserve.ensures.items in
+    subst (λ ts. AreGated (g.G.Gate.says c.args.gate.now c.args.worker) (added c.args.turns.now.items ts)) (sym {A = List TurnNote} turns)
+    (gated_more manner uids (known_by qs) (g.L.Told.told c.args.link.now) (g.L.Told.told c.messages.link) (g.C.Clock.coming c.args.clock.now) (g.C.Clock.coming c.messages.clock) c.messages.buffer c.args.turns.now.items c.messages.turns.items c.messages.count i.progress
+    (g.G.Gate.says c.args.gate.now c.args.worker) note i.gated c.pass-closed_by_gate.ensures.says)
 
 pub returns-then-message-clause-more : goal.returns-then-message-clause-more
 returns-then-message-clause-more g c = see_then c.args.passes.now.passes.items c.messages.passes.passes.items c.answer-turn.new.passes.passes.items c.messages.invariant.more c.answer-turn.ensures.more
@@ -85,7 +95,7 @@ returns-then-message-clause-served g c =
     let i = c.messages.invariant in let p = i.progress in
     let manner = c.args.manner in let uids = c.args.town.now.uids.items in let ps = c.args.passes.now.passes.items in let qs = c.messages.passes.passes.items in let rs = c.answer-turn.new.passes.passes.items in
     let m = c.in-Ok-read_message.message in
-    let note : TurnNote = record { now = c.now-now.result; turn = c.answer-turn.result.0 } in
+    let note : TurnNote = record { now = c.now-now.result; closed_by_gate = c.pass-closed_by_gate.result; turn = c.answer-turn.result.0 } in
     let turns : c.push_reserved.new.self.items ≡ c.messages.turns.items ++ note ∷ [] = pushed_on c.push_reserved.new.self.items c.reserve.new.self.items c.messages.turns.items note c.push_reserved.ensures.items c.reserve.ensures.items in
     let link = g.L.Told.told c.args.link.now in let link' = g.L.Told.told c.messages.link in let link2 = g.L.Told.told c.read_message.new.source in let link3 = g.L.Told.told c.write.new.link in
     let coming = g.C.Clock.coming c.args.clock.now in let coming' = g.C.Clock.coming c.messages.clock in let coming2 = g.C.Clock.coming c.now-now.new.self in
@@ -109,17 +119,72 @@ pub returns-then-message-clause-enters : goal.returns-then-message-clause-enters
 returns-then-message-clause-enters g c =
     let i = c.messages.invariant in let p = i.progress in
     let manner = c.args.manner in let uids = c.args.town.now.uids.items in let ps = c.args.passes.now.passes.items in let qs = c.messages.passes.passes.items in let rs = c.answer-turn.new.passes.passes.items in
-    let note : TurnNote = record { now = c.now-now.result; turn = c.answer-turn.result.0 } in
+    let note : TurnNote = record { now = c.now-now.result; closed_by_gate = c.pass-closed_by_gate.result; turn = c.answer-turn.result.0 } in
     let turns : c.push_reserved.new.self.items ≡ c.messages.turns.items ++ note ∷ [] = pushed_on c.push_reserved.new.self.items c.reserve.new.self.items c.messages.turns.items note c.push_reserved.ensures.items c.reserve.ensures.items in
     subst (λ ts. Enters uids ps rs (added c.args.turns.now.items ts)) (sym {A = List TurnNote} turns)
-    (enters_push uids ps qs rs c.args.turns.now.items c.messages.turns.items note (begins manner uids (known_by qs) (g.L.Told.told c.args.link.now) (g.L.Told.told c.messages.link) (g.C.Clock.coming c.args.clock.now) (g.C.Clock.coming c.messages.clock) c.messages.buffer c.args.turns.now.items c.messages.turns.items c.messages.count p) i.enters c.answer-turn.ensures.enters)
+    (enters_push uids ps qs rs c.args.turns.now.items c.messages.turns.items note (begins manner uids (known_by qs) (g.L.Told.told c.args.link.now) (g.L.Told.told c.messages.link) (g.C.Clock.coming c.args.clock.now) (g.C.Clock.coming c.messages.clock) c.messages.buffer c.args.turns.now.items c.messages.turns.items c.messages.count p) i.enters (c.answer-turn.ensures.enters c.pass-closed_by_gate.result))
+
+pub returns-then-message-clause-gated : goal.returns-then-message-clause-gated
+returns-then-message-clause-gated g c =
+    let i = c.messages.invariant in let manner = c.args.manner in let uids = c.args.town.now.uids.items in let qs = c.messages.passes.passes.items in
+    let note : TurnNote = record { now = c.now-now.result; closed_by_gate = c.pass-closed_by_gate.result; turn = c.answer-turn.result.0 } in
+    let turns : c.push_reserved.new.self.items ≡ c.messages.turns.items ++ note ∷ [] = pushed_on c.push_reserved.new.self.items c.reserve.new.self.items c.messages.turns.items note c.push_reserved.ensures.items c.reserve.ensures.items in
+    subst (λ ts. AreGated (g.G.Gate.says c.args.gate.now c.args.worker) (added c.args.turns.now.items ts)) (sym {A = List TurnNote} turns)
+    (gated_more manner uids (known_by qs) (g.L.Told.told c.args.link.now) (g.L.Told.told c.messages.link) (g.C.Clock.coming c.args.clock.now) (g.C.Clock.coming c.messages.clock) c.messages.buffer c.args.turns.now.items c.messages.turns.items c.messages.count i.progress
+    (g.G.Gate.says c.args.gate.now c.args.worker) note i.gated c.pass-closed_by_gate.ensures.says)
+
+pub returns-then-closed_by_gate-clause-more : goal.returns-then-closed_by_gate-clause-more
+returns-then-closed_by_gate-clause-more g c = see_then c.args.passes.now.passes.items c.messages.passes.passes.items c.answer-turn.new.passes.passes.items c.messages.invariant.more c.answer-turn.ensures.more
+
+pub returns-then-closed_by_gate-clause-served : goal.returns-then-closed_by_gate-clause-served
+returns-then-closed_by_gate-clause-served g c =
+    let i = c.messages.invariant in let p = i.progress in
+    let manner = c.args.manner in let uids = c.args.town.now.uids.items in let ps = c.args.passes.now.passes.items in let qs = c.messages.passes.passes.items in let rs = c.answer-turn.new.passes.passes.items in
+    let m = c.in-Ok-read_message.message in
+    let note : TurnNote = record { now = c.now-now.result; closed_by_gate = c.pass-closed_by_gate.result; turn = c.answer-turn.result.0 } in
+    let turns : c.push_reserved.new.self.items ≡ c.messages.turns.items ++ note ∷ [] = pushed_on c.push_reserved.new.self.items c.reserve.new.self.items c.messages.turns.items note c.push_reserved.ensures.items c.reserve.ensures.items in
+    let link = g.L.Told.told c.args.link.now in let link' = g.L.Told.told c.messages.link in let link2 = g.L.Told.told c.read_message.new.source in let link3 = g.L.Told.told c.write.new.link in
+    let coming = g.C.Clock.coming c.args.clock.now in let coming' = g.C.Clock.coming c.messages.clock in let coming2 = g.C.Clock.coming c.now-now.new.self in
+    let takes = rw p.going_on at c.in-Ok-read_message.ensures.takes in
+    let cause = rw p.going_on at c.in-Ok-read_message.ensures.cause in
+    let S : Bool → Type 0 = λ last. SaysTurn manner uids (known_by rs) m note.now last note.turn (bytes_of c.answer-turn.result.1) in
+    let a : Answers manner uids (known_by rs) link' link2 coming' coming2 c.messages.buffer c.read_message.new.buffer c.messages.count m note (bytes_of c.answer-turn.result.1) = record {
+      few = c.messages-test.true;
+      got = takes.0;
+      read = takes.1;
+      reads = takes.2.0;
+      going_on = takes.2.1;
+      quiet = cause;
+      spare = rw p.going_on at c.in-Ok-read_message.ensures.ready;
+      reading = c.now-now.ensures;
+      says = subst S c.closes-last.ensures c.answer-turn.ensures.says;
+    } in
+    subst (λ ts. Served manner uids (known_by rs) Gate link link3 coming coming2 (added c.args.turns.now.items ts)) (sym {A = List TurnNote} turns) (ended_by_gate manner uids (known_by qs) (known_by rs) (knows_more qs rs c.answer-turn.ensures.more) link link' link2 link3 coming coming' coming2 c.messages.buffer c.read_message.new.buffer c.args.turns.now.items c.messages.turns.items c.messages.count m note (bytes_of c.answer-turn.result.1) p a c.in-Ok-write.ensures.sent c.if-message.false c.if-closed_by_gate.true)
+
+pub returns-then-closed_by_gate-clause-enters : goal.returns-then-closed_by_gate-clause-enters
+returns-then-closed_by_gate-clause-enters g c =
+    let i = c.messages.invariant in let p = i.progress in
+    let manner = c.args.manner in let uids = c.args.town.now.uids.items in let ps = c.args.passes.now.passes.items in let qs = c.messages.passes.passes.items in let rs = c.answer-turn.new.passes.passes.items in
+    let note : TurnNote = record { now = c.now-now.result; closed_by_gate = c.pass-closed_by_gate.result; turn = c.answer-turn.result.0 } in
+    let turns : c.push_reserved.new.self.items ≡ c.messages.turns.items ++ note ∷ [] = pushed_on c.push_reserved.new.self.items c.reserve.new.self.items c.messages.turns.items note c.push_reserved.ensures.items c.reserve.ensures.items in
+    subst (λ ts. Enters uids ps rs (added c.args.turns.now.items ts)) (sym {A = List TurnNote} turns)
+    (enters_push uids ps qs rs c.args.turns.now.items c.messages.turns.items note (begins manner uids (known_by qs) (g.L.Told.told c.args.link.now) (g.L.Told.told c.messages.link) (g.C.Clock.coming c.args.clock.now) (g.C.Clock.coming c.messages.clock) c.messages.buffer c.args.turns.now.items c.messages.turns.items c.messages.count p) i.enters (c.answer-turn.ensures.enters c.pass-closed_by_gate.result))
+
+pub returns-then-closed_by_gate-clause-gated : goal.returns-then-closed_by_gate-clause-gated
+returns-then-closed_by_gate-clause-gated g c =
+    let i = c.messages.invariant in let manner = c.args.manner in let uids = c.args.town.now.uids.items in let qs = c.messages.passes.passes.items in
+    let note : TurnNote = record { now = c.now-now.result; closed_by_gate = c.pass-closed_by_gate.result; turn = c.answer-turn.result.0 } in
+    let turns : c.push_reserved.new.self.items ≡ c.messages.turns.items ++ note ∷ [] = pushed_on c.push_reserved.new.self.items c.reserve.new.self.items c.messages.turns.items note c.push_reserved.ensures.items c.reserve.ensures.items in
+    subst (λ ts. AreGated (g.G.Gate.says c.args.gate.now c.args.worker) (added c.args.turns.now.items ts)) (sym {A = List TurnNote} turns)
+    (gated_more manner uids (known_by qs) (g.L.Told.told c.args.link.now) (g.L.Told.told c.messages.link) (g.C.Clock.coming c.args.clock.now) (g.C.Clock.coming c.messages.clock) c.messages.buffer c.args.turns.now.items c.messages.turns.items c.messages.count i.progress
+    (g.G.Gate.says c.args.gate.now c.args.worker) note i.gated c.pass-closed_by_gate.ensures.says)
 
 pub messages-preserved : goal.messages-preserved
 messages-preserved g c =
     let i = c.messages.invariant in let p = i.progress in
     let manner = c.args.manner in let uids = c.args.town.now.uids.items in let ps = c.args.passes.now.passes.items in let qs = c.messages.passes.passes.items in let rs = c.answer-turn.new.passes.passes.items in
     let m = c.in-Ok-read_message.message in
-    let note : TurnNote = record { now = c.now-now.result; turn = c.answer-turn.result.0 } in
+    let note : TurnNote = record { now = c.now-now.result; closed_by_gate = c.pass-closed_by_gate.result; turn = c.answer-turn.result.0 } in
     let turns : c.push_reserved.new.self.items ≡ c.messages.turns.items ++ note ∷ [] = pushed_on c.push_reserved.new.self.items c.reserve.new.self.items c.messages.turns.items note c.push_reserved.ensures.items c.reserve.ensures.items in
     let link = g.L.Told.told c.args.link.now in let link' = g.L.Told.told c.messages.link in let link2 = g.L.Told.told c.read_message.new.source in let link3 = g.L.Told.told c.write.new.link in
     let coming = g.C.Clock.coming c.args.clock.now in let coming' = g.C.Clock.coming c.messages.clock in let coming2 = g.C.Clock.coming c.now-now.new.self in
@@ -141,9 +206,11 @@ messages-preserved g c =
       of = c.answer-turn.ensures.of;
       more = see_then ps qs rs i.more c.answer-turn.ensures.more;
       progress = subst (λ ts. Progress manner uids (known_by rs) link link3 coming coming2 c.read_message.new.buffer c.args.turns.now.items ts (c.messages.count + 1)) (sym {A = List TurnNote} turns)
-          (goes_on manner uids (known_by qs) (known_by rs) (knows_more qs rs c.answer-turn.ensures.more) link link' link2 link3 coming coming' coming2 c.messages.buffer c.read_message.new.buffer c.args.turns.now.items c.messages.turns.items c.messages.count m note (bytes_of c.answer-turn.result.1) p a c.in-Ok-write.ensures.sent c.if-message.false);
+          (goes_on manner uids (known_by qs) (known_by rs) (knows_more qs rs c.answer-turn.ensures.more) link link' link2 link3 coming coming' coming2 c.messages.buffer c.read_message.new.buffer c.args.turns.now.items c.messages.turns.items c.messages.count m note (bytes_of c.answer-turn.result.1) p a c.in-Ok-write.ensures.sent c.if-message.false c.if-closed_by_gate.false);
+      gated = subst (λ ts. AreGated (g.G.Gate.says c.args.gate.now c.args.worker) (added c.args.turns.now.items ts)) (sym {A = List TurnNote} turns)
+          (gated_more manner uids (known_by qs) link link' coming coming' c.messages.buffer c.args.turns.now.items c.messages.turns.items c.messages.count p (g.G.Gate.says c.args.gate.now c.args.worker) note i.gated c.pass-closed_by_gate.ensures.says);
       enters = subst (λ ts. Enters uids ps rs (added c.args.turns.now.items ts)) (sym {A = List TurnNote} turns)
-          (enters_push uids ps qs rs c.args.turns.now.items c.messages.turns.items note (begins manner uids (known_by qs) (g.L.Told.told c.args.link.now) (g.L.Told.told c.messages.link) (g.C.Clock.coming c.args.clock.now) (g.C.Clock.coming c.messages.clock) c.messages.buffer c.args.turns.now.items c.messages.turns.items c.messages.count p) i.enters c.answer-turn.ensures.enters);
+          (enters_push uids ps qs rs c.args.turns.now.items c.messages.turns.items note (begins manner uids (known_by qs) (g.L.Told.told c.args.link.now) (g.L.Told.told c.messages.link) (g.C.Clock.coming c.args.clock.now) (g.C.Clock.coming c.messages.clock) c.messages.buffer c.args.turns.now.items c.messages.turns.items c.messages.count p) i.enters (c.answer-turn.ensures.enters c.pass-closed_by_gate.result));
     }
 
 pub returns-then-is_err-clause-served : goal.returns-then-is_err-clause-served

@@ -1,7 +1,7 @@
 use Rattle.std.proofs.Common.{subst, sym, ap, ◌∙◌, ◌≡◌, ◌+◌, All, length, arith}
 use Rattle.crossbeam_channel.specs.Claims.{view}
 use Rattle.crossbeam_channel.specs.Ends.{sends_on}
-use Rattle.ss_accept.specs.Tallies.{tally}
+use Rattle.ss_serve.specs.Tallies.{tally}
 use Rattle.ss_desk.proofs.Beside.{last_long}
 use Rattle.ss_town.specs.Town.{uids_of, desks_of}
 use Rattle.ss_serve.specs.Crew.{IsReady, HasWorked, count_reports}

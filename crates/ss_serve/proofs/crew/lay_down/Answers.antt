@@ -1,5 +1,5 @@
 use Rattle.crossbeam_channel.specs.Claims.{view}
-use Rattle.ss_accept.proofs.Giving.{forks_none, merges}
+use Rattle.ss_serve.proofs.Giving.{forks_none, merges}
 use Rattle.ss_serve.proofs.crew.lay_down.Goals as goal
 
 pub another-bare-requires-clause-rule : goal.another-bare-requires-clause-rule

@@ -1,7 +1,7 @@
 use Rattle.std.proofs.Common.{rules, refl, subst, sym, ap, ◌≡◌, length, [], List}
 use Rattle.crossbeam_channel.specs.Claims.{view}
-use Rattle.ss_accept.specs.Tallies.{tally}
-use Rattle.ss_accept.proofs.Giving.{forks}
+use Rattle.ss_serve.specs.Tallies.{tally}
+use Rattle.ss_serve.proofs.Giving.{forks}
 use Rattle.ss_town.specs.Town.{uids_of, passes_of}
 use Rattle.ss_serve.specs.Crew.{Works}
 use Rattle.ss_serve.specs.declared.report.LinkReport.{LinkReport}

@@ -1,6 +1,6 @@
 use Rattle.std.proofs.Common.{◌≡◌, ◌+◌, length, vec_len}
 use Rattle.std.specs.Prelude.{vec_capacity}
-use Rattle.ss_accept.specs.Accepting.{AreUnused}
+use Rattle.ss_serve.specs.Accepting.{AreUnused}
 use Rattle.ss_town.specs.Town.{uids_of, desks_of}
 use Rattle.ss_serve.specs.Crew.{HasWorked, sign}
 use Rattle.ss_serve.proofs.rest.serve_left.Given as goal

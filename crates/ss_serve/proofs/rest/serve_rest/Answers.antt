@@ -1,6 +1,6 @@
 use Rattle.std.proofs.Common.{arith}
 use Rattle.crossbeam_channel.specs.Claims.{view}
-use Rattle.ss_accept.proofs.Giving.{takes, learns}
+use Rattle.ss_serve.proofs.Giving.{takes, learns}
 use Rattle.ss_serve.proofs.rest.serve_rest.Goals as goal
 
 pub try_recv_as-requires-clause-rule : goal.try_recv_as-requires-clause-rule

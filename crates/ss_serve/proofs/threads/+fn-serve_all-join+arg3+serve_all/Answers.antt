@@ -8,7 +8,7 @@ use Rattle.atomic_table.proofs.badge.Badge.TheSendSync as badge
 use Rattle.crossbeam_channel.proofs.flavors.array.Rows.TheSendSync as rows
 use Rattle.crossbeam_channel.proofs.flavors.array.ruled.Receiving.TheSendSync as receiving
 use Rattle.crossbeam_channel.specs.Ends.{receives_on}
-use Rattle.ss_accept.proofs.channel.Job.TheSendSync as job
+use Rattle.ss_serve.proofs.channel.Job.TheSendSync as job
 use Rattle.ss_town.proofs.town.Town.TheSendSync as town
 use Rattle.ss_town.specs.Town.{uids_of, desks_of}
 use Rattle.ss_serve.specs.Crew.{IsReady}

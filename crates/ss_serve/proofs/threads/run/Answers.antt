@@ -6,7 +6,7 @@ use denote.Param.Send.{sendable}
 use Rattle.atomic_table.proofs.badge.Badge.TheSendSync as badge
 use Rattle.crossbeam_channel.proofs.flavors.array.Rows.TheSendSync as rows
 use Rattle.crossbeam_channel.proofs.flavors.array.ruled.Receiving.TheSendSync as receiving
-use Rattle.ss_accept.proofs.channel.Job.TheSendSync as job
+use Rattle.ss_serve.proofs.channel.Job.TheSendSync as job
 use Rattle.ss_town.proofs.town.Town.TheSendSync as town
 use Rattle.ss_serve.proofs.Crossing.{worker_send, crew_send}
 use Rattle.ss_serve.proofs.threads.run.Goals as goal

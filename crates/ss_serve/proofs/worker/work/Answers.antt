@@ -1,5 +1,5 @@
 use Rattle.std.proofs.Common.{ap, arith}
-use Rattle.ss_accept.proofs.Giving.{takes, learns}
+use Rattle.ss_serve.proofs.Giving.{takes, learns}
 use Rattle.ss_serve.proofs.worker.work.Goals as goal
 
 pub recv_as-requires-clause-channel : goal.recv_as-requires-clause-channel

@@ -5,9 +5,9 @@ use lib.ListN.{get_elem?}
 use Rattle.ss_desk.specs.Rule.{total}
 use Rattle.ss_outside.specs.Told.{Meanings}
 use Rattle.ss_links.specs.Links.{IsUnused}
-use Rattle.ss_accept.specs.declared.channel.Tally.{Tally}
-use Rattle.ss_accept.specs.declared.channel.Job.{Job}
-use Rattle.ss_accept.specs.declared.channel.Job.TheVariants.{Link, Stop}
+use Rattle.ss_serve.specs.declared.channel.Tally.{Tally}
+use Rattle.ss_serve.specs.declared.channel.Job.{Job}
+use Rattle.ss_serve.specs.declared.channel.Job.TheVariants.{Link, Stop}
 
 abbrev pub tally : ℕ → ℕ → ℕ → Tally
 tally parts put taken = record { parts = parts; put = put; taken = taken }

@@ -4,20 +4,22 @@ ghost use Rattle.std.specs.Prelude.{◌≡◌, ◌≤◌, ◌<◌, ◌+◌, All,
 ghost use Rattle.crossbeam_channel.specs.Claims.{view, IsSeatAt};
 ghost use Rattle.crossbeam_channel.specs.Ends.{sends_on};
 ghost use Rattle.ss_links.specs.Links.{IsUnused};
-ghost use Rattle.ss_accept.specs.Accepting.{HasCause, HasGiven, AreUnused};
+ghost use Rattle.ss_serve.specs.Accepting.{HasCause, HasGiven, AreUnused};
 
 use crate::channel::{Job, Links, Put, Tally};
 use crossbeam_channel::{Pass, RuledSender};
-use ss_links::{Closable, Port, PortFault};
+use ss_links::{Accepted, Closable, Port, PortFault};
 use std::sync::Wait;
 
 /// Why no more links are accepted.
 #[derive(Drop, Debug, Clone, Copy, PartialEq, Eq)]
-pub enum Stopped {
+pub(crate) enum Stopped {
     /// There are as many as were wanted.
     Connections,
     /// The port ended.
     PortEnded,
+    /// The port rests.
+    Rested,
     /// The port failed.
     Port,
     /// The port found no memory.
@@ -95,8 +97,9 @@ fn accept_links<L: Closable + Drop, P: Port<Link = L>, R: Wait>(
         match port.accept() {
             Err(PortFault::Fault) => return Stopped::Port,
             Err(PortFault::Memory) => return Stopped::Memory,
-            Ok(None) => return Stopped::PortEnded,
-            Ok(Some(link)) => offer(rt, sender, place, left, link),
+            Ok(Accepted::End) => return Stopped::PortEnded,
+            Ok(Accepted::Rest) => return Stopped::Rested,
+            Ok(Accepted::Link(link)) => offer(rt, sender, place, left, link),
         }
     }
     Stopped::Connections
@@ -104,7 +107,7 @@ fn accept_links<L: Closable + Drop, P: Port<Link = L>, R: Wait>(
 
 /// Accepts up to so many links, and then tells so many workers to stop. Each link goes into the channel, or to `left` where
 /// the channel does not take it: the two have so many more as the port gave.
-pub fn accept_all<L: Closable + Drop, P: Port<Link = L>, R: Wait>(
+pub(crate) fn accept_all<L: Closable + Drop, P: Port<Link = L>, R: Wait>(
     rt: &R,
     port: &mut P,
     sender: &RuledSender<Job<L>, Tally, Links<L>>,

@@ -6,37 +6,37 @@ use std::marker::PhantomData;
 
 /// A link to serve, or the end of a worker's work.
 #[derive(Drop)]
-pub enum Job<L> {
+pub(crate) enum Job<L> {
     Link(L),
     Stop,
 }
 
 // What a pass to the channel has put and taken, in links, and its parts of the right to know the whole. No value of it is made.
-pub struct Tally {
-    pub parts: u64,
-    pub put: u64,
-    pub taken: u64,
+pub(crate) struct Tally {
+    pub(crate) parts: u64,
+    pub(crate) put: u64,
+    pub(crate) taken: u64,
 }
 
-pub struct Links<L> {
+pub(crate) struct Links<L> {
     marker: PhantomData<L>,
 }
 
 impl<L: Closable> Protocol<Job<L>, Tally> for Links<L> {
-    ghost use Rattle.ss_accept.specs.Tallies.{Balanced, tally};
+    ghost use Rattle.ss_serve.specs.Tallies.{Balanced, tally};
 
     ghost holds = { Balanced L.Told.told };
 
     ghost first = { tally 32 0 0 };
 }
 
-pub struct Put<L> {
+pub(crate) struct Put<L> {
     marker: PhantomData<L>,
 }
 
 impl<L: Closable> Outcome<Job<L>, Tally> for Put<L> {
     ghost use Rattle.std.specs.Prelude.{◌≡◌, ◌+◌};
-    ghost use Rattle.ss_accept.specs.Tallies.{tally, links_in};
+    ghost use Rattle.ss_serve.specs.Tallies.{tally, links_in};
 
     ghost then = { λ v x w. w ≡ tally v.parts (v.put + links_in x) v.taken };
 }
@@ -45,28 +45,28 @@ impl<L: Closable> Lesson<Job<L>, Tally> for Put<L> {
     ghost fact = { λ v items. Unit {0} };
 }
 
-pub struct Take<L> {
+pub(crate) struct Take<L> {
     marker: PhantomData<L>,
 }
 
 impl<L: Closable> Outcome<Job<L>, Tally> for Take<L> {
     ghost use Rattle.std.specs.Prelude.{◌≡◌, ◌+◌, ◌≤◌};
-    ghost use Rattle.ss_accept.specs.Tallies.{tally, links_in, IsNew};
+    ghost use Rattle.ss_serve.specs.Tallies.{tally, links_in, IsNew};
 
     ghost then = { λ v x w. (w ≡ tally v.parts v.put (v.taken + links_in x)) × IsNew L.Told.told x × (v.parts ≡ 32 → v.taken + links_in x ≤ v.put) };
 }
 
 impl<L: Closable> Lesson<Job<L>, Tally> for Take<L> {
-    ghost use Rattle.ss_accept.specs.Tallies.{Settled};
+    ghost use Rattle.ss_serve.specs.Tallies.{Settled};
 
     ghost fact = { λ v items. Settled v items };
 }
 
-pub struct Cut;
+pub(crate) struct Cut;
 
 impl Split<Tally> for Cut {
     ghost use Rattle.std.specs.Prelude.{◌-◌};
-    ghost use Rattle.ss_accept.specs.Tallies.{tally};
+    ghost use Rattle.ss_serve.specs.Tallies.{tally};
 
     ghost left = { λ v. tally (v.parts - 1) v.put v.taken };
 
@@ -75,7 +75,7 @@ impl Split<Tally> for Cut {
 
 impl Join<Tally> for Cut {
     ghost use Rattle.std.specs.Prelude.{◌+◌};
-    ghost use Rattle.ss_accept.specs.Tallies.{tally};
+    ghost use Rattle.ss_serve.specs.Tallies.{tally};
 
     ghost both = { λ v w. tally (v.parts + w.parts) (v.put + w.put) (v.taken + w.taken) };
 
@@ -83,10 +83,10 @@ impl Join<Tally> for Cut {
 }
 
 // Leaves a pass that has no part.
-pub struct Bare;
+pub(crate) struct Bare;
 
 impl Split<Tally> for Bare {
-    ghost use Rattle.ss_accept.specs.Tallies.{tally};
+    ghost use Rattle.ss_serve.specs.Tallies.{tally};
 
     ghost left = { λ v. v };
 

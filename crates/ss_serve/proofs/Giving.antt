@@ -7,9 +7,9 @@ use Rattle.ss_desk.specs.Rule.{total}
 use Rattle.ss_desk.proofs.Lists.{total_set, total_snoc, at_end, after}
 use Rattle.crossbeam_channel.specs.Fifo.{Pushes, Pops, Learns, Forks, Merges}
 use Rattle.ss_outside.specs.Told.{Meanings}
-use Rattle.ss_accept.specs.declared.channel.Tally.{Tally}
-use Rattle.ss_accept.specs.declared.channel.Job.{Job}
-use Rattle.ss_accept.specs.Tallies.{tally, links_in, links, IsNew, AreNew, Balanced, Settled}
+use Rattle.ss_serve.specs.declared.channel.Tally.{Tally}
+use Rattle.ss_serve.specs.declared.channel.Job.{Job}
+use Rattle.ss_serve.specs.Tallies.{tally, links_in, links, IsNew, AreNew, Balanced, Settled}
 
 module _ {L : Type 0} where
   links_more : (items : List (Job L)) (x : Job L) → links (items ++ x ∷ []) ≡ links items + links_in x

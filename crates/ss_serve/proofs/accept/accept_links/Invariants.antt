@@ -4,7 +4,7 @@ use Rattle.crossbeam_channel.specs.Claims.{view, IsSeatAt}
 use Rattle.crossbeam_channel.specs.Ends.{sends_on}
 use Rattle.ss_links.specs.Counts.{RoseBy}
 use Rattle.ss_links.specs.Links.{IsUnused}
-use Rattle.ss_accept.proofs.accept.accept_links.Given as goal
+use Rattle.ss_serve.proofs.accept.accept_links.Given as goal
 
 abbrev pub invariant-loop : goal.invariant-loop
 invariant-loop g l = record {
@@ -14,6 +14,7 @@ invariant-loop g l = record {
   more : (view l.place).put + vec_len l.left ≡ (view l.fn.place).put + vec_len l.fn.left + l.counter;
   rose : RoseBy l.counter (g.P.Port.counts l.fn.port).links (g.P.Port.counts l.port).links;
   ends : (g.P.Port.counts l.port).ends ≡ (g.P.Port.counts l.fn.port).ends;
+  rests : (g.P.Port.counts l.port).rests ≡ (g.P.Port.counts l.fn.port).rests;
   faults : (g.P.Port.counts l.port).faults ≡ (g.P.Port.counts l.fn.port).faults;
   left : All (λ x. IsUnused (g.L.Told.told x)) l.left.items;
   size : vec_len l.left ≤ vec_len l.fn.left + l.counter;

@@ -1,8 +1,11 @@
 //! What the program says on standard error of faulty words, and of a status that isn't 0.
 
 use ss_real_site::Trouble;
-use ss_words::{Command, ServeCommand, SyncCommand, WordsFault, read_command};
-use std::alloc::Global;
+use ss_words::{
+    Cause, Command, Name, Refusal, ServeCommand, SyncCommand, WordsFault, read_command,
+};
+use std::alloc::{AllocError, Global};
+use std::fmt::Write;
 use std::io::{self, Eprint, ErrorKind};
 
 /// The status where the words can't be read: want of memory, or words that are no text.
@@ -14,13 +17,58 @@ pub fn status_of_words(error: &io::Error) -> u8 {
     }
 }
 
+/// Of a wrong word so many characters are shown.
+const MOST_SHOWN: usize = 60;
+
+/// A word as it is shown: its first characters, with a question mark in the place of each that can't be printed.
+fn shown(alloc: Global, word: &str) -> Result<String, AllocError> {
+    let mut text = String::new(alloc);
+    for character in word.chars().take(MOST_SHOWN) {
+        text.push(if character.is_control() {
+            '?'
+        } else {
+            character
+        })?;
+    }
+    if word.chars().nth(MOST_SHOWN).is_some() {
+        text.push_str(" ..")?;
+    }
+    Ok(text)
+}
+
+/// The words that ask for the help that is meant: a command's own where the words name it.
+fn help_for(words: &[String]) -> &str {
+    match words.first() {
+        Some(word) if Name::read(word.as_str()).is_some() => word.as_str(),
+        _ => "",
+    }
+}
+
+/// What is wrong with words, and where the help is.
+fn refused(alloc: Global, words: &[String], refusal: Refusal<'_>) -> Result<String, AllocError> {
+    let mut text = String::from_str(alloc, "syncstore: ")?;
+    if let Some(word) = refusal.word {
+        write!(text, "`{}`: ", shown(alloc, word)?)?;
+    }
+    write!(text, "{}", refusal.cause)?;
+    if refusal.cause == Cause::NoOption {
+        text.push_str("; a word that begins with - and is none stands behind --")?;
+    }
+    match help_for(words) {
+        "" => text.push_str("; try syncstore --help")?,
+        command => write!(text, "; try syncstore {command} --help")?,
+    }
+    Ok(text)
+}
+
 /// Says on standard error why words ask nothing, and names the word.
 pub fn explain_words(rt: &impl Eprint, alloc: Global, words: &[String]) {
     let _ = match read_command(alloc, words) {
         Ok(_) => return,
-        Err(WordsFault::Refused(refusal)) => {
-            eprintln!(rt; "syncstore: {refusal}; try syncstore --help")
-        }
+        Err(WordsFault::Refused(refusal)) => match refused(alloc, words, refusal) {
+            Ok(text) => eprintln!(rt; "{text}"),
+            Err(_) => eprintln!(rt; "syncstore: {}", refusal.cause),
+        },
         Err(WordsFault::Memory) => eprintln!(rt; "syncstore: no memory was found"),
     };
 }

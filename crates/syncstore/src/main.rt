@@ -1,19 +1,20 @@
 //! `syncstore`: a storage server with the behaviour of Mozilla's SyncStorage API 1.5. The words name the command: a
 //! server of accounts that are kept in files, recorded messages that are answered, a device that syncs or is edited, a
-//! rehearsal of two. Its contracts, on the calls that `main` makes: `run_serve`, `run_offline`, `run_sync`,
-//! `run_device_command` and `run_rehearsal`.
+//! rehearsal of two, or what rows of history or forms come to. Its contracts, on the calls that `main` makes:
+//! `run_serve`, `run_offline`, `run_sync`, `run_device_command`, `run_flat` and `run_rehearsal`.
 #![tactic(auto)]
 
 mod explain;
 mod online;
 mod usage;
 
-use ss_links::OpenGate;
+use ss_links::{TcpGate, Traffic};
 use ss_outside::{StdSink, StdSource, SystemClock};
 use ss_real_site::RealSite;
 use ss_rehearse::run_rehearsal;
 use ss_run_answer::run_offline;
 use ss_run_edit::run_device_command;
+use ss_run_flat::{NAME as FLAT, run_flat};
 use ss_run_serve::run_serve;
 use ss_words::Name;
 use std::env;
@@ -51,6 +52,14 @@ fn run_device(system: &HostRuntime, words: &[String]) -> u8 {
     status
 }
 
+/// Runs the command `flat` on the rows that are the standard input, and answers its status.
+fn flatten(system: &HostRuntime, words: &[String]) -> u8 {
+    let mut input = StdSource::new(system.stdin());
+    let mut output = StdSink::new(system.stdout());
+    let mut err = StdSink::new(system.stderr());
+    run_flat(system.alloc(), words, &mut input, &mut output, &mut err)
+}
+
 /// Runs the command `rehearse`, and answers its status.
 fn rehearse(system: &HostRuntime, words: &[String]) -> u8 {
     let mut output = StdSink::new(system.stdout());
@@ -60,7 +69,15 @@ fn rehearse(system: &HostRuntime, words: &[String]) -> u8 {
     status
 }
 
-/// The command that the first word names.
+/// Whether the first word names the command `flat`.
+fn is_flat(words: &[String]) -> bool {
+    match words.first() {
+        Some(word) => word.as_str() == FLAT,
+        None => false,
+    }
+}
+
+/// The command that the first word names, but for `flat`.
 fn name_of(words: &[String]) -> Option<Name> {
     match words.first() {
         Some(word) => Name::read(word.as_str()),
@@ -87,14 +104,15 @@ fn main(rt: HostRuntime) -> ExitCode {
     let status = match name_of(words.as_slice()) {
         Some(Name::Serve) => {
             // Here alone may the runtime start threads.
-            let mut site = RealSite::new(&rt, &rt);
+            let traffic = Traffic::new();
+            let mut site = RealSite::new(&rt, &rt, &traffic);
             let mut err = StdSink::new(rt.stderr());
             let status = run_serve(
                 &rt,
                 rt.alloc(),
                 words.as_slice(),
                 &mut site,
-                &OpenGate,
+                &TcpGate::new(&rt, &traffic),
                 &mut err,
             );
             explain::explain_serve(&rt, rt.alloc(), words.as_slice(), site.trouble());
@@ -103,6 +121,7 @@ fn main(rt: HostRuntime) -> ExitCode {
         Some(Name::Sync) => online::sync(&rt, words.as_slice()),
         Some(Name::Edit) | Some(Name::Merge) => run_device(&rt, words.as_slice()),
         Some(Name::Rehearse) => rehearse(&rt, words.as_slice()),
+        None if is_flat(words.as_slice()) => flatten(&rt, words.as_slice()),
         _ => run_here(&rt, words.as_slice()),
     };
     ExitCode::from(status)

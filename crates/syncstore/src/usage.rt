@@ -1,5 +1,6 @@
 //! What the program says of itself: `--help` and `--version`, for the program and for each command.
 
+use ss_run_flat::NAME as FLAT_NAME;
 use ss_words::Name;
 use std::io::Print;
 
@@ -15,6 +16,7 @@ usage: syncstore serve ADDRESS FOLDER UID ..     serves accounts from files over
        syncstore sync URL FILE [--newer]         syncs the device in a file with a server
        syncstore edit ACTION .. [--at N]         changes the bookmarks of a device's file
        syncstore merge                           tells what merging a device with a server's rows comes to
+       syncstore flat KIND                       tells what rows of history or forms come to
        syncstore rehearse N S                    plays a whole exchange of two devices, and tells how it went
        syncstore COMMAND --help                  tells of a command
        syncstore --help | --version
@@ -70,6 +72,22 @@ these, or an item isn't in its place; 6 more than 268435456 bytes; 8 no memory. 
 example: syncstore merge < device-and-rows
 ";
 
+const FLAT: &str = "\
+usage: syncstore flat KIND
+
+Reads rows of history or forms, a line [\"row\",TIME,ID,PAYLOAD] for each, in any order and as often as it comes, then a line [\"end\"],
+and tells what they come to: a line [\"item\",ID,RECORD] for each record that stands, [\"gone\",ID,TIME] for each that was deleted,
+[\"skipped\",ID] for each id of which a row isn't understood, each by id, and [\"end\"]. Devices that saw the same rows agree.
+docs/WIRE.md tells the lines and the rules.
+
+  KIND    history or forms
+
+exit status: 0 written; 1 faulty words; 2 the input failed; 3 the output failed; 4 the input ended too early; 5 a line is none of these,
+or stands behind the end; 6 more than 268435456 bytes; 8 no memory. Unless it is 0 or 3 nothing is written.
+
+example: syncstore flat history < docs/samples/history.rows
+";
+
 const REHEARSE: &str = "\
 usage: syncstore rehearse N S
 
@@ -116,8 +134,8 @@ until it is stopped by a signal, at any moment: what was answered is in the file
   FOLDER             holds UID.db for each account; it is made where it isn't there
   UID ..             1 to 8 accounts, none twice, each from 1 to 4294967295, without a leading zero; others are answered 401
   --workers N        how many connections are served at once: 1 to 16, 4 where nothing is said
-  --connections N    of one term: 1 to 1000, 100 where nothing is said. An account takes a limited number of requests in a term, and
-                     answers 503 past it until the term's last connection has ended
+  --connections N    of one term: 1 to 1000, 100 where nothing is said. An account takes a limited number of requests in a term; past
+                     half of it the term is ended within a second or two, and past all of it the account answers 503 until then
   --terms N          how many terms are served: 0 to 999999999999; 0, which is the default, means without end
   --firefox          reads conditions as Firefox means them: nothing changed since 0 is that the target isn't there, and 11 to 18
                      digits, thousandths of a second taken for seconds, are the last time that there is
@@ -128,23 +146,26 @@ exit status: 0 all terms were served; 1 faulty words; 2 the folder, a file or th
 example: syncstore serve 127.0.0.1:8000 data 7 8
 ";
 
-/// What is told of a command.
-fn usage_of(name: Name) -> &'static str {
-    match name {
+/// What is told of the command of a name.
+fn usage_of(name: &str) -> Option<&'static str> {
+    if name == FLAT_NAME {
+        return Some(FLAT);
+    }
+    Some(match Name::read(name)? {
         Name::Answer => ANSWER,
         Name::Edit => EDIT,
         Name::Merge => MERGE,
         Name::Rehearse => REHEARSE,
         Name::Sync => SYNC,
         Name::Serve => SERVE,
-    }
+    })
 }
 
 /// The text that the words ask for, where they ask for one: `--help` or `--version` alone, or behind a command's name.
 pub fn asked_for(words: &[String]) -> Option<&'static str> {
     let (usage, word) = match words {
         [word] => (USAGE, word.as_str()),
-        [command, word] => (usage_of(Name::read(command.as_str())?), word.as_str()),
+        [command, word] => (usage_of(command.as_str())?, word.as_str()),
         _ => return None,
     };
     match word {

@@ -37,7 +37,7 @@ impl Display for Ending {
         match self {
             Ending::Done => f.write_str("done"),
             Ending::Output => f.write_str("the output can't be written"),
-            Ending::Memory => f.write_str("no memory"),
+            Ending::Memory => f.write_str("no memory was found"),
         }
     }
 }

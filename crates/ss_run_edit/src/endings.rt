@@ -90,7 +90,7 @@ fn reason(fault: EditFault) -> &'static str {
         EditFault::NotFolder => "the parent is no folder that takes items",
         EditFault::Under => "the parent is the item itself, or below it",
         EditFault::Twice => "the id is there already",
-        EditFault::Memory => "no memory",
+        EditFault::Memory => "no memory was found",
     }
 }
 
@@ -111,7 +111,7 @@ impl Display for Ending {
             }
             Ending::Refused { fault } => f.write_str(reason(*fault)),
             Ending::TooLong => f.write_str("the input has more than 268435456 bytes"),
-            Ending::Memory => f.write_str("no memory"),
+            Ending::Memory => f.write_str("no memory was found"),
         }
     }
 }

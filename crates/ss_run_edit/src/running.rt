@@ -11,6 +11,9 @@ use ss_outside::{Clock, Sink, Source, write_all};
 use ss_words::{Command, WordsFault, read_command};
 use std::alloc::Global;
 
+/// What people are told where no memory is found to tell them more.
+const NO_MEMORY: &str = "syncstore: no memory was found\n";
+
 // Tells people how a run ended, where it isn't done, and answers its status.
 fn tell<E: Sink>(alloc: Global, err: &mut E, ending: &Ending) -> u8
     ensures { result ≡ status_of ending.now }
@@ -18,9 +21,10 @@ fn tell<E: Sink>(alloc: Global, err: &mut E, ending: &Ending) -> u8
     if let Ending::Done = ending {
         return ending.status();
     }
-    if let Ok(line) = format!(in alloc; "syncstore: {ending}\n") {
-        let _ = write_all(err, line.as_bytes());
-    }
+    let _ = match format!(in alloc; "syncstore: {ending}\n") {
+        Ok(line) => write_all(err, line.as_bytes()),
+        Err(_) => write_all(err, NO_MEMORY.as_bytes()),
+    };
     ending.status()
 }
 
@@ -43,7 +47,7 @@ pub fn run_device_command<S: Source, T: Sink, C: Clock, E: Sink>(
     let command = match read_command(alloc, words) {
         Ok(command) => command,
         Err(WordsFault::Refused(_)) => return 1,
-        Err(WordsFault::Memory) => return 8,
+        Err(WordsFault::Memory) => return tell(alloc, err, &Ending::Memory),
     };
     match command {
         Command::Edit(command) => tell(alloc, err, &edit(alloc, command, input, output, clock)),

@@ -4,8 +4,12 @@
 //! `run_serve`, `run_offline`, `run_sync`, `run_device_command`, `run_flat` and `run_rehearsal`.
 #![tactic(auto)]
 
+mod beginning;
 mod explain;
+mod limits;
 mod online;
+mod positionals;
+mod refusals;
 mod usage;
 
 use ss_links::{TcpGate, Traffic};
@@ -48,7 +52,9 @@ fn run_device(system: &HostRuntime, words: &[String]) -> u8 {
         &mut clock,
         &mut err,
     );
-    explain::explain_refusal(system, system.alloc(), words);
+    if status == 1 {
+        explain::explain_words(system, system.alloc(), words);
+    }
     status
 }
 
@@ -65,7 +71,9 @@ fn rehearse(system: &HostRuntime, words: &[String]) -> u8 {
     let mut output = StdSink::new(system.stdout());
     let mut err = StdSink::new(system.stderr());
     let status = run_rehearsal(system.alloc(), words, &mut output, &mut err);
-    explain::explain_refusal(system, system.alloc(), words);
+    if status == 1 {
+        explain::explain_words(system, system.alloc(), words);
+    }
     status
 }
 
@@ -107,14 +115,17 @@ fn main(rt: HostRuntime) -> ExitCode {
             let traffic = Traffic::new();
             let mut site = RealSite::new(&rt, &rt, &traffic);
             let mut err = StdSink::new(rt.stderr());
-            let status = run_serve(
-                &rt,
-                rt.alloc(),
-                words.as_slice(),
-                &mut site,
-                &TcpGate::new(&rt, &traffic),
-                &mut err,
-            );
+            let status = match beginning::prepare(&rt, &mut site, words.as_slice()) {
+                Err(status) => status,
+                Ok(()) => run_serve(
+                    &rt,
+                    rt.alloc(),
+                    words.as_slice(),
+                    &mut site,
+                    &TcpGate::new(&rt, &traffic),
+                    &mut err,
+                ),
+            };
             explain::explain_serve(&rt, rt.alloc(), words.as_slice(), site.trouble());
             status
         }

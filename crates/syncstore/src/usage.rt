@@ -161,10 +161,12 @@ fn usage_of(name: &str) -> Option<&'static str> {
     })
 }
 
-/// The text that the words ask for, where they ask for one: `--help` or `--version` alone, or behind a command's name.
+/// The text that the words ask for, where they ask for one: `--help` or `--version` alone or behind a command's name, or
+/// `--help` before one.
 pub fn asked_for(words: &[String]) -> Option<&'static str> {
     let (usage, word) = match words {
         [word] => (USAGE, word.as_str()),
+        [word, command] if word.as_str() == "--help" => (usage_of(command.as_str())?, "--help"),
         [command, word] => (usage_of(command.as_str())?, word.as_str()),
         _ => return None,
     };

@@ -73,14 +73,24 @@ fn trouble_of(
     format!(in alloc; "syncstore: {}: {trouble}", shown(alloc, place)?)
 }
 
+/// Says on standard error what failed at the site of a server, if anything did.
+pub fn explain_trouble(
+    rt: &impl Eprint,
+    alloc: Global,
+    command: &ServeCommand,
+    trouble: Option<Trouble>,
+) {
+    if let Some(trouble) = trouble {
+        say(rt, trouble_of(alloc, command, trouble));
+    }
+}
+
 /// Says on standard error why the words ask for no server, or what failed at its site. Why it stopped was told as it
 /// did.
 pub fn explain_serve(rt: &impl Eprint, alloc: Global, words: &[String], trouble: Option<Trouble>) {
-    match (read_command(alloc, words), trouble) {
-        (Ok(Command::Serve(command)), Some(trouble)) => {
-            say(rt, trouble_of(alloc, &command, trouble))
-        }
-        (Ok(_), _) => {}
-        (Err(_), _) => explain_words(rt, alloc, words),
+    match read_command(alloc, words) {
+        Ok(Command::Serve(command)) => explain_trouble(rt, alloc, &command, trouble),
+        Ok(_) => {}
+        Err(_) => explain_words(rt, alloc, words),
     }
 }

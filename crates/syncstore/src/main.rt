@@ -114,18 +114,18 @@ fn main(rt: HostRuntime) -> ExitCode {
             // Here alone may the runtime start threads.
             let traffic = Traffic::new();
             let mut site = RealSite::new(&rt, &rt, &traffic);
+            if let Err(status) = beginning::prepare(&rt, &mut site, words.as_slice()) {
+                return ExitCode::from(status);
+            }
             let mut err = StdSink::new(rt.stderr());
-            let status = match beginning::prepare(&rt, &mut site, words.as_slice()) {
-                Err(status) => status,
-                Ok(()) => run_serve(
-                    &rt,
-                    rt.alloc(),
-                    words.as_slice(),
-                    &mut site,
-                    &TcpGate::new(&rt, &traffic),
-                    &mut err,
-                ),
-            };
+            let status = run_serve(
+                &rt,
+                rt.alloc(),
+                words.as_slice(),
+                &mut site,
+                &TcpGate::new(&rt, &traffic),
+                &mut err,
+            );
             explain::explain_serve(&rt, rt.alloc(), words.as_slice(), site.trouble());
             status
         }

@@ -48,13 +48,13 @@ fn doubled_in<'a>(words: &[&'a str]) -> Option<&'a str> {
 
 /// The words of a command that were refused.
 #[derive(Drop)]
-struct Refused<'a> {
+struct WrongWords<'a> {
     name: Name,
     words: &'a [String],
     positionals: Vec<&'a str>,
 }
 
-impl<'a> Refused<'a> {
+impl<'a> WrongWords<'a> {
     /// How these words are to be written.
     fn form(&self) -> &'static str {
         form_of(self.name, self.positionals.as_slice())
@@ -155,12 +155,12 @@ fn reason(
         };
     };
     let positionals = positionals(alloc, words)?;
-    let refused = Refused {
+    let wrong = WrongWords {
         name,
         words,
         positionals,
     };
-    refused.reason(alloc, refusal)
+    wrong.reason(alloc, refusal)
 }
 
 /// What is wrong with words, at which word, and where the help is.

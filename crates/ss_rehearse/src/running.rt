@@ -53,7 +53,10 @@ pub fn run_rehearsal<T: Sink, E: Sink>(
     let command = match read_command(alloc, words) {
         Ok(command) => command,
         Err(WordsFault::Refused(_)) => return 1,
-        Err(WordsFault::Memory) => return tell(alloc, err, Ending::Memory),
+        Err(WordsFault::Memory) => {
+            let _ = write_all(err, NO_MEMORY.as_bytes());
+            return 8;
+        }
     };
     let Command::Rehearse(command) = command else {
         return 1;

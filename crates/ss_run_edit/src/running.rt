@@ -47,7 +47,10 @@ pub fn run_device_command<S: Source, T: Sink, C: Clock, E: Sink>(
     let command = match read_command(alloc, words) {
         Ok(command) => command,
         Err(WordsFault::Refused(_)) => return 1,
-        Err(WordsFault::Memory) => return tell(alloc, err, &Ending::Memory),
+        Err(WordsFault::Memory) => {
+            let _ = write_all(err, NO_MEMORY.as_bytes());
+            return 8;
+        }
     };
     match command {
         Command::Edit(command) => tell(alloc, err, &edit(alloc, command, input, output, clock)),

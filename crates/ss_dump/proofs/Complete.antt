@@ -35,11 +35,11 @@ placed_ascending before one_way x (y ∷ z ∷ zs) h = go (before y x) refl (bef
     go true q false k = (one_way y x q, k)
     go false q c k = (q, h)
 
-sorted_ascending : {X : Type 0} (before : X → X → Bool) → ((x y : X) → before x y ≡ true → before y x ≡ false) → (xs : List X) → IsAscending before (sorted before xs)
+pub sorted_ascending : {X : Type 0} (before : X → X → Bool) → ((x y : X) → before x y ≡ true → before y x ≡ false) → (xs : List X) → IsAscending before (sorted before xs)
 sorted_ascending before one_way [] = tt
 sorted_ascending before one_way (x ∷ xs) = placed_ascending before one_way x (sorted before xs) (sorted_ascending before one_way xs)
 
-one_way : {X : Type 0} (cmp : X → X → Ordering) → IsTotalOrder cmp → (x y : X) → comes_before cmp x y ≡ true → comes_before cmp y x ≡ false
+pub one_way : {X : Type 0} (cmp : X → X → Ordering) → IsTotalOrder cmp → (x y : X) → comes_before cmp x y ≡ true → comes_before cmp y x ≡ false
 one_way {X} cmp total x y e = (ranks_by total (λ (z : X). z)).one_way x y e
 
 ascends : {X : Type 0} (cmp : X → X → Ordering) → IsTotalOrder cmp → (xs : List X) → sorted (comes_before cmp) xs ≡ xs → IsAscending (comes_before cmp) xs

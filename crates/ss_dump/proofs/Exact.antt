@@ -70,7 +70,7 @@ clash state (x ∷ xs) (y ∷ ys) st rest k d f g a b t none over =
 
 -- ---- what is said of a text is that it tells an account
 
-all_append : (xs ys : List Line) → AllByRecursion IsLine xs → AllByRecursion IsLine ys → AllByRecursion IsLine (xs ++ ys)
+pub all_append : (xs ys : List Line) → AllByRecursion IsLine xs → AllByRecursion IsLine ys → AllByRecursion IsLine (xs ++ ys)
 all_append [] ys h k = k
 all_append (x ∷ xs) ys h k = (h.0, all_append xs ys h.1 k)
 
@@ -91,7 +91,7 @@ pub dump_told : (text : List ℕ) (kept : Kept) → WouldBeDump text kept → Is
 unfolding dump_text
 dump_told text kept h = told_by text kept (digest_of (body_text kept)) h.formed (digest_form (body_text kept)) h.ordered h.text_is
 
-would : (text : List ℕ) (kept : Kept) → IsDumpOf text kept → WouldBeDump text kept
+pub would : (text : List ℕ) (kept : Kept) → IsDumpOf text kept → WouldBeDump text kept
 would text kept h = record { formed = h.formed; ordered = h.ordered; text_is = h.text_is }
 
 pub one_dump : (text : List ℕ) (kept other : Kept) → IsDumpOf text kept → IsDumpOf text other → kept ≡ other

@@ -6,3 +6,6 @@ pub mod Undumped
 pub mod Refilled
 pub mod Complete
 pub mod Exact
+pub mod Orders
+pub mod Moved
+pub mod Forms

@@ -52,7 +52,7 @@ none_map : (o : Option ℕ) → option_map (λ n. n + 1) o ≡ None → o ≡ No
 none_map None e = refl
 none_map (Some n) e = cc
 
-first_good : {X : Type 0} (bad : List X → X → Bool) (x : X) (xs : List X) → first_bad bad (x ∷ xs) ≡ None → (bad [] x ≡ false) × (first_bad (λ before. bad (x ∷ before)) xs ≡ None)
+pub first_good : {X : Type 0} (bad : List X → X → Bool) (x : X) (xs : List X) → first_bad bad (x ∷ xs) ≡ None → (bad [] x ≡ false) × (first_bad (λ before. bad (x ∷ before)) xs ≡ None)
 first_good bad x xs e = go (bad [] x) refl e
   where
     go : (b : Bool) → bad [] x ≡ b → cond b (Some 1) (option_map (λ n. n + 1) (first_bad (λ before. bad (x ∷ before)) xs)) ≡ None → (bad [] x ≡ false) × (first_bad (λ before. bad (x ∷ before)) xs ≡ None)

@@ -3,3 +3,4 @@ pub mod Telling
 pub mod Stages
 pub mod Undumped
 pub mod Refilled
+pub mod Same

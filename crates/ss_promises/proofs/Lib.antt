@@ -14,3 +14,4 @@ pub mod Running
 pub mod Readying
 pub mod Coursing
 pub mod Lasting
+pub mod Moving

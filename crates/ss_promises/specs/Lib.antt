@@ -5,3 +5,4 @@ pub mod Journals
 pub mod Readable
 pub mod Steps
 pub mod Courses
+pub mod Moves

@@ -8,5 +8,5 @@ mod real_site;
 mod trouble;
 
 pub use account_file::AccountFile;
-pub use real_site::RealSite;
+pub use real_site::{Folders, RealSite};
 pub use trouble::Trouble;

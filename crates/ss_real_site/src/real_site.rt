@@ -23,8 +23,18 @@ use std::marker::Model;
 use std::net::Net;
 use std::time::Clock;
 
-/// Ports over TCP, a database of SQLite for each account, `<folder>/<uid>.db`, and the clock of the system. The folder
-/// is made where it isn't there. What it is told of a term it drops.
+/// What becomes of a folder that isn't there.
+#[derive(Clone, Copy, Debug, PartialEq, Eq)]
+pub enum Folders {
+    /// It is made.
+    Made,
+
+    /// It is missed: no keeper is given.
+    Missed,
+}
+
+/// Ports over TCP, a database of SQLite for each account, `<folder>/<uid>.db`, and the clock of the system. A folder that
+/// isn't there is made or missed; a file that isn't there is made. What it is told of a term it drops.
 #[derive(Drop)]
 pub struct RealSite<'a, N: Net + Clock> {
     // The ports and the clocks of the system.
@@ -32,6 +42,9 @@ pub struct RealSite<'a, N: Net + Clock> {
     // What a port and its links share with the gate.
     traffic: &'a Traffic,
     files: &'a HostRuntime,
+    folders: Folders,
+    // The account whose database was opened last, where its file was made for that.
+    made: Option<u32>,
     trouble: Option<Trouble>,
     faults: u64,
     links: u64,
@@ -58,7 +71,12 @@ impl<'a, N: Net + Clock> Model for RealSite<'a, N> {
 impl<'a, N: Net + Clock> RealSite<'a, N> {
     /// A site whose ports and clocks are of this network, and whose databases are files of the system. The traffic is
     /// that of its port; who serves passes the gate over the same.
-    pub fn new(network: &'a N, files: &'a HostRuntime, traffic: &'a Traffic) -> RealSite<'a, N>
+    pub fn new(
+        network: &'a N,
+        files: &'a HostRuntime,
+        traffic: &'a Traffic,
+        folders: Folders,
+    ) -> RealSite<'a, N>
         ensures counts { result.counts ≡ record { faults = 0; links = 0; ends = 0; rests = 0 } }
         ensures lent { result.lent ≡ record { given = 0; back = 0; addresses = [] } }
     {
@@ -66,6 +84,8 @@ impl<'a, N: Net + Clock> RealSite<'a, N> {
             network,
             traffic,
             files,
+            folders,
+            made: None,
             trouble: None,
             faults: 0,
             links: 0,
@@ -80,6 +100,51 @@ impl<'a, N: Net + Clock> RealSite<'a, N> {
     /// What failed last, for people.
     pub fn trouble(&self) -> Option<Trouble> {
         self.trouble
+    }
+
+    /// The account whose database was opened last, where its file wasn't there before.
+    pub fn made(&self) -> Option<u32> {
+        self.made
+    }
+
+    // Sees to it that the folder is there.
+    fn find_folder(&mut self, folder: &str) -> Result<(), SiteFault>
+        ensures cause { HasCause result self.old.counts self.new.counts }
+        ensures lent { self.new.lent ≡ self.old.lent }
+    {
+        if let Folders::Missed = self.folders {
+            return match fs::exists(self.files, folder) {
+                Ok(true) => Ok(()),
+                Ok(false) => Err(self.fail(Trouble::NoFolder)),
+                Err(error) => {
+                    let kind = error.kind();
+                    Err(self.fault_of(error, Trouble::NoAccess(kind)))
+                }
+            };
+        }
+        match fs::create_dir_all(self.files, folder) {
+            Ok(()) => Ok(()),
+            Err(error) => {
+                let kind = error.kind();
+                Err(self.fault_of(error, Trouble::Folder(kind)))
+            }
+        }
+    }
+
+    // The database in a file, which is made where it isn't there.
+    fn open(&mut self, uid: u32, path: &str) -> Result<AccountFile, SiteFault>
+        ensures fresh { IfOk result (λ file. faults_of (counted_in file) ≡ 0) }
+        ensures cause { HasCause result self.old.counts self.new.counts }
+        ensures lent { HasLent result self.old.lent self.new.lent }
+    {
+        let is_new = matches!(fs::exists(self.files, path), Ok(false));
+        match Connection::open(self.files, path) {
+            Ok(connection) => {
+                self.made = if is_new { Some(uid) } else { None };
+                self.adopt(uid, connection)
+            }
+            Err(error) => Err(self.refusal_of(uid, error)),
+        }
     }
 
     // Counts a fault, and keeps what it was.
@@ -220,17 +285,12 @@ impl<'a, N: Net + Clock> Site for RealSite<'a, N> {
     }
 
     fn keeper(&mut self, alloc: Global, folder: &str, uid: u32) -> Result<AccountFile, SiteFault> {
-        if let Err(error) = fs::create_dir_all(self.files, folder) {
-            let kind = error.kind();
-            return Err(self.fault_of(error, Trouble::Folder(kind)));
+        if let Err(fault) = self.find_folder(folder) {
+            return Err(fault);
         }
-        let path = match path_of(alloc, folder, uid) {
-            Ok(path) => path,
-            Err(_) => return Err(SiteFault::Memory),
-        };
-        match Connection::open(self.files, path.as_str()) {
-            Ok(connection) => self.adopt(uid, connection),
-            Err(error) => Err(self.refusal_of(uid, error)),
+        match path_of(alloc, folder, uid) {
+            Ok(path) => self.open(uid, path.as_str()),
+            Err(_) => Err(SiteFault::Memory),
         }
     }
 

@@ -13,6 +13,12 @@ pub enum Trouble {
     /// The folder can't be made.
     Folder(ErrorKind),
 
+    /// The folder isn't there.
+    NoFolder,
+
+    /// It can't be seen whether the folder is there.
+    NoAccess(ErrorKind),
+
     /// The database of an account can't be opened.
     Database { uid: u32, error: Error },
 
@@ -22,7 +28,7 @@ pub enum Trouble {
     /// The database of an account has tables of a version that isn't known.
     Version { uid: u32, found: i64 },
 
-    /// The database of an account failed while it served.
+    /// The database of an account failed while it was open.
     Keeper { uid: u32 },
 
     /// The port failed while it listened.
@@ -60,6 +66,8 @@ impl Display for Trouble {
                 "the folder may not be made or written",
             ),
             Trouble::Folder(_) => f.write_str("the folder can't be made"),
+            Trouble::NoFolder => f.write_str("the folder isn't there"),
+            Trouble::NoAccess(_) => f.write_str("it may not be seen whether the folder is there"),
             Trouble::Database { uid, error } => write_refusal(*uid, *error, f),
             Trouble::Tables { uid } => write!(
                 f,
@@ -71,7 +79,7 @@ impl Display for Trouble {
                     "the file {uid}.db has version {found}, which this program doesn't know"
                 )
             }
-            Trouble::Keeper { uid } => write!(f, "the file {uid}.db failed while it was served"),
+            Trouble::Keeper { uid } => write!(f, "the file {uid}.db failed while it was open"),
             Trouble::Port => f.write_str("the port failed while it listened"),
         }
     }

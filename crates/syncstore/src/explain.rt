@@ -3,6 +3,7 @@
 
 use crate::refusals::{refused, shown};
 use ss_real_site::Trouble;
+use ss_run_move::{Asked, Verb, asked};
 use ss_words::{Command, ServeCommand, WordsFault, read_command};
 use std::alloc::{AllocError, Global};
 use std::io::{self, Eprint, ErrorKind};
@@ -92,5 +93,36 @@ pub fn explain_serve(rt: &impl Eprint, alloc: Global, words: &[String], trouble:
         Ok(Command::Serve(command)) => explain_trouble(rt, alloc, &command, trouble),
         Ok(_) => {}
         Err(_) => explain_words(rt, alloc, words),
+    }
+}
+
+/// Says on standard error which file wasn't there before, and what that means.
+fn explain_made(rt: &impl Eprint, request: &Asked<'_>, uid: u32) {
+    let folder = request.folder;
+    let _ = match request.verb {
+        Verb::Dump => eprintln!(rt;
+            "syncstore: the file {folder}/{uid}.db was new, so its account is a fresh one"
+        ),
+        Verb::Restore => eprintln!(rt; "syncstore: the file {folder}/{uid}.db was new"),
+    };
+}
+
+/// Says on standard error what failed at the site of a dump or a restore, and whether the account's file was made. Why
+/// nothing was dumped or restored was told as the run ended.
+pub fn explain_move(
+    rt: &impl Eprint,
+    words: &[String],
+    trouble: Option<Trouble>,
+    made: Option<u32>,
+) {
+    let Some(request) = asked(words) else {
+        return;
+    };
+    if let Some(trouble) = trouble {
+        let folder = request.folder;
+        let _ = eprintln!(rt; "syncstore: {folder}: {trouble}");
+    }
+    if let Some(uid) = made {
+        explain_made(rt, &request, uid);
     }
 }

@@ -1,12 +1,14 @@
 //! `syncstore`: a storage server with the behaviour of Mozilla's SyncStorage API 1.5. The words name the command: a
 //! server of accounts that are kept in files, recorded messages that are answered, a device that syncs or is edited, a
-//! rehearsal of two, or what rows of history or forms come to. Its contracts, on the calls that `main` makes:
-//! `run_serve`, `run_offline`, `run_sync`, `run_device_command`, `run_flat` and `run_rehearsal`.
+//! rehearsal of two, what rows of history or forms come to, or an account's dump, written or restored. Its contracts, on
+//! the calls that `main` makes: `run_serve`, `run_offline`, `run_sync`, `run_device_command`, `run_flat`, `run_move` and
+//! `run_rehearsal`.
 #![tactic(auto)]
 
 mod beginning;
 mod explain;
 mod limits;
+mod moving;
 mod online;
 mod positionals;
 mod refusals;
@@ -14,11 +16,12 @@ mod usage;
 
 use ss_links::{TcpGate, Traffic};
 use ss_outside::{StdSink, StdSource, SystemClock};
-use ss_real_site::RealSite;
+use ss_real_site::{Folders, RealSite};
 use ss_rehearse::run_rehearsal;
 use ss_run_answer::run_offline;
 use ss_run_edit::run_device_command;
 use ss_run_flat::{NAME as FLAT, run_flat};
+use ss_run_move::Verb;
 use ss_run_serve::run_serve;
 use ss_words::Name;
 use std::env;
@@ -85,7 +88,15 @@ fn is_flat(words: &[String]) -> bool {
     }
 }
 
-/// The command that the first word names, but for `flat`.
+/// What the first word names of `dump` and `restore`.
+fn verb_of(words: &[String]) -> Option<Verb> {
+    match words.first() {
+        Some(word) => Verb::read(word.as_str()),
+        None => None,
+    }
+}
+
+/// The command that the first word names, but for `flat`, `dump` and `restore`.
 fn name_of(words: &[String]) -> Option<Name> {
     match words.first() {
         Some(word) => Name::read(word.as_str()),
@@ -113,7 +124,7 @@ fn main(rt: HostRuntime) -> ExitCode {
         Some(Name::Serve) => {
             // Here alone may the runtime start threads.
             let traffic = Traffic::new();
-            let mut site = RealSite::new(&rt, &rt, &traffic);
+            let mut site = RealSite::new(&rt, &rt, &traffic, Folders::Made);
             if let Err(status) = beginning::prepare(&rt, &mut site, words.as_slice()) {
                 return ExitCode::from(status);
             }
@@ -133,7 +144,11 @@ fn main(rt: HostRuntime) -> ExitCode {
         Some(Name::Edit) | Some(Name::Merge) => run_device(&rt, words.as_slice()),
         Some(Name::Rehearse) => rehearse(&rt, words.as_slice()),
         None if is_flat(words.as_slice()) => flatten(&rt, words.as_slice()),
-        _ => run_here(&rt, words.as_slice()),
+        None => match verb_of(words.as_slice()) {
+            Some(verb) => moving::move_account(&rt, verb, words.as_slice()),
+            None => run_here(&rt, words.as_slice()),
+        },
+        Some(Name::Answer) => run_here(&rt, words.as_slice()),
     };
     ExitCode::from(status)
 }

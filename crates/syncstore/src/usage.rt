@@ -1,6 +1,7 @@
 //! What the program says of itself: `--help` and `--version`, for the program and for each command.
 
 use ss_run_flat::NAME as FLAT_NAME;
+use ss_run_move::Verb;
 use ss_words::Name;
 use std::io::Print;
 
@@ -17,6 +18,8 @@ usage: syncstore serve ADDRESS FOLDER UID ..     serves accounts from files over
        syncstore edit ACTION .. [--at N]         changes the bookmarks of a device's file
        syncstore merge                           tells what merging a device with a server's rows comes to
        syncstore flat KIND                       tells what rows of history or forms come to
+       syncstore dump FOLDER UID                 writes an account as a text
+       syncstore restore FOLDER UID              fills an account from such a text
        syncstore rehearse N S                    plays a whole exchange of two devices, and tells how it went
        syncstore COMMAND --help                  tells of a command
        syncstore --help | --version
@@ -88,6 +91,43 @@ or stands behind the end; 6 more than 268435456 bytes; 8 no memory. Unless it is
 example: syncstore flat history < docs/samples/history.rows
 ";
 
+const DUMP: &str = "\
+usage: syncstore dump FOLDER UID
+
+Writes the account UID that is kept in FOLDER as a text, batches that wait for their commit included: a line for the times, each
+collection, row, batch and part, a line with the SHA-256 of all lines before it, and an end. Equal accounts have equal dumps.
+docs/SERVING.md tells how an account is moved, and how the digest is checked by sha256sum; docs/WIRE.md tells the lines.
+
+  FOLDER    holds UID.db; where the folder isn't there it isn't made. A file that isn't there is made: its dump is that of a
+            fresh account, and standard error tells that the file was new
+  UID       a number from 1 to 4294967295, without a leading zero
+
+No server may have the file open. Standard error names what failed.
+
+exit status: 0 written; 1 faulty words; 2 the folder or the file failed, or a server has the file open; 3 the output failed; 4 what
+the file holds is no account; 8 no memory. Unless it is 0 or 3 nothing is written.
+
+example: syncstore dump data 7 > seven
+";
+
+const RESTORE: &str = "\
+usage: syncstore restore FOLDER UID
+
+Reads a dump on standard input, and fills the account UID in FOLDER with it, all at once. The account answers from then on as the one
+that was dumped would have answered. Nothing is written to standard output.
+
+  FOLDER    is to hold UID.db; the folder and the file are made where they aren't there
+  UID       a number from 1 to 4294967295, without a leading zero; it may be another than the one that was dumped
+
+No server may have the file open. An account that has anything is left as it is. Standard error names what failed, and of a text that
+is no dump the first bad line, or its digest, or the first collection, row or batch for which there is no account.
+
+exit status: 0 restored; 1 faulty words; 2 the folder or the file failed, or a server has the file open; 4 the account has something;
+5 the input is no dump; 6 more than 1073741824 bytes; 7 the input failed; 8 no memory. Unless it is 0 nothing is restored.
+
+example: syncstore restore elsewhere 7 < seven
+";
+
 const REHEARSE: &str = "\
 usage: syncstore rehearse N S
 
@@ -150,6 +190,12 @@ example: syncstore serve 127.0.0.1:8000 data 7 8
 fn usage_of(name: &str) -> Option<&'static str> {
     if name == FLAT_NAME {
         return Some(FLAT);
+    }
+    if let Some(verb) = Verb::read(name) {
+        return Some(match verb {
+            Verb::Dump => DUMP,
+            Verb::Restore => RESTORE,
+        });
     }
     Some(match Name::read(name)? {
         Name::Answer => ANSWER,

@@ -1,0 +1,34 @@
+//! The commands `dump` and `restore` over the files of the system.
+
+use crate::explain::explain_move;
+use ss_links::Traffic;
+use ss_outside::{StdSink, StdSource};
+use ss_real_site::{Folders, RealSite};
+use ss_run_move::{Verb, run_move};
+
+/// What becomes of a folder that isn't there: a dump doesn't make it.
+fn folders_for(verb: Verb) -> Folders {
+    match verb {
+        Verb::Dump => Folders::Missed,
+        Verb::Restore => Folders::Made,
+    }
+}
+
+/// Runs the command `dump` or `restore`, and answers its status.
+pub fn move_account(system: &HostRuntime, verb: Verb, words: &[String]) -> u8 {
+    let traffic = Traffic::new();
+    let mut site = RealSite::new(system, system, &traffic, folders_for(verb));
+    let mut input = StdSource::new(system.stdin());
+    let mut output = StdSink::new(system.stdout());
+    let mut err = StdSink::new(system.stderr());
+    let status = run_move(
+        system.alloc(),
+        words,
+        &mut site,
+        &mut input,
+        &mut output,
+        &mut err,
+    );
+    explain_move(system, words, site.trouble(), site.made());
+    status
+}

@@ -1,3 +1,4 @@
 pub mod Pieces
 pub mod SameDump
 pub mod Keepers
+pub mod OneRequest

@@ -6,6 +6,7 @@
 mod dumping;
 mod endings;
 mod inputs;
+mod laws;
 mod lines;
 mod restoring;
 mod running;
@@ -13,6 +14,7 @@ mod words;
 
 pub use dumping::dump;
 pub use endings::Ending;
+pub use laws::one_request;
 pub use restoring::restore;
 pub use running::run_move;
-pub use words::{Asked, Verb, asked};
+pub use words::{MoveCommand, Verb, read_move};

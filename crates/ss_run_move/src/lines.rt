@@ -2,13 +2,17 @@
 //! passed over.
 
 use crate::endings::Ending;
-use crate::words::{Asked, Verb};
+use crate::words::{MoveCommand, Verb};
 use ss_outside::{Sink, write_all};
 use std::alloc::{AllocError, Global};
 
 /// What isn't done, of which file, and why.
-fn line_of(alloc: Global, asked: &Asked<'_>, ending: &Ending) -> Result<String, AllocError> {
-    let Asked { verb, folder, uid } = *asked;
+fn line_of(
+    alloc: Global,
+    command: &MoveCommand<'_>,
+    ending: &Ending,
+) -> Result<String, AllocError> {
+    let MoveCommand { verb, folder, uid } = *command;
     let undone = match (verb, ending) {
         (Verb::Dump, Ending::Output) => "not all is dumped of",
         (Verb::Dump, _) => "nothing is dumped of",
@@ -18,11 +22,16 @@ fn line_of(alloc: Global, asked: &Asked<'_>, ending: &Ending) -> Result<String, 
 }
 
 /// Tells why a run isn't done.
-pub(crate) fn tell<E: Sink>(alloc: Global, err: &mut E, asked: &Asked<'_>, ending: &Ending) {
+pub(crate) fn tell<E: Sink>(
+    alloc: Global,
+    err: &mut E,
+    command: &MoveCommand<'_>,
+    ending: &Ending,
+) {
     if let Ending::Done = ending {
         return;
     }
-    if let Ok(line) = line_of(alloc, asked, ending) {
+    if let Ok(line) = line_of(alloc, command, ending) {
         let _ = write_all(err, line.as_bytes());
     }
 }

@@ -1,15 +1,36 @@
 //! A run of `dump` or `restore`.
 
 ghost use Rattle.std.specs.Prelude.{◌≡◌, map, string_bytes};
-ghost use Rattle.ss_run_move.specs.Runs.{Runs};
+ghost use Rattle.ss_run_move.specs.Runs.{Does, Runs};
 
 use crate::dumping::dump;
+use crate::endings::Ending;
 use crate::lines;
 use crate::restoring::restore;
-use crate::words::{Verb, asked, explain};
+use crate::words::{MoveCommand, Verb, explain, read_move};
 use ss_outside::{Sink, Source};
 use ss_site::Site;
 use std::alloc::Global;
+
+/// Does what a command asks.
+fn carry_out<X: Site, S: Source, T: Sink>(
+    alloc: Global,
+    command: &MoveCommand<'_>,
+    site: &mut X,
+    input: &mut S,
+    output: &mut T,
+) -> Ending
+    ensures does { Does command.now.verb command.now.folder.now command.now.uid result
+        (record { counts = X.counts site.old; lent = X.lent site.old; kept = X.kept site.old })
+        (record { counts = X.counts site.new; lent = X.lent site.new; kept = X.kept site.new })
+        (S.Told.told input.old) (S.Told.told input.new) (T.Told.told output.old) (T.Told.told output.new) }
+    ensures terms { X.terms site.new ≡ X.terms site.old }
+{
+    match command.verb {
+        Verb::Dump => dump(alloc, command.folder, command.uid, site, output),
+        Verb::Restore => restore(alloc, command.folder, command.uid, site, input),
+    }
+}
 
 /// Runs the words `dump FOLDER UID` and `restore FOLDER UID` at a site, and answers the status: 0 where the dump was
 /// written, or the account is filled with what the dump tells; 1 where the words are others, and nothing is asked, read
@@ -32,14 +53,11 @@ pub fn run_move<X: Site, S: Source, T: Sink, E: Sink>(
         (S.Told.told input.old) (S.Told.told input.new) (T.Told.told output.old) (T.Told.told output.new) }
     ensures terms { X.terms site.new ≡ X.terms site.old }
 {
-    let Some(request) = asked(words) else {
+    let Some(command) = read_move(words) else {
         explain(alloc, words, err);
         return 1;
     };
-    let ending = match request.verb {
-        Verb::Dump => dump(alloc, request.folder, request.uid, site, output),
-        Verb::Restore => restore(alloc, request.folder, request.uid, site, input),
-    };
-    lines::tell(alloc, err, &request, &ending);
+    let ending = carry_out(alloc, &command, site, input, output);
+    lines::tell(alloc, err, &command, &ending);
     ending.status()
 }

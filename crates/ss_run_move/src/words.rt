@@ -41,7 +41,7 @@ impl Verb {
 
 /// What words ask for: a dump or a restore of the account that this folder keeps under this number.
 #[derive(Clone, Copy, Debug)]
-pub struct Asked<'a> {
+pub struct MoveCommand<'a> {
     pub verb: Verb,
     pub folder: &'a str,
     pub uid: u32,
@@ -114,7 +114,7 @@ fn behind(words: &[String]) -> Option<(&str, u32)>
 }
 
 /// What the words ask for; None exactly where they ask for neither.
-pub fn asked(words: &[String]) -> Option<Asked<'_>>
+pub fn read_move(words: &[String]) -> Option<MoveCommand<'_>>
     ensures asks { IfSome result (λ found. Asks (map (λ word. string_bytes word) words.now) found.verb found.folder.now
         found.uid) }
     ensures none { IfNone result ((verb : VerbView) (folder : List ℕ) (uid : ℕ)
@@ -124,7 +124,7 @@ pub fn asked(words: &[String]) -> Option<Asked<'_>>
         return None;
     };
     match (Verb::read(name.as_str()), behind(others)) {
-        (Some(verb), Some((folder, uid))) => Some(Asked { verb, folder, uid }),
+        (Some(verb), Some((folder, uid))) => Some(MoveCommand { verb, folder, uid }),
         _ => None,
     }
 }

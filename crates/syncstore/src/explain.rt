@@ -3,7 +3,7 @@
 
 use crate::refusals::{refused, shown};
 use ss_real_site::Trouble;
-use ss_run_move::{Asked, Verb, asked};
+use ss_run_move::{MoveCommand, Verb, read_move};
 use ss_words::{Command, ServeCommand, WordsFault, read_command};
 use std::alloc::{AllocError, Global};
 use std::io::{self, Eprint, ErrorKind};
@@ -97,9 +97,9 @@ pub fn explain_serve(rt: &impl Eprint, alloc: Global, words: &[String], trouble:
 }
 
 /// Says on standard error which file wasn't there before, and what that means.
-fn explain_made(rt: &impl Eprint, request: &Asked<'_>, uid: u32) {
-    let folder = request.folder;
-    let _ = match request.verb {
+fn explain_made(rt: &impl Eprint, command: &MoveCommand<'_>, uid: u32) {
+    let folder = command.folder;
+    let _ = match command.verb {
         Verb::Dump => eprintln!(rt;
             "syncstore: the file {folder}/{uid}.db was new, so its account is a fresh one"
         ),
@@ -115,14 +115,14 @@ pub fn explain_move(
     trouble: Option<Trouble>,
     made: Option<u32>,
 ) {
-    let Some(request) = asked(words) else {
+    let Some(command) = read_move(words) else {
         return;
     };
     if let Some(trouble) = trouble {
-        let folder = request.folder;
+        let folder = command.folder;
         let _ = eprintln!(rt; "syncstore: {folder}: {trouble}");
     }
     if let Some(uid) = made {
-        explain_made(rt, &request, uid);
+        explain_made(rt, &command, uid);
     }
 }

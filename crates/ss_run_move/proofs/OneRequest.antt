@@ -1,0 +1,49 @@
+-- Words ask for one thing at most.
+use Rattle.std.proofs.Common.{◌≡◌, ◌⊎◌, ℕ, List, [], ◌∷◌, Some, true, false, refl, sym, ap, ◌∙◌, inl, inr, subst}
+use Rattle.std.specs.Prelude.{codes}
+use Rattle.ss_route.specs.Targets.{uid_of}
+use Rattle.ss_words.specs.Lines.{is_dashed}
+use Rattle.ss_run_move.specs.declared.words.Verb.{Verb}
+use Rattle.ss_run_move.specs.declared.words.Verb.TheVariants.{Dump, Restore}
+use Rattle.ss_run_move.specs.Asked.{AreTwo, Asks, name_of}
+
+one_name : (verb other : Verb) → name_of verb ≡ name_of other → verb ≡ other
+unfolding name_of
+one_name Dump Dump e = refl
+one_name Restore Restore e = refl
+one_name Dump Restore e = cc
+one_name Restore Dump e = cc
+
+-- a folder in front of `--` isn't `--`
+not_dashes : (folder : List ℕ) → is_dashed folder ≡ false → codes "--" ≡ folder → ⊥
+not_dashes folder plain e = let clash : true ≡ false = ap is_dashed e ∙ plain in cc
+
+one_two : (words : List (List ℕ)) (f n g m : List ℕ) → AreTwo words f n → AreTwo words g m → (f ≡ g) × (n ≡ m)
+one_two words f n g m (inl a) (inl b) = (cc, cc)
+one_two words f n g m (inl a) (inr (p, inl b)) = absurd (let e : codes "--" ∷ f ∷ n ∷ [] ≡ g ∷ m ∷ [] = sym a ∙ b in cc)
+one_two words f n g m (inl a) (inr (p, inr (inl b))) = absurd (not_dashes g p (let e : codes "--" ∷ f ∷ n ∷ [] ≡ g ∷ codes "--" ∷ m ∷ [] = sym a ∙ b in cc))
+one_two words f n g m (inl a) (inr (p, inr (inr b))) = absurd (not_dashes g p (let e : codes "--" ∷ f ∷ n ∷ [] ≡ g ∷ m ∷ codes "--" ∷ [] = sym a ∙ b in cc))
+one_two words f n g m (inr (q, inl a)) (inl b) = absurd (let e : f ∷ n ∷ [] ≡ codes "--" ∷ g ∷ m ∷ [] = sym a ∙ b in cc)
+one_two words f n g m (inr (q, inl a)) (inr (p, inl b)) = (cc, cc)
+one_two words f n g m (inr (q, inl a)) (inr (p, inr (inl b))) = absurd (let e : f ∷ n ∷ [] ≡ g ∷ codes "--" ∷ m ∷ [] = sym a ∙ b in cc)
+one_two words f n g m (inr (q, inl a)) (inr (p, inr (inr b))) = absurd (let e : f ∷ n ∷ [] ≡ g ∷ m ∷ codes "--" ∷ [] = sym a ∙ b in cc)
+one_two words f n g m (inr (q, inr (inl a))) (inl b) = absurd (not_dashes f q (let e : f ∷ codes "--" ∷ n ∷ [] ≡ codes "--" ∷ g ∷ m ∷ [] = sym a ∙ b in cc))
+one_two words f n g m (inr (q, inr (inl a))) (inr (p, inl b)) = absurd (let e : f ∷ codes "--" ∷ n ∷ [] ≡ g ∷ m ∷ [] = sym a ∙ b in cc)
+one_two words f n g m (inr (q, inr (inl a))) (inr (p, inr (inl b))) = (cc, cc)
+one_two words f n g m (inr (q, inr (inl a))) (inr (p, inr (inr b))) =
+    let e : f ∷ codes "--" ∷ n ∷ [] ≡ g ∷ m ∷ codes "--" ∷ [] = sym a ∙ b in (cc, cc)
+one_two words f n g m (inr (q, inr (inr a))) (inl b) = absurd (not_dashes f q (let e : f ∷ n ∷ codes "--" ∷ [] ≡ codes "--" ∷ g ∷ m ∷ [] = sym a ∙ b in cc))
+one_two words f n g m (inr (q, inr (inr a))) (inr (p, inl b)) = absurd (let e : f ∷ n ∷ codes "--" ∷ [] ≡ g ∷ m ∷ [] = sym a ∙ b in cc)
+one_two words f n g m (inr (q, inr (inr a))) (inr (p, inr (inl b))) =
+    let e : f ∷ n ∷ codes "--" ∷ [] ≡ g ∷ codes "--" ∷ m ∷ [] = sym a ∙ b in (cc, cc)
+one_two words f n g m (inr (q, inr (inr a))) (inr (p, inr (inr b))) = (cc, cc)
+
+pub one_request : (words : List (List ℕ)) (verb other : Verb) (folder another : List ℕ) (uid number : ℕ) → Asks words verb folder uid → Asks words other another number
+    → (verb ≡ other) × (folder ≡ another) × (uid ≡ number)
+one_request words verb other folder another uid number a b =
+    let whole : name_of verb ∷ a.others ≡ name_of other ∷ b.others = sym a.words_are ∙ b.words_are in
+    let name : name_of verb ≡ name_of other = cc in
+    let others : a.others ≡ b.others = cc in
+    let two = one_two a.others folder a.behind.number another b.behind.number a.behind.two (subst (λ (ws : List (List ℕ)). AreTwo ws another b.behind.number) (sym others) b.behind.two) in
+    let same : Some uid ≡ Some number = sym a.behind.account ∙ (ap uid_of two.1 ∙ b.behind.account) in
+    (one_name verb other name, two.0, cc)

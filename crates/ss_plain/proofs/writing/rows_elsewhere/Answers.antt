@@ -1,0 +1,7 @@
+use Rattle.std.proofs.Common.{rules, not, bytes_eq}
+use Rattle.std.proofs.lemmas.Fn.{filter_same}
+use Rattle.ss_bso.specs.declared.rows.Row.{Row}
+use Rattle.ss_plain.proofs.writing.rows_elsewhere.Goals as goal
+
+pub returns : goal.returns
+returns c = filter_same _ (λ (row : Row). not (bytes_eq row.collection c.args.collection.now)) _ (λ x b f h. search rules) _ _ c.retain.ensures.filtered

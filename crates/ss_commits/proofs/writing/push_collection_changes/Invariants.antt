@@ -1,0 +1,6 @@
+use Rattle.std.proofs.Common.{◌≡◌, ◌++◌, map, take}
+use Rattle.ss_commits.specs.Commits.{collection_note, text_of}
+use Rattle.ss_commits.proofs.writing.push_collection_changes.Given as goal
+
+abbrev pub invariant-loop-change : goal.invariant-loop-change
+invariant-loop-change l = l.out.items ≡ l.initial.out.items ++ text_of (map collection_note (take l.change-index l.changes))

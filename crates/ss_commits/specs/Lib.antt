@@ -1,0 +1,4 @@
+pub mod Commits
+pub mod Values
+pub mod Telling
+pub mod Drafts

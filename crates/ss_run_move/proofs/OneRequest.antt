@@ -1,11 +1,11 @@
 -- Words ask for one thing at most.
-use Rattle.std.proofs.Common.{◌≡◌, ◌⊎◌, ℕ, List, [], ◌∷◌, Some, true, false, refl, sym, ap, ◌∙◌, inl, inr, subst}
+use Rattle.std.proofs.Common.{◌≡◌, ◌≤◌, ◌⊎◌, ℕ, List, [], ◌∷◌, Option, Some, None, IfNone, map, drop, length, arith, true, false, refl, sym, ap, ◌∙◌, inl, inr, subst}
 use Rattle.std.specs.Prelude.{codes}
 use Rattle.ss_route.specs.Targets.{uid_of}
 use Rattle.ss_words.specs.Lines.{is_dashed}
 use Rattle.ss_run_move.specs.declared.words.Verb.{Verb}
 use Rattle.ss_run_move.specs.declared.words.Verb.TheVariants.{Dump, Restore}
-use Rattle.ss_run_move.specs.Asked.{AreTwo, Asks, name_of}
+use Rattle.ss_run_move.specs.Asked.{AreTwo, Asks, AsksBehind, name_of}
 
 one_name : (verb other : Verb) → name_of verb ≡ name_of other → verb ≡ other
 unfolding name_of
@@ -47,3 +47,13 @@ one_request words verb other folder another uid number a b =
     let two = one_two a.others folder a.behind.number another b.behind.number a.behind.two (subst (λ (ws : List (List ℕ)). AreTwo ws another b.behind.number) (sym others) b.behind.two) in
     let same : Some uid ≡ Some number = sym a.behind.account ∙ (ap uid_of two.1 ∙ b.behind.account) in
     (one_name verb other name, two.0, cc)
+
+-- words ask for nothing where those behind the first one don't
+pub none_asked : {X T : Type 0} (f : X → List ℕ) (xs : List X) (r : Option T) → 1 ≤ length xs → IfNone r ((folder : List ℕ) (uid : ℕ) → AsksBehind (map f (drop 1 xs)) folder uid → ⊥)
+    → IfNone r ((verb : Verb) (folder : List ℕ) (uid : ℕ) → Asks (map f xs) verb folder uid → ⊥)
+none_asked f xs (Some value) long none = none
+none_asked f [] None long none = absurd (omega (arith, long))
+none_asked f (x ∷ xs) None long none = λ verb folder uid a.
+    let whole : f x ∷ map f xs ≡ name_of verb ∷ a.others = a.words_are in
+    let tails : map f xs ≡ a.others = cc in
+    none folder uid (subst (λ (ws : List (List ℕ)). AsksBehind ws folder uid) (sym tails) a.behind)

@@ -48,5 +48,5 @@ pub record IsReadAs (told : Kept) (input input' : Meanings) : Type 0 where
 
 -- why the input tells no account: it isn't read whole, or it is no dump
 pub data IsUntold (ending : Ending) (input input' : Meanings) : Type 0 where
-  unread : IsUnread ending input input' → IsUntold ending input input'
-  refused : (text : List ℕ) (fault : DumpFault) → IsWhole text input input' → IsRefused text fault → ending ≡ at_dump fault → IsUntold ending input input'
+  not_whole : IsUnread ending input input' → IsUntold ending input input'
+  no_dump : (text : List ℕ) (fault : DumpFault) → IsWhole text input input' → IsRefused text fault → ending ≡ at_dump fault → IsUntold ending input input'

@@ -23,7 +23,10 @@ fn told_by<S: Source>(alloc: Global, input: &mut S) -> Result<Kept, Ending>
         Ok(text) => text,
         Err(ending) => return Err(ending),
     };
-    Ok(undump(alloc, text.as_slice())?)
+    match undump(alloc, text.as_slice()) {
+        Ok(told) => Ok(told),
+        Err(fault) => Err(Ending::from(fault)),
+    }
 }
 
 /// Fills the account that this folder keeps under this number; its keeper comes back.

@@ -113,6 +113,20 @@ fn behind(words: &[String]) -> Option<(&str, u32)>
     }
 }
 
+/// The command of this name that the words behind it make.
+fn with_verb(verb: Verb, words: &[String]) -> Option<MoveCommand<'_>>
+    ensures verb { IfSome result (λ found. found.verb ≡ verb) }
+    ensures asks { IfSome result (λ found. AsksBehind (map (λ word. string_bytes word) words.now) found.folder.now
+        found.uid) }
+    ensures none { IfNone result ((folder : List ℕ) (uid : ℕ)
+        → AsksBehind (map (λ word. string_bytes word) words.now) folder uid → ⊥) }
+{
+    match behind(words) {
+        Some((folder, uid)) => Some(MoveCommand { verb, folder, uid }),
+        None => None,
+    }
+}
+
 /// What the words ask for; None exactly where they ask for neither.
 pub fn read_move(words: &[String]) -> Option<MoveCommand<'_>>
     ensures asks { IfSome result (λ found. Asks (map (λ word. string_bytes word) words.now) found.verb found.folder.now
@@ -120,11 +134,11 @@ pub fn read_move(words: &[String]) -> Option<MoveCommand<'_>>
     ensures none { IfNone result ((verb : VerbView) (folder : List ℕ) (uid : ℕ)
         → Asks (map (λ word. string_bytes word) words.now) verb folder uid → ⊥) }
 {
-    let [name, others @ ..] = words else {
-        return None;
-    };
-    match (Verb::read(name.as_str()), behind(others)) {
-        (Some(verb), Some((folder, uid))) => Some(MoveCommand { verb, folder, uid }),
+    match words {
+        [name, others @ ..] => match Verb::read(name.as_str()) {
+            Some(verb) => with_verb(verb, others),
+            None => None,
+        },
         _ => None,
     }
 }

@@ -1,6 +1,6 @@
 -- What is kept the same, whatever its order, has one dump; and the account that is opened from it is the same.
 use Rattle.std.proofs.Common.{◌≡◌, ℕ, ◌^◌, ◌<◌, ◌≤◌, List, [], ◌∷◌, ◌++◌, map, refl, sym, ap, ◌∙◌, subst, arith}
-use Rattle.std.specs.Prelude.{max}
+use Rattle.std.specs.Prelude.{max, Result, Ok, Err, IfOk, IfErr}
 use Rattle.std.specs.List.{AllByRecursion, flat_map}
 use Rattle.ss_text.specs.Texts.{Reordered, nothing, head, swapped, chain}
 use Rattle.ss_text.specs.Time.{last_stamp}
@@ -18,10 +18,12 @@ use Rattle.ss_lines.specs.declared.lines.Line.{Line}
 use Rattle.ss_lines.specs.declared.lines.Line.TheVariants.{Row as RowLine}
 use Rattle.ss_account.specs.Opening.{IsGood}
 use Rattle.ss_account.proofs.Opened.{good-kept, valid-plain_of}
+use Rattle.ss_dump.specs.declared.faults.DumpFault.{DumpFault}
+use Rattle.ss_dump.specs.declared.faults.DumpFault.TheVariants.{Memory}
 use Rattle.ss_dump.specs.Dumps.{account_lines, batch_lines, body_text, closed_by, collection_line, digest_of, dump_text, in_order, text_of}
 use Rattle.ss_dump.specs.Same.{SameKept}
-use Rattle.ss_dump.specs.Undumped.{IsDumpOf}
-use Rattle.ss_dump.proofs.Exact.{all_append, one_dump}
+use Rattle.ss_dump.specs.Undumped.{IsDumpOf, IsRefused}
+use Rattle.ss_dump.proofs.Exact.{all_append, not_refused, one_dump}
 use Rattle.ss_dump.proofs.Orders.{in_order_again, in_order_same, same_in_order}
 use Rattle.ss_dump.proofs.Told.{all_back, all_front}
 
@@ -144,3 +146,16 @@ dump_of kept formed good = record {
 
 pub dump_of_one : (kept other : Kept) → AllByRecursion IsLine (account_lines kept) → IsGood kept → IsDumpOf (dump_text kept) other → other ≡ in_order kept
 dump_of_one kept other formed good h = one_dump (dump_text kept) other (in_order kept) h (dump_of kept formed good)
+
+-- ---- a dump that is read again
+
+pub read_is : (text : List ℕ) (kept : Kept) (r : Result Kept DumpFault) → AllByRecursion IsLine (account_lines kept) → IsGood kept → text ≡ dump_text kept
+    → IfOk r (λ read. IsDumpOf text read) → IfOk r (λ read. read ≡ in_order kept)
+read_is text kept (Ok read) formed good is h = dump_of_one kept read formed good (subst (λ t. IsDumpOf t read) is h)
+read_is text kept (Err fault) formed good is h = tt
+
+pub refused_for_memory : (text : List ℕ) (kept : Kept) (r : Result Kept DumpFault) → AllByRecursion IsLine (account_lines kept) → IsGood kept → text ≡ dump_text kept
+    → IfErr r (λ fault. IsRefused text fault) → IfErr r (λ fault. fault ≡ Memory)
+refused_for_memory text kept (Ok read) formed good is h = tt
+refused_for_memory text kept (Err fault) formed good is h =
+    not_refused text (in_order kept) fault (subst (λ t. IsDumpOf t (in_order kept)) (sym is) (dump_of kept formed good)) h

@@ -1,5 +1,5 @@
 -- Words ask for one thing at most.
-use Rattle.std.proofs.Common.{◌≡◌, ◌≤◌, ◌⊎◌, ℕ, List, [], ◌∷◌, Option, Some, None, IfNone, map, drop, length, arith, true, false, refl, sym, ap, ◌∙◌, inl, inr, subst}
+use Rattle.std.proofs.Common.{◌≡◌, ◌≤◌, ◌-◌, ℕ, zero, suc, List, [], ◌∷◌, Option, Some, None, IfNone, map, drop, take, length, arith, true, false, refl, sym, ap, ◌∙◌, inl, inr, subst}
 use Rattle.std.specs.Prelude.{codes}
 use Rattle.ss_route.specs.Targets.{uid_of}
 use Rattle.ss_words.specs.Lines.{is_dashed}
@@ -48,12 +48,21 @@ one_request words verb other folder another uid number a b =
     let same : Some uid ≡ Some number = sym a.behind.account ∙ (ap uid_of two.1 ∙ b.behind.account) in
     (one_name verb other name, two.0, cc)
 
+all_taken : {X : Type 0} (xs : List X) (n : ℕ) → n ≡ length xs → take n xs ≡ xs
+all_taken [] zero e = refl
+all_taken [] (suc n) e = refl
+all_taken (x ∷ xs) zero e = absurd (omega (arith, e))
+all_taken (x ∷ xs) (suc n) e = ap (λ (ys : List _). x ∷ ys) (all_taken xs n (omega (arith, e)))
+
 -- words ask for nothing where those behind the first one don't
-pub none_asked : {X T : Type 0} (f : X → List ℕ) (xs : List X) (r : Option T) → 1 ≤ length xs → IfNone r ((folder : List ℕ) (uid : ℕ) → AsksBehind (map f (drop 1 xs)) folder uid → ⊥)
+pub none_asked : {X T : Type 0} (f : X → List ℕ) (xs : List X) (r : Option T) → 1 ≤ length xs
+    → IfNone r ((folder : List ℕ) (uid : ℕ) → AsksBehind (map f (take (length xs - 1) (drop 1 xs))) folder uid → ⊥)
     → IfNone r ((verb : Verb) (folder : List ℕ) (uid : ℕ) → Asks (map f xs) verb folder uid → ⊥)
 none_asked f xs (Some value) long none = none
 none_asked f [] None long none = absurd (omega (arith, long))
 none_asked f (x ∷ xs) None long none = λ verb folder uid a.
     let whole : f x ∷ map f xs ≡ name_of verb ∷ a.others = a.words_are in
     let tails : map f xs ≡ a.others = cc in
-    none folder uid (subst (λ (ws : List (List ℕ)). AsksBehind ws folder uid) (sym tails) a.behind)
+    let behind : length (x ∷ xs) - 1 ≡ length xs = omega arith in
+    let taken : map f (take (length (x ∷ xs) - 1) xs) ≡ map f xs = ap (λ (ys : List _). map f ys) (all_taken xs (length (x ∷ xs) - 1) behind) in
+    none folder uid (subst (λ (ws : List (List ℕ)). AsksBehind ws folder uid) (sym tails ∙ sym taken) a.behind)

@@ -4,7 +4,7 @@ use Rattle.std.proofs.Common.{sym, ap, ap₂, ◌∙◌}
 use Rattle.std.proofs.lemmas.Map.Lookups.{exact_unsigned}
 use Rattle.std.specs.declared.cmp.Ordering.{Ordering}
 use Rattle.std.specs.declared.cmp.Ordering.TheVariants.{Less, Equal, Greater}
-use Rattle.std.specs.Ordering.{is_eq, is_lt, nat_cmp, ordering_then}
+use Rattle.std.specs.Ordering.{is_eq, nat_cmp, ordering_then}
 use Rattle.std.specs.Cmp.{IsTotalOrder, nat_cmp_total, on_total, then_total}
 use Rattle.std.specs.Cmp.Lexicographic.{nat_list_cmp_total, texts_ties}
 use Rattle.ss_text.specs.Texts.{Reordered, sorted, text_cmp}
@@ -18,7 +18,7 @@ use Rattle.ss_bso.specs.Lists.{Apart, Pairs}
 use Rattle.ss_bso.specs.Validity.{IsValid, SameAccount}
 use Rattle.ss_bso.proofs.Lists.{Each-any, Pairs-from_AllPairs, Pairs-imp}
 use Rattle.ss_bso.proofs.Reordering.{Ranked, same-back, sorted-reordered}
-use Rattle.ss_query.proofs.Orders.{by_name-reordered, ranked, through, untied}
+use Rattle.ss_query.proofs.Orders.{by_name-reordered, ranked, through}
 use Rattle.ss_dump.specs.Dumps.{account_lines, body_text, closed_by, comes_before, digest_of, dump_text, in_order, number_cmp, place_cmp, text_of}
 
 -- ---- rows

@@ -1,5 +1,5 @@
 -- What a dump and a restore do at a site (this project's).
-use Rattle.std.specs.Prelude.{◌≡◌, ◌≤◌, ℕ, List, true, false, Option, Some, Result, Ok, Err, ⊤}
+use Rattle.std.specs.Prelude.{◌≡◌, ◌≤◌, ℕ, List, true, false, Option, Some, Err, ⊤}
 use Rattle.ss_outside.specs.Told.{Meanings}
 use Rattle.ss_links.specs.Counts.{RoseBy}
 use Rattle.ss_bso.specs.declared.changes.Kept.{Kept}

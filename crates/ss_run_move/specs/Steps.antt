@@ -1,5 +1,5 @@
 -- Parts of a dump and of a restore, for private clauses.
-use Rattle.std.specs.Prelude.{◌≡◌, ℕ, List, Option, None, Some, Result, Ok, Err, IfSome, ⊤}
+use Rattle.std.specs.Prelude.{◌≡◌, ℕ, List, Option, Result, Ok, Err, IfSome, ⊤}
 use Rattle.ss_outside.specs.Told.{Meanings}
 use Rattle.ss_outside.specs.Causes.{Rose}
 use Rattle.ss_bso.specs.declared.changes.Kept.{Kept}
@@ -10,7 +10,7 @@ use Rattle.ss_dump.specs.declared.faults.DumpFault.{DumpFault}
 use Rattle.ss_dump.specs.Undumped.{IsDumpOf, IsRefused}
 use Rattle.ss_site.specs.Sites.{Counts}
 use Rattle.ss_run_move.specs.declared.endings.Ending.{Ending}
-use Rattle.ss_run_move.specs.declared.endings.Ending.TheVariants.{Done, Keeper, NoAccount, Memory}
+use Rattle.ss_run_move.specs.declared.endings.Ending.TheVariants.{Keeper, NoAccount, Memory}
 use Rattle.ss_run_move.specs.Endings.{at_dump}
 use Rattle.ss_run_move.specs.Inputs.{IsUnread, IsWhole}
 use Rattle.ss_run_move.specs.Moves.{IsCounted}

@@ -1,5 +1,5 @@
 -- Accounts that are the same but for the order of their lists answer alike, and so does an account that is moved.
-use Rattle.std.specs.Prelude.{◌≡◌, ◌⊎◌, ℕ, ◌≤◌, List, [], ◌∷◌, Option, Some, None, IfSome, option_map, Result, Ok, Err, IfOk, IfErr, refl}
+use Rattle.std.specs.Prelude.{◌≡◌, ℕ, ◌≤◌, List, [], ◌∷◌, Option, Some, None, IfSome, option_map, refl}
 use Rattle.std.specs.Option.{option_map_or}
 use Rattle.std.specs.List.{AllByRecursion}
 use Rattle.std.proofs.Common.{sym, ap, ap₂, subst, ◌∙◌}
@@ -8,7 +8,7 @@ use Rattle.ss_bso.specs.declared.changes.Kept.{Kept}
 use Rattle.ss_bso.specs.Account.{tick}
 use Rattle.ss_bso.specs.Changes.{opened}
 use Rattle.ss_bso.specs.Validity.{IsValid, SameAccount}
-use Rattle.ss_bso.proofs.Reordering.{same-through}
+use Rattle.ss_bso.proofs.Reordering.{same-back, same-through}
 use Rattle.ss_query.specs.declared.requests.Request.{Request}
 use Rattle.ss_query.specs.Api.{api}
 use Rattle.ss_query.specs.Fit.{IsFitRequest}
@@ -85,3 +85,12 @@ pub moves : (kept read : Kept) (account again : Plain) → IsValid account → I
 moves kept read account again valid k good formed h s =
     let g = goes_on kept account again valid k (read_opens kept read again good formed h s) in
     (g, alike_from account again valid g)
+
+-- what is opened from what a keeper tells that was filled
+pub refilled_alike : (told : Option Kept) (kept : Kept) (account other : Plain) → IsValid account → IfSome told (λ held. held ≡ kept) → IfSome told (λ held. SameAccount (opened held) account)
+    → SameAccount (opened kept) other → IfSome told (λ held. SameAccount account other × AnswerAlike account other)
+refilled_alike None kept account other valid is o s = tt
+refilled_alike (Some held) kept account other valid is o s =
+    let same : SameAccount account other =
+    same-through account (opened held) other (same-back (opened held) account o) (subst (λ k. SameAccount (opened k) other) (sym is) s) in
+    (same, answer_alike account other valid same)

@@ -16,7 +16,7 @@ pub use accounts::answered;
 pub use devices::{devices_stay_faithful_to_all, uploads_go_on};
 pub use exchanges::{exchanges_are_deliveries, replies_come_back, requests_come_in};
 pub use journals::journals_are_lists;
-pub use moves::{accounts_move, refilled, replies_stay_equal};
+pub use moves::{accounts_move, refilled_accounts_answer_alike, replies_stay_equal};
 pub use restarts::{accounts_go_on, reopened};
 pub use runs::{
     exchanges_are_runs, machines_of_worlds_are_ready, machines_stay_ready, requests_stay_readable,

@@ -15,20 +15,43 @@ use std::time::Duration;
 /// So long a second look at a server that wasn't reached waits for it.
 const LOOK_SECONDS: u64 = 3;
 
-/// What a second look at a server says of a link that failed: why it isn't reached, or that it is.
-fn look(system: &HostRuntime, server: &Server) -> &'static str {
+/// What a second look finds of a server, the link to which failed.
+#[derive(Clone, Copy)]
+enum Seen {
+    NoName,
+    Reached,
+    Refuses,
+    Silent,
+    NoWay,
+}
+
+impl Seen {
+    /// What that says of the link.
+    fn text(self) -> &'static str {
+        match self {
+            Seen::NoName => "its name isn't found",
+            Seen::Reached =>
+                "it is reached, so the link broke off, or an answer took longer than 30 seconds",
+            Seen::Refuses => "nobody listens there",
+            Seen::Silent => "it doesn't answer",
+            Seen::NoWay => "no way leads there",
+        }
+    }
+}
+
+/// Looks why a server isn't reached, or whether it is.
+fn look(system: &HostRuntime, server: &Server) -> Seen {
     let Ok(addresses) = (server.host.as_str(), server.port).to_socket_addrs(system) else {
-        return "its name isn't found";
+        return Seen::NoName;
     };
-    let mut seen = "its name isn't found";
+    let mut seen = Seen::NoName;
     for address in addresses {
         seen = match system.connect_timeout(address, Duration::from_secs(LOOK_SECONDS)) {
-            Ok(_) =>
-                return "it is reached, so the link broke off, or an answer took longer than 30 seconds",
+            Ok(_) => return Seen::Reached,
             Err(error) => match error.kind() {
-                ErrorKind::ConnectionRefused => "nobody listens there",
-                ErrorKind::TimedOut | ErrorKind::WouldBlock => "it doesn't answer",
-                _ => "no way leads there",
+                ErrorKind::ConnectionRefused => Seen::Refuses,
+                ErrorKind::TimedOut | ErrorKind::WouldBlock => Seen::Silent,
+                _ => Seen::NoWay,
             },
         };
     }
@@ -94,7 +117,7 @@ fn reason(
     match status {
         2 => format!(in alloc;
             "the link to {host}:{port} failed: {}",
-            look(system, &command.server)
+            look(system, &command.server).text()
         ),
         3 => format!(in alloc; "{host}:{port} refused a request or a record; {file} is as before"),
         4 => format!(in alloc;

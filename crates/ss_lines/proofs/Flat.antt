@@ -42,25 +42,25 @@ AreFlat (item d ds) = IsFlat d × AreFlat ds
 
 -- ---- numbers
 
-number_is : (n : Num) → IsFlatNumber n → tree.HasNumbers (json.number (number_text n))
+pub number_is : (n : Num) → IsFlatNumber n → tree.HasNumbers (json.number (number_text n))
 number_is (unsigned n) h = IsNumber-decimal n h
 number_is (negative (pos n)) h = absurd h
 number_is (negative (negsuc n)) h = IsNumber-signed_decimal (negsuc n) (omega arith)
 number_is (float x) h = absurd h
 
-number_back : (n : Num) → IsFlatNumber n → number_of (number_text n) ≡ Some n
+pub number_back : (n : Num) → IsFlatNumber n → number_of (number_text n) ≡ Some n
 number_back (unsigned n) h = number_of-decimal n h
 number_back (negative (pos n)) h = absurd h
 number_back (negative (negsuc n)) h = number_of-negative n (omega arith)
 number_back (float x) h = absurd h
 
-number_utf8 : (n : Num) → IsFlatNumber n → IsUtf8 (number_text n)
+pub number_utf8 : (n : Num) → IsFlatNumber n → IsUtf8 (number_text n)
 number_utf8 (unsigned n) h = decimal_is_utf8 n h
 number_utf8 (negative (pos n)) h = absurd h
 number_utf8 (negative (negsuc n)) h = IsUtf8-append (45 ∷ []) (decimal (suc n)) (IsUtf8-are_ascii (45 ∷ []) refl) (decimal_is_utf8 (suc n) (omega arith))
 number_utf8 (float x) h = absurd h
 
-number_noline : (n : Num) → IsFlatNumber n → NoLine (number_text n)
+pub number_noline : (n : Num) → IsFlatNumber n → NoLine (number_text n)
 number_noline (unsigned n) h = digits_noline (decimal n) (decimal_is_IsNumeral n h).0.1
 number_noline (negative (pos n)) h = absurd h
 number_noline (negative (negsuc n)) h = ((λ is. omega arith), digits_noline (decimal (suc n)) (decimal_is_IsNumeral (suc n) (omega arith)).0.1)
@@ -130,7 +130,7 @@ items_shallow (item d ds) h =
     let rest = items_shallow ds h.1 in
     omega arith
 
-comma_utf8 : (later : Bool) → IsUtf8 (comma_if later)
+pub comma_utf8 : (later : Bool) → IsUtf8 (comma_if later)
 comma_utf8 true = IsUtf8-are_ascii (44 ∷ []) refl
 comma_utf8 false = IsUtf8-are_ascii [] refl
 
@@ -140,7 +140,7 @@ items_utf8 later (item d ds) h =
     IsUtf8-append (comma_if later) (compact_text d ++ items_text true ds) (comma_utf8 later)
     (IsUtf8-append (compact_text d) (items_text true ds) (value_utf8 d h.0) (items_utf8 true ds h.1))
 
-comma_noline : (later : Bool) → NoLine (comma_if later)
+pub comma_noline : (later : Bool) → NoLine (comma_if later)
 comma_noline true = noline_by (44 ∷ []) refl
 comma_noline false = tt
 
@@ -161,7 +161,7 @@ list_noline ds h = ((λ is. omega arith), items_noline false ds h)
 tokens_compact : (d : Data) → tree.HasNumbers (outline d) → tokens (compact_text d) ≡ tree.json_tokens (outline d)
 tokens_compact d h = ap tokens (sym (print-outline d)) ∙ tokens-print (tree.json_tokens (outline d)) (ArePrintable-json_tokens (outline d) h)
 
-read_compact : (d : Data) → tree.HasNumbers (outline d) → tree.depth (outline d) ≤ max_depth → read (compact_text d) ≡ of_json (outline d)
+pub read_compact : (d : Data) → tree.HasNumbers (outline d) → tree.depth (outline d) ≤ max_depth → read (compact_text d) ≡ of_json (outline d)
 read_compact d h shallow =
     ap (λ o. option_and_then of_json (option_and_then (λ p. json.if_last p.0 p.1) o))
     (ap (json.value max_depth) (tokens_compact d h ∙ sym (append-nil (tree.json_tokens (outline d)))) ∙ value-json_tokens (outline d) max_depth [] shallow)

@@ -35,18 +35,18 @@ hex_below b h = grind (arith, nat_tests)
 digest_utf8 : (bs : List ℕ) → is_digest bs ≡ true → IsUtf8 bs
 digest_utf8 bs h = IsUtf8-from_ascii bs (IsAscii-from_list_all is_lower_hex hex_below bs (second_so _ (list_all is_lower_hex bs) h))
 
-integer_flat : (z : ℤ) → FitsSigned w32 z → IsFlat (integer z)
+pub integer_flat : (z : ℤ) → FitsSigned w32 z → IsFlat (integer z)
 integer_flat (pos n) h = let few = h.sfits in omega arith
 integer_flat (negsuc n) h = let few = h.sfits in omega arith
 
-seconds_flat : (n : ℕ) → n < 2 ^ 32 → IsFlat (natural n)
+pub seconds_flat : (n : ℕ) → n < 2 ^ 32 → IsFlat (natural n)
 seconds_flat n h = omega arith
 
-optional_flat : {X : Type 0} (written : X → Data) (P : X → Type 0) → ((x : X) → P x → IsFlat (written x)) → (o : Option X) → OfOption P o → IsFlat (optional written o)
+pub optional_flat : {X : Type 0} (written : X → Data) (P : X → Type 0) → ((x : X) → P x → IsFlat (written x)) → (o : Option X) → OfOption P o → IsFlat (optional written o)
 optional_flat written P all None h = tt
 optional_flat written P all (Some x) h = all x h
 
-field_flat : {X : Type 0} (written : X → Data) (P : X → Type 0) → ((x : X) → P x → IsFlat (written x)) → (f : Field X) → OfField P f → IsFlat (field written f)
+pub field_flat : {X : Type 0} (written : X → Data) (P : X → Type 0) → ((x : X) → P x → IsFlat (written x)) → (f : Field X) → OfField P f → IsFlat (field written f)
 field_flat written P all Keep h = tt
 field_flat written P all Clear h = tt
 field_flat written P all (Set x) h = all x h
@@ -70,7 +70,7 @@ flat End h = (IsUtf8-are_ascii (codes "end") refl, tt)
 
 -- ---- a line from its list
 
-integer_back : (z : ℤ) → FitsSigned w32 z → integer_of (integer z) ≡ Some z
+pub integer_back : (z : ℤ) → FitsSigned w32 z → integer_of (integer z) ≡ Some z
 unfolding integer_of
 integer_back (pos n) h =
     let few = h.sfits in
@@ -80,17 +80,17 @@ integer_back (negsuc n) h =
     let few = h.sfits in
     ap (λ b. cond (b && true) (Some (negsuc n)) None) (le-leb n 2147483647 (omega arith))
 
-seconds_back : (n : ℕ) → n < 2 ^ 32 → seconds_of (natural n) ≡ Some n
+pub seconds_back : (n : ℕ) → n < 2 ^ 32 → seconds_of (natural n) ≡ Some n
 unfolding seconds_of
 seconds_back n h = ap (λ b. cond b (Some n) None) (le-leb n 4294967295 (omega arith))
 
-optional_back : {X : Type 0} (told : Data → Option X) (written : X → Data) (P : X → Type 0) → ((x : X) → as_null (written x) ≡ None) → ((x : X) → P x → told (written x) ≡ Some x)
+pub optional_back : {X : Type 0} (told : Data → Option X) (written : X → Data) (P : X → Type 0) → ((x : X) → as_null (written x) ≡ None) → ((x : X) → P x → told (written x) ≡ Some x)
     → (o : Option X) → OfOption P o → optional_of told (optional written o) ≡ Some o
 optional_back told written P other back None h = refl
 optional_back told written P other back (Some x) h =
     ap (λ a. cond (is_some a) (Some None) (option_map (λ y. Some y) (told (written x)))) (other x) ∙ ap (option_map (λ y. Some y)) (back x h)
 
-field_back : {X : Type 0} (told : Data → Option X) (written : X → Data) (P : X → Type 0) → ((x : X) → as_null (written x) ≡ None) → ((x : X) → as_array (written x) ≡ None)
+pub field_back : {X : Type 0} (told : Data → Option X) (written : X → Data) (P : X → Type 0) → ((x : X) → as_null (written x) ≡ None) → ((x : X) → as_array (written x) ≡ None)
     → ((x : X) → P x → told (written x) ≡ Some x) → (f : Field X) → OfField P f → field_of told (field written f) ≡ Some f
 field_back told written P other more back Keep h = refl
 field_back told written P other more back Clear h = refl
@@ -98,10 +98,10 @@ field_back told written P other more back (Set x) h =
     ap₂ (λ a b. cond (is_some a) (Some Clear) (cond (is_some b) (Some Keep) (option_map (λ y. Set y) (told (written x))))) (other x) (more x)
     ∙ ap (option_map (λ y. Set y)) (back x h)
 
-integer_other : (z : ℤ) → as_null (integer z) ≡ None
+pub integer_other : (z : ℤ) → as_null (integer z) ≡ None
 integer_other z = refl
 
-integer_more : (z : ℤ) → as_array (integer z) ≡ None
+pub integer_more : (z : ℤ) → as_array (integer z) ≡ None
 integer_more z = refl
 
 -- a row by what is told of its values

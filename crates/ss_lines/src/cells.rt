@@ -13,7 +13,7 @@ use std::alloc::AllocError;
 
 /// A value that a line says.
 #[derive(Drop)]
-pub(crate) enum Cell<'a> {
+pub enum Cell<'a> {
     Text(&'a str),
     Time(Stamp),
     Natural(u64),
@@ -27,7 +27,7 @@ pub(crate) enum Cell<'a> {
 }
 
 /// A sortindex, or none.
-pub(crate) fn optional_integer<'a>(value: Option<i32>) -> Cell<'a>
+pub fn optional_integer<'a>(value: Option<i32>) -> Cell<'a>
     ensures { data_of result ≡ optional integer value }
 {
     match value {
@@ -37,7 +37,7 @@ pub(crate) fn optional_integer<'a>(value: Option<i32>) -> Cell<'a>
 }
 
 /// The hundredth of a second at which a row ends, or none.
-pub(crate) fn optional_natural<'a>(value: Option<u64>) -> Cell<'a>
+pub fn optional_natural<'a>(value: Option<u64>) -> Cell<'a>
     ensures { data_of result ≡ optional natural value }
 {
     match value {
@@ -47,7 +47,7 @@ pub(crate) fn optional_natural<'a>(value: Option<u64>) -> Cell<'a>
 }
 
 /// What a part says of a payload.
-pub(crate) fn payload_field(value: &Field<Word>) -> Cell<'_>
+pub fn payload_field(value: &Field<Word>) -> Cell<'_>
     ensures { data_of result ≡ field string value.now }
 {
     match value {
@@ -58,7 +58,7 @@ pub(crate) fn payload_field(value: &Field<Word>) -> Cell<'_>
 }
 
 /// What a part says of a sortindex.
-pub(crate) fn integer_field<'a>(value: &Field<i32>) -> Cell<'a>
+pub fn integer_field<'a>(value: &Field<i32>) -> Cell<'a>
     ensures { data_of result ≡ field integer value.now }
 {
     match value {
@@ -69,7 +69,7 @@ pub(crate) fn integer_field<'a>(value: &Field<i32>) -> Cell<'a>
 }
 
 /// What a part says of a ttl.
-pub(crate) fn natural_field<'a>(value: &Field<u32>) -> Cell<'a>
+pub fn natural_field<'a>(value: &Field<u32>) -> Cell<'a>
     ensures { data_of result ≡ field natural value.now }
 {
     match value {
@@ -79,7 +79,8 @@ pub(crate) fn natural_field<'a>(value: &Field<u32>) -> Cell<'a>
     }
 }
 
-fn push_time(out: &mut Vec<u8>, stamp: Stamp) -> Result<(), AllocError>
+/// Appends a time: its seconds with two decimals, as a string.
+pub fn push_time(out: &mut Vec<u8>, stamp: Stamp) -> Result<(), AllocError>
     ensures { OnOk result (out.new.items ≡ out.old.items ++ compact_text (time stamp)) }
 {
     let _time = stamp.get();
@@ -89,21 +90,24 @@ fn push_time(out: &mut Vec<u8>, stamp: Stamp) -> Result<(), AllocError>
     Ok(())
 }
 
-fn push_natural(out: &mut Vec<u8>, value: u64) -> Result<(), AllocError>
+/// Appends a whole number from 0.
+pub fn push_natural(out: &mut Vec<u8>, value: u64) -> Result<(), AllocError>
     ensures { OnOk result (out.new.items ≡ out.old.items ++ compact_text (natural value)) }
 {
     let mut buffer = Buffer::new();
     out.extend_from_slice(buffer.format(value).as_bytes())
 }
 
-fn push_integer(out: &mut Vec<u8>, value: i32) -> Result<(), AllocError>
+/// Appends a whole number.
+pub fn push_integer(out: &mut Vec<u8>, value: i32) -> Result<(), AllocError>
     ensures { OnOk result (out.new.items ≡ out.old.items ++ compact_text (integer value)) }
 {
     let mut buffer = Buffer::new();
     out.extend_from_slice(buffer.format(value).as_bytes())
 }
 
-fn push_cell(out: &mut Vec<u8>, cell: &Cell<'_>) -> Result<(), AllocError>
+/// Appends a value.
+pub fn push_cell(out: &mut Vec<u8>, cell: &Cell<'_>) -> Result<(), AllocError>
     ensures { OnOk result (out.new.items ≡ out.old.items ++ compact_text (data_of cell.now)) }
 {
     match cell {
@@ -127,7 +131,7 @@ fn push_cells(out: &mut Vec<u8>, cells: &[Cell<'_>]) -> Result<(), AllocError>
 }
 
 /// Appends the line of a first text and values, with its newline.
-pub(crate) fn push_list(out: &mut Vec<u8>, tag: &str, cells: &[Cell<'_>]) -> Result<(), AllocError>
+pub fn push_list(out: &mut Vec<u8>, tag: &str, cells: &[Cell<'_>]) -> Result<(), AllocError>
     ensures { OnOk result (out.new.items ≡ out.old.items ++ list_text tag.now cells.now) }
 {
     out.push(b'[')?;

@@ -3,14 +3,14 @@
 //! Its contracts: what is written is the text of the line, and exactly the texts of lines are read, as what they say.
 #![tactic(auto)]
 
-mod cells;
+pub mod cells;
 mod digests;
 mod forms;
 mod laws;
 mod lines;
 mod next;
 mod reading;
-mod values;
+pub mod values;
 mod writing;
 
 pub use digests::Digest;

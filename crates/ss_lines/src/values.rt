@@ -23,8 +23,9 @@ const MOST_SECONDS: u64 = 4_294_967_295;
 
 // ---- what a value says
 
+/// A whole number of 32 bits with a sign.
 #[tactic(auto, unfolding(crate::specs::Values::integer_of))]
-fn integer_of(value: &Value) -> Option<i32>
+pub fn integer_of(value: &Value) -> Option<i32>
     ensures { result ≡ integer_of (view value.now) }
 {
     match value.as_i64() {
@@ -37,8 +38,9 @@ fn integer_of(value: &Value) -> Option<i32>
     }
 }
 
+/// A whole number of 32 bits without a sign.
 #[tactic(auto, unfolding(crate::specs::Values::seconds_of))]
-fn seconds_of(value: &Value) -> Option<u32>
+pub fn seconds_of(value: &Value) -> Option<u32>
     ensures { result ≡ seconds_of (view value.now) }
 {
     match value.as_u64() {
@@ -52,7 +54,7 @@ fn seconds_of(value: &Value) -> Option<u32>
 }
 
 /// A sortindex, or none for `null`.
-fn optional_integer(value: Option<&Value>) -> Option<Option<i32>>
+pub fn optional_integer(value: Option<&Value>) -> Option<Option<i32>>
     ensures { result ≡ option_and_then (optional_of integer_of) (option_map (λ v. view v.now) value.entry) }
 {
     let value = value?;
@@ -66,7 +68,7 @@ fn optional_integer(value: Option<&Value>) -> Option<Option<i32>>
 }
 
 /// The hundredth of a second at which a row ends, or none for `null`.
-fn optional_natural(value: Option<&Value>) -> Option<Option<u64>>
+pub fn optional_natural(value: Option<&Value>) -> Option<Option<u64>>
     ensures { result ≡ option_and_then (optional_of natural_of) (option_map (λ v. view v.now) value.entry) }
 {
     let value = value?;
@@ -79,7 +81,8 @@ fn optional_natural(value: Option<&Value>) -> Option<Option<u64>>
     }
 }
 
-fn integer_field(value: Option<&Value>) -> Option<Field<i32>>
+/// What a part says of a sortindex.
+pub fn integer_field(value: Option<&Value>) -> Option<Field<i32>>
     ensures { result ≡ option_and_then (field_of integer_of) (option_map (λ v. view v.now) value.entry) }
 {
     let value = value?;
@@ -95,7 +98,8 @@ fn integer_field(value: Option<&Value>) -> Option<Field<i32>>
     }
 }
 
-fn seconds_field(value: Option<&Value>) -> Option<Field<u32>>
+/// What a part says of a ttl.
+pub fn seconds_field(value: Option<&Value>) -> Option<Field<u32>>
     ensures { result ≡ option_and_then (field_of seconds_of) (option_map (λ v. view v.now) value.entry) }
 {
     let value = value?;
@@ -112,7 +116,7 @@ fn seconds_field(value: Option<&Value>) -> Option<Field<u32>>
 }
 
 /// A text, which is moved out of its value.
-fn taken_text(value: Option<&mut Value>) -> Option<Word>
+pub fn taken_text(value: Option<&mut Value>) -> Option<Word>
     ensures { result ≡ option_and_then as_str (option_map (λ v. view v.now) value.entry) }
 {
     let value = match value {
@@ -126,7 +130,7 @@ fn taken_text(value: Option<&mut Value>) -> Option<Word>
 }
 
 /// What a part says of a payload; its text is moved out of its value.
-fn taken_field(value: Option<&mut Value>) -> Option<Field<Word>>
+pub fn taken_field(value: Option<&mut Value>) -> Option<Field<Word>>
     ensures { result ≡ option_and_then (field_of as_str) (option_map (λ v. view v.now) value.entry) }
 {
     let value = match value {
@@ -143,7 +147,8 @@ fn taken_field(value: Option<&mut Value>) -> Option<Field<Word>>
 
 // ---- what stands at a place of a list
 
-fn text_at(list: &Value, place: usize) -> Option<&str>
+/// The text at a place.
+pub fn text_at(list: &Value, place: usize) -> Option<&str>
     ensures { option_map (λ s. s.now) result ≡ text_at place (view list.now) }
 {
     match list.get(place) {
@@ -152,7 +157,8 @@ fn text_at(list: &Value, place: usize) -> Option<&str>
     }
 }
 
-fn natural_at(list: &Value, place: usize) -> Option<u64>
+/// The whole number at a place.
+pub fn natural_at(list: &Value, place: usize) -> Option<u64>
     ensures { result ≡ natural_at place (view list.now) }
 {
     match list.get(place) {
@@ -161,7 +167,8 @@ fn natural_at(list: &Value, place: usize) -> Option<u64>
     }
 }
 
-fn time_at(list: &Value, place: usize) -> Option<Stamp>
+/// The time at a place.
+pub fn time_at(list: &Value, place: usize) -> Option<Stamp>
     ensures { result ≡ time_at place (view list.now) }
 {
     match text_at(list, place) {
@@ -170,7 +177,8 @@ fn time_at(list: &Value, place: usize) -> Option<Stamp>
     }
 }
 
-fn id_at(alloc: Global, list: &Value, place: usize) -> Result<Option<Id>, AllocError>
+/// The id at a place.
+pub fn id_at(alloc: Global, list: &Value, place: usize) -> Result<Option<Id>, AllocError>
     ensures { IfOk result (λ id. id ≡ id_at place (view list.now)) }
 {
     match text_at(list, place) {
@@ -179,7 +187,8 @@ fn id_at(alloc: Global, list: &Value, place: usize) -> Result<Option<Id>, AllocE
     }
 }
 
-fn name_at(alloc: Global, list: &Value, place: usize) -> Result<Option<Name>, AllocError>
+/// The name of a collection at a place.
+pub fn name_at(alloc: Global, list: &Value, place: usize) -> Result<Option<Name>, AllocError>
     ensures { IfOk result (λ name. name ≡ name_at place (view list.now)) }
 {
     match text_at(list, place) {
@@ -361,7 +370,7 @@ fn tag_in(list: &Value) -> Option<Tag>
 
 /// What a value says as a line; perhaps the line isn't written so.
 #[tactic(auto, unfolding(crate::specs::Values::line_from))]
-pub(crate) fn line_from(alloc: Global, list: Value) -> Result<Option<Line>, AllocError>
+pub fn line_from(alloc: Global, list: Value) -> Result<Option<Line>, AllocError>
     ensures { IfOk result (λ line. line ≡ line_from (view list)) }
 {
     match tag_in(&list) {

@@ -42,7 +42,7 @@ told_apart l m behind other h k e =
 
 -- ---- the last byte
 
-ends_so : (xs ys : List ℕ) (a b : ℕ) → xs ++ a ∷ [] ≡ ys ++ b ∷ [] → (xs ≡ ys) × (a ≡ b)
+pub ends_so : (xs ys : List ℕ) (a b : ℕ) → xs ++ a ∷ [] ≡ ys ++ b ∷ [] → (xs ≡ ys) × (a ≡ b)
 ends_so [] [] a b e = (refl, cc)
 ends_so [] (y ∷ ys) a b e =
     let l : length ([] ++ a ∷ []) ≡ length ((y ∷ ys) ++ b ∷ []) = ap length e in

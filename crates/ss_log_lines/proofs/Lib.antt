@@ -1,0 +1,5 @@
+pub mod Listed
+pub mod Within
+pub mod Formed
+pub mod Again
+pub mod Fronts

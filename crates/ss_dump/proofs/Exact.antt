@@ -20,14 +20,14 @@ use Rattle.ss_dump.proofs.Told.{text_append}
 
 -- ---- nothing follows the end
 
-pub after_whole : (kept : Kept) (digest : List ℕ) (l : Line) (s : State) → next (whole kept digest) l ≡ Some s → ⊥
+after_whole : (kept : Kept) (digest : List ℕ) (l : Line) (s : State) → next (whole kept digest) l ≡ Some s → ⊥
 unfolding next
 after_whole kept digest l s e = none_some e
 
 whole_same : (k m : Kept) (d e : List ℕ) → whole k d ≡ whole m e → (k ≡ m) × (d ≡ e)
 whole_same k m d e h = (cc, cc)
 
-pub no_front : (l : Line) (rest : List ℕ) → line_text l ++ rest ≡ [] → ⊥
+no_front : (l : Line) (rest : List ℕ) → line_text l ++ rest ≡ [] → ⊥
 no_front l rest e = some_text l (nothing_front (line_text l) rest e)
   where
     nothing_front : (xs ys : List ℕ) → xs ++ ys ≡ [] → xs ≡ []
@@ -70,11 +70,11 @@ clash state (x ∷ xs) (y ∷ ys) st rest k d f g a b t none over =
 
 -- ---- what is said of a text is that it tells an account
 
-pub all_append : (xs ys : List Line) → AllByRecursion IsLine xs → AllByRecursion IsLine ys → AllByRecursion IsLine (xs ++ ys)
+all_append : (xs ys : List Line) → AllByRecursion IsLine xs → AllByRecursion IsLine ys → AllByRecursion IsLine (xs ++ ys)
 all_append [] ys h k = k
 all_append (x ∷ xs) ys h k = (h.0, all_append xs ys h.1 k)
 
-pub told_by : (text : List ℕ) (kept : Kept) (digest : List ℕ) → AllByRecursion IsLine (account_lines kept) → is_digest digest ≡ true → in_order kept ≡ kept → text ≡ closed_by digest (body_text kept)
+told_by : (text : List ℕ) (kept : Kept) (digest : List ℕ) → AllByRecursion IsLine (account_lines kept) → is_digest digest ≡ true → in_order kept ≡ kept → text ≡ closed_by digest (body_text kept)
     → IsToldWith text kept digest
 unfolding body_text
 told_by text kept digest f d o t =

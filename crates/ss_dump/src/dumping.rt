@@ -127,7 +127,7 @@ pub fn push_kept(alloc: Global, out: &mut Vec<u8>, kept: &Kept) -> Result<(), Al
 
 /// The digest of a text: its SHA-256.
 #[tactic(auto, unfolding(crate::specs::Dumps::digest_of))]
-pub fn digest_of(alloc: Global, text: &[u8]) -> Result<Digest, AllocError>
+pub(crate) fn digest_of(alloc: Global, text: &[u8]) -> Result<Digest, AllocError>
     ensures { IfOk result (λ digest. digest ≡ digest_of text.now) }
 {
     let hash = Sha256::digest(text);

@@ -11,12 +11,11 @@ mod refilling;
 mod telling;
 mod undumping;
 
-pub use dumping::{digest_of, dump, push_kept};
+pub use dumping::{dump, push_kept};
 pub use faults::{DumpFault, RefillFault};
 pub use laws::{
     a_dump_is_not_refused, a_dump_tells_its_account, kept_form, no_order_is_dumped, one_account,
     read_again,
 };
 pub use refilling::refill;
-pub use telling::{Draft, Stage};
 pub use undumping::undump;

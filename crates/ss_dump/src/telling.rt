@@ -13,18 +13,18 @@ use std::alloc::{AllocError, Global};
 
 /// What is told of an account so far.
 #[derive(Drop)]
-pub struct Draft {
-    pub store: Stamp,
-    pub last_delete: Stamp,
-    pub counter: u64,
-    pub collections: Vec<(Name, Stamp)>,
-    pub rows: Vec<Row>,
-    pub batches: Vec<Staged>,
+pub(crate) struct Draft {
+    pub(crate) store: Stamp,
+    pub(crate) last_delete: Stamp,
+    pub(crate) counter: u64,
+    pub(crate) collections: Vec<(Name, Stamp)>,
+    pub(crate) rows: Vec<Row>,
+    pub(crate) batches: Vec<Staged>,
 }
 
 /// How far a text has told an account.
 #[derive(Drop)]
-pub enum Stage {
+pub(crate) enum Stage {
     /// Nothing is told.
     Nothing,
 
@@ -43,7 +43,7 @@ pub enum Stage {
 
 impl Draft {
     /// What is told as what is kept of an account.
-    pub fn into_kept(self) -> Kept
+    pub(crate) fn into_kept(self) -> Kept
         ensures { result ≡ kept_in self }
     {
         Kept {
@@ -201,7 +201,7 @@ fn timed(alloc: Global, line: Line) -> Option<Stage>
 impl Stage {
     /// What the next line makes of what is told; None exactly where that line may not come next.
     #[tactic(auto, unfolding(crate::specs::Telling::next))]
-    pub fn next(self, alloc: Global, line: Line) -> Result<Option<Stage>, AllocError>
+    pub(crate) fn next(self, alloc: Global, line: Line) -> Result<Option<Stage>, AllocError>
         ensures { IfOk result (λ o. option_map seen o ≡ next (seen self) line) }
     {
         match self {
@@ -220,7 +220,7 @@ impl Stage {
     }
 
     /// Whether the end is told.
-    pub fn is_whole(&self) -> bool
+    pub(crate) fn is_whole(&self) -> bool
         ensures { result ≡ is_whole (seen self.now) }
     {
         matches!(self, Stage::Whole(_, _))

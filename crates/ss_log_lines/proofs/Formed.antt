@@ -1,6 +1,5 @@
 -- What a line of a log is written as nests no deeper than five lists.
-use Rattle.std.proofs.Common.{◌≡◌, ℕ, suc, ◌^◌, ◌<◌, true, List, map, Option, Some, None, codes, refl, lit<}
-use Rattle.std.specs.Bool.{⊤}
+use Rattle.std.proofs.Common.{ℕ, suc, ◌^◌, ◌<◌, List, map, Option, Some, None, codes, refl, lit<}
 use Rattle.std.specs.Prelude.{FitsSigned}
 use Rattle.std.specs.Int.{w32}
 use Rattle.std.specs.List.{AllByRecursion}

@@ -1,7 +1,7 @@
 -- The lines of a log: how a log begins, what tells its opening account, and what was asked of it (the format is this
 -- project's). A line is a list in compact JSON, and a newline.
 use Rattle.std.specs.Prelude.{◌≡◌, ◌≤◌, ◌<◌, ◌^◌, ◌++◌, ◌∷◌, [], ℕ, List, codes, length, take, ⊤}
-use Rattle.serde_json.specs.Data.{Data, Items, array, string}
+use Rattle.serde_json.specs.Data.{Items, array, string}
 use Rattle.serde_json.specs.View.{items_of}
 use Rattle.serde_json.specs.Written.{compact_text}
 use Rattle.ss_text.specs.Time.{last_stamp}

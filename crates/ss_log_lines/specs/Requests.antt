@@ -20,7 +20,7 @@ use Rattle.ss_query.specs.declared.requests.Request.{Request}
 use Rattle.ss_query.specs.declared.requests.Request.TheVariants.{Info, DeleteAll, List as ListOf, Post, DeleteCollection, DeleteIds, Get, Put, Delete}
 use Rattle.ss_query.specs.declared.requests.Sort.{Sort}
 use Rattle.ss_query.specs.declared.requests.Sort.TheVariants.{Newest, Oldest, Index}
-use Rattle.ss_lines.specs.Lines.{IsPart, OfField, OfOption, field, integer, natural, optional, time}
+use Rattle.ss_lines.specs.Lines.{IsPart, OfOption, field, integer, natural, optional, time}
 
 -- ---- lists
 

@@ -70,7 +70,7 @@ clash state (x ∷ xs) (y ∷ ys) st rest k d f g a b t none over =
 
 -- ---- what is said of a text is that it tells an account
 
-all_append : (xs ys : List Line) → AllByRecursion IsLine xs → AllByRecursion IsLine ys → AllByRecursion IsLine (xs ++ ys)
+pub all_append : (xs ys : List Line) → AllByRecursion IsLine xs → AllByRecursion IsLine ys → AllByRecursion IsLine (xs ++ ys)
 all_append [] ys h k = k
 all_append (x ∷ xs) ys h k = (h.0, all_append xs ys h.1 k)
 

@@ -374,11 +374,11 @@ text_append (x ∷ xs) ys = ap (λ t. line_text x ++ t) (text_append xs ys) ∙ 
 pub text_more : (ls : List Line) (l : Line) → text_of (ls ++ l ∷ []) ≡ text_of ls ++ line_text l
 text_more ls l = text_append ls (l ∷ []) ∙ ap (λ t. text_of ls ++ t) (append-nil (line_text l))
 
-all_front : (xs ys : List Line) → AllByRecursion IsLine (xs ++ ys) → AllByRecursion IsLine xs
+pub all_front : (xs ys : List Line) → AllByRecursion IsLine (xs ++ ys) → AllByRecursion IsLine xs
 all_front [] ys h = tt
 all_front (x ∷ xs) ys h = (h.0, all_front xs ys h.1)
 
-all_back : (xs ys : List Line) → AllByRecursion IsLine (xs ++ ys) → AllByRecursion IsLine ys
+pub all_back : (xs ys : List Line) → AllByRecursion IsLine (xs ++ ys) → AllByRecursion IsLine ys
 all_back [] ys h = h
 all_back (x ∷ xs) ys h = all_back xs ys h.1
 

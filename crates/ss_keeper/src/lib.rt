@@ -15,4 +15,5 @@ mod time_edits;
 
 pub use faults::KeepFault;
 pub use keeper::Keeper;
+pub use making::make;
 pub use memory::{KeeperUnder, MemKeeper, SureKeeper};

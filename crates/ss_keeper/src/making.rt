@@ -88,7 +88,7 @@ fn set_about(kept: &mut Kept, commits: &[Changes])
 
 /// Makes the changes of commits to what is kept, one after the other. All memory is taken before anything changes;
 /// after an Err it is as before. The time is in the size of what is kept and of the changes together.
-pub(crate) fn make(alloc: Global, kept: &mut Kept, commits: &[Changes]) -> Result<(), AllocError>
+pub fn make(alloc: Global, kept: &mut Kept, commits: &[Changes]) -> Result<(), AllocError>
     ensures made { OnOk result (kept.new ≡ after_commits kept.old commits.now) }
     ensures same { OnErr result (kept.new ≡ kept.old) }
 {

@@ -2,13 +2,14 @@
 
 ghost use Rattle.ss_account.specs.Opening.{IsGood};
 
+use crate::exchanges::{Commit, answered};
 use anyhow::{Result, bail};
 use ss_bso::{Batches, Kept, Rows, Times};
 use ss_dump::{DumpFault, RefillFault, dump, refill, undump};
 use ss_keeper::{Keeper, SureKeeper};
 use std::alloc::Global;
 
-/// The text that a case's lines spell.
+/// The text that a case's lines spell, without the commit behind it.
 fn text_of(alloc: Global, lines: &[String]) -> Result<Vec<u8>> {
     let mut text = Vec::new(alloc);
     for line in lines {
@@ -18,7 +19,7 @@ fn text_of(alloc: Global, lines: &[String]) -> Result<Vec<u8>> {
             text.push(b'\n')?;
         } else if let Some(piece) = line.strip_prefix("-") {
             text.extend_from_slice(piece.as_bytes())?;
-        } else {
+        } else if !line.starts_with(">") {
             bail!("a line of no text: {line}");
         }
     }
@@ -43,8 +44,8 @@ fn turned(kept: Kept) -> Kept {
     }
 }
 
-/// What a keeper holds that was filled with this; a second time it is refused.
-fn refilled(alloc: Global, kept: &Kept) -> Result<Kept>
+/// A keeper in memory that was filled with this; a second time it is refused.
+fn refilled(alloc: Global, kept: &Kept) -> Result<SureKeeper>
     requires { IsGood kept.now }
 {
     let mut keeper = SureKeeper::new(Kept::fresh(alloc));
@@ -55,6 +56,11 @@ fn refilled(alloc: Global, kept: &Kept) -> Result<Kept>
     if again != Err(RefillFault::NotFresh) && again.is_err() {
         bail!("a keeper that is filled was refused otherwise");
     }
+    Ok(keeper)
+}
+
+/// What a keeper holds.
+fn held_by(alloc: Global, mut keeper: SureKeeper) -> Result<Kept> {
     match keeper.load(alloc) {
         Ok(held) => Ok(held),
         Err(_) => bail!("a keeper in memory failed"),
@@ -65,7 +71,7 @@ fn refilled(alloc: Global, kept: &Kept) -> Result<Kept>
 fn is_same(alloc: Global, text: &[u8], kept: Kept) -> Result<bool>
     requires { IsGood kept }
 {
-    let held = refilled(alloc, &kept)?;
+    let held = held_by(alloc, refilled(alloc, &kept)?)?;
     let first = dump(alloc, &kept)?;
     let second = dump(alloc, &held)?;
     let third = dump(alloc, &turned(kept))?;
@@ -88,18 +94,27 @@ fn fault_told(alloc: Global, fault: &DumpFault) -> Result<String> {
     })
 }
 
+/// What comes of a dump: whether it is written as it was read, or, where a commit is asked for, what the moved account
+/// answers.
+fn dump_told(alloc: Global, text: &[u8], kept: Kept, commit: Option<Commit>) -> Result<String>
+    requires { IsGood kept }
+{
+    if let Some(commit) = commit {
+        return answered(alloc, refilled(alloc, &kept)?, commit);
+    }
+    let told = if is_same(alloc, text, kept)? {
+        "a dump"
+    } else {
+        "another dump"
+    };
+    Ok(String::from_str(alloc, told)?)
+}
+
 /// What comes of the text of a case.
 pub fn told(alloc: Global, lines: &[String]) -> Result<String> {
     let text = text_of(alloc, lines)?;
     match undump(alloc, &text) {
-        Ok(kept) => {
-            let told = if is_same(alloc, &text, kept)? {
-                "a dump"
-            } else {
-                "another dump"
-            };
-            Ok(String::from_str(alloc, told)?)
-        }
+        Ok(kept) => dump_told(alloc, &text, kept, Commit::of(alloc, lines)?),
         Err(fault) => fault_told(alloc, &fault),
     }
 }

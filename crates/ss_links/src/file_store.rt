@@ -5,15 +5,16 @@ ghost use Rattle.ss_links.specs.Stores.{HasCause};
 
 use crate::store::{Store, StoreFault};
 use std::alloc::Global;
-use std::fs::OpenFile;
+use std::fs::{OpenFile, OpenOptions};
 use std::io::{ErrorKind, Read, Write};
 use std::marker::Model;
 use std::path::Path;
 use std::rt::Files;
 use std::{fs, io};
 
-/// Files of the system, by their paths. A save is written to a file beside, whose name ends in `.new`, and synced, and then
-/// renamed to the file's name at once: after a crash the file is the old one or the new one, whole.
+/// Files of the system, by their paths. A save is written to a new file beside, whose name has the process's number and ends
+/// in `.new`, and synced, and then renamed to the file's name at once: after a crash the file is the old one or the new one,
+/// whole, and of two processes that save it neither writes into what the other has begun. A link is followed, and stays.
 #[derive(Drop)]
 pub struct FileStore<'a, R: Files> {
     files: &'a R,
@@ -59,9 +60,9 @@ fn read_file<R: Files>(files: &R, alloc: Global, path: &str) -> io::Result<Optio
     Ok(Some(bytes))
 }
 
-// Makes a file of these bytes, with the permissions of the file that it is to replace, and waits until it is on the disk.
-fn write_synced<R: Files>(files: &R, path: &str, old: &str, bytes: &[u8]) -> io::Result<()> {
-    let mut file = fs::create(files, path)?;
+// Writes these bytes into a file that was made, with the permissions of the file that it is to replace, and waits until they
+// are on the disk.
+fn write_synced<R: Files>(files: &R, mut file: R::File, old: &str, bytes: &[u8]) -> io::Result<()> {
     if let Ok(metadata) = files.metadata(old) {
         file.set_permissions(metadata.permissions())?;
     }
@@ -71,8 +72,11 @@ fn write_synced<R: Files>(files: &R, path: &str, old: &str, bytes: &[u8]) -> io:
 
 // Replaces a file by one with these bytes.
 fn replace<R: Files>(files: &R, alloc: Global, path: &str, bytes: &[u8]) -> io::Result<()> {
-    let beside = format!(in alloc; "{path}.new")?;
-    let written = match write_synced(files, beside.as_str(), path, bytes) {
+    let beside = format!(in alloc; "{path}.{}.new", libc::getpid())?;
+    let mut fresh = OpenOptions::new();
+    fresh.write(true).create_new(true);
+    let file = files.open_file(&fresh, beside.as_str())?;
+    let written = match write_synced(files, file, path, bytes) {
         Ok(()) => fs::rename(files, beside.as_str(), path),
         Err(error) => Err(error),
     };
@@ -85,6 +89,14 @@ fn replace<R: Files>(files: &R, alloc: Global, path: &str, bytes: &[u8]) -> io::
             let _ = fs::remove_file(files, beside.as_str());
             Err(error)
         }
+    }
+}
+
+// Replaces a file by one with these bytes, in the folder in which it is: where the path is a link, that of its end.
+fn replace_at_end<R: Files>(files: &R, alloc: Global, path: &str, bytes: &[u8]) -> io::Result<()> {
+    match files.canonicalize(alloc, path) {
+        Ok(end) => replace(files, alloc, end.as_str(), bytes),
+        Err(_) => replace(files, alloc, path, bytes),
     }
 }
 
@@ -112,7 +124,7 @@ impl<'a, R: Files> Store for FileStore<'a, R> {
     }
 
     fn save(&mut self, alloc: Global, name: &str, bytes: &[u8]) -> Result<(), StoreFault> {
-        match replace(self.files, alloc, name, bytes) {
+        match replace_at_end(self.files, alloc, name, bytes) {
             Ok(()) => Ok(()),
             Err(error) => Err(self.fault_of(error)),
         }

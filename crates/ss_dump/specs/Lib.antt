@@ -4,3 +4,4 @@ pub mod Stages
 pub mod Undumped
 pub mod Refilled
 pub mod Same
+pub mod Fronts

@@ -2,6 +2,7 @@
 
 ghost use Rattle.std.specs.Prelude.{◌≡◌};
 ghost use Rattle.ss_dump.specs.declared.faults.DumpFault.TheVariants.{Memory};
+ghost use Rattle.ss_dump.specs.declared.faults.LineFault.TheVariants.{Memory as NoMemory};
 ghost use Rattle.ss_dump.specs.declared.faults.RefillFault.TheVariants.{Memory as NoRoom};
 
 use ss_text::Word;
@@ -41,6 +42,26 @@ impl From<AllocError> for DumpFault {
 
     fn from(_error: AllocError) -> DumpFault {
         DumpFault::Memory
+    }
+}
+
+/// Why no dump stands at the front of a text.
+#[derive(Clone, Copy, Debug, PartialEq, Eq, Error)]
+pub enum LineFault {
+    /// This line, from 1, is the first that isn't the next line of a dump; where the lines end too early it is the one
+    /// behind the last.
+    #[error("line {n} is not the next line of a dump")]
+    BadLine { n: u64 },
+
+    #[error("out of memory")]
+    Memory,
+}
+
+impl From<AllocError> for LineFault {
+    ghost from_gives = { λ _ fault. fault ≡ NoMemory };
+
+    fn from(_error: AllocError) -> LineFault {
+        LineFault::Memory
     }
 }
 

@@ -12,7 +12,7 @@ mod telling;
 mod undumping;
 
 pub use dumping::{dump, push_kept};
-pub use faults::{DumpFault, RefillFault};
+pub use faults::{DumpFault, LineFault, RefillFault};
 pub use laws::{
     a_dump_is_not_refused, a_dump_tells_its_account, kept_form, no_order_is_dumped, one_account,
     read_again,

@@ -1,0 +1,10 @@
+//! Logs: the text of a journal, and the journals that a text tells, one behind the other.
+//! Its contracts: `write_log` writes the definition's text, and `read_logs` reads exactly the texts of logs, as what they
+//! tell, and names the first line that isn't the next one of any other.
+#![tactic(auto)]
+
+mod faults;
+mod logs;
+
+pub use faults::LogFault;
+pub use logs::Log;

@@ -10,7 +10,7 @@ use ss_keeper::{Keeper, SureKeeper};
 use std::alloc::Global;
 
 /// The text that a case's lines spell, without the commit behind it.
-fn text_of(alloc: Global, lines: &[String]) -> Result<Vec<u8>> {
+pub fn text_of(alloc: Global, lines: &[String]) -> Result<Vec<u8>> {
     let mut text = Vec::new(alloc);
     for line in lines {
         let line = line.as_str();

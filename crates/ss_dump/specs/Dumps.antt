@@ -22,11 +22,13 @@ batch_lines b = Batch b.number b.collection b.begun ∷ map (λ p. PartLine p) b
 abbrev pub collection_line : List ℕ × ℕ → Line
 collection_line entry = Collection entry.0 entry.1
 
+-- the lines of lists of collections, of rows and of batches
+abbrev pub list_lines : List (List ℕ × ℕ) → List Row → List Staged → List Line
+list_lines collections rows batches = map collection_line collections ++ (map (λ r. RowLine r) rows ++ flat_map batch_lines batches)
+
 -- the lines of what is kept of an account, as its lists stand
 unfoldable pub account_lines : Kept → List Line
-account_lines kept =
-    Account ∷ Times kept.store kept.last_delete kept.counter
-    ∷ (map collection_line kept.collections ++ (map (λ r. RowLine r) kept.rows ++ flat_map batch_lines kept.batches))
+account_lines kept = Account ∷ Times kept.store kept.last_delete kept.counter ∷ list_lines kept.collections kept.rows kept.batches
 
 -- ---- their order
 

@@ -1,5 +1,5 @@
 -- What a text has told, as the code has it, for private clauses.
-use Rattle.std.specs.Prelude.{◌≡◌, ◌≤◌, ℕ, List, Bool, true, false, Some, length, take, ⊤}
+use Rattle.std.specs.Prelude.{◌≡◌, ◌≤◌, ◌+◌, ◌++◌, ℕ, List, Bool, true, false, Some, bytes_eq, length, take, ⊤}
 use Rattle.std.specs.List.{AllByRecursion}
 use Rattle.ss_bso.specs.declared.changes.Kept.{Kept}
 use Rattle.ss_lines.specs.Lines.{IsLine}
@@ -8,10 +8,10 @@ use Rattle.ss_lines.specs.declared.lines.Line.TheVariants.{Digest}
 use Rattle.ss_dump.specs.declared.telling.Draft.{Draft}
 use Rattle.ss_dump.specs.declared.telling.Stage.{Stage}
 use Rattle.ss_dump.specs.declared.telling.Stage.TheVariants.{Nothing, Begun, Account, Closed, Whole}
-use Rattle.ss_dump.specs.declared.faults.DumpFault.{DumpFault}
-use Rattle.ss_dump.specs.declared.faults.DumpFault.TheVariants.{BadLine, BadDigest, BadCollection, BadRow, BadBatch, Memory}
+use Rattle.ss_dump.specs.declared.faults.LineFault.{LineFault}
+use Rattle.ss_dump.specs.declared.faults.LineFault.TheVariants.{BadLine, Memory}
 use Rattle.ss_dump.specs.Dumps.{account_lines, text_of}
-use Rattle.ss_dump.specs.Telling.{State, nothing, begun, account, closed, whole, IsBadLine, told}
+use Rattle.ss_dump.specs.Telling.{State, nothing, begun, account, closed, whole, is_whole, IsBadLine, NoneComes, told}
 
 abbrev pub kept_in : Draft → Kept
 kept_in d = record {
@@ -53,11 +53,42 @@ pub record IsReadTo (text : List ℕ) (state : State) (used body count : ℕ) : 
   pub few : count ≤ used
   pub body_is : HasBody text body state
 
+abbrev pub is_closed : State → Bool
+is_closed nothing = false
+is_closed begun = false
+is_closed (account kept) = false
+is_closed (closed kept digest) = true
+is_closed (whole kept digest) = false
+
+-- a digest that is told is this one
+abbrev pub states : State → List ℕ → Bool
+states nothing digest = false
+states begun digest = false
+states (account kept) digest = false
+states (closed kept stated) digest = bytes_eq stated digest
+states (whole kept stated) digest = bytes_eq stated digest
+
+-- the line of this number isn't one that may come next, behind lines that have told this
+pub record IsStop (text : List ℕ) (state : State) (n : ℕ) : Type 0 where
+  pub lines : List Line
+  pub rest : List ℕ
+  pub are : AllByRecursion IsLine lines
+  pub tell : told lines ≡ Some state
+  pub text_is : text ≡ text_of lines ++ rest
+  pub none : NoneComes state rest
+  pub number : n ≡ length lines + 1
+
+-- it is such a line, or memory is wanting
+abbrev pub IsStopOf : List ℕ → State → LineFault → Type 0
+IsStopOf text state (BadLine n) = IsStop text state n
+IsStopOf text state Memory = ⊤
+
+-- a line stops before the digest is told, or memory is wanting
+abbrev pub IsStopBefore : List ℕ → LineFault → Type 0
+IsStopBefore text (BadLine n) = (state : State) × IsStop text state n × (is_closed state ≡ false) × (is_whole state ≡ false)
+IsStopBefore text Memory = ⊤
+
 -- a line is bad, or memory is wanting
-abbrev pub IsLineFault : List ℕ → DumpFault → Type 0
+abbrev pub IsLineFault : List ℕ → LineFault → Type 0
 IsLineFault text (BadLine n) = IsBadLine text n
-IsLineFault text (BadDigest stated found) = ⊥
-IsLineFault text (BadCollection n) = ⊥
-IsLineFault text (BadRow n) = ⊥
-IsLineFault text (BadBatch n) = ⊥
 IsLineFault text Memory = ⊤

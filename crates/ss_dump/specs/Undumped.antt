@@ -8,6 +8,8 @@ use Rattle.ss_account.specs.Opening.{IsFaultOf, IsGood}
 use Rattle.ss_account.specs.declared.faults.OpenFault.TheVariants as opening
 use Rattle.ss_dump.specs.declared.faults.DumpFault.{DumpFault}
 use Rattle.ss_dump.specs.declared.faults.DumpFault.TheVariants.{BadLine, BadDigest, BadCollection, BadRow, BadBatch, Memory}
+use Rattle.ss_dump.specs.declared.faults.LineFault.{LineFault}
+use Rattle.ss_dump.specs.declared.faults.LineFault.TheVariants as line
 use Rattle.ss_dump.specs.Dumps.{account_lines, body_text, closed_by, digest_of, dump_text, in_order}
 use Rattle.ss_dump.specs.Telling.{IsBadLine}
 
@@ -44,6 +46,11 @@ IsRefused text (BadCollection n) = (kept : Kept) × WouldBeDump text kept × IsF
 IsRefused text (BadRow n) = (kept : Kept) × WouldBeDump text kept × IsFaultOf kept (opening.BadRow n)
 IsRefused text (BadBatch n) = (kept : Kept) × WouldBeDump text kept × IsFaultOf kept (opening.BadBatch n)
 IsRefused text Memory = ⊤
+
+-- why a text's lines aren't those of a dump, as why the text is none
+abbrev pub of_line : LineFault → DumpFault
+of_line (line.BadLine n) = BadLine n
+of_line line.Memory = Memory
 
 -- ---- for private clauses
 

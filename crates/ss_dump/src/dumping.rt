@@ -1,15 +1,16 @@
 //! An account's dump.
 
-ghost use Rattle.std.specs.Prelude.{◌≡◌, ◌++◌, IfOk, OnOk, map};
+ghost use Rattle.std.specs.Prelude.{◌≡◌, ◌≤◌, ◌++◌, IfOk, OnOk, drop, length, map};
 ghost use Rattle.std.specs.List.{flat_map};
 ghost use Rattle.ss_text.specs.Texts.{sorted};
 ghost use Rattle.ss_lines.specs.declared.lines.Line.TheVariants.{Row as RowLine};
-ghost use Rattle.ss_dump.specs.Dumps.{batch_lines, body_text, collection_line, comes_before, digest_of, dump_text, name_cmp, number_cmp, place_cmp, text_of};
+ghost use Rattle.ss_bso.specs.Changes.{kept_of};
+ghost use Rattle.ss_dump.specs.Dumps.{batch_lines, body_text, closed_by, collection_line, comes_before, digest_of, dump_text, list_lines, name_cmp, number_cmp, place_cmp, text_of};
 
-use sha2::{Digest as _, Sha256};
-use ss_bso::{Kept, Row, Staged};
+use crate::digests::digest_of;
+use ss_bso::{Kept, Plain, Row, Staged};
 use ss_lines::{
-    Digest, push_account, push_batch, push_collection, push_digest, push_end, push_part, push_row,
+    push_account, push_batch, push_collection, push_digest, push_end, push_part, push_row,
     push_times,
 };
 use ss_text::{Name, Stamp};
@@ -111,6 +112,23 @@ fn push_batches(alloc: Global, out: &mut Vec<u8>, batches: &[Staged]) -> Result<
     Ok(())
 }
 
+/// Appends the lines of an account's lists, each in order.
+fn push_lists(
+    alloc: Global,
+    out: &mut Vec<u8>,
+    collections: &[(Name, Stamp)],
+    rows: &[Row],
+    batches: &[Staged],
+) -> Result<(), AllocError>
+    ensures { OnOk result (out.new.items ≡ out.old.items ++ text_of (list_lines (sorted (comes_before name_cmp) collections.now)
+        (sorted (comes_before place_cmp) rows.now) (sorted (comes_before number_cmp) batches.now))) }
+{
+    push_collections(alloc, out, collections)?;
+    push_rows(alloc, out, rows)?;
+    push_batches(alloc, out, batches)?;
+    Ok(())
+}
+
 /// Appends the lines of what is kept of an account, in order: its collections by name, its rows by collection and id, its
 /// batches by number. Without memory a part of them may stand at the end.
 #[tactic(auto, unfolding(crate::specs::Dumps::body_text, crate::specs::Dumps::account_lines))]
@@ -119,23 +137,40 @@ pub fn push_kept(alloc: Global, out: &mut Vec<u8>, kept: &Kept) -> Result<(), Al
 {
     push_account(out)?;
     push_times(out, kept.store, kept.last_delete, kept.counter)?;
-    push_collections(alloc, out, kept.collections.as_slice())?;
-    push_rows(alloc, out, kept.rows.as_slice())?;
-    push_batches(alloc, out, kept.batches.as_slice())?;
-    Ok(())
+    push_lists(
+        alloc,
+        out,
+        kept.collections.as_slice(),
+        kept.rows.as_slice(),
+        kept.batches.as_slice(),
+    )
 }
 
-/// The digest of a text: its SHA-256.
-#[tactic(auto, unfolding(crate::specs::Dumps::digest_of))]
-pub(crate) fn digest_of(alloc: Global, text: &[u8]) -> Result<Digest, AllocError>
-    ensures { IfOk result (λ digest. digest ≡ digest_of text.now) }
+/// Appends the lines of an account, in order; its moment isn't told by them.
+#[tactic(auto, unfolding(crate::specs::Dumps::body_text, crate::specs::Dumps::account_lines))]
+fn push_plain(alloc: Global, out: &mut Vec<u8>, account: &Plain) -> Result<(), AllocError>
+    ensures { OnOk result (out.new.items ≡ out.old.items ++ body_text (kept_of account.now)) }
 {
-    let hash = Sha256::digest(text);
-    let digits = hex::encode(alloc, hash.as_slice())?;
-    match Digest::new(alloc, digits.as_str())? {
-        Some(digest) => Ok(digest),
-        None => unreachable!(),
-    }
+    push_account(out)?;
+    push_times(out, account.store, account.last_delete, account.counter)?;
+    push_lists(
+        alloc,
+        out,
+        account.collections.as_slice(),
+        account.rows.as_slice(),
+        account.batches.as_slice(),
+    )
+}
+
+/// Appends the digest of what stands from a place on, and the end.
+fn push_close(alloc: Global, out: &mut Vec<u8>, from: usize) -> Result<(), AllocError>
+    requires { from ≤ length out.old.items }
+    ensures { OnOk result (out.new.items ≡ closed_by (digest_of (drop from out.old.items)) out.old.items) }
+{
+    let digest = digest_of(alloc, &out[from..])?;
+    push_digest(out, &digest)?;
+    push_end(out)?;
+    Ok(())
 }
 
 /// The dump of what is kept of an account: its lines, the SHA-256 of these, and the end. The lines stand in order,
@@ -146,8 +181,16 @@ pub fn dump(alloc: Global, kept: &Kept) -> Result<Vec<u8>, AllocError>
 {
     let mut out = Vec::new(alloc);
     push_kept(alloc, &mut out, kept)?;
-    let digest = digest_of(alloc, &out)?;
-    push_digest(&mut out, &digest)?;
-    push_end(&mut out)?;
+    push_close(alloc, &mut out, 0)?;
     Ok(out)
+}
+
+/// Appends the dump of an account, whose moment it doesn't tell. Without memory a part of it may stand at the end.
+#[tactic(auto, unfolding(crate::specs::Dumps::dump_text))]
+pub fn push_dump(alloc: Global, out: &mut Vec<u8>, account: &Plain) -> Result<(), AllocError>
+    ensures { OnOk result (out.new.items ≡ out.old.items ++ dump_text (kept_of account.now)) }
+{
+    let from = out.len();
+    push_plain(alloc, out, account)?;
+    push_close(alloc, out, from)
 }

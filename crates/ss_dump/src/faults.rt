@@ -3,6 +3,7 @@
 ghost use Rattle.std.specs.Prelude.{◌≡◌};
 ghost use Rattle.ss_dump.specs.declared.faults.DumpFault.TheVariants.{Memory};
 ghost use Rattle.ss_dump.specs.declared.faults.LineFault.TheVariants.{Memory as NoMemory};
+ghost use Rattle.ss_dump.specs.Undumped.{of_line};
 ghost use Rattle.ss_dump.specs.declared.faults.RefillFault.TheVariants.{Memory as NoRoom};
 
 use ss_text::Word;
@@ -55,6 +56,17 @@ pub enum LineFault {
 
     #[error("out of memory")]
     Memory,
+}
+
+impl From<LineFault> for DumpFault {
+    ghost from_gives = { λ fault dump. dump ≡ of_line fault };
+
+    fn from(fault: LineFault) -> DumpFault {
+        match fault {
+            LineFault::BadLine { n } => DumpFault::BadLine { n },
+            LineFault::Memory => DumpFault::Memory,
+        }
+    }
 }
 
 impl From<AllocError> for LineFault {

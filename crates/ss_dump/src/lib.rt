@@ -3,16 +3,19 @@
 //! `refill` a keeper holds exactly what it was given.
 #![tactic(auto)]
 
+mod digests;
 mod dumping;
 mod faults;
+mod fronts;
 mod laws;
 mod reading;
 mod refilling;
 mod telling;
 mod undumping;
 
-pub use dumping::{dump, push_kept};
+pub use dumping::{dump, push_dump, push_kept};
 pub use faults::{DumpFault, LineFault, RefillFault};
+pub use fronts::{DumpFront, front_dump};
 pub use laws::{
     a_dump_is_not_refused, a_dump_tells_its_account, kept_form, no_order_is_dumped, one_account,
     read_again,

@@ -1,11 +1,11 @@
-//! Reading a text to its end, line by line, in place.
+//! Reading a text line by line, in place.
 
 ghost use Rattle.std.specs.Prelude.{◌≡◌, ◌<◌, ◌≤◌, false, true, if◌then◌else◌, length, take, IfOk, IfErr};
 ghost use Rattle.ss_dump.specs.Dumps.{account_lines, text_of};
-ghost use Rattle.ss_dump.specs.Stages.{IsLineFault, IsReadTo, is_digest_line, kept_in, seen};
+ghost use Rattle.ss_dump.specs.Stages.{HasBody, IsLineFault, IsReadTo, IsStopBefore, IsStopOf, is_closed, is_digest_line, kept_in, seen};
 ghost use Rattle.ss_dump.specs.Telling.{IsToldWith, is_whole, whole};
 
-use crate::faults::DumpFault;
+use crate::faults::LineFault;
 use crate::telling::{Draft, Stage};
 use ss_lines::{Digest, Line, next_line};
 use std::alloc::Global;
@@ -13,10 +13,10 @@ use std::alloc::Global;
 /// How far a text was read, in bytes and in lines, and how many bytes are the lines of the account, where these are over.
 #[derive(Drop)]
 pub(crate) struct Reading {
-    stage: Stage,
-    used: usize,
-    body: usize,
-    count: u64,
+    pub(crate) stage: Stage,
+    pub(crate) used: usize,
+    pub(crate) body: usize,
+    pub(crate) count: u64,
 }
 
 /// What a text has told: an account, the digest that it states, and how many bytes stand before the digest.
@@ -41,16 +41,17 @@ fn body_with(line: &Line, used: usize, body: usize) -> usize
 }
 
 /// Reads the next line.
-fn step(alloc: Global, bytes: &[u8], reading: Reading) -> Result<Reading, DumpFault>
+pub(crate) fn step(alloc: Global, bytes: &[u8], reading: Reading) -> Result<Reading, LineFault>
     requires read { IsReadTo bytes.now (seen reading.stage) reading.used reading.body reading.count }
     requires going { is_whole (seen reading.stage) ≡ false }
     ensures read { IfOk result (λ r. IsReadTo bytes.now (seen r.stage) r.used r.body r.count) }
     ensures nearer { IfOk result (λ r. reading.used < r.used) }
-    ensures bad { IfErr result (λ fault. IsLineFault bytes.now fault) }
+    ensures end { IfOk result (λ r. is_whole (seen r.stage) ≡ is_closed (seen reading.stage)) }
+    ensures bad { IfErr result (λ fault. IsStopOf bytes.now (seen reading.stage) fault) }
 {
     let n = reading.count + 1;
     let Some(front) = next_line(alloc, &bytes[reading.used..])? else {
-        return Err(DumpFault::BadLine { n });
+        return Err(LineFault::BadLine { n });
     };
     let used = reading.used + front.used;
     let body = body_with(&front.line, reading.used, reading.body);
@@ -61,15 +62,15 @@ fn step(alloc: Global, bytes: &[u8], reading: Reading) -> Result<Reading, DumpFa
             body,
             count: n,
         }),
-        None => Err(DumpFault::BadLine { n }),
+        None => Err(LineFault::BadLine { n }),
     }
 }
 
-/// Reads lines up to the end's.
-fn read_lines(alloc: Global, bytes: &[u8]) -> Result<Reading, DumpFault>
+/// Reads lines up to the digest's.
+pub(crate) fn read_body(alloc: Global, bytes: &[u8]) -> Result<Reading, LineFault>
     ensures read { IfOk result (λ r. IsReadTo bytes.now (seen r.stage) r.used r.body r.count) }
-    ensures whole { IfOk result (λ r. is_whole (seen r.stage) ≡ true) }
-    ensures bad { IfErr result (λ fault. IsLineFault bytes.now fault) }
+    ensures closed { IfOk result (λ r. is_closed (seen r.stage) ≡ true) }
+    ensures bad { IfErr result (λ fault. IsStopBefore bytes.now fault) }
 {
     let mut reading = Reading {
         stage: Stage::Nothing,
@@ -77,14 +78,14 @@ fn read_lines(alloc: Global, bytes: &[u8]) -> Result<Reading, DumpFault>
         body: 0,
         count: 0,
     };
-    'lines: while !reading.stage.is_whole() {
+    'lines: while !reading.stage.is_closed() {
         reading = step(alloc, bytes, reading)?;
     }
     Ok(reading)
 }
 
 /// What is told at the end.
-fn at_end(stage: Stage, body: usize) -> Told
+pub(crate) fn at_end(stage: Stage, body: usize) -> Told
     requires { is_whole (seen stage) ≡ true }
     ensures told { seen stage ≡ whole (kept_in result.draft) result.digest }
     ensures body { result.body ≡ body }
@@ -100,15 +101,16 @@ fn at_end(stage: Stage, body: usize) -> Told
 }
 
 /// Reads a text that tells an account, to its end.
-pub(crate) fn read_told(alloc: Global, bytes: &[u8]) -> Result<Told, DumpFault>
+pub(crate) fn read_told(alloc: Global, bytes: &[u8]) -> Result<Told, LineFault>
     ensures told { IfOk result (λ t. IsToldWith bytes.now (kept_in t.draft) t.digest) }
     ensures inside { IfOk result (λ t. t.body ≤ length bytes.now) }
     ensures body { IfOk result (λ t. take t.body bytes.now ≡ text_of (account_lines (kept_in t.draft))) }
     ensures bad { IfErr result (λ fault. IsLineFault bytes.now fault) }
 {
-    let reading = read_lines(alloc, bytes)?;
+    let closed = read_body(alloc, bytes)?;
+    let reading = step(alloc, bytes, closed)?;
     if reading.used < bytes.len() {
-        return Err(DumpFault::BadLine {
+        return Err(LineFault::BadLine {
             n: reading.count + 1,
         });
     }

@@ -2,9 +2,10 @@
 
 ghost use Rattle.std.specs.Prelude.{◌≡◌, ◌++◌, ◌∷◌, [], IfOk, option_map};
 ghost use Rattle.ss_dump.specs.Dumps.{comes_before, name_cmp, number_cmp, place_cmp};
-ghost use Rattle.ss_dump.specs.Stages.{kept_in, seen};
+ghost use Rattle.ss_dump.specs.Stages.{is_closed, kept_in, seen, states};
 ghost use Rattle.ss_dump.specs.Telling.{begun, is_whole, may_end, more, next, with_batch, with_collection, with_part, with_row};
 
+use crate::digests::is_same;
 use crate::dumping::place_order;
 use ss_bso::{Batches, Kept, Part, Parts, Row, Rows, Staged, Times};
 use ss_lines::{Digest, Line};
@@ -216,6 +217,23 @@ impl Stage {
                 _ => Ok(None),
             },
             Stage::Whole(_, _) => Ok(None),
+        }
+    }
+
+    /// Whether the digest is told, and the end isn't.
+    pub(crate) fn is_closed(&self) -> bool
+        ensures { result ≡ is_closed (seen self.now) }
+    {
+        matches!(self, Stage::Closed(_, _))
+    }
+
+    /// Whether this is the digest that is told.
+    pub(crate) fn states(&self, digest: &Digest) -> bool
+        ensures { result ≡ states (seen self.now) digest.now }
+    {
+        match self {
+            Stage::Closed(_, stated) | Stage::Whole(_, stated) => is_same(stated, digest),
+            _ => false,
         }
     }
 

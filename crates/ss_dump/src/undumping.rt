@@ -4,7 +4,7 @@ ghost use Rattle.std.specs.Prelude.{◌≡◌, Some, IfOk, IfErr, OnOk, bytes_eq
 ghost use Rattle.ss_account.specs.Opening.{IsGood};
 ghost use Rattle.ss_dump.specs.Undumped.{IsDumpOf, IsOtherDigest, IsRefused, IsUnfit};
 
-use crate::dumping::digest_of;
+use crate::digests::{digest_of, is_same};
 use crate::faults::DumpFault;
 use crate::reading::read_told;
 use ss_account::{Account, OpenFault};
@@ -48,12 +48,6 @@ fn check(alloc: Global, kept: &Kept) -> Result<(), DumpFault>
         Err((_, OpenFault::Memory)) => Err(DumpFault::Memory),
         Err((_, OpenFault::Keeper)) => unreachable!(),
     }
-}
-
-fn is_same(digest: &Digest, other: &Digest) -> bool
-    ensures { result ≡ bytes_eq digest.now other.now }
-{
-    digest.as_str().as_bytes() == other.as_str().as_bytes()
 }
 
 /// A digest as a text.

@@ -3,8 +3,14 @@
 //! tell, and names the first line that isn't the next one of any other.
 #![tactic(auto)]
 
+mod calls;
 mod faults;
+mod fronts;
 mod logs;
+mod reading;
+mod writing;
 
 pub use faults::LogFault;
 pub use logs::Log;
+pub use reading::read_logs;
+pub use writing::write_log;

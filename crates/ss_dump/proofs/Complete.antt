@@ -118,14 +118,18 @@ batches_told rs cs s l n done (b ∷ bs) rest h =
     ∙ (batches_told rs cs s l n (done ++ b ∷ []) bs rest (next_front (comes_before number_cmp) done b bs h)
     ∙ ap (λ d. told_from (made rs cs s l n d) rest) (append_assoc done (b ∷ []) bs))))
 
-pub told_account : (kept : Kept) (digest : List ℕ) → IsOrdered kept → told (account_lines kept ++ Digest digest ∷ End ∷ []) ≡ Some (whole kept digest)
+-- behind the lines of an account what they tell goes on
+pub account_told : (kept : Kept) (rest : List Line) → IsOrdered kept → told (account_lines kept ++ rest) ≡ told_from (account kept) rest
 unfolding told account_lines next
-told_account kept digest h =
-    let tail : List Line = Digest digest ∷ End ∷ [] in
+account_told kept rest h =
     let cs : List Line = map collection_line kept.collections in
     let rs : List Line = map (λ r. RowLine r) kept.rows in
     let bs : List Line = flat_map batch_lines kept.batches in
-    ap (told_from (made [] [] kept.store kept.last_delete kept.counter [])) (append_assoc cs (rs ++ bs) tail ∙ ap (λ t. cs ++ t) (append_assoc rs bs tail))
-    ∙ (collections_told [] kept.collections kept.store kept.last_delete kept.counter (rs ++ (bs ++ tail)) h.collections
-    ∙ (rows_told [] kept.rows kept.collections kept.store kept.last_delete kept.counter (bs ++ tail) h.rows
-    ∙ batches_told kept.rows kept.collections kept.store kept.last_delete kept.counter [] kept.batches tail h.batches))
+    ap (told_from (made [] [] kept.store kept.last_delete kept.counter [])) (append_assoc cs (rs ++ bs) rest ∙ ap (λ t. cs ++ t) (append_assoc rs bs rest))
+    ∙ (collections_told [] kept.collections kept.store kept.last_delete kept.counter (rs ++ (bs ++ rest)) h.collections
+    ∙ (rows_told [] kept.rows kept.collections kept.store kept.last_delete kept.counter (bs ++ rest) h.rows
+    ∙ batches_told kept.rows kept.collections kept.store kept.last_delete kept.counter [] kept.batches rest h.batches))
+
+pub told_account : (kept : Kept) (digest : List ℕ) → IsOrdered kept → told (account_lines kept ++ Digest digest ∷ End ∷ []) ≡ Some (whole kept digest)
+unfolding next
+told_account kept digest h = account_told kept (Digest digest ∷ End ∷ []) h

@@ -9,3 +9,4 @@ pub mod Exact
 pub mod Orders
 pub mod Moved
 pub mod Forms
+pub mod AtFront

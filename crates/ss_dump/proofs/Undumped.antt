@@ -5,10 +5,12 @@ use Rattle.ss_bso.specs.declared.changes.Kept.{Kept}
 use Rattle.ss_account.specs.Opening.{IsGood}
 use Rattle.ss_dump.specs.declared.faults.DumpFault.{DumpFault}
 use Rattle.ss_dump.specs.declared.faults.DumpFault.TheVariants.{BadLine, BadDigest, BadCollection, BadRow, BadBatch, Memory}
+use Rattle.ss_dump.specs.declared.faults.LineFault.{LineFault}
+use Rattle.ss_dump.specs.declared.faults.LineFault.TheVariants as line
 use Rattle.ss_dump.specs.Dumps.{account_lines, body_text, closed_by, digest_of, dump_text, text_of}
 use Rattle.ss_dump.specs.Telling.{IsToldWith}
 use Rattle.ss_dump.specs.Stages.{IsLineFault}
-use Rattle.ss_dump.specs.Undumped.{IsBadDigest, IsDumpOf, IsOtherDigest, IsRefused, IsStated, IsUnfit, WouldBeDump}
+use Rattle.ss_dump.specs.Undumped.{IsBadDigest, IsDumpOf, IsOtherDigest, IsRefused, IsStated, IsUnfit, WouldBeDump, of_line}
 use Rattle.ss_dump.proofs.Told.{text_told}
 
 pub absent : {X : Type 0} (P : Type 0) (o : Option X) → ((x : X) → o ≡ Some x → ⊥) → IfNone o P → P
@@ -62,10 +64,6 @@ other text kept digest found body t b f (BadRow n) h = absurd h
 other text kept digest found body t b f (BadBatch n) h = absurd h
 other text kept digest found body t b f Memory h = tt
 
-pub bad_line : (text : List ℕ) (fault : DumpFault) → IsLineFault text fault → IsRefused text fault
-bad_line text (BadLine n) h = h
-bad_line text (BadDigest stated found) h = absurd h
-bad_line text (BadCollection n) h = absurd h
-bad_line text (BadRow n) h = absurd h
-bad_line text (BadBatch n) h = absurd h
-bad_line text Memory h = tt
+pub bad_line : (text : List ℕ) (fault : LineFault) → IsLineFault text fault → IsRefused text (of_line fault)
+bad_line text (line.BadLine n) h = h
+bad_line text line.Memory h = tt

@@ -11,7 +11,7 @@ use Rattle.ss_dump.specs.declared.telling.Stage.TheVariants.{Nothing, Begun, Acc
 use Rattle.ss_dump.specs.declared.faults.LineFault.{LineFault}
 use Rattle.ss_dump.specs.declared.faults.LineFault.TheVariants.{BadLine, Memory}
 use Rattle.ss_dump.specs.Dumps.{account_lines, text_of}
-use Rattle.ss_dump.specs.Telling.{State, nothing, begun, account, closed, whole, is_whole, IsBadLine, NoneComes, told}
+use Rattle.ss_dump.specs.Telling.{State, nothing, begun, account, closed, whole, is_whole, IsBadLine, next, NoneComes, told}
 
 abbrev pub kept_in : Draft → Kept
 kept_in d = record {
@@ -67,6 +67,10 @@ states begun digest = false
 states (account kept) digest = false
 states (closed kept stated) digest = bytes_eq stated digest
 states (whole kept stated) digest = bytes_eq stated digest
+
+-- a line makes this of what is told
+abbrev pub Comes : State → State → Type 0
+Comes state s = (l : Line) × (next state l ≡ Some s)
 
 -- the line of this number isn't one that may come next, behind lines that have told this
 pub record IsStop (text : List ℕ) (state : State) (n : ℕ) : Type 0 where

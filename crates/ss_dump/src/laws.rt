@@ -18,7 +18,7 @@ ghost use Rattle.ss_dump.specs.declared.faults.DumpFault.TheVariants.{Memory};
 use crate::dumping::dump;
 use crate::faults::DumpFault;
 use crate::undumping::undump;
-use ss_bso::{Batches, Kept, Rows, Staged, Times};
+use ss_bso::{Batches, Kept, Plain, Rows, Staged, Times};
 use ss_lines::{part_form, row_form};
 use ss_text::{Name, Stamp};
 use std::alloc::Global;
@@ -106,6 +106,19 @@ pub fn kept_form(kept: &Kept)
     collections_form(&kept.collections);
     rows_form(&kept.rows);
     batches_form(&kept.batches);
+}
+
+/// An account has the form of lines, as its types say.
+#[tactic(auto, using(crate::proofs::Forms::kept_formed))]
+pub fn account_form(account: &Plain)
+    ensures { AllByRecursion IsLine (account_lines (kept_of account.now)) }
+{
+    let _store = account.store.get();
+    let _last_delete = account.last_delete.get();
+    let _counter = account.counter;
+    collections_form(&account.collections);
+    rows_form(&account.rows);
+    batches_form(&account.batches);
 }
 
 /// Dumps what is kept, from which an account can be opened, and reads this dump: that gives what is kept, in order,

@@ -17,8 +17,8 @@ pub use dumping::{dump, push_dump, push_kept};
 pub use faults::{DumpFault, LineFault, RefillFault};
 pub use fronts::{DumpFront, front_dump};
 pub use laws::{
-    a_dump_is_not_refused, a_dump_tells_its_account, kept_form, no_order_is_dumped, one_account,
-    read_again,
+    a_dump_is_not_refused, a_dump_tells_its_account, account_form, kept_form, no_order_is_dumped,
+    one_account, read_again,
 };
 pub use refilling::refill;
 pub use undumping::undump;

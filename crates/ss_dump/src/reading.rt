@@ -1,8 +1,8 @@
 //! Reading a text line by line, in place.
 
-ghost use Rattle.std.specs.Prelude.{◌≡◌, ◌<◌, ◌≤◌, false, true, if◌then◌else◌, length, take, IfOk, IfErr};
+ghost use Rattle.std.specs.Prelude.{◌≡◌, ◌<◌, ◌≤◌, true, if◌then◌else◌, length, take, IfOk, IfErr};
 ghost use Rattle.ss_dump.specs.Dumps.{account_lines, text_of};
-ghost use Rattle.ss_dump.specs.Stages.{HasBody, IsLineFault, IsReadTo, IsStopBefore, IsStopOf, is_closed, is_digest_line, kept_in, seen};
+ghost use Rattle.ss_dump.specs.Stages.{Comes, IsLineFault, IsReadTo, IsStopBefore, IsStopOf, is_closed, is_digest_line, kept_in, seen};
 ghost use Rattle.ss_dump.specs.Telling.{IsToldWith, is_whole, whole};
 
 use crate::faults::LineFault;
@@ -42,10 +42,10 @@ fn body_with(line: &Line, used: usize, body: usize) -> usize
 
 /// Reads the next line.
 pub(crate) fn step(alloc: Global, bytes: &[u8], reading: Reading) -> Result<Reading, LineFault>
-    requires read { IsReadTo bytes.now (seen reading.stage) reading.used reading.body reading.count }
-    requires going { is_whole (seen reading.stage) ≡ false }
+    requires { IsReadTo bytes.now (seen reading.stage) reading.used reading.body reading.count }
     ensures read { IfOk result (λ r. IsReadTo bytes.now (seen r.stage) r.used r.body r.count) }
     ensures nearer { IfOk result (λ r. reading.used < r.used) }
+    ensures next { IfOk result (λ r. Comes (seen reading.stage) (seen r.stage)) }
     ensures end { IfOk result (λ r. is_whole (seen r.stage) ≡ is_closed (seen reading.stage)) }
     ensures bad { IfErr result (λ fault. IsStopOf bytes.now (seen reading.stage) fault) }
 {

@@ -6,8 +6,9 @@ use Rattle.ss_bso.specs.declared.account.Plain.{Plain}
 use Rattle.ss_bso.specs.declared.changes.Kept.{Kept}
 use Rattle.ss_bso.specs.Changes.{kept_of}
 use Rattle.ss_laws.specs.Journal.{Journal}
+use Rattle.ss_lines.specs.Lines.{IsLine}
 use Rattle.ss_lines.specs.declared.lines.Line.TheVariants.{End}
-use Rattle.ss_dump.specs.Dumps.{dump_text, in_order}
+use Rattle.ss_dump.specs.Dumps.{account_lines, dump_text, in_order}
 use Rattle.ss_dump.specs.Fronts.{IsTold, dump_lines}
 use Rattle.ss_log_lines.specs.LogLines.{IsCall, log_line_text}
 use Rattle.ss_log_lines.specs.declared.lines.LogLine.{LogLine}
@@ -53,6 +54,13 @@ account_at moment kept = record {
 -- the journal that the log of a journal tells: the lists of its opening are in order
 abbrev pub log_of : Journal → Journal
 log_of journal = record journal { opening = account_at journal.opening.moment (in_order (kept_of journal.opening)) }
+
+-- each value of a journal has the form of its type, and each request is within the limits of one
+pub record IsFormed (journal : Journal) : Type 0 where
+  pub moment : journal.opening.moment ≤ last_stamp
+  pub most : journal.most < 2 ^ 32
+  pub opening : AllByRecursion IsLine (account_lines (kept_of journal.opening))
+  pub entries : AllByRecursion IsCall journal.entries
 
 -- a log as it is read: each value has the form of its type, the lists of its opening are in order, and each request is within the
 -- limits of one. Its opening need not be valid

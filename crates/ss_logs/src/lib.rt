@@ -6,11 +6,15 @@
 mod calls;
 mod faults;
 mod fronts;
+mod laws;
 mod logs;
 mod reading;
 mod writing;
 
 pub use faults::LogFault;
+pub use laws::{
+    a_log_tells_its_journal, journal_form, logs_are_not_refused, one_list_of_logs, read_written_log,
+};
 pub use logs::Log;
 pub use reading::read_logs;
 pub use writing::write_log;

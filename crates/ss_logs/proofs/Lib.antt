@@ -1,0 +1,5 @@
+pub mod Lines
+pub mod Apart
+pub mod InParts
+pub mod ToTheEnd
+pub mod Written

@@ -4,8 +4,8 @@ ghost use Rattle.std.specs.Prelude.{◌≡◌, ◌≤◌, true, length, IfOk, If
 ghost use Rattle.ss_dump.specs.Fronts.{IsDumpFront, IsFrontFault};
 ghost use Rattle.ss_dump.specs.Stages.{IsReadTo, is_closed, seen};
 
-use crate::digests::digest_of;
 use crate::faults::LineFault;
+use crate::hashing::digest_of;
 use crate::reading::{at_end, read_body, step};
 use ss_bso::Kept;
 use std::alloc::Global;

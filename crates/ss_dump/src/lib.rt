@@ -3,10 +3,10 @@
 //! `refill` a keeper holds exactly what it was given.
 #![tactic(auto)]
 
-mod digests;
 mod dumping;
 mod faults;
 mod fronts;
+mod hashing;
 mod laws;
 mod reading;
 mod refilling;

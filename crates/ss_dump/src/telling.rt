@@ -5,8 +5,8 @@ ghost use Rattle.ss_dump.specs.Dumps.{comes_before, name_cmp, number_cmp, place_
 ghost use Rattle.ss_dump.specs.Stages.{is_closed, kept_in, seen, states};
 ghost use Rattle.ss_dump.specs.Telling.{begun, is_whole, may_end, more, next, with_batch, with_collection, with_part, with_row};
 
-use crate::digests::is_same;
 use crate::dumping::place_order;
+use crate::hashing::is_same;
 use ss_bso::{Batches, Kept, Part, Parts, Row, Rows, Staged, Times};
 use ss_lines::{Digest, Line};
 use ss_text::{Name, Stamp};

@@ -4,8 +4,8 @@ ghost use Rattle.std.specs.Prelude.{◌≡◌, Some, IfOk, IfErr, OnOk, bytes_eq
 ghost use Rattle.ss_account.specs.Opening.{IsGood};
 ghost use Rattle.ss_dump.specs.Undumped.{IsDumpOf, IsOtherDigest, IsRefused, IsUnfit};
 
-use crate::digests::{digest_of, is_same};
 use crate::faults::DumpFault;
+use crate::hashing::{digest_of, is_same};
 use crate::reading::read_told;
 use ss_account::{Account, OpenFault};
 use ss_bso::{Changes, Kept};

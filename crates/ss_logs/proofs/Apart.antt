@@ -42,7 +42,7 @@ fork {X} (x ∷ xs) (y ∷ ys) ps qs e =
 abbrev told : List Line → List LogLine
 told ls = map (λ line. Account line) ls
 
-told_same : (ls ms : List Line) → told ls ≡ told ms → ls ≡ ms
+pub told_same : (ls ms : List Line) → told ls ≡ told ms → ls ≡ ms
 told_same [] [] e = refl
 told_same [] (m ∷ ms) e = cc
 told_same (l ∷ ls) [] e = cc

@@ -103,7 +103,7 @@ logs_formed (log ∷ logs) h = all_append IsLogLine (log_lines log) (flat_map lo
 
 -- ---- a text is one list of lines
 
-no_front : (l : LogLine) (rest : List ℕ) → log_line_text l ++ rest ≡ [] → ⊥
+pub no_front : (l : LogLine) (rest : List ℕ) → log_line_text l ++ rest ≡ [] → ⊥
 no_front l rest e = some_text l (nothing_front (log_line_text l) rest e)
   where
     nothing_front : (xs ys : List ℕ) → xs ++ ys ≡ [] → xs ≡ []

@@ -37,7 +37,7 @@ one_read text logs log used lines k n h f = record {
 }
 
 pub all_read : (text : List ℕ) (logs : List Journal) (used lines : ℕ) → AreReadTo text logs used lines → length text ≤ used → AreLogs text logs
-all_read text logs used lines h le = record { logs = h.are; text_is = sym (take_all used text le) ∙ h.text_is }
+all_read text logs used lines h le = record { are = h.are; text_is = sym (take_all used text le) ∙ h.text_is }
 
 pub read_few : (text : List ℕ) (logs : List Journal) (used lines : ℕ) → AreReadTo text logs used lines → lines ≤ used
 read_few text logs used lines h =
@@ -116,19 +116,19 @@ pub one_text : (text : List ℕ) (logs others : List Journal) → AreLogs text l
 one_text text logs others h g =
     let same : text_of (flat_map log_lines logs) ≡ text_of (flat_map log_lines others) ++ [] =
     sym (logs_text_is logs) ∙ (sym h.text_is ∙ (g.text_is ∙ (logs_text_is others ∙ sym (append-nil (text_of (flat_map log_lines others)))))) in
-    let r = lines_apart (flat_map log_lines logs) (flat_map log_lines others) [] (logs_formed logs h.logs) (logs_formed others g.logs) same in
-    one_list logs others h.logs g.logs (r.1 ∙ (ap (λ ls. flat_map log_lines others ++ ls) (no_lines r.0 r.2) ∙ append-nil (flat_map log_lines others)))
+    let r = lines_apart (flat_map log_lines logs) (flat_map log_lines others) [] (logs_formed logs h.are) (logs_formed others g.are) same in
+    one_list logs others h.are g.are (r.1 ∙ (ap (λ ls. flat_map log_lines others ++ ls) (no_lines r.0 r.2) ∙ append-nil (flat_map log_lines others)))
 
 -- no line of a text of logs is bad
 clash : (text : List ℕ) (logs : List Journal) (n : ℕ) → AreLogs text logs → IsBadLine text n → ⊥
 clash text logs n h b =
     let formed = all_front IsLogLine b.lines b.behind (subst (AllByRecursion IsLogLine) b.begin.lines_are (logs_formed b.begin.logs b.begin.are)) in
-    let r = lines_apart (flat_map log_lines logs) b.lines b.rest (logs_formed logs h.logs) formed (sym (logs_text_is logs) ∙ (sym h.text_is ∙ b.text_is)) in
+    let r = lines_apart (flat_map log_lines logs) b.lines b.rest (logs_formed logs h.are) formed (sym (logs_text_is logs) ∙ (sym h.text_is ∙ b.text_is)) in
     ends r.0 r.1 r.2
   where
     ends : (others : List LogLine) → flat_map log_lines logs ≡ b.lines ++ others → b.rest ≡ text_of others → ⊥
-    ends [] e t = b.over (record { logs = logs; are = h.logs; lines_are = e }) t
-    ends (l ∷ ls) e t = b.none l ls (text_of ls) (record { logs = logs; are = h.logs; lines_are = e }) (sym t)
+    ends [] e t = b.over (record { logs = logs; are = h.are; lines_are = e }) t
+    ends (l ∷ ls) e t = b.none l ls (text_of ls) (record { logs = logs; are = h.are; lines_are = e }) (sym t)
 
 pub not_refused : (text : List ℕ) (logs : List Journal) (fault : LogFault) → AreLogs text logs → IsRefused text fault → fault ≡ Memory
 not_refused text logs (BadLine n) h b = absurd (clash text logs n h b)

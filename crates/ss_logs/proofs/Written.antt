@@ -36,7 +36,7 @@ is_log journal h = record {
 }
 
 pub told : (journal : Journal) → IsFormed journal → AreLogs (log_text journal) (log_of journal ∷ [])
-told journal h = record { logs = (is_log journal h, tt); text_is = text_in_order journal ∙ sym (append-nil (log_text (log_of journal))) }
+told journal h = record { are = (is_log journal h, tt); text_is = text_in_order journal ∙ sym (append-nil (log_text (log_of journal))) }
 
 pub told_one : (journal : Journal) (logs : List Journal) → IsFormed journal → AreLogs (log_text journal) logs → logs ≡ log_of journal ∷ []
 told_one journal logs h are = one_text (log_text journal) logs (log_of journal ∷ []) are (told journal h)

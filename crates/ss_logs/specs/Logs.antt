@@ -72,7 +72,7 @@ pub record IsLog (log : Journal) : Type 0 where
 
 -- the text is that of these logs, one behind the other
 pub record AreLogs (text : List ℕ) (logs : List Journal) : Type 0 where
-  pub logs : AllByRecursion IsLog logs
+  pub are : AllByRecursion IsLog logs
   pub text_is : text ≡ logs_text logs
 
 -- ---- how a text that isn't one of logs is refused

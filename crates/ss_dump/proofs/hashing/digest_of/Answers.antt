@@ -4,7 +4,7 @@ use Rattle.ss_text.proofs.Basics.{none_some}
 use Rattle.ss_lines.specs.Digests.{is_digest}
 use Rattle.ss_dump.specs.Dumps.{digest_of}
 use Rattle.ss_dump.proofs.Digests.{digest_form}
-use Rattle.ss_dump.proofs.digests.digest_of.Goals as goal
+use Rattle.ss_dump.proofs.hashing.digest_of.Goals as goal
 
 pub unreachable-requires : goal.unreachable-requires
 unfolding digest_of

@@ -1,0 +1,4 @@
+pub mod Sound
+pub mod Terms
+pub mod Validity
+pub mod Verdicts

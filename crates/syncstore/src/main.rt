@@ -1,8 +1,8 @@
 //! `syncstore`: a storage server with the behaviour of Mozilla's SyncStorage API 1.5. The words name the command: a
 //! server of accounts that are kept in files, recorded messages that are answered, a device that syncs or is edited, a
-//! rehearsal of two, what rows of history or forms come to, or an account's dump, written or restored. Its contracts, on
-//! the calls that `main` makes: `run_serve`, `run_offline`, `run_sync`, `run_device_command`, `run_flat`, `run_move` and
-//! `run_rehearsal`.
+//! rehearsal of two, what rows of history or forms come to, an account's dump, written or restored, or an audit of logs.
+//! Its contracts, on the calls that `main` makes: `run_serve`, `run_offline`, `run_sync`, `run_device_command`,
+//! `run_flat`, `run_move`, `run_audit` and `run_rehearsal`.
 #![tactic(auto)]
 
 mod beginning;
@@ -19,6 +19,7 @@ use ss_outside::{StdSink, StdSource, SystemClock};
 use ss_real_site::{Folders, RealSite};
 use ss_rehearse::run_rehearsal;
 use ss_run_answer::run_offline;
+use ss_run_audit::{NAME as AUDIT, run_audit};
 use ss_run_edit::run_device_command;
 use ss_run_flat::{NAME as FLAT, run_flat};
 use ss_run_move::Verb;
@@ -69,6 +70,14 @@ fn flatten(system: &HostRuntime, words: &[String]) -> u8 {
     run_flat(system.alloc(), words, &mut input, &mut output, &mut err)
 }
 
+/// Audits the logs that are the standard input, and answers the status.
+fn audit(system: &HostRuntime, words: &[String]) -> u8 {
+    let mut input = StdSource::new(system.stdin());
+    let mut output = StdSink::new(system.stdout());
+    let mut err = StdSink::new(system.stderr());
+    run_audit(system.alloc(), words, &mut input, &mut output, &mut err)
+}
+
 /// Runs the command `rehearse`, and answers its status.
 fn rehearse(system: &HostRuntime, words: &[String]) -> u8 {
     let mut output = StdSink::new(system.stdout());
@@ -80,10 +89,10 @@ fn rehearse(system: &HostRuntime, words: &[String]) -> u8 {
     status
 }
 
-/// Whether the first word names the command `flat`.
-fn is_flat(words: &[String]) -> bool {
+/// Whether the first word is the name of a command.
+fn is_named(words: &[String], name: &str) -> bool {
     match words.first() {
-        Some(word) => word.as_str() == FLAT,
+        Some(word) => word.as_str() == name,
         None => false,
     }
 }
@@ -96,7 +105,7 @@ fn verb_of(words: &[String]) -> Option<Verb> {
     }
 }
 
-/// The command that the first word names, but for `flat`, `dump` and `restore`.
+/// The command that the first word names, but for `flat`, `audit`, `dump` and `restore`.
 fn name_of(words: &[String]) -> Option<Name> {
     match words.first() {
         Some(word) => Name::read(word.as_str()),
@@ -143,7 +152,8 @@ fn main(rt: HostRuntime) -> ExitCode {
         Some(Name::Sync) => online::sync(&rt, words.as_slice()),
         Some(Name::Edit) | Some(Name::Merge) => run_device(&rt, words.as_slice()),
         Some(Name::Rehearse) => rehearse(&rt, words.as_slice()),
-        None if is_flat(words.as_slice()) => flatten(&rt, words.as_slice()),
+        None if is_named(words.as_slice(), FLAT) => flatten(&rt, words.as_slice()),
+        None if is_named(words.as_slice(), AUDIT) => audit(&rt, words.as_slice()),
         None => match verb_of(words.as_slice()) {
             Some(verb) => moving::move_account(&rt, verb, words.as_slice()),
             None => run_here(&rt, words.as_slice()),

@@ -1,5 +1,6 @@
 //! What the program says of itself: `--help` and `--version`, for the program and for each command.
 
+use ss_run_audit::NAME as AUDIT_NAME;
 use ss_run_flat::NAME as FLAT_NAME;
 use ss_run_move::Verb;
 use ss_words::Name;
@@ -20,6 +21,7 @@ usage: syncstore serve ADDRESS FOLDER UID ..     serves accounts from files over
        syncstore flat KIND                       tells what rows of history or forms come to
        syncstore dump FOLDER UID                 writes an account as a text
        syncstore restore FOLDER UID              fills an account from such a text
+       syncstore audit                           tells whether logs of an account are sound
        syncstore rehearse N S                    plays a whole exchange of two devices, and tells how it went
        syncstore COMMAND --help                  tells of a command
        syncstore --help | --version
@@ -128,6 +130,19 @@ exit status: 0 restored; 1 faulty words; 2 the folder or the file failed, or a s
 example: syncstore restore elsewhere 7 < seven
 ";
 
+const AUDIT: &str = "\
+usage: syncstore audit
+
+Reads the logs of one account, one behind the other, and computes each request anew by the rules of the API. It tells in one line
+whether they are a history that the rules allow, in which nothing was lost between two logs: [\"yes\",LOGS,ENTRIES,TIME], or
+[\"no\",LOG,ENTRY,WHY] with the first place where they aren't, and opening, follows, ticket or limits. docs/WIRE.md tells the lines.
+
+exit status: 0 yes was written; 1 faulty words; 2 the input failed; 3 the output failed; 5 a line is not the next one of a log; 6 more
+than 268435456 bytes; 7 no was written; 8 no memory. Unless it is 0, 3 or 7 nothing is written.
+
+example: syncstore audit < docs/samples/put.log
+";
+
 const REHEARSE: &str = "\
 usage: syncstore rehearse N S
 
@@ -190,6 +205,9 @@ example: syncstore serve 127.0.0.1:8000 data 7 8
 fn usage_of(name: &str) -> Option<&'static str> {
     if name == FLAT_NAME {
         return Some(FLAT);
+    }
+    if name == AUDIT_NAME {
+        return Some(AUDIT);
     }
     if let Some(verb) = Verb::read(name) {
         return Some(match verb {

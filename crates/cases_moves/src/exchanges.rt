@@ -12,6 +12,7 @@ use ss_text::{Cond, Name};
 use std::alloc::Global;
 
 /// The commit of a batch.
+#[derive(Drop)]
 pub struct Commit {
     collection: Name,
     batch: u64,

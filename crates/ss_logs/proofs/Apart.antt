@@ -1,5 +1,5 @@
 -- Logs are told apart by their lines: none begins with another, so lines are of one list of logs.
-use Rattle.std.proofs.Common.{◌≡◌, ℕ, ◌⊎◌, List, [], ◌∷◌, ◌++◌, map, append_assoc, append-nil, inl, inr, refl, sym, ap, ap₂, ◌∙◌, subst}
+use Rattle.std.proofs.Common.{◌≡◌, List, [], ◌∷◌, ◌++◌, map, append_assoc, append-nil, refl, sym, ap, ap₂, ◌∙◌}
 use Rattle.std.specs.List.{AllByRecursion, flat_map}
 use Rattle.ss_bso.specs.declared.changes.Kept.{Kept}
 use Rattle.ss_bso.specs.Changes.{kept_of}
@@ -7,10 +7,10 @@ use Rattle.ss_laws.specs.Journal.{Journal}
 use Rattle.ss_laws.specs.declared.journal.Entry.{Entry}
 use Rattle.ss_lines.specs.declared.lines.Line.{Line}
 use Rattle.ss_lines.specs.declared.lines.Line.TheVariants.{End}
-use Rattle.ss_dump.specs.Fronts.{GoesOn, IsTold, dump_lines}
+use Rattle.ss_dump.specs.Fronts.{IsTold, dump_lines}
 use Rattle.ss_dump.proofs.AtFront.{one_dump_lines, whole_goes_on}
 use Rattle.ss_log_lines.specs.declared.lines.LogLine.{LogLine}
-use Rattle.ss_log_lines.specs.declared.lines.LogLine.TheVariants.{Log, Account, Call}
+use Rattle.ss_log_lines.specs.declared.lines.LogLine.TheVariants.{Log, Account}
 use Rattle.ss_logs.specs.declared.calls.Next.{Next}
 use Rattle.ss_logs.specs.declared.calls.Next.TheVariants as next
 use Rattle.ss_logs.specs.Fronts.{calls_of, next_line}

@@ -3,26 +3,24 @@ use Rattle.std.proofs.Common.{◌≡◌, ◌≢◌, ℕ, ◌+◌, ◌-◌, ◌<�
 use Rattle.std.specs.List.{AllByRecursion}
 use Rattle.std.proofs.Math.ListN.{drop_of_length-le}
 use Rattle.std.proofs.Math.Seq.{take-add}
-use Rattle.std.proofs.lemmas.List.{drop-drop, length-map, length-take-le, map-append, map_push, take-append-drop}
+use Rattle.std.proofs.lemmas.List.{length-map, length-take-le, map-append, map_push, take-append-drop}
 use Rattle.ss_text.specs.Time.{last_stamp}
 use Rattle.ss_bso.specs.declared.changes.Kept.{Kept}
 use Rattle.ss_bso.specs.Changes.{kept_of}
 use Rattle.ss_laws.specs.Journal.{Journal}
 use Rattle.ss_laws.specs.declared.journal.Entry.{Entry}
-use Rattle.ss_lines.specs.Lines.{line_text}
 use Rattle.ss_lines.specs.declared.lines.Line.{Line}
 use Rattle.ss_lines.specs.declared.lines.Line.TheVariants.{End}
-use Rattle.ss_dump.specs.Dumps.{dump_text}
 use Rattle.ss_dump.specs.Fronts as dump
 use Rattle.ss_dump.specs.Telling.{timed}
 use Rattle.ss_dump.proofs.AtFront.{dump_text_is, fresh_told}
 use Rattle.ss_log_lines.specs.LogLines.{IsCall, IsLogFront, IsLogLine, NoLogLineBegins, log_line_text}
 use Rattle.ss_log_lines.specs.declared.lines.LogLine.{LogLine}
 use Rattle.ss_log_lines.specs.declared.lines.LogLine.TheVariants.{Log, Account, Call}
-use Rattle.ss_log_lines.proofs.Fronts.{some_text, told_apart}
+use Rattle.ss_log_lines.proofs.Fronts.{told_apart}
 use Rattle.ss_logs.specs.declared.calls.Next.{Next}
 use Rattle.ss_logs.specs.declared.calls.Next.TheVariants as next
-use Rattle.ss_logs.specs.Fronts.{AreCalls, AreReadCalls, GoesOn, IsBadCall, IsBadFront, IsFrontLog, NoHead, NoneBehind, calls_of, next_line}
+use Rattle.ss_logs.specs.Fronts.{AreCalls, AreReadCalls, IsBadCall, IsBadFront, IsFrontLog, NoHead, NoneBehind, calls_of, next_line}
 use Rattle.ss_logs.specs.Logs.{IsLog, account_at, call_lines, log_lines, log_text, text_of}
 use Rattle.ss_logs.proofs.Apart.{calls_next, dump_goes_on, fork, openings_apart, same, longer, shorter, told_longer, told_same}
 use Rattle.ss_logs.proofs.Lines.{all_append, all_back, lines_few, log_formed, log_text_is, no_front, same_text, text_append, text_one, told_text}
@@ -41,11 +39,26 @@ pub other_line : (text : List ℕ) (l : LogLine) (k : ℕ) → IsLogFront text l
 other_line text l k h other n back form at =
     let r = told_apart (next_line n) l back (drop k text) form h.line (at ∙ sym (split text l k h)) in other n (sym r.0)
 
+-- a line of an account, but not the end
+pub other_account : (text : List ℕ) (l : Line) (k : ℕ) → IsLogFront text (Account l) k → l ≢ End → NoneBehind text
+other_account text l k h other = other_line text (Account l) k h no
+  where
+    no : (n : Next) → Account l ≡ next_line n → ⊥
+    no (next.Call entry) e = cc
+    no next.End e = let same : l ≡ End = cc in other same
+
+pub head_behind : (text : List ℕ) (moment most : ℕ) (k : ℕ) → IsLogFront text (Log moment most) k → NoneBehind text
+head_behind text moment most k h = other_line text (Log moment most) k h no
+  where
+    no : (n : Next) → Log moment most ≡ next_line n → ⊥
+    no (next.Call entry) e = cc
+    no next.End e = cc
+
 pub none_behind : (text : List ℕ) → NoLogLineBegins text → NoneBehind text
 none_behind text none n back form at = none (next_line n) back form at
 
-pub no_calls : (text : List ℕ) → AreReadCalls text [] 0
-no_calls text = record { are = tt; inside = omega arith; text_is = refl }
+pub no_calls : (text : List ℕ) (es : List Entry) → es ≡ [] → AreReadCalls text es 0
+no_calls text es none = subst (λ es. AreReadCalls text es 0) (sym none) (record { are = tt; inside = omega arith; text_is = refl })
 
 pub one_call : (text : List ℕ) (es : List Entry) (e : Entry) (used k : ℕ) → AreReadCalls text es used → IsLogFront (drop used text) (Call e) k → AreReadCalls text (es ++ e ∷ []) (used + k)
 one_call text es e used k h f = record {

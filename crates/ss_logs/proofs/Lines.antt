@@ -1,7 +1,6 @@
 -- Lines of logs, one behind the other, and their texts.
-use Rattle.std.proofs.Common.{◌≡◌, ℕ, ◌+◌, ◌<◌, ◌≤◌, List, [], ◌∷◌, ◌++◌, length, map, take, append_assoc, append-nil, refl, sym, ap, ◌∙◌, arith, length-append}
+use Rattle.std.proofs.Common.{◌≡◌, ℕ, ◌+◌, ◌<◌, ◌≤◌, List, [], ◌∷◌, ◌++◌, length, map, append_assoc, append-nil, refl, sym, ap, ◌∙◌, arith, length-append}
 use Rattle.std.specs.List.{AllByRecursion, flat_map}
-use Rattle.std.proofs.lemmas.List.{length-take-le}
 use Rattle.ss_bso.specs.Changes.{kept_of}
 use Rattle.ss_laws.specs.Journal.{Journal}
 use Rattle.ss_lines.specs.Lines.{IsLine, line_text}
@@ -12,7 +11,7 @@ use Rattle.ss_dump.specs.Fronts.{dump_lines}
 use Rattle.ss_dump.proofs.AtFront.{dump_formed, dump_text_is}
 use Rattle.ss_log_lines.specs.LogLines.{IsCall, IsLogLine, log_line_text}
 use Rattle.ss_log_lines.specs.declared.lines.LogLine.{LogLine}
-use Rattle.ss_log_lines.specs.declared.lines.LogLine.TheVariants.{Log, Account, Call}
+use Rattle.ss_log_lines.specs.declared.lines.LogLine.TheVariants.{Log, Account}
 use Rattle.ss_log_lines.proofs.Fronts.{some_text, told_apart}
 use Rattle.ss_laws.specs.declared.journal.Entry.{Entry}
 use Rattle.ss_logs.specs.Fronts.{calls_of}

@@ -1,17 +1,16 @@
 -- Logs one behind the other, and where a text isn't one of logs.
-use Rattle.std.proofs.Common.{◌≡◌, ◌≢◌, ℕ, ◌+◌, ◌-◌, ◌<◌, ◌≤◌, List, [], ◌∷◌, ◌++◌, length, take, drop, append_assoc, append-nil, refl, sym, ap, ap₂, ◌∙◌, subst, arith, length-append, length-drop}
+use Rattle.std.proofs.Common.{◌≡◌, ℕ, ◌+◌, ◌-◌, ◌<◌, ◌≤◌, List, [], ◌∷◌, ◌++◌, length, take, drop, append_assoc, append-nil, refl, sym, ap, ap₂, ◌∙◌, subst, arith, length-append, length-drop}
 use Rattle.std.specs.List.{AllByRecursion, flat_map}
 use Rattle.std.proofs.Math.Seq.{take-add}
 use Rattle.std.proofs.lemmas.List.{length-take-le, take-append-drop, take_all}
 use Rattle.ss_laws.specs.Journal.{Journal}
-use Rattle.ss_log_lines.specs.LogLines.{IsLogLine, log_line_text}
+use Rattle.ss_log_lines.specs.LogLines.{IsLogLine}
 use Rattle.ss_log_lines.specs.declared.lines.LogLine.{LogLine}
 use Rattle.ss_logs.specs.declared.faults.LogFault.{LogFault}
 use Rattle.ss_logs.specs.declared.faults.LogFault.TheVariants.{BadLine, Memory}
 use Rattle.ss_logs.specs.Fronts.{AreReadTo, GoesOn, IsBadFront, IsFrontLog}
-use Rattle.ss_logs.specs.Logs.{AreLogs, Begin, IsBadLine, IsLog, IsRefused, log_lines, log_text, logs_text, text_of}
+use Rattle.ss_logs.specs.Logs.{AreLogs, IsBadLine, IsLog, IsRefused, log_lines, log_text, logs_text, text_of}
 use Rattle.ss_logs.proofs.Apart.{fork, lists_apart, logs_apart, longer, one_list, same, shorter}
-use Rattle.ss_logs.proofs.InParts as front
 use Rattle.ss_logs.proofs.Lines.{all_append, all_front, lines_apart, lines_few, logs_formed, logs_text_is, no_lines, text_append}
 
 -- ---- one log more
@@ -24,8 +23,8 @@ text_more : (logs : List Journal) (log : Journal) → logs_text (logs ++ log ∷
 text_more [] log = append-nil (log_text log)
 text_more (x ∷ xs) log = ap (λ t. log_text x ++ t) (text_more xs log) ∙ sym (append_assoc (log_text x) (logs_text xs) (log_text log))
 
-pub none_read : (text : List ℕ) → AreReadTo text [] 0 0
-none_read text = record { are = tt; inside = omega arith; text_is = refl; counted = refl }
+pub none_read : (text : List ℕ) (logs : List Journal) → logs ≡ [] → AreReadTo text logs 0 0
+none_read text logs none = subst (λ logs. AreReadTo text logs 0 0) (sym none) (record { are = tt; inside = omega arith; text_is = refl; counted = refl })
 
 pub one_read : (text : List ℕ) (logs : List Journal) (log : Journal) (used lines k n : ℕ) → AreReadTo text logs used lines → IsFrontLog (drop used text) log k n
     → AreReadTo text (logs ++ log ∷ []) (used + k) (lines + n)

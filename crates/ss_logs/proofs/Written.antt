@@ -1,13 +1,12 @@
 -- The log of a journal tells this journal.
-use Rattle.std.proofs.Common.{◌≡◌, ℕ, ◌∷◌, [], List, All, append-nil, refl, sym, ap, ◌∙◌}
-use Rattle.std.specs.Prelude.{Result, Ok, Err, IfOk, IfErr}
+use Rattle.std.proofs.Common.{◌≡◌, ℕ, ◌∷◌, ◌++◌, [], List, append-nil, refl, sym, ap, ◌∙◌, subst}
 use Rattle.std.specs.List.{AllByRecursion}
 use Rattle.ss_bso.specs.Changes.{kept_of}
 use Rattle.ss_bso.specs.Validity.{SameAccount}
 use Rattle.ss_laws.specs.Journal.{Journal}
 use Rattle.ss_laws.specs.declared.journal.Entry.{Entry}
 use Rattle.ss_query.specs.Fit.{IsFitRequest}
-use Rattle.ss_dump.specs.Dumps.{dump_text, in_order}
+use Rattle.ss_dump.specs.Dumps.{in_order}
 use Rattle.ss_dump.proofs.Moved.{dump_in_order, formed_same}
 use Rattle.ss_dump.proofs.Orders.{in_order_again, same_in_order}
 use Rattle.ss_log_lines.specs.LogLines.{IsCall, IsEntry, log_line_text}
@@ -15,7 +14,7 @@ use Rattle.ss_log_lines.specs.declared.lines.LogLine.TheVariants.{Log, Account}
 use Rattle.ss_lines.specs.declared.lines.Line.TheVariants.{End}
 use Rattle.ss_logs.specs.declared.faults.LogFault.{LogFault}
 use Rattle.ss_logs.specs.declared.faults.LogFault.TheVariants.{Memory}
-use Rattle.ss_logs.specs.Logs.{AreLogs, IsFormed, IsLog, IsRefused, call_lines, log_of, log_text, logs_text, text_of}
+use Rattle.ss_logs.specs.Logs.{AreLogs, IsFormed, IsLog, IsRefused, call_lines, log_of, log_text, text_of}
 use Rattle.ss_logs.proofs.ToTheEnd.{not_refused, one_text}
 
 -- one text, whatever the order of the opening's lists
@@ -40,6 +39,13 @@ told journal h = record { are = (is_log journal h, tt); text_is = text_in_order 
 
 pub told_one : (journal : Journal) (logs : List Journal) → IsFormed journal → AreLogs (log_text journal) logs → logs ≡ log_of journal ∷ []
 told_one journal logs h are = one_text (log_text journal) logs (log_of journal ∷ []) are (told journal h)
+
+-- what is read from the text of a journal
+pub read_again : (journal : Journal) (text : List ℕ) (logs : List Journal) → IsFormed journal → text ≡ log_text journal → AreLogs text logs → logs ≡ log_of journal ∷ []
+read_again journal text logs h e are = told_one journal logs h (subst (λ t. AreLogs t logs) e are)
+
+pub refused_again : (journal : Journal) (text : List ℕ) (fault : LogFault) → IsFormed journal → text ≡ log_text journal → IsRefused text fault → fault ≡ Memory
+refused_again journal text fault h e r = not_refused (log_text journal) (log_of journal ∷ []) fault (told journal h) (subst (λ t. IsRefused t fault) e r)
 
 pub same_opening : (journal : Journal) → SameAccount journal.opening (log_of journal).opening
 same_opening journal =

@@ -1,5 +1,5 @@
 -- A log at the front of a text, for private clauses.
-use Rattle.std.specs.Prelude.{◌≡◌, ◌≤◌, ◌<◌, ◌+◌, ◌++◌, ◌∷◌, [], ℕ, List, map, length, take, ⊤}
+use Rattle.std.specs.Prelude.{◌≡◌, ◌≤◌, ◌+◌, ◌++◌, ◌∷◌, [], ℕ, List, map, length, take, ⊤}
 use Rattle.std.specs.List.{AllByRecursion, flat_map}
 use Rattle.ss_laws.specs.Journal.{Journal}
 use Rattle.ss_laws.specs.declared.journal.Entry.{Entry}

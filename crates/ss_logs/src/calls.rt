@@ -1,6 +1,7 @@
 //! The entries of a log: what stands behind its opening.
 
-ghost use Rattle.std.specs.Prelude.{◌≡◌, ◌<◌, ◌≤◌, IfOk, IfErr, IfSome, IfNone, length};
+ghost use Rattle.std.specs.Prelude.{◌≡◌, ◌≢◌, ◌<◌, ◌≤◌, IfOk, IfErr, IfSome, IfNone, true, false, length};
+ghost use Rattle.ss_lines.specs.declared.lines.Line.TheVariants.{End};
 ghost use Rattle.ss_log_lines.specs.LogLines.{IsLogFront};
 ghost use Rattle.ss_logs.specs.Fronts.{AreCalls, AreReadCalls, IsCallsFault, NoneBehind, next_line};
 
@@ -31,6 +32,13 @@ pub(crate) struct Calls {
     pub(crate) used: usize,
 }
 
+fn is_end(line: &Line) -> bool
+    ensures end { result ≡ true → line.now ≡ End }
+    ensures other { result ≡ false → line.now ≢ End }
+{
+    matches!(line, Line::End)
+}
+
 /// Reads an entry or the end at the front of a text; None exactly where neither is there.
 fn next_front(alloc: Global, text: &[u8]) -> Result<Option<NextFront>, AllocError>
     ensures front { IfOk result (λ o. IfSome o (λ f. IsLogFront text.now (next_line f.next) f.used)) }
@@ -45,11 +53,17 @@ fn next_front(alloc: Global, text: &[u8]) -> Result<Option<NextFront>, AllocErro
             next: Next::Call(entry),
             used,
         })),
-        LogLine::Account(Line::End) => Ok(Some(NextFront {
-            next: Next::End,
-            used,
-        })),
-        _ => Ok(None),
+        LogLine::Account(line) => {
+            if is_end(&line) {
+                Ok(Some(NextFront {
+                    next: Next::End,
+                    used,
+                }))
+            } else {
+                Ok(None)
+            }
+        }
+        LogLine::Log { .. } => Ok(None),
     }
 }
 

@@ -1,9 +1,9 @@
 //! A log at the front of a text, which may go on behind it.
 
-ghost use Rattle.std.specs.Prelude.{◌≡◌, ◌≤◌, IfOk, IfErr, IfSome, IfNone};
+ghost use Rattle.std.specs.Prelude.{◌≡◌, IfOk, IfErr};
 ghost use Rattle.ss_log_lines.specs.LogLines.{IsLogFront};
 ghost use Rattle.ss_log_lines.specs.declared.lines.LogLine.TheVariants.{Log as LogOf};
-ghost use Rattle.ss_logs.specs.Fronts.{IsFrontFault, IsFrontLog, NoHead, behind_head, of_dump};
+ghost use Rattle.ss_logs.specs.Fronts.{IsFrontFault, IsFrontLog};
 ghost use Rattle.ss_logs.specs.Logs.{account_at};
 
 use crate::calls::front_calls;
@@ -15,35 +15,12 @@ use ss_log_lines::{LogLine, next_log_line};
 use ss_text::Stamp;
 use std::alloc::{AllocError, Global};
 
-/// The line at the front of a text with which a log begins, and how many bytes it is.
-#[derive(Drop, Clone, Copy)]
-struct Head {
-    moment: Stamp,
-    most: u32,
-    used: usize,
-}
-
 /// The log at the front of a text, how many bytes it is, and how many lines.
 #[derive(Drop)]
 pub(crate) struct LogFront {
     pub(crate) log: Log,
     pub(crate) used: usize,
     pub(crate) lines: u64,
-}
-
-/// Reads the line with which a log begins, at the front of a text; None exactly where none is there.
-fn front_head(alloc: Global, text: &[u8]) -> Result<Option<Head>, AllocError>
-    ensures front { IfOk result (λ o. IfSome o (λ h. IsLogFront text.now (LogOf h.moment h.most) h.used)) }
-    ensures none { IfOk result (λ o. IfNone o (NoHead text.now)) }
-{
-    let Some(front) = next_log_line(alloc, text)? else {
-        return Ok(None);
-    };
-    let used = front.used;
-    match front.line {
-        LogLine::Log { moment, most } => Ok(Some(Head { moment, most, used })),
-        _ => Ok(None),
-    }
 }
 
 /// The account of this moment of which this is kept.
@@ -61,21 +38,25 @@ fn account_at(moment: Stamp, kept: Kept) -> Plain
     }
 }
 
-/// Reads the log at the front of a text, in place; the text may go on behind it.
-pub(crate) fn front_log(alloc: Global, bytes: &[u8]) -> Result<LogFront, LogFault>
+/// Reads what stands behind the line with which a log begins, which is so many bytes.
+fn log_behind(
+    alloc: Global,
+    bytes: &[u8],
+    moment: Stamp,
+    most: u32,
+    head: usize,
+) -> Result<LogFront, LogFault>
+    requires { IsLogFront bytes.now (LogOf moment most) head }
     ensures front { IfOk result (λ front. IsFrontLog bytes.now front.log front.used front.lines) }
     ensures bad { IfErr result (λ fault. IsFrontFault bytes.now fault) }
 {
-    let Some(head) = front_head(alloc, bytes)? else {
-        return Err(LogFault::BadLine { n: 1 });
-    };
-    let opening = match front_dump(alloc, &bytes[head.used..]) {
+    let opening = match front_dump(alloc, &bytes[head..]) {
         Ok(opening) => opening,
         Err(LineFault::BadLine { n }) => return Err(LogFault::BadLine { n: n + 1 }),
         Err(LineFault::Memory) => return Err(LogFault::Memory),
     };
     let DumpFront { kept, used, lines } = opening;
-    let before = head.used + used;
+    let before = head + used;
     let calls = match front_calls(alloc, &bytes[before..]) {
         Ok(calls) => calls,
         Err(LogFault::BadLine { n }) => return Err(LogFault::BadLine { n: lines + 1 + n }),
@@ -84,11 +65,25 @@ pub(crate) fn front_log(alloc: Global, bytes: &[u8]) -> Result<LogFront, LogFaul
     let entries = calls.entries.len() as u64;
     Ok(LogFront {
         log: Log {
-            opening: account_at(head.moment, kept),
-            most: head.most,
+            opening: account_at(moment, kept),
+            most,
             entries: calls.entries,
         },
         used: before + calls.used,
         lines: lines + entries + 2,
     })
+}
+
+/// Reads the log at the front of a text, in place; the text may go on behind it.
+pub(crate) fn front_log(alloc: Global, bytes: &[u8]) -> Result<LogFront, LogFault>
+    ensures front { IfOk result (λ front. IsFrontLog bytes.now front.log front.used front.lines) }
+    ensures bad { IfErr result (λ fault. IsFrontFault bytes.now fault) }
+{
+    let Some(front) = next_log_line(alloc, bytes)? else {
+        return Err(LogFault::BadLine { n: 1 });
+    };
+    let LogLine::Log { moment, most } = &front.line else {
+        return Err(LogFault::BadLine { n: 1 });
+    };
+    log_behind(alloc, bytes, *moment, *most, front.used)
 }

@@ -11,4 +11,4 @@ log_fits log h =
     All-weaker IsCall (λ entry. IsFitRequest entry.request) (λ entry call. call.fit) log.entries (All-from_recursion IsCall log.entries h.entries)
 
 pub logs_fit : (text : List ℕ) (logs : List Journal) → AreLogs text logs → All (λ log. All (λ entry. IsFitRequest entry.request) log.entries) logs
-logs_fit text logs h = All-weaker IsLog (λ log. All (λ entry. IsFitRequest entry.request) log.entries) log_fits logs (All-from_recursion IsLog logs h.logs)
+logs_fit text logs h = All-weaker IsLog (λ log. All (λ entry. IsFitRequest entry.request) log.entries) log_fits logs (All-from_recursion IsLog logs h.are)

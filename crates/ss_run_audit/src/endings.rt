@@ -99,9 +99,7 @@ impl Display for Ending {
             Ending::Sound => f.write_str("the logs are sound"),
             Ending::Input => f.write_str("the input can't be read"),
             Ending::Output => f.write_str("the output can't be written"),
-            Ending::BadLine { line } => {
-                write!(f, "line {line} is not the next line of a log, as serve --journal writes them")
-            }
+            Ending::BadLine { line } => write!(f, "line {line} is not the next line of a log"),
             Ending::TooLong => f.write_str("the input has more than 268435456 bytes"),
             Ending::Unsound => f.write_str("the logs are not sound"),
             Ending::Memory => f.write_str("no memory"),

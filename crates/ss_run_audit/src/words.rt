@@ -44,7 +44,10 @@ pub(crate) fn asks(words: &[String]) -> bool
 /// Tells people why words ask for no audit.
 pub(crate) fn explain<E: Sink>(alloc: Global, words: &[String], err: &mut E) {
     let told = match words {
-        [_, .., word] => format!(in alloc; "syncstore: `{word}`: {}; try syncstore audit --help\n", Cause::TooMany),
+        [_, .., word] => format!(in alloc;
+            "syncstore: `{word}`: {}; try syncstore audit --help\n",
+            Cause::TooMany
+        ),
         _ => format!(in alloc; "syncstore: no audit is asked for; try syncstore audit --help\n"),
     };
     if let Ok(line) = told {

@@ -3,6 +3,7 @@ pub mod Working
 pub mod Shares
 pub mod Crews
 pub mod Gatherings
+pub mod Gating
 pub mod Closings
 pub mod Tying
 pub mod Fillings

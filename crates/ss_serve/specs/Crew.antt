@@ -27,7 +27,7 @@ use Rattle.ss_connection.specs.Known.{known_by}
 use Rattle.ss_connection.specs.Calls.{own_tickets}
 use Rattle.ss_serve.specs.declared.report.LinkReport.{LinkReport}
 use Rattle.ss_serve.specs.declared.worker.Worker.{Worker}
-use Rattle.ss_serve.specs.Reports.{AreReports, all_calls_to}
+use Rattle.ss_serve.specs.Reports.{AreAllGated, AreReports, all_calls_to}
 use Rattle.ss_serve.specs.Terms.{uids_in}
 use Rattle.ss_serve.specs.Workers.{half, share}
 
@@ -89,6 +89,10 @@ module _ {L C T A R : Type 0} {J : Ghosts T Terms Entry A R} where
   abbrev pub count_reports : List (Worker L C T Terms Entry A R J) → ℕ
   count_reports [] = 0
   count_reports (w ∷ ws) = length w.reports.items + count_reports ws
+
+  -- of each response that a worker reports the gate was asked
+  abbrev pub IsGated : (ℕ → ℕ → Bool → Type 0) → Worker L C T Terms Entry A R J → Type 0
+  IsGated says w = AreAllGated says w.reports.items
 
   module _ {D S : Type 0} (tells : L → Meanings) (closed : L → Bool) (coming : C → Option (List ℕ)) (uids : List ℕ) (desks : List (Desk T Terms Entry D S)) where
     -- a worker's passes are of the town, and its reports say what was done

@@ -1,11 +1,12 @@
 -- What is reported of links.
-use Rattle.std.specs.Prelude.{◌≡◌, ℕ, Bool, List, [], ◌∷◌, ◌++◌, Option, IsTrue}
+use Rattle.std.specs.Prelude.{◌≡◌, ℕ, Bool, List, [], ◌∷◌, ◌++◌, Option, IsTrue, All}
 use Rattle.ss_desk.specs.Journal.{entries_of}
 use Rattle.ss_outside.specs.Told.{Meanings}
 use Rattle.ss_links.specs.Links.{IsUnused}
 use Rattle.ss_route.specs.declared.manner.Manner.{Manner}
 use Rattle.ss_connection.specs.Known.{Known}
 use Rattle.ss_connection.specs.Calls.{calls_to}
+use Rattle.ss_connection.specs.Turns.{AreGated}
 use Rattle.ss_connection.specs.Ends.{Served}
 use Rattle.ss_serve.specs.declared.report.LinkReport.{LinkReport}
 
@@ -18,6 +19,11 @@ module _ {L : Type 0} where
   -- the reports of this worker, in their order
   abbrev pub reports_by : ℕ → List (LinkReport L) → List (LinkReport L)
   reports_by worker reports = entries_of (λ r. r.worker) worker reports
+
+  -- of each response that is reported the gate was asked by the number of the worker that reports it, and the note has what the gate
+  -- may say to that worker before that message
+  abbrev pub AreAllGated : (ℕ → ℕ → Bool → Type 0) → List (LinkReport L) → Type 0
+  AreAllGated says reports = All (λ (r : LinkReport L). AreGated (says r.worker) r.turns.items) reports
 
   module _ (manner : Manner) (tells : L → Meanings) (closed : L → Bool) (uids : List ℕ) where
     -- A link that the port gave, of which nothing had been taken and to which nothing had been written: its turns and its end

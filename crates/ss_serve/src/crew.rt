@@ -172,6 +172,7 @@ pub(crate) fn lay_all_down<L: Closable + Drop, C: Clock + Drop, K: Keeper + Drop
     ensures worked { All (λ w. HasWorked L.Told.told L.closed C.coming (uids_of town.now) (desks_of town.now) w)
         result.items }
     ensures signs { map (sign C.coming) result.items ≡ map (sign C.coming) crew.items }
+    ensures reports { map (λ w. w.reports) result.items ≡ map (λ w. w.reports) crew.items }
     ensures count { count_reports result.items ≡ count_reports crew.items }
     ensures room { vec_capacity result ≡ vec_capacity crew }
 {

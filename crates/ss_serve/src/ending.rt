@@ -7,7 +7,7 @@ ghost use Rattle.ss_booked.specs.Booked.{account_of, journal_of, terms_of};
 ghost use Rattle.ss_route.specs.declared.manner.Manner.{Manner};
 ghost use Rattle.ss_serve.specs.Terms.{AreServed};
 ghost use Rattle.ss_serve.specs.Crew.{Have, IsWhole, AreHanded, count_reports, sign, starts};
-ghost use Rattle.ss_serve.specs.Gathering.{Gathered};
+ghost use Rattle.ss_serve.specs.Gathering.{Gathered, reports_in};
 
 use crate::report::LinkReport;
 use crate::worker::Worker;
@@ -86,6 +86,7 @@ pub(crate) fn finish<L: Closable + Drop, C: Clock + Drop, K: Keeper + Drop>(
         → AreServed (λ b. terms_of K.keep_faults b) (λ b. (journal_of b).entries)
         (λ b. K.keep_faults (account_of b).keeper) manner L.Told.told L.closed
         result.0.items result.1.items (starts (map (sign C.coming) crew.items)) (map C.coming result.2.items) }
+    ensures reports { result.1.items ≡ reports_in crew.items }
     ensures count { length result.1.items ≡ count_reports crew.items }
     ensures clocks { length result.2.items ≡ length crew.items }
     ensures room { vec_capacity result.2 ≡ vec_capacity clocks }

@@ -11,7 +11,9 @@ ghost use Rattle.ss_town.specs.Town.{uids_of, desks_of, passes_of};
 ghost use Rattle.ss_town.specs.Opening.{AreBare};
 ghost use Rattle.ss_booked.specs.Booked.{account_of, journal_of, terms_of};
 ghost use Rattle.ss_route.specs.declared.manner.Manner.{Manner};
-ghost use Rattle.ss_serve.specs.Crew.{AreLeft, AreHanded, Have, HasWorked, IsReady, IsWhole, count_reports, sign, starts};
+ghost use Rattle.ss_serve.specs.Crew.{AreLeft, AreHanded, Have, HasWorked, IsGated, IsReady, IsWhole, count_reports, sign, starts};
+ghost use Rattle.ss_serve.specs.Gathering.{reports_in};
+ghost use Rattle.ss_serve.specs.Reports.{AreAllGated};
 ghost use Rattle.ss_serve.specs.Tallies.{tally};
 ghost use Rattle.ss_serve.specs.Terms.{TermSays, FullSays, HasEnded, AreServed};
 ghost use Rattle.ss_serve.specs.Fullness.{IsOpenStop, FullKind};
@@ -159,6 +161,7 @@ fn end_served<L: Closable + Drop, C: Clock + Drop, K: Keeper + Drop>(
         → AreServed (λ b. terms_of K.keep_faults b) (λ b. (journal_of b).entries)
         (λ b. K.keep_faults (account_of b).keeper) manner L.Told.told L.closed
         result.accounts.items result.links.items (starts (map (sign C.coming) crew.items)) (map C.coming result.clocks.items) }
+    ensures reports { result.links.items ≡ reports_in crew.items }
     ensures count { length result.links.items ≡ count_reports crew.items }
     ensures open { IsOpenStop result.ended }
     ensures full { FullSays (λ b. terms_of K.keep_faults b) (λ b. (journal_of b).entries) result.accounts.items
@@ -206,9 +209,11 @@ fn serve_links<
     requires jobs { All (λ w. IsReady L.Told.told L.closed C.coming (uids_of town.now) (desks_of town.now)
         (sends_on sender.now) w) crew.jobs.items }
     requires least { All (λ w. connections ≤ vec_capacity w.reports) crew.jobs.items }
+    requires gated { All (IsGated (G.says gate.now)) crew.jobs.items }
     ensures worked { All (λ w. HasWorked L.Told.told L.closed C.coming (uids_of town.now) (desks_of town.now) w)
         result.0.items }
     ensures signs { map (sign C.coming) result.0.items ≡ map (sign C.coming) crew.jobs.items }
+    ensures gated { All (IsGated (G.says gate.now)) result.0.items }
     ensures given { HasGiven 0 (count_reports result.0.items) connections (P.counts port.old) (P.counts port.new) }
     ensures cause { HasCause result.1 connections (P.counts port.old) (P.counts port.new) }
 {
@@ -282,6 +287,7 @@ fn run_in<
         result.links.items result.ended }
     ensures given { GivenBy (length result.links.items) (P.counts port.old).links (P.counts port.new).links }
     ensures few { length result.links.items ≤ connections }
+    ensures gated { AreAllGated (G.says gate.now) result.links.items }
     ensures cause { HasEnded result.ended connections (P.counts port.old) (P.counts port.new) }
 {
     let Room {
@@ -354,6 +360,7 @@ fn run_term<
         result.links.items result.ended }
     ensures given { GivenBy (length result.links.items) (P.counts port.old).links (P.counts port.new).links }
     ensures few { length result.links.items ≤ connections }
+    ensures gated { AreAllGated (G.says gate.now) result.links.items }
     ensures cause { HasEnded result.ended connections (P.counts port.old) (P.counts port.new) }
 {
     match room_for(alloc, clocks.len(), connections as usize) {
@@ -407,6 +414,8 @@ pub fn serve_term<
     // There are as many reports as the port gave links, and at most as many as were wanted.
     ensures given { GivenBy (length result.links.items) (P.counts port.old).links (P.counts port.new).links }
     ensures few { length result.links.items ≤ connections }
+    // Of each response this gate was asked whether it closes, by the number of the worker that reports it and the message's.
+    ensures gated { AreAllGated (G.says gate.now) result.links.items }
     // Why the term ended.
     ensures cause { HasEnded result.ended connections (P.counts port.old) (P.counts port.new) }
 {

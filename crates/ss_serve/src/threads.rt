@@ -6,7 +6,7 @@ ghost use Rattle.crossbeam_channel.specs.Claims.{view, IsSeatAt};
 ghost use Rattle.crossbeam_channel.specs.Ends.{sends_on, receives_on};
 ghost use Rattle.ss_serve.specs.Accepting.{HasCause, HasGiven, AreUnused};
 ghost use Rattle.ss_town.specs.Town.{uids_of, desks_of};
-ghost use Rattle.ss_serve.specs.Crew.{IsReady, sign};
+ghost use Rattle.ss_serve.specs.Crew.{IsGated, IsReady, sign};
 
 use crate::accept::{Stopped, accept_all};
 use crate::channel::{Job, Links, Tally};
@@ -56,11 +56,13 @@ fn serve_all<
     requires none { done.items ≡ [] }
     requires jobs { All (λ w. IsReady L.Told.told L.closed C.coming (uids_of town.now) (desks_of town.now)
         (receives_on receiver.now) w) jobs.items }
+    requires gated { All (IsGated (G.says gate.now)) jobs.items }
     ensures all { All (λ w. IsReady L.Told.told L.closed C.coming (uids_of town.now) (desks_of town.now)
         (receives_on receiver.now) w) result.items }
     ensures signs { map (sign C.coming) result.items ≡ map (sign C.coming) jobs.items }
     ensures len { vec_len result ≡ vec_len jobs }
     ensures room { vec_capacity result ≡ vec_capacity done }
+    ensures gated { All (IsGated (G.says gate.now)) result.items }
 {
     let Some(job) = jobs.pop() else {
         return done;
@@ -69,18 +71,20 @@ fn serve_all<
         rt,
         || -> Worker<L, C, Booked<K>>
             requires { IsReady L.Told.told L.closed C.coming (uids_of town.now) (desks_of town.now)
-                (receives_on receiver.now) job }
+                (receives_on receiver.now) job × IsGated (G.says gate.now) job }
             ensures { IsReady L.Told.told L.closed C.coming (uids_of town.entry.now) (desks_of town.entry.now)
-                (receives_on receiver.entry.now) result × (sign C.coming result ≡ sign C.coming job) }
+                (receives_on receiver.entry.now) result × (sign C.coming result ≡ sign C.coming job)
+                × IsGated (G.says gate.entry.now) result }
         { work(rt, alloc, gate, town, receiver, job) },
         || -> Vec<Worker<L, C, Booked<K>>>
             requires { IsSync R.row × IsSync G.row × (vec_len done + vec_len jobs ≤ vec_capacity done)
                 × (done.items ≡ []) × All (λ w. IsReady L.Told.told L.closed C.coming (uids_of town.now)
-                (desks_of town.now) (receives_on receiver.now) w) jobs.items }
+                (desks_of town.now) (receives_on receiver.now) w) jobs.items
+                × All (IsGated (G.says gate.now)) jobs.items }
             ensures { All (λ w. IsReady L.Told.told L.closed C.coming (uids_of town.entry.now) (desks_of town.entry.now)
                 (receives_on receiver.entry.now) w) result.items × (map (sign C.coming) result.items
                 ≡ map (sign C.coming) jobs.items) × (vec_len result ≡ vec_len jobs)
-                × (vec_capacity result ≡ vec_capacity done) }
+                × (vec_capacity result ≡ vec_capacity done) × All (IsGated (G.says gate.entry.now)) result.items }
         { serve_all(rt, alloc, gate, town, receiver, jobs, done) },
     );
     rest.push_reserved(mine);
@@ -104,10 +108,11 @@ fn begin<
 ) -> Vec<Worker<L, C, Booked<K>>>
     requires { MatchOption crew.old ⊥ (λ c. (vec_len c.done + vec_len c.jobs ≤ vec_capacity c.done)
         × (c.done.items ≡ []) × All (λ w. IsReady L.Told.told L.closed C.coming (uids_of town.now) (desks_of town.now)
-        (receives_on receiver.now) w) c.jobs.items) }
+        (receives_on receiver.now) w) c.jobs.items × All (IsGated (G.says gate.now)) c.jobs.items) }
     ensures { MatchOption crew.old ⊥ (λ c. All (λ w. IsReady L.Told.told L.closed C.coming (uids_of town.now)
         (desks_of town.now) (receives_on receiver.now) w) result.items
-        × (map (sign C.coming) result.items ≡ map (sign C.coming) c.jobs.items)) }
+        × (map (sign C.coming) result.items ≡ map (sign C.coming) c.jobs.items)
+        × All (IsGated (G.says gate.now)) result.items) }
 {
     let Some(Crew { jobs, done }) = crew.take() else {
         unreachable!()
@@ -175,6 +180,7 @@ pub(crate) fn run<
     requires done { (vec_len crew.done + vec_len crew.jobs ≤ vec_capacity crew.done) × (crew.done.items ≡ []) }
     requires jobs { All (λ w. IsReady L.Told.told L.closed C.coming (uids_of town.now) (desks_of town.now)
         (receives_on receiver.now) w) crew.jobs.items }
+    requires gated { All (IsGated (G.says gate.now)) crew.jobs.items }
     ensures seat { IsSeatAt (sends_on sender.now) front.new.place }
     ensures parts { (view front.new.place).parts ≡ (view front.old.place).parts }
     ensures taken { (view front.new.place).taken ≡ (view front.old.place).taken }
@@ -185,15 +191,18 @@ pub(crate) fn run<
     ensures all { All (λ w. IsReady L.Told.told L.closed C.coming (uids_of town.now) (desks_of town.now)
         (receives_on receiver.now) w) result.0.items }
     ensures signs { map (sign C.coming) result.0.items ≡ map (sign C.coming) crew.jobs.items }
+    ensures gated { All (IsGated (G.says gate.now)) result.0.items }
 {
     let mut waiting = Some(crew);
     let mut first = move || -> Vec<Worker<L, C, Booked<K>>>
         requires { MatchOption waiting ⊥ (λ c. (vec_len c.done + vec_len c.jobs ≤ vec_capacity c.done)
             × (c.done.items ≡ []) × All (λ w. IsReady L.Told.told L.closed C.coming (uids_of town.now)
-            (desks_of town.now) (receives_on receiver.now) w) c.jobs.items) }
+            (desks_of town.now) (receives_on receiver.now) w) c.jobs.items
+            × All (IsGated (G.says gate.now)) c.jobs.items) }
         ensures { MatchOption waiting.entry ⊥ (λ c. All (λ w. IsReady L.Told.told L.closed C.coming
             (uids_of town.entry.now) (desks_of town.entry.now) (receives_on receiver.entry.now) w) result.items
-            × (map (sign C.coming) result.items ≡ map (sign C.coming) c.jobs.items)) }
+            × (map (sign C.coming) result.items ≡ map (sign C.coming) c.jobs.items)
+            × All (IsGated (G.says gate.entry.now)) result.items) }
     { begin(rt, alloc, gate, town, receiver, &mut waiting) };
     join_mut(
         rt,

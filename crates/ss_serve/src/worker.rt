@@ -4,7 +4,7 @@ ghost use Rattle.std.specs.Prelude.{◌≡◌, ◌<◌, ◌+◌, vec_len, vec_ca
 ghost use Rattle.crossbeam_channel.specs.Ends.{receives_on};
 ghost use Rattle.ss_links.specs.Links.{IsUnused};
 ghost use Rattle.ss_town.specs.Town.{uids_of, desks_of};
-ghost use Rattle.ss_serve.specs.Crew.{HasWorked, IsReady, sign};
+ghost use Rattle.ss_serve.specs.Crew.{HasWorked, IsGated, IsReady, sign};
 
 use crate::channel::{Job, Links, Take, Tally};
 use crate::report::LinkReport;
@@ -34,7 +34,7 @@ pub(crate) struct Worker<L, C, T: Journaled> {
     pub(crate) place: Pass<Job<L>, Tally>,
 }
 
-/// Serves one link, closes it and reports it.
+/// Serves one link, closes it and reports it. Before each response the worker asks this gate, by its own number.
 pub(crate) fn serve_one<L: Closable + Drop, C: Clock + Drop, K: Keeper + Drop, G: Gate, R: Wait>(
     rt: &R,
     alloc: Global,
@@ -46,10 +46,12 @@ pub(crate) fn serve_one<L: Closable + Drop, C: Clock + Drop, K: Keeper + Drop, G
     requires worked { HasWorked L.Told.told L.closed C.coming (uids_of town.now) (desks_of town.now) worker.old }
     requires unused { IsUnused (L.Told.told link) }
     requires room { vec_len worker.old.reports < vec_capacity worker.old.reports }
+    requires gated { IsGated (G.says gate.now) worker.old }
     ensures worked { HasWorked L.Told.told L.closed C.coming (uids_of town.now) (desks_of town.now) worker.new }
     ensures more { vec_len worker.new.reports ≡ vec_len worker.old.reports + 1 }
     ensures place { worker.new.place ≡ worker.old.place }
     ensures sign { sign C.coming worker.new ≡ sign C.coming worker.old }
+    ensures gated { IsGated (G.says gate.now) worker.new }
 {
     let mut turns = Vec::new(alloc);
     let end = serve_connection(
@@ -85,11 +87,13 @@ pub(crate) fn work<L: Closable + Drop, C: Clock + Drop, K: Keeper + Drop, G: Gat
     receiver: &RuledReceiver<Job<L>, Tally, Links<L>>,
     mut worker: Worker<L, C, Booked<K>>,
 ) -> Worker<L, C, Booked<K>>
-    requires { IsReady L.Told.told L.closed C.coming (uids_of town.now) (desks_of town.now) (receives_on receiver.now)
-        worker }
+    requires ready { IsReady L.Told.told L.closed C.coming (uids_of town.now) (desks_of town.now)
+        (receives_on receiver.now) worker }
+    requires gated { IsGated (G.says gate.now) worker }
     ensures ready { IsReady L.Told.told L.closed C.coming (uids_of town.now) (desks_of town.now)
         (receives_on receiver.now) result }
     ensures sign { sign C.coming result ≡ sign C.coming worker }
+    ensures gated { IsGated (G.says gate.now) result }
 {
     for _ in rt.forever() {
         if worker.reports.len() >= worker.reports.capacity() {

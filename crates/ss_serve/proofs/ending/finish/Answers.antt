@@ -2,6 +2,7 @@ use Rattle.std.proofs.Common.{sym, ap, subst, ◌∙◌, ◌≡◌, length, arit
 use Rattle.ss_town.specs.Town.{uids_of, desks_of, passes_of}
 use Rattle.ss_booked.specs.Booked.{account_of, journal_of, terms_of}
 use Rattle.ss_serve.specs.Crew.{sign, starts}
+use Rattle.ss_serve.specs.Gathering.{reports_in}
 use Rattle.ss_serve.specs.Terms.{AreServed}
 use Rattle.ss_serve.proofs.Closings.{served, are_handed, clock_count}
 use Rattle.ss_serve.proofs.Gatherings.{covers_all, count_gathered}
@@ -36,3 +37,6 @@ returns-clause-clocks g c = let town = c.args.town in let tells = g.L.Told.told 
     ap length c.reverse.ensures.items ∙ clock_count (λ b. terms_of g.K.Keeper.keep_faults b) (λ b. (journal_of b).entries) (λ b. g.K.Keeper.keep_faults (account_of b).keeper) tells closed coming (uids_of town) (desks_of town)
     (passes_of c.args.passes) (passes_of c.gather.new.passes) c.args.crew.items c.gather.new.reports.items (reverse c.gather.new.clocks.items) c.close.result.items
     c.gather.ensures.gathered (c.requires.of.0 ∙ q) c.requires.few q c.requires.crew c.close.ensures.handed
+
+pub returns-clause-reports : goal.returns-clause-reports
+returns-clause-reports g c = let h = c.gather.ensures.gathered in h.reported ∙ ap reports_in (sym h.split)

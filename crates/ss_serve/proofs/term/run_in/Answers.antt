@@ -3,8 +3,10 @@ use Rattle.ss_desk.proofs.Lists.{append_nil}
 use Rattle.ss_town.specs.Town.{uids_of, desks_of, passes_of}
 use Rattle.ss_booked.specs.Booked.{account_of, journal_of, terms_of}
 use Rattle.ss_serve.specs.Crew.{Sign, Signed, fixed_at, sign, starts}
+use Rattle.ss_serve.specs.Reports.{AreAllGated}
 use Rattle.ss_serve.specs.Terms.{AreServed}
 use Rattle.ss_serve.proofs.Crews.{all_same, least_of, one_manner, same_long}
+use Rattle.ss_serve.proofs.Gating.{all_gated, none_gated, nothing_gated}
 use Rattle.ss_serve.proofs.Tying.{by_place, have_left, handed_from, whole_left}
 use Rattle.ss_serve.proofs.term.run_in.Goals as goal
 
@@ -70,3 +72,13 @@ returns-clause-served g c = let e = c.recruit_all.ensures in let r = c.end_serve
     let all : starts (map (sign coming) c.serve_links-crew.result.0.items) ≡ map coming c.args.clocks.items =
     ap starts c.serve_links-crew.ensures.signs ∙ (sym (append_nil (starts signs)) ∙ (ap (λ cs. starts signs ++ map coming cs) (sym none) ∙ e.starts)) in
     subst (λ (cs : List (Option (List ℕ))). AreServed (λ b. terms_of g.K.Keeper.keep_faults b) (λ b. (journal_of b).entries) (λ b. g.K.Keeper.keep_faults (account_of b).keeper) c.args.manner g.L.Told.told g.L.Closable.closed r.accounts.items r.links.items cs (map coming r.clocks.items)) all (c.end_served.ensures.served c.args.manner one)
+
+pub serve_links-crew-requires-clause-gated : goal.serve_links-crew-requires-clause-gated
+serve_links-crew-requires-clause-gated g c κs within = none_gated (g.G.Gate.says c.args.gate.now) c.recruit_all.new.jobs.items c.recruit_all.ensures.none
+
+pub returns-then-not-recruit_all-clause-gated : goal.returns-then-not-recruit_all-clause-gated
+returns-then-not-recruit_all-clause-gated g c = nothing_gated (g.G.Gate.says c.args.gate.now) c.end_early.result.links.items c.end_early.ensures.none
+
+pub returns-clause-gated : goal.returns-clause-gated
+returns-clause-gated g c = let says = g.G.Gate.says c.args.gate.now in
+    subst (λ rs. AreAllGated says rs) (sym c.end_served.ensures.reports) (all_gated says c.serve_links-crew.result.0.items c.serve_links-crew.ensures.gated)

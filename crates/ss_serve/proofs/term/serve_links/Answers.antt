@@ -1,6 +1,7 @@
 use Rattle.std.proofs.Common.{sym, subst, ap, ◌∙◌, ◌≤◌, All, arith}
 use Rattle.ss_town.specs.Town.{uids_of, desks_of}
 use Rattle.ss_serve.specs.Crew.{IsReady, Sign, sign}
+use Rattle.ss_serve.specs.Reports.{AreAllGated}
 use Rattle.ss_serve.proofs.Crews.{all_same, same_long}
 use Rattle.ss_serve.proofs.term.serve_links.Goals as goal
 
@@ -25,3 +26,7 @@ serve_all_left-requires-clause-some g c = let r = c.run-crew in let d = c.lay_al
 pub serve_all_left-requires-clause-least : goal.serve_all_left-requires-clause-least
 serve_all_left-requires-clause-least g c = let r = c.run-crew in let d = c.lay_all_down-crew in
     all_same (sign g.C.Clock.coming) (λ (s : Sign). c.args.connections ≤ s.room) d.result.items c.args.crew.jobs.items (d.ensures.signs ∙ r.ensures.signs) c.requires.least
+
+pub serve_all_left-requires-clause-gated : goal.serve_all_left-requires-clause-gated
+serve_all_left-requires-clause-gated g c = let r = c.run-crew in let d = c.lay_all_down-crew in let says = g.G.Gate.says c.args.gate.now in
+    all_same (λ w. w.reports) (λ v. AreAllGated says v.items) d.result.items r.result.0.items d.ensures.reports r.ensures.gated

@@ -4,10 +4,12 @@ use Rattle.ss_town.specs.Town.{uids_of, passes_of}
 use Rattle.ss_connection.specs.Known.{known_by}
 use Rattle.ss_connection.specs.Calls.{Enters, added}
 use Rattle.ss_connection.specs.Ends.{Served}
+use Rattle.ss_connection.specs.Turns.{AreGated}
 use Rattle.ss_connection.specs.declared.notes.TurnNote.{TurnNote}
 use Rattle.ss_serve.specs.Crew.{Works}
-use Rattle.ss_serve.specs.Reports.{IsReport}
+use Rattle.ss_serve.specs.Reports.{AreAllGated, IsReport}
 use Rattle.ss_serve.specs.declared.report.LinkReport.{LinkReport}
+use Rattle.ss_serve.proofs.Crews.{all_end}
 use Rattle.ss_serve.proofs.Working.{works_more}
 use Rattle.ss_serve.proofs.worker.serve_one.Goals as goal
 
@@ -25,3 +27,11 @@ returns-clause-worked g c =
       works = subst (λ (rs : List (LinkReport _)). Works w.manner tells closed u w.number qs rs (coming w.start.value) (coming s.new.clock)) (sym c.push_reserved.ensures.items)
           (works_more w.manner tells closed u w.number ps qs w.reports.items r (coming w.start.value) (coming w.clock) (coming s.new.clock) c.requires.worked.works s.ensures.more enters refl is);
     }
+
+pub returns-clause-gated : goal.returns-clause-gated
+returns-clause-gated g c =
+    let w = c.args.worker.now in let s = c.serve_connection-end in let says = g.G.Gate.says c.args.gate.now in
+    let r : LinkReport _ = record { worker = w.number; link = c.close.new.self; turns = s.new.turns; end = s.result } in
+    let asked = subst (λ (ts : List TurnNote). AreGated (says w.number) (added ts s.new.turns.items)) c.new-turns.ensures.items s.ensures.gated in
+    subst (λ (rs : List (LinkReport _)). AreAllGated says rs) (sym c.push_reserved.ensures.items)
+    (all_end (λ (x : LinkReport _). AreGated (says x.worker) x.turns.items) w.reports.items r c.requires.gated asked)

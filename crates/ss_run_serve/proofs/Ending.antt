@@ -31,6 +31,7 @@ use Rattle.ss_site.specs.Sites.{Counts, Term, HasAdded}
 use Rattle.ss_serve.specs.declared.report.LinkReport.{LinkReport}
 use Rattle.ss_serve.specs.declared.report.TermStop.{TermStop}
 use Rattle.ss_serve.specs.declared.report.TermStop.TheVariants as ended
+use Rattle.ss_serve.specs.Reports.{AreAllGated}
 use Rattle.ss_serve.specs.Terms.{HasEnded, IsRefused, IsTerm, TermSays}
 use Rattle.ss_run_serve.specs.declared.stop.Stop.{Stop}
 use Rattle.ss_run_serve.specs.declared.stop.Stop.TheVariants as stops
@@ -100,20 +101,20 @@ module _ {K : Type 0} {G : Ghosts K} (told : K → Option Kept) (faults : K → 
   pub are_bare : (accounts : List (ℕ × Booked K G)) → All (λ (a : ℕ × Hosted). IsBegun a.1) (hosted_all accounts) → AreBare (λ (b : Booked K G). (journal_of b).entries) accounts
   are_bare accounts begun = λ i uid b at. (all_at (λ (a : ℕ × Hosted). IsBegun a.1) (hosted_all accounts) i (uid, hosted told faults b) begun (at_seen (hosted told faults) accounts i uid b at)).entries
 
-  module _ {L : Type 0} (manner : Manner) (tells : L → Meanings) (closed : L → Bool) where
+  module _ {L : Type 0} (manner : Manner) (tells : L → Meanings) (closed : L → Bool) (says : ℕ → ℕ → Bool → Type 0) where
     abbrev Term_of : List (ℕ × Booked K G) → List (ℕ × Booked K G) → List (LinkReport L) → List (Option (List ℕ)) → List (Option (List ℕ)) → Type 0
     Term_of given handed reports coming coming' = IsTerm fixed entries_in failures manner tells closed given handed reports coming coming'
 
     -- a term that isn't refused
     term_of : (given handed : List (ℕ × Booked K G)) (reports : List (LinkReport L)) (coming coming' : List (Option (List ℕ))) (stop : TermStop) → ((fault : TownFault) → stop ≡ ended.Town fault → ⊥)
         → TermSays fixed entries_in failures manner tells closed given handed reports coming coming' stop → Term_of given handed reports coming coming'
-    term_of given handed reports coming coming' ended.Connections town says = says
-    term_of given handed reports coming coming' ended.PortEnded town says = says
-    term_of given handed reports coming coming' ended.Rested town says = says
-    term_of given handed reports coming coming' ended.Port town says = says
-    term_of given handed reports coming coming' (ended.Full uid) town says = says
-    term_of given handed reports coming coming' ended.Memory town says = says
-    term_of given handed reports coming coming' (ended.Town fault) town says = absurd (town fault refl)
+    term_of given handed reports coming coming' ended.Connections town so = so
+    term_of given handed reports coming coming' ended.PortEnded town so = so
+    term_of given handed reports coming coming' ended.Rested town so = so
+    term_of given handed reports coming coming' ended.Port town so = so
+    term_of given handed reports coming coming' (ended.Full uid) town so = so
+    term_of given handed reports coming coming' ended.Memory town so = so
+    term_of given handed reports coming coming' (ended.Town fault) town so = absurd (town fault refl)
 
     seen_term : (given handed : List (ℕ × Booked K G)) (reports : List (LinkReport L)) (coming coming' : List (Option (List ℕ))) → Term_of given handed reports coming coming'
         → IsTerm (λ (h : Hosted). h.fixed) (λ (h : Hosted). h.entries) (λ (h : Hosted). h.faults) manner tells closed (hosted_all given) (hosted_all handed) reports coming coming'
@@ -128,13 +129,14 @@ module _ {K : Type 0} {G : Ghosts K} (told : K → Option Kept) (faults : K → 
     term_told handed reports = record { reports = reports; journals = map {B = ℕ × Journal} (λ (a : ℕ × Booked K G). (a.0, journal_of a.1)) handed }
 
     took_place : (given handed : List (ℕ × Booked K G)) (reports : List (LinkReport L)) (coming coming' : List (Option (List ℕ))) (stop : TermStop) (connections : ℕ) (port port' : Accepts)
-        → ((fault : TownFault) → stop ≡ ended.Town fault → ⊥) → TermSays fixed entries_in failures manner tells closed given handed reports coming coming' stop → RoseBy (length reports) port.links port'.links → length reports ≤ connections
-        → TookPlace manner tells closed (hosted_all given) (hosted_all handed) coming coming' connections port port' (term_told handed reports)
-    took_place given handed reports coming coming' stop connections port port' town says links few = record {
+        → ((fault : TownFault) → stop ≡ ended.Town fault → ⊥) → TermSays fixed entries_in failures manner tells closed given handed reports coming coming' stop → RoseBy (length reports) port.links port'.links → length reports ≤ connections → AreAllGated says reports
+        → TookPlace manner tells closed says (hosted_all given) (hosted_all handed) coming coming' connections port port' (term_told handed reports)
+    took_place given handed reports coming coming' stop connections port port' town so links few gated = record {
       journals = journals handed;
-      served = seen_term given handed reports coming coming' (term_of given handed reports coming coming' stop town says);
+      served = seen_term given handed reports coming coming' (term_of given handed reports coming coming' stop town so);
       links = links;
       few = few;
+      gated = gated;
     }
 
     -- the site was told of a term
@@ -142,12 +144,12 @@ module _ {K : Type 0} {G : Ghosts K} (told : K → Option Kept) (faults : K → 
         (old new : Counts) (connections : ℕ) (port port' : Accepts) (next : Option Stop) → ((fault : TownFault) → stop ≡ ended.Town fault → ⊥)
         → TermSays fixed entries_in failures manner tells closed given handed reports coming coming' stop
         → HasAdded (record { reports = reports; journals = map {B = ℕ × Journal} (λ (a : ℕ × Booked K G). (a.0, journal_of a.1)) handed }) terms terms'
-        → new ≡ old → RoseBy (length reports) port.links port'.links → length reports ≤ connections → HasEnded stop connections port port' → Follows stop port' next
-        → IsOnce manner tells closed (hosted_all given) (hosted_all handed) coming coming' terms terms' old new connections port port' next
-    once_done given handed reports coming coming' stop terms terms' old new connections port port' next town says added counts links few why follows = inr (inr (record {
+        → new ≡ old → RoseBy (length reports) port.links port'.links → length reports ≤ connections → AreAllGated says reports → HasEnded stop connections port port' → Follows stop port' next
+        → IsOnce manner tells closed says (hosted_all given) (hosted_all handed) coming coming' terms terms' old new connections port port' next
+    once_done given handed reports coming coming' stop terms terms' old new connections port port' next town so added counts links few gated why follows = inr (inr (record {
       term = term_told handed reports;
       told = added;
-      took = took_place given handed reports coming coming' stop connections port port' town says links few;
+      took = took_place given handed reports coming coming' stop connections port port' town so links few gated;
       counts = counts;
       why = last_is stop connections port port' next town why follows;
     }))
@@ -155,15 +157,15 @@ module _ {K : Type 0} {G : Ghosts K} (told : K → Option Kept) (faults : K → 
     -- the site wasn't told
     pub once_untold : (given handed : List (ℕ × Booked K G)) (reports : List (LinkReport L)) (coming coming' : List (Option (List ℕ))) (stop : TermStop) (terms terms' : Option (List (Term (LinkReport L))))
         (old new : Counts) (connections : ℕ) (port port' : Accepts) (last : Stop) → ((fault : TownFault) → stop ≡ ended.Town fault → ⊥)
-        → TermSays fixed entries_in failures manner tells closed given handed reports coming coming' stop → terms' ≡ terms → IsUntold old new last → RoseBy (length reports) port.links port'.links → length reports ≤ connections
-        → IsOnce manner tells closed (hosted_all given) (hosted_all handed) coming coming' terms terms' old new connections port port' (Some last)
-    once_untold given handed reports coming coming' stop terms terms' old new connections port port' last town says same why links few = inr (inl (record {
+        → TermSays fixed entries_in failures manner tells closed given handed reports coming coming' stop → terms' ≡ terms → IsUntold old new last → RoseBy (length reports) port.links port'.links → length reports ≤ connections → AreAllGated says reports
+        → IsOnce manner tells closed says (hosted_all given) (hosted_all handed) coming coming' terms terms' old new connections port port' (Some last)
+    once_untold given handed reports coming coming' stop terms terms' old new connections port port' last town so same why links few gated = inr (inl (record {
       stop = last;
       is = refl;
       why = why;
       untold = same;
       term = term_told handed reports;
-      took = took_place given handed reports coming coming' stop connections port port' town says links few;
+      took = took_place given handed reports coming coming' stop connections port port' town so links few gated;
     }))
 
     -- what comes back of accounts that weren't served
@@ -245,10 +247,10 @@ module _ {K : Type 0} {G : Ghosts K} (told : K → Option Kept) (faults : K → 
     pub once_refused : (given handed : List (ℕ × Booked K G)) (reports : List (LinkReport L)) (coming coming' : List (Option (List ℕ))) (stop : TermStop) (fault : TownFault)
         (terms : Option (List (Term (LinkReport L)))) (old : Counts) (connections : ℕ) (port port' : Accepts) → stop ≡ ended.Town fault → All (λ (a : ℕ × Hosted). IsBegun a.1) (hosted_all given)
         → TermSays fixed entries_in failures manner tells closed given handed reports coming coming' stop → HasEnded stop connections port port'
-        → IsOnce manner tells closed (hosted_all given) (hosted_all handed) coming coming' terms terms old old connections port port' (Some stops.Memory)
-    once_refused given handed reports coming coming' stop fault terms old connections port port' town begun says why =
+        → IsOnce manner tells closed says (hosted_all given) (hosted_all handed) coming coming' terms terms old old connections port port' (Some stops.Memory)
+    once_refused given handed reports coming coming' stop fault terms old connections port port' town begun so why =
         let refused : IsRefused fixed entries_in fault given handed reports coming coming' =
-        (let P : TermStop → Type 0 = λ (s : TermStop). TermSays fixed entries_in failures manner tells closed given handed reports coming coming' s in subst P town says) in
+        (let P : TermStop → Type 0 = λ (s : TermStop). TermSays fixed entries_in failures manner tells closed given handed reports coming coming' s in subst P town so) in
         let back = back_after given handed fault begun refused.back in
         let same : port' ≡ port = (let P : TermStop → Type 0 = λ (s : TermStop). HasEnded s connections port port' in subst P town why) in
         inl (record { stop = stops.Memory; is = refl; why = refl; untold = refl; links = ap (λ (p : Accepts). p.links) same; left = back.left; uids = back.uids; failed = back.failed })

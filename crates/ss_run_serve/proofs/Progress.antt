@@ -97,7 +97,7 @@ keeper_faulty before after same any =
     let there = zip_there SameKeeper before after any.1 same (any.0, any.2, any.3) in
     any_of IsFaulty after there.0 there.1 (λ none. any.4 (sym there.2.faults ∙ none))
 
-module _ {L : Type 0} (manner : Manner) (tells : L → Meanings) (closed : L → Bool) where
+module _ {L : Type 0} (manner : Manner) (tells : L → Meanings) (closed : L → Bool) (says : ℕ → ℕ → Bool → Type 0) where
   abbrev Term_of : List (ℕ × Hosted) → List (ℕ × Hosted) → List (LinkReport L) → List (Option (List ℕ)) → List (Option (List ℕ)) → Type 0
   Term_of given handed reports coming coming' = IsTerm (λ account. account.fixed) (λ account. account.entries) (λ account. account.faults) manner tells closed given handed reports coming coming'
 
@@ -133,7 +133,7 @@ module _ {L : Type 0} (manner : Manner) (tells : L → Meanings) (closed : L →
 
   -- the terms so far
   pub record Stage (opened : List (ℕ × Hosted)) (coming : List (Option (List ℕ))) (port : Accepts) (terms : List (Term (LinkReport L))) (handed : List (ℕ × Hosted)) (coming' : List (Option (List ℕ))) : Type 0 where
-    pub are : AreTerms manner tells closed opened coming terms handed coming'
+    pub are : AreTerms manner tells closed says opened coming terms handed coming'
     pub failed : KeeperFailed terms → Any IsFaulty handed
     pub uids : IsPermutation (uids_in opened) (uids_in handed)
     pub links : RoseBy (links_of terms) 0 port.links
@@ -146,9 +146,9 @@ module _ {L : Type 0} (manner : Manner) (tells : L → Meanings) (closed : L →
       last ∙ ap (λ (ts : List (Term (LinkReport L))). Some ts) (append_assoc before terms (term ∷ []))
 
   are_more : (left : List (ℕ × Hosted)) (coming : List (Option (List ℕ))) (terms : List (Term (LinkReport L))) (term : Term (LinkReport L)) (handed handed' : List (ℕ × Hosted)) (coming' coming'' : List (Option (List ℕ)))
-      → AreTerms manner tells closed left coming terms handed coming' → IsTermOf manner tells closed handed coming' term handed' coming'' → AreTerms manner tells closed left coming (terms ++ term ∷ []) handed' coming''
+      → AreTerms manner tells closed says left coming terms handed coming' → IsTermOf manner tells closed says handed coming' term handed' coming'' → AreTerms manner tells closed says left coming (terms ++ term ∷ []) handed' coming''
   are_more left coming [] term handed handed' coming' coming'' are of =
-      (handed', coming'', subst (λ (c : List (Option (List ℕ))). IsTermOf manner tells closed left c term handed' coming'') are.1 (subst (λ (h : List (ℕ × Hosted)). IsTermOf manner tells closed h coming' term handed' coming'') are.0 of), (refl, refl))
+      (handed', coming'', subst (λ (c : List (Option (List ℕ))). IsTermOf manner tells closed says left c term handed' coming'') are.1 (subst (λ (h : List (ℕ × Hosted)). IsTermOf manner tells closed says h coming' term handed' coming'') are.0 of), (refl, refl))
   are_more left coming (first ∷ terms) term handed handed' coming' coming'' are of = (are.0, are.1, are.2, are_more are.0 are.1 terms term handed handed' coming' coming'' are.3 of)
 
   links_more : (terms : List (Term (LinkReport L))) (term : Term (LinkReport L)) → links_of (terms ++ term ∷ []) ≡ links_of terms + length term.reports
@@ -172,9 +172,9 @@ module _ {L : Type 0} (manner : Manner) (tells : L → Meanings) (closed : L →
   -- one term more
   stage_more : (opened : List (ℕ × Hosted)) (coming : List (Option (List ℕ))) (port port' : Accepts) (terms : List (Term (LinkReport L))) (handed given handed' : List (ℕ × Hosted)) (coming' coming'' : List (Option (List ℕ)))
       (connections : ℕ) (term : Term (LinkReport L)) → connections ≤ 1000 → Stage opened coming port terms handed coming' → AllZip BeginsAnew handed given
-      → TookPlace manner tells closed given handed' coming' coming'' connections port port' term → Stage opened coming port' (terms ++ term ∷ []) handed' coming''
+      → TookPlace manner tells closed says given handed' coming' coming'' connections port port' term → Stage opened coming port' (terms ++ term ∷ []) handed' coming''
   stage_more opened coming port port' terms handed given handed' coming' coming'' connections term small stage anew took = record {
-    are = are_more opened coming terms term handed handed' coming' coming'' stage.are (record { given = given; anew = anew; journals = took.journals; served = took.served });
+    are = are_more opened coming terms term handed handed' coming' coming'' stage.are (record { given = given; anew = anew; journals = took.journals; served = took.served; gated = took.gated });
     failed = λ any. elim (Contains-push_cases terms term any.1 (any.0, any.2, any.3)) [
       | inl there ↦ term_faulty given handed' term.reports coming' coming'' (all_begun handed given anew) took.served (anew_faulty handed given anew (stage.failed (there.0, any.1, there.1, there.2, any.4)))
       | inr same ↦ term_marked given handed' term.reports coming' coming'' took.served
@@ -250,11 +250,11 @@ module _ {L : Type 0} (manner : Manner) (tells : L → Meanings) (closed : L →
     within : (progress : Progress opened coming connections asked told told' old mid port left given coming') → AreWithin connections asked progress.terms
     within progress = record { few = progress.few; most = λ asks. (let counted = progress.remaining.some asks in omega (arith, counted.0, counted.1)) }
 
-    few_more : (progress : Progress opened coming connections asked told told' old mid port left given coming') (term : Term (LinkReport L)) → TookPlace manner tells closed given handed coming' coming'' connections port port' term
+    few_more : (progress : Progress opened coming connections asked told told' old mid port left given coming') (term : Term (LinkReport L)) → TookPlace manner tells closed says given handed coming' coming'' connections port port' term
         → All (λ (t : Term (LinkReport L)). length t.reports ≤ connections) (progress.terms ++ term ∷ [])
     few_more progress term took = All-push (λ (t : Term (LinkReport L)). length t.reports ≤ connections) progress.terms term progress.few took.few
 
-    within_more : (progress : Progress opened coming connections asked told told' old mid port left given coming') (term : Term (LinkReport L)) → TookPlace manner tells closed given handed coming' coming'' connections port port' term
+    within_more : (progress : Progress opened coming connections asked told told' old mid port left given coming') (term : Term (LinkReport L)) → TookPlace manner tells closed says given handed coming' coming'' connections port port' term
         → AreWithin connections asked (progress.terms ++ term ∷ [])
     within_more progress term took = record {
       few = few_more progress term took;
@@ -263,8 +263,8 @@ module _ {L : Type 0} (manner : Manner) (tells : L → Meanings) (closed : L →
 
     -- a term took place, after which no further one begins
     pub progress_done : (stop : Stop) → connections ≤ 1000 → Progress opened coming connections asked told told' old mid port left given coming'
-        → IsDone manner tells closed given handed coming' coming'' told' told'' mid new connections port port' (Some stop)
-        → Course manner tells closed opened coming connections asked told told'' old new port' handed stop
+        → IsDone manner tells closed says given handed coming' coming'' told' told'' mid new connections port port' (Some stop)
+        → Course manner tells closed says opened coming connections asked told told'' old new port' handed stop
     progress_done stop small progress done =
         let stage = stage_more opened coming port port' progress.terms progress.handed given handed coming' coming'' connections done.term small progress.stage progress.anew done.took in
         record {
@@ -314,7 +314,7 @@ module _ {L : Type 0} (manner : Manner) (tells : L → Meanings) (closed : L →
 
     -- no term took place
     pub progress_lost : (stop : Stop) → Progress opened coming connections asked told told' old mid port left given coming' → IsLost given handed told' told'' mid new port port' (Some stop)
-        → Course manner tells closed opened coming connections asked told told'' old new port' handed stop
+        → Course manner tells closed says opened coming connections asked told told'' old new port' handed stop
     progress_lost stop progress lost =
         let same : lost.stop ≡ stop = cc in
         let why : IsUntold mid new stop = subst (λ (s : Stop). IsUntold mid new s) same lost.why in
@@ -339,8 +339,8 @@ module _ {L : Type 0} (manner : Manner) (tells : L → Meanings) (closed : L →
 
     -- a term took place, and the site wasn't told
     pub progress_unheard : (stop : Stop) → connections ≤ 1000 → Progress opened coming connections asked told told' old mid port left given coming'
-        → IsUnheard manner tells closed given handed coming' coming'' told' told'' mid new connections port port' (Some stop)
-        → Course manner tells closed opened coming connections asked told told'' old new port' handed stop
+        → IsUnheard manner tells closed says given handed coming' coming'' told' told'' mid new connections port port' (Some stop)
+        → Course manner tells closed says opened coming connections asked told told'' old new port' handed stop
     progress_unheard stop small progress unheard =
         let same : unheard.stop ≡ stop = cc in
         let why : IsUntold mid new stop = subst (λ (s : Stop). IsUntold mid new s) same unheard.why in
@@ -375,7 +375,7 @@ module _ {L : Type 0} (manner : Manner) (tells : L → Meanings) (closed : L →
 
     -- of the terms so far as many were short as the port rested times
     rested_more : connections ≤ 1000 → asked ≤ 999999999999 → (progress : Progress opened coming connections asked told told' old mid port left given coming')
-        → (done : IsDone manner tells closed given handed coming' coming'' told' told'' mid new connections port port' None) → asked ≢ 0
+        → (done : IsDone manner tells closed says given handed coming' coming'' told' told'' mid new connections port port' None) → asked ≢ 0
         → RoseBy (short_of connections (progress.terms ++ done.term ∷ [])) 0 port'.rests
     rested_more small most progress done asks =
         let counted = progress.remaining.some asks in
@@ -394,8 +394,8 @@ module _ {L : Type 0} (manner : Manner) (tells : L → Meanings) (closed : L →
 
     -- the last term that was asked took place
     pub progress_terms : connections ≤ 1000 → asked ≤ 999999999999 → left ≡ 1 → Progress opened coming connections asked told told' old mid port left given coming'
-        → IsDone manner tells closed given handed coming' coming'' told' told'' mid new connections port port' None
-        → Course manner tells closed opened coming connections asked told told'' old new port' handed stops.Terms
+        → IsDone manner tells closed says given handed coming' coming'' told' told'' mid new connections port port' None
+        → Course manner tells closed says opened coming connections asked told told'' old new port' handed stops.Terms
     progress_terms small most last progress done =
         let stage = stage_more opened coming port port' progress.terms progress.handed given handed coming' coming'' connections done.term small progress.stage progress.anew done.took in
         let asks : asked ≢ 0 = λ none. absurd (omega (arith, progress.remaining.endless none, last)) in
@@ -420,8 +420,8 @@ module _ {L : Type 0} (manner : Manner) (tells : L → Meanings) (closed : L →
 
     -- a term took place, and the accounts couldn't all begin anew
     pub progress_short : (accounts : List (ℕ × Hosted)) → connections ≤ 1000 → Progress opened coming connections asked told told' old mid port left given coming'
-        → IsDone manner tells closed given handed coming' coming'' told' told'' mid new connections port port' None → AllZip SameKeeper handed accounts
-        → Course manner tells closed opened coming connections asked told told'' old new port' accounts stops.Memory
+        → IsDone manner tells closed says given handed coming' coming'' told' told'' mid new connections port port' None → AllZip SameKeeper handed accounts
+        → Course manner tells closed says opened coming connections asked told told'' old new port' accounts stops.Memory
     progress_short accounts small progress done keepers =
         let stage = stage_more opened coming port port' progress.terms progress.handed given handed coming' coming'' connections done.term small progress.stage progress.anew done.took in
         record {
@@ -444,7 +444,7 @@ module _ {L : Type 0} (manner : Manner) (tells : L → Meanings) (closed : L →
 
     -- a term took place, and the accounts begin anew
     pub progress_on : (accounts : List (ℕ × Hosted)) → connections ≤ 1000 → asked ≤ 999999999999 → left ≢ 1 → Progress opened coming connections asked told told' old mid port left given coming'
-        → IsDone manner tells closed given handed coming' coming'' told' told'' mid new connections port port' None → AllZip BeginsAnew handed accounts
+        → IsDone manner tells closed says given handed coming' coming'' told' told'' mid new connections port port' None → AllZip BeginsAnew handed accounts
         → Progress opened coming connections asked told told'' old new port' (left - 1) accounts coming''
     progress_on accounts small most more progress done anew = record {
       terms = progress.terms ++ done.term ∷ [];
@@ -464,20 +464,20 @@ module _ {L : Type 0} (manner : Manner) (tells : L → Meanings) (closed : L →
 
     -- a term after which no further one begins
     pub progress_stop : (stop : Stop) (last : Option Stop) → connections ≤ 1000 → Progress opened coming connections asked told told' old mid port left given coming'
-        → IsOnce manner tells closed given handed coming' coming'' told' told'' mid new connections port port' last → last ≡ Some stop
-        → Course manner tells closed opened coming connections asked told told'' old new port' handed stop
+        → IsOnce manner tells closed says given handed coming' coming'' told' told'' mid new connections port port' last → last ≡ Some stop
+        → Course manner tells closed says opened coming connections asked told told'' old new port' handed stop
     progress_stop stop last small progress once is =
-        let now : IsOnce manner tells closed given handed coming' coming'' told' told'' mid new connections port port' (Some stop) =
-        subst (λ (l : Option Stop). IsOnce manner tells closed given handed coming' coming'' told' told'' mid new connections port port' l) is once in
+        let now : IsOnce manner tells closed says given handed coming' coming'' told' told'' mid new connections port port' (Some stop) =
+        subst (λ (l : Option Stop). IsOnce manner tells closed says given handed coming' coming'' told' told'' mid new connections port port' l) is once in
         elim now [ inl lost ↦ progress_lost stop progress lost | inr took ↦ elim took [ inl unheard ↦ progress_unheard stop small progress unheard | inr done ↦ progress_done stop small progress done ] ]
 
     -- a term after which a further one may begin
-    pub once_on : (last : Option Stop) → IsOnce manner tells closed given handed coming' coming'' told' told'' mid new connections port port' last → last ≡ None
-        → IsDone manner tells closed given handed coming' coming'' told' told'' mid new connections port port' None
+    pub once_on : (last : Option Stop) → IsOnce manner tells closed says given handed coming' coming'' told' told'' mid new connections port port' last → last ≡ None
+        → IsDone manner tells closed says given handed coming' coming'' told' told'' mid new connections port port' None
     once_on last once is =
-        let now : IsOnce manner tells closed given handed coming' coming'' told' told'' mid new connections port port' None =
-        subst (λ (l : Option Stop). IsOnce manner tells closed given handed coming' coming'' told' told'' mid new connections port port' l) is once in
+        let now : IsOnce manner tells closed says given handed coming' coming'' told' told'' mid new connections port port' None =
+        subst (λ (l : Option Stop). IsOnce manner tells closed says given handed coming' coming'' told' told'' mid new connections port port' l) is once in
         elim now [ inl lost ↦ impossible lost.stop lost.is | inr took ↦ elim took [ inl unheard ↦ impossible unheard.stop unheard.is | inr done ↦ done ] ]
       where
-        impossible : (stop : Stop) → None ≡ Some stop → IsDone manner tells closed given handed coming' coming'' told' told'' mid new connections port port' None
+        impossible : (stop : Stop) → None ≡ Some stop → IsDone manner tells closed says given handed coming' coming'' told' told'' mid new connections port port' None
         impossible stop is = absurd cc

@@ -27,11 +27,11 @@ port_faults : (n before now : ℕ) → RoseUnless n before now → before ≤ no
 port_faults zero before now rose = omega (arith, rose.none refl)
 port_faults (suc n) before now rose = (rose.some (omega arith)).later
 
-module _ {L : Type 0} (manner : Manner) (tells : L → Meanings) (closed : L → Bool) where
+module _ {L : Type 0} (manner : Manner) (tells : L → Meanings) (closed : L → Bool) (says : ℕ → ℕ → Bool → Type 0) where
   -- accounts that were served until the port was shut
   pub came_to : (opened : List (ℕ × Hosted)) (coming : List (Option (List ℕ))) (workers connections asked : ℕ) (told told' : Option (List (Term (LinkReport L)))) (old mid new : Counts) (port : Accepts)
-      (accounts : List (ℕ × Hosted)) (stop : Stop) → length coming ≡ workers → Course manner tells closed opened coming connections asked told told' old mid port accounts stop → CountsPort port mid new
-      → CameTo manner tells closed opened workers connections asked told told' old new accounts stop
+      (accounts : List (ℕ × Hosted)) (stop : Stop) → length coming ≡ workers → Course manner tells closed says opened coming connections asked told told' old mid port accounts stop → CountsPort port mid new
+      → CameTo manner tells closed says opened workers connections asked told told' old new accounts stop
   came_to opened coming workers connections asked told told' old mid new port accounts stop long course shut = record {
     terms = course.terms;
     told = course.told;
@@ -70,12 +70,12 @@ module _ {L : Type 0} (manner : Manner) (tells : L → Meanings) (closed : L →
 
   -- accounts that weren't served, since there were no clocks or no port
   pub came_to_none : (opened : List (ℕ × Hosted)) (workers connections asked : ℕ) (told : Option (List (Term (LinkReport L)))) (old new : Counts) (stop : Stop) → IsUntold old new stop
-      → CameTo manner tells closed opened workers connections asked told told old new opened stop
+      → CameTo manner tells closed says opened workers connections asked told told old new opened stop
   came_to_none opened workers connections asked told old new stop why = record {
     terms = [];
     told = [];
-    are_told = told_none manner tells closed told;
-    of = all_of manner tells closed [] stop;
+    are_told = told_none manner tells closed says told;
+    of = all_of manner tells closed says [] stop;
     handed = opened;
     served = inl (refl, refl);
     within = record { few = All-nil (λ (term : Term (LinkReport L)). length term.reports ≤ connections); most = λ asks. omega arith };
@@ -120,17 +120,17 @@ module _ {L : Type 0} (manner : Manner) (tells : L → Meanings) (closed : L →
 
   -- the same after calls that told the site no term
   pub came_to_unserved : (opened : List (ℕ × Hosted)) (workers connections asked : ℕ) (told told' : Option (List (Term (LinkReport L)))) (old mid new : Counts) (stop : Stop) → told' ≡ told → mid ≡ old → IsUntold mid new stop
-      → CameTo manner tells closed opened workers connections asked told told' old new opened stop
+      → CameTo manner tells closed says opened workers connections asked told told' old new opened stop
   came_to_unserved opened workers connections asked told told' old mid new stop same first why =
-      subst (λ (t : Option (List (Term (LinkReport L)))). CameTo manner tells closed opened workers connections asked told t old new opened stop) (sym same)
+      subst (λ (t : Option (List (Term (LinkReport L)))). CameTo manner tells closed says opened workers connections asked told t old new opened stop) (sym same)
       (came_to_none opened workers connections asked told old new stop (subst (λ (c : Counts). IsUntold c new stop) first why))
 
   pub came_to_shut : (opened : List (ℕ × Hosted)) (coming : List (Option (List ℕ))) (workers connections asked : ℕ) (told first last told' : Option (List (Term (LinkReport L)))) (old begun mid new : Counts) (port : Accepts)
-      (accounts : List (ℕ × Hosted)) (stop : Stop) → first ≡ told → told' ≡ last → begun ≡ old → length coming ≡ workers → Course manner tells closed opened coming connections asked first last begun mid port accounts stop
-      → CountsPort port mid new → CameTo manner tells closed opened workers connections asked told told' old new accounts stop
+      (accounts : List (ℕ × Hosted)) (stop : Stop) → first ≡ told → told' ≡ last → begun ≡ old → length coming ≡ workers → Course manner tells closed says opened coming connections asked first last begun mid port accounts stop
+      → CountsPort port mid new → CameTo manner tells closed says opened workers connections asked told told' old new accounts stop
   came_to_shut opened coming workers connections asked told first last told' old begun mid new port accounts stop same same' counts long course shut =
-      let now : Course manner tells closed opened coming connections asked told told' old mid port accounts stop =
-      subst (λ (c : Counts). Course manner tells closed opened coming connections asked told told' c mid port accounts stop) counts
-      (subst (λ (t : Option (List (Term (LinkReport L)))). Course manner tells closed opened coming connections asked t told' begun mid port accounts stop) same
-      (subst (λ (t : Option (List (Term (LinkReport L)))). Course manner tells closed opened coming connections asked first t begun mid port accounts stop) (sym same') course)) in
+      let now : Course manner tells closed says opened coming connections asked told told' old mid port accounts stop =
+      subst (λ (c : Counts). Course manner tells closed says opened coming connections asked told told' c mid port accounts stop) counts
+      (subst (λ (t : Option (List (Term (LinkReport L)))). Course manner tells closed says opened coming connections asked t told' begun mid port accounts stop) same
+      (subst (λ (t : Option (List (Term (LinkReport L)))). Course manner tells closed says opened coming connections asked first t begun mid port accounts stop) (sym same') course)) in
       came_to opened coming workers connections asked told told' old mid new port accounts stop long now shut

@@ -54,15 +54,15 @@ pub refused_same : (kept : Option Entries) (old new : Counts) (folder folder' ui
 refused_same kept old new folder folder' uids uids' stop one two refused =
     subst (λ (us : List ℕ). RefusesOne folder' kept old new us stop) two (subst (λ (f : List ℕ). RefusesOne f kept old new uids stop) one refused)
 
-module _ {L : Type 0} (tells : L → Meanings) (closed : L → Bool) where
+module _ {L : Type 0} (tells : L → Meanings) (closed : L → Bool) (says : ℕ → ℕ → Bool → Type 0) where
   -- an account wasn't opened
   pub refused_all : (command : ServeCommand) (stop : Stop) (old new : Sited (LinkReport L)) → RefusesOne command.folder old.kept old.counts new.counts command.uids stop → AreAsBefore old.kept new.kept
-      → CountsFaults old.counts new.counts → new.terms ≡ old.terms → IsServed tells closed command stop old new
+      → CountsFaults old.counts new.counts → new.terms ≡ old.terms → IsServed tells closed says command stop old new
   refused_all command stop old new refused before counted same = record {
     terms = [];
     told = [];
-    are_told = subst (λ (t : Option (List (Term (LinkReport L)))). AreTold [] old.terms t) (sym same) (told_none command.manner tells closed old.terms);
-    of = all_of command.manner tells closed [] stop;
+    are_told = subst (λ (t : Option (List (Term (LinkReport L)))). AreTold [] old.terms t) (sym same) (told_none command.manner tells closed says old.terms);
+    of = all_of command.manner tells closed says [] stop;
     served = inl none;
     faults = λ any. absurd (omega (arith, any.2));
     others = λ after is. (let b = before after is in (b.0, b.1, λ f uid apart. b.2 f uid));
@@ -87,8 +87,8 @@ module _ {L : Type 0} (tells : L → Meanings) (closed : L → Bool) where
 
   -- accounts were opened, served, and given back
   pub served_all : (command : ServeCommand) (stop : Stop) (old mid new : Sited (LinkReport L)) (opened accounts : List (ℕ × Hosted)) → uids_in opened ≡ command.uids → All (IsOpened command.folder old.kept) opened
-      → CameTo command.manner tells closed opened command.workers command.connections command.terms old.terms mid.terms old.counts mid.counts accounts stop → mid.kept ≡ old.kept → new.terms ≡ mid.terms
-      → HaveRetired command.folder accounts mid.kept new.kept → CountsKeepers accounts mid.counts new.counts → All (λ (a : ℕ × Hosted). Stands a.1) accounts → IsServed tells closed command stop old new
+      → CameTo command.manner tells closed says opened command.workers command.connections command.terms old.terms mid.terms old.counts mid.counts accounts stop → mid.kept ≡ old.kept → new.terms ≡ mid.terms
+      → HaveRetired command.folder accounts mid.kept new.kept → CountsKeepers accounts mid.counts new.counts → All (λ (a : ℕ × Hosted). Stands a.1) accounts → IsServed tells closed says command stop old new
   served_all command stop old mid new opened accounts uids from came unchanged same retired counted stand = record {
     terms = came.terms;
     told = came.told;
@@ -131,8 +131,8 @@ module _ {L : Type 0} (tells : L → Meanings) (closed : L → Bool) where
           let kept : IsKept (entries command.folder uid) (left_by any.1.1) = kept_there any.1.1 (entries command.folder uid) (All-contains (λ (a : ℕ × Hosted). Stands a.1) accounts any.1 stand there) any.4.1 in
           (left.0, left.1, left.2, left.3, (left.4.0 ∙ any.4.0, kept_same (entries command.folder uid) (left_by left.1.1) (left_by any.1.1) left.4.1 kept))
 
-      served : (((came.terms ≡ []) × (accounts ≡ opened)) ⊎ ((coming : List (Option (List ℕ))) × (coming' : List (Option (List ℕ))) × (length coming ≡ command.workers) × AreTerms command.manner tells closed opened coming came.terms came.handed coming'))
-          → NoneServed came.terms old new ⊎ AreServedBy tells closed command came.terms old new
+      served : (((came.terms ≡ []) × (accounts ≡ opened)) ⊎ ((coming : List (Option (List ℕ))) × (coming' : List (Option (List ℕ))) × (length coming ≡ command.workers) × AreTerms command.manner tells closed says opened coming came.terms came.handed coming'))
+          → NoneServed came.terms old new ⊎ AreServedBy tells closed says command came.terms old new
       served (inl none) = inl (record { none = none.0; links = no_links none.0; kept = untouched none.1 })
       served (inr by) = inr (record {
         opened = opened;
@@ -173,10 +173,10 @@ module _ {L : Type 0} (tells : L → Meanings) (closed : L → Bool) where
   -- the same by what the site told once the accounts were opened
   pub served_open : (command : ServeCommand) (stop : Stop) (old first mid new : Sited (LinkReport L)) (opened accounts : List (ℕ × Hosted)) → uids_in opened ≡ command.uids → All (IsOpened command.folder old.kept) opened
       → first.counts ≡ old.counts → first.kept ≡ old.kept → first.terms ≡ old.terms
-      → CameTo command.manner tells closed opened command.workers command.connections command.terms first.terms mid.terms first.counts mid.counts accounts stop → mid.kept ≡ first.kept → new.terms ≡ mid.terms
-      → HaveRetired command.folder accounts mid.kept new.kept → CountsKeepers accounts mid.counts new.counts → All (λ (a : ℕ × Hosted). Stands a.1) accounts → IsServed tells closed command stop old new
+      → CameTo command.manner tells closed says opened command.workers command.connections command.terms first.terms mid.terms first.counts mid.counts accounts stop → mid.kept ≡ first.kept → new.terms ≡ mid.terms
+      → HaveRetired command.folder accounts mid.kept new.kept → CountsKeepers accounts mid.counts new.counts → All (λ (a : ℕ × Hosted). Stands a.1) accounts → IsServed tells closed says command stop old new
   served_open command stop old first mid new opened accounts uids from counts kept terms came unchanged same retired counted stand =
       served_all command stop old mid new opened accounts uids from
-      (subst (λ (t : Option (List (Term (LinkReport L)))). CameTo command.manner tells closed opened command.workers command.connections command.terms t mid.terms old.counts mid.counts accounts stop) terms
-      (subst (λ (n : Counts). CameTo command.manner tells closed opened command.workers command.connections command.terms first.terms mid.terms n mid.counts accounts stop) counts came))
+      (subst (λ (t : Option (List (Term (LinkReport L)))). CameTo command.manner tells closed says opened command.workers command.connections command.terms t mid.terms old.counts mid.counts accounts stop) terms
+      (subst (λ (n : Counts). CameTo command.manner tells closed says opened command.workers command.connections command.terms first.terms mid.terms n mid.counts accounts stop) counts came))
       (unchanged ∙ kept) same retired counted stand

@@ -48,7 +48,7 @@ module _ {L : Type 0} where
   Stops connections asked terms port old new stops.Memory = ⊤
   Stops connections asked terms port old new _ = ⊥
 
-  module _ (manner : Manner) (tells : L → Meanings) (closed : L → Bool) where
+  module _ (manner : Manner) (tells : L → Meanings) (closed : L → Bool) (says : ℕ → ℕ → Bool → Type 0) where
     -- the terms of accounts and clocks, in one manner, of so many connections each, and of these as many as were asked or without end; the accounts
     -- that come back then are those that the last one left; and why
     pub record Course (opened : List (ℕ × Hosted)) (coming : List (Option (List ℕ))) (connections asked : ℕ) (before after : Option (List (Term (LinkReport L)))) (old new : Counts) (port : Accepts)
@@ -59,7 +59,7 @@ module _ {L : Type 0} where
       pub of : IsToldOf stop terms told
       pub handed : List (ℕ × Hosted)
       pub coming' : List (Option (List ℕ))
-      pub are : AreTerms manner tells closed opened coming terms handed coming'
+      pub are : AreTerms manner tells closed says opened coming terms handed coming'
       pub within : AreWithin connections asked terms
       pub links : RoseBy (links_of terms) 0 port.links
       pub back : IsPermutation (uids_in opened) (uids_in handed)
@@ -86,7 +86,7 @@ module _ {L : Type 0} where
   ServedUntil connections asked terms old new stops.Memory = ⊤
   ServedUntil connections asked terms old new _ = ⊥
 
-  module _ (manner : Manner) (tells : L → Meanings) (closed : L → Bool) where
+  module _ (manner : Manner) (tells : L → Meanings) (closed : L → Bool) (says : ℕ → ℕ → Bool → Type 0) where
     -- what came of accounts that are open, once the port was shut: none were served, and they come back as they are, or these terms
     -- served them in this manner, with a clock for each worker; all links are counted that are reported
     pub record CameTo (opened : List (ℕ × Hosted)) (workers connections asked : ℕ) (before after : Option (List (Term (LinkReport L)))) (old new : Counts) (accounts : List (ℕ × Hosted)) (stop : Stop) : Type 0 where
@@ -95,7 +95,7 @@ module _ {L : Type 0} where
       pub are_told : AreTold told before after
       pub of : IsToldOf stop terms told
       pub handed : List (ℕ × Hosted)
-      pub served : ((terms ≡ []) × (accounts ≡ opened)) ⊎ ((coming : List (Option (List ℕ))) × (coming' : List (Option (List ℕ))) × (length coming ≡ workers) × AreTerms manner tells closed opened coming terms handed coming')
+      pub served : ((terms ≡ []) × (accounts ≡ opened)) ⊎ ((coming : List (Option (List ℕ))) × (coming' : List (Option (List ℕ))) × (length coming ≡ workers) × AreTerms manner tells closed says opened coming terms handed coming')
       pub within : AreWithin connections asked terms
       pub links : RoseBy (links_of terms) old.links new.links
       pub back : IsPermutation (uids_in opened) (uids_in handed)

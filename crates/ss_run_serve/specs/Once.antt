@@ -10,6 +10,7 @@ use Rattle.ss_route.specs.declared.manner.Manner.{Manner}
 use Rattle.ss_serve.specs.declared.report.LinkReport.{LinkReport}
 use Rattle.ss_serve.specs.declared.report.TermStop.{TermStop}
 use Rattle.ss_serve.specs.declared.report.TermStop.TheVariants as ended
+use Rattle.ss_serve.specs.Reports.{AreAllGated}
 use Rattle.ss_serve.specs.Terms.{GaveAll, HasRested, IsTerm}
 use Rattle.ss_run_serve.specs.declared.stop.Stop.{Stop}
 use Rattle.ss_run_serve.specs.declared.stop.Stop.TheVariants as stops
@@ -62,11 +63,13 @@ module _ {L : Type 0} where
     pub uids : IsPermutation (uids_in given) (uids_in handed)
     pub failed : Any HasFailed given → Any HasFailed handed
 
-  module _ (manner : Manner) (tells : L → Meanings) (closed : L → Bool) where
-    -- a term took place in this manner: its reports are of all links that the port gave, and its journals those of the accounts that come back
+  module _ (manner : Manner) (tells : L → Meanings) (closed : L → Bool) (says : ℕ → ℕ → Bool → Type 0) where
+    -- a term took place in this manner: its reports are of all links that the port gave, and its journals those of the accounts that come back.
+    -- Of each response the server's gate was asked
     pub record TookPlace (given handed : List (ℕ × Hosted)) (coming coming' : List (Option (List ℕ))) (connections : ℕ) (port port' : Accepts) (term : Term (LinkReport L)) : Type 0 where
       pub journals : term.journals ≡ map (λ account. (account.0, journal_in account.1)) handed
       pub served : IsTerm (λ account. account.fixed) (λ account. account.entries) (λ account. account.faults) manner tells closed given handed term.reports coming coming'
+      pub gated : AreAllGated says term.reports
       pub links : RoseBy (length term.reports) port.links port'.links
       pub few : length term.reports ≤ connections
 

@@ -55,7 +55,7 @@ module _ {L : Type 0} where
       Contains command.uids uid × IsBad fault × ((entries : Entries) → old.kept ≡ Some entries → IsFaultOf (entries command.folder uid) fault) × NoneServed terms old new
   HasStopped command terms old new stops.Memory = ⊤
 
-  module _ (tells : L → Meanings) (closed : L → Bool) where
+  module _ (tells : L → Meanings) (closed : L → Bool) (says : ℕ → ℕ → Bool → Type 0) where
     -- the listed accounts were opened from their entries, with one clock for each worker, and then served by these terms, in the
     -- command's manner of reading conditions, no more than were asked, each of at most so many connections. There are as many reports as the port gave links, and what is kept of each
     -- listed account is what the last term left of it
@@ -67,7 +67,7 @@ module _ {L : Type 0} where
       pub workers : length coming ≡ command.workers
       pub handed : List (ℕ × Hosted)
       pub coming' : List (Option (List ℕ))
-      pub are : AreTerms command.manner tells closed opened coming terms handed coming'
+      pub are : AreTerms command.manner tells closed says opened coming terms handed coming'
       pub within : AreWithin command.connections command.terms terms
       pub links : RoseBy (links_of terms) old.counts.links new.counts.links
       pub back : IsPermutation command.uids (uids_in handed)

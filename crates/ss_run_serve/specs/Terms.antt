@@ -8,6 +8,7 @@ use Rattle.ss_booked.specs.Sound.{keeper_marks}
 use Rattle.ss_site.specs.Sites.{Term}
 use Rattle.ss_route.specs.declared.manner.Manner.{Manner}
 use Rattle.ss_serve.specs.declared.report.LinkReport.{LinkReport}
+use Rattle.ss_serve.specs.Reports.{AreAllGated}
 use Rattle.ss_serve.specs.Terms.{IsTerm}
 use Rattle.ss_run_serve.specs.Hosted.{Hosted, IsBegun, journal_in, left_by}
 
@@ -44,13 +45,15 @@ module _ {L : Type 0} where
   abbrev pub AreTold : List (Term (LinkReport L)) → Option (List (Term (LinkReport L))) → Option (List (Term (LinkReport L))) → Type 0
   AreTold terms old new = new ≡ option_map (λ before. before ++ terms) old
 
-  module _ (manner : Manner) (tells : L → Meanings) (closed : L → Bool) where
-    -- A term of accounts that begin anew, in a manner of reading conditions: what it hands back, of which the site is told the reports and the journals
+  module _ (manner : Manner) (tells : L → Meanings) (closed : L → Bool) (says : ℕ → ℕ → Bool → Type 0) where
+    -- A term of accounts that begin anew, in a manner of reading conditions: what it hands back, of which the site is told the reports and the journals. Of
+    -- each response that is reported the server's gate was asked, which may say this
     pub record IsTermOf (left : List (ℕ × Hosted)) (coming : List (Option (List ℕ))) (term : Term (LinkReport L)) (handed : List (ℕ × Hosted)) (coming' : List (Option (List ℕ))) : Type 0 where
       pub given : List (ℕ × Hosted)
       pub anew : AllZip BeginsAnew left given
       pub journals : term.journals ≡ map (λ account. (account.0, journal_in account.1)) handed
       pub served : IsTerm (λ account. account.fixed) (λ account. account.entries) (λ account. account.faults) manner tells closed given handed term.reports coming coming'
+      pub gated : AreAllGated says term.reports
 
     -- such terms, each from the accounts and the clocks that the one before handed back
     abbrev pub AreTerms : List (ℕ × Hosted) → List (Option (List ℕ)) → List (Term (LinkReport L)) → List (ℕ × Hosted) → List (Option (List ℕ)) → Type 0

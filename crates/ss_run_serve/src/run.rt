@@ -36,7 +36,7 @@ where
     G: Gate + Sync,
     T: Sink,
     R: Threads + Wait + Sync,
-    ensures runs { Runs X.Port.Link.Told.told X.Port.Link.closed (map (λ word. string_bytes word) words.now) result
+    ensures runs { Runs X.Port.Link.Told.told X.Port.Link.closed (G.says gate.now) (map (λ word. string_bytes word) words.now) result
         (record { counts = X.counts site.old; terms = X.terms site.old; kept = X.kept site.old })
         (record { counts = X.counts site.new; terms = X.terms site.new; kept = X.kept site.new }) }
     // Every keeper and port that the site gave came back to it, whatever the status.

@@ -68,7 +68,7 @@ where
     requires range { HasRange (Serve command.now) }
     requires begun { All (λ account. IsBegun account.1) (map (hosted_at X.Keeper.told X.Keeper.keep_faults)
         accounts.items) }
-    ensures came { CameTo command.now.manner X.Port.Link.Told.told X.Port.Link.closed
+    ensures came { CameTo command.now.manner X.Port.Link.Told.told X.Port.Link.closed (G.says gate.now)
         (map (hosted_at X.Keeper.told X.Keeper.keep_faults) accounts.items) command.now.workers command.now.connections command.now.terms
         (X.terms site.old) (X.terms site.new) (X.counts site.old) (X.counts site.new) (map (hosted_at X.Keeper.told X.Keeper.keep_faults) result.0.items) result.1 }
     ensures kept { X.kept site.new ≡ X.kept site.old }
@@ -108,7 +108,7 @@ where
     T: Sink,
     R: Threads + Wait + Sync,
     requires range { HasRange (Serve command.now) }
-    ensures served { IsServed X.Port.Link.Told.told X.Port.Link.closed command.now result
+    ensures served { IsServed X.Port.Link.Told.told X.Port.Link.closed (G.says gate.now) command.now result
         (record { counts = X.counts site.old; terms = X.terms site.old; kept = X.kept site.old })
         (record { counts = X.counts site.new; terms = X.terms site.new; kept = X.kept site.new }) }
     ensures returned { AllAreBack (X.lent site.old) (X.lent site.new) }

@@ -119,7 +119,7 @@ where
     requires bare { AreBare (λ b. (journal_of b).entries) crew.accounts.items }
     requires begun { All (λ account. IsBegun account.1) (map (hosted_at X.Keeper.told X.Keeper.keep_faults)
         crew.accounts.items) }
-    ensures once { IsOnce manner X.Port.Link.Told.told X.Port.Link.closed
+    ensures once { IsOnce manner X.Port.Link.Told.told X.Port.Link.closed (G.says gate.now)
         (map (hosted_at X.Keeper.told X.Keeper.keep_faults) crew.accounts.items)
         (map (hosted_at X.Keeper.told X.Keeper.keep_faults) result.0.accounts.items) (map X.Clock.coming crew.clocks.items) (map X.Clock.coming result.0.clocks.items)
         (X.terms site.old) (X.terms site.new) (X.counts site.old) (X.counts site.new) connections (X.Port.counts (port_in port.old)) (X.Port.counts (port_in port.new)) result.1 }

@@ -71,7 +71,7 @@ where
     requires begun { All (λ account. IsBegun account.1) (map (hosted_at X.Keeper.told X.Keeper.keep_faults)
         crew.accounts.items) }
     requires idle { X.Port.counts (port_in port.old) ≡ idle_port }
-    ensures course { Course command.now.manner X.Port.Link.Told.told X.Port.Link.closed
+    ensures course { Course command.now.manner X.Port.Link.Told.told X.Port.Link.closed (G.says gate.now)
         (map (hosted_at X.Keeper.told X.Keeper.keep_faults) crew.accounts.items) (map X.Clock.coming crew.clocks.items)
         command.now.connections command.now.terms (X.terms site.old) (X.terms site.new) (X.counts site.old) (X.counts site.new) (X.Port.counts (port_in port.new))
         (map (hosted_at X.Keeper.told X.Keeper.keep_faults) result.0.items) result.1 }

@@ -17,12 +17,12 @@ serve_opened-accounts-requires-clause-begun g c κs within = opened_begun c.as_s
 
 pub returns-in-Err-clause-served : goal.returns-in-Err-clause-served
 returns-in-Err-clause-served g c =
-    refused_all g.X.Port.Link.Told.told g.X.Port.Link.Closable.closed c.args.command.now c.in-Err.stop (record { counts = g.X.Site.counts c.args.site.now; terms = g.X.Site.terms c.args.site.now; kept = g.X.Site.kept c.args.site.now }) (record { counts = g.X.Site.counts c.open_accounts.new.site; terms = g.X.Site.terms c.open_accounts.new.site; kept = g.X.Site.kept c.open_accounts.new.site })
+    refused_all g.X.Port.Link.Told.told g.X.Port.Link.Closable.closed (g.G.Gate.says c.args.gate.now) c.args.command.now c.in-Err.stop (record { counts = g.X.Site.counts c.args.site.now; terms = g.X.Site.terms c.args.site.now; kept = g.X.Site.kept c.args.site.now }) (record { counts = g.X.Site.counts c.open_accounts.new.site; terms = g.X.Site.terms c.open_accounts.new.site; kept = g.X.Site.kept c.open_accounts.new.site })
     (refused_same (g.X.Site.kept c.args.site.now) (g.X.Site.counts c.args.site.now) (g.X.Site.counts c.open_accounts.new.site) c.as_str-folder.result.now c.args.command.now.folder c.as_slice.result.now c.args.command.now.uids c.in-Err.stop c.as_str-folder.ensures c.as_slice.ensures c.in-Err.ensures.refused) c.in-Err.ensures.as_before c.open_accounts.ensures.counted c.open_accounts.ensures.terms
 
 pub returns-clause-served : goal.returns-clause-served
 returns-clause-served g c =
-    served_open g.X.Port.Link.Told.told g.X.Port.Link.Closable.closed c.args.command.now c.serve_opened-accounts.result.1 (record { counts = g.X.Site.counts c.args.site.now; terms = g.X.Site.terms c.args.site.now; kept = g.X.Site.kept c.args.site.now }) (record { counts = g.X.Site.counts c.open_accounts.new.site; terms = g.X.Site.terms c.open_accounts.new.site; kept = g.X.Site.kept c.open_accounts.new.site }) (record { counts = g.X.Site.counts c.serve_opened-accounts.new.site; terms = g.X.Site.terms c.serve_opened-accounts.new.site; kept = g.X.Site.kept c.serve_opened-accounts.new.site }) (record { counts = g.X.Site.counts c.retire_all.new.site; terms = g.X.Site.terms c.retire_all.new.site; kept = g.X.Site.kept c.retire_all.new.site })
+    served_open g.X.Port.Link.Told.told g.X.Port.Link.Closable.closed (g.G.Gate.says c.args.gate.now) c.args.command.now c.serve_opened-accounts.result.1 (record { counts = g.X.Site.counts c.args.site.now; terms = g.X.Site.terms c.args.site.now; kept = g.X.Site.kept c.args.site.now }) (record { counts = g.X.Site.counts c.open_accounts.new.site; terms = g.X.Site.terms c.open_accounts.new.site; kept = g.X.Site.kept c.open_accounts.new.site }) (record { counts = g.X.Site.counts c.serve_opened-accounts.new.site; terms = g.X.Site.terms c.serve_opened-accounts.new.site; kept = g.X.Site.kept c.serve_opened-accounts.new.site }) (record { counts = g.X.Site.counts c.retire_all.new.site; terms = g.X.Site.terms c.retire_all.new.site; kept = g.X.Site.kept c.retire_all.new.site })
     (map (hosted_at g.X.Keeper.Keeper.told g.X.Keeper.Keeper.keep_faults) c.in-Ok.accounts.items) (map (hosted_at g.X.Keeper.Keeper.told g.X.Keeper.Keeper.keep_faults) c.serve_opened-accounts.result.0.items)
     (opened_uids (hosted g.X.Keeper.Keeper.told g.X.Keeper.Keeper.keep_faults) c.args.command.now.uids c.in-Ok.accounts.items (c.in-Ok.ensures.uids ∙ c.as_slice.ensures))
     (subst (λ (folder : List ℕ). All (IsOpened folder (g.X.Site.kept c.args.site.now)) (map (hosted_at g.X.Keeper.Keeper.told g.X.Keeper.Keeper.keep_faults) c.in-Ok.accounts.items)) c.as_str-folder.ensures c.in-Ok.ensures.opened) c.in-Ok.ensures.unchanged.0 c.in-Ok.ensures.unchanged.1 c.open_accounts.ensures.terms

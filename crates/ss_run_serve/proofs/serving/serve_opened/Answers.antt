@@ -12,26 +12,26 @@ use Rattle.ss_run_serve.proofs.serving.serve_opened.Goals as goal
 
 pub returns-in_default-clause-came : goal.returns-in_default-clause-came
 returns-in_default-clause-came g c =
-    came_to_unserved c.args.command.now.manner g.X.Port.Link.Told.told g.X.Port.Link.Closable.closed (map (hosted_at g.X.Keeper.Keeper.told g.X.Keeper.Keeper.keep_faults) c.args.accounts.items) c.args.command.now.workers c.args.command.now.connections c.args.command.now.terms
+    came_to_unserved c.args.command.now.manner g.X.Port.Link.Told.told g.X.Port.Link.Closable.closed (g.G.Gate.says c.args.gate.now) (map (hosted_at g.X.Keeper.Keeper.told g.X.Keeper.Keeper.keep_faults) c.args.accounts.items) c.args.command.now.workers c.args.command.now.connections c.args.command.now.terms
     (g.X.Site.terms c.args.site.now) (g.X.Site.terms c.clocks_of.new.site) (g.X.Site.counts c.args.site.now) (g.X.Site.counts c.args.site.now) (g.X.Site.counts c.clocks_of.new.site) stops.Memory c.clocks_of.ensures.terms refl c.clocks_of.ensures.counts
 
 pub returns-in-Err-Fault-clause-came : goal.returns-in-Err-Fault-clause-came
 returns-in-Err-Fault-clause-came g c =
-    came_to_unserved c.args.command.now.manner g.X.Port.Link.Told.told g.X.Port.Link.Closable.closed (map (hosted_at g.X.Keeper.Keeper.told g.X.Keeper.Keeper.keep_faults) c.args.accounts.items) c.args.command.now.workers c.args.command.now.connections c.args.command.now.terms
+    came_to_unserved c.args.command.now.manner g.X.Port.Link.Told.told g.X.Port.Link.Closable.closed (g.G.Gate.says c.args.gate.now) (map (hosted_at g.X.Keeper.Keeper.told g.X.Keeper.Keeper.keep_faults) c.args.accounts.items) c.args.command.now.workers c.args.command.now.connections c.args.command.now.terms
     (g.X.Site.terms c.args.site.now) (g.X.Site.terms c.listen.new.self) (g.X.Site.counts c.args.site.now) (g.X.Site.counts c.clocks_of.new.site) (g.X.Site.counts c.listen.new.self) stops.Site
     (c.listen.ensures.terms ∙ c.clocks_of.ensures.terms) c.clocks_of.ensures.counts
     (subst (λ (fault : SiteFault). HasCause {T = g.row.X-Port.Denot} (Err fault) (g.X.Site.counts c.clocks_of.new.site) (g.X.Site.counts c.listen.new.self)) c.in-Err-Fault.field-0-is c.in-Err-Fault.ensures.cause)
 
 pub returns-in-Err-Memory-clause-came : goal.returns-in-Err-Memory-clause-came
 returns-in-Err-Memory-clause-came g c =
-    came_to_unserved c.args.command.now.manner g.X.Port.Link.Told.told g.X.Port.Link.Closable.closed (map (hosted_at g.X.Keeper.Keeper.told g.X.Keeper.Keeper.keep_faults) c.args.accounts.items) c.args.command.now.workers c.args.command.now.connections c.args.command.now.terms
+    came_to_unserved c.args.command.now.manner g.X.Port.Link.Told.told g.X.Port.Link.Closable.closed (g.G.Gate.says c.args.gate.now) (map (hosted_at g.X.Keeper.Keeper.told g.X.Keeper.Keeper.keep_faults) c.args.accounts.items) c.args.command.now.workers c.args.command.now.connections c.args.command.now.terms
     (g.X.Site.terms c.args.site.now) (g.X.Site.terms c.listen.new.self) (g.X.Site.counts c.args.site.now) (g.X.Site.counts c.clocks_of.new.site) (g.X.Site.counts c.listen.new.self) stops.Memory
     (c.listen.ensures.terms ∙ c.clocks_of.ensures.terms) c.clocks_of.ensures.counts
     (subst (λ (fault : SiteFault). HasCause {T = g.row.X-Port.Denot} (Err fault) (g.X.Site.counts c.clocks_of.new.site) (g.X.Site.counts c.listen.new.self)) c.in-Err-Memory.field-0-is c.in-Err-Memory.ensures.cause)
 
 pub returns-clause-came : goal.returns-clause-came
 returns-clause-came g c =
-    came_to_shut c.args.command.now.manner g.X.Port.Link.Told.told g.X.Port.Link.Closable.closed (map (hosted_at g.X.Keeper.Keeper.told g.X.Keeper.Keeper.keep_faults) c.args.accounts.items) (map g.X.Clock.Clock.coming c.in-Ok.clocks.items) c.args.command.now.workers c.args.command.now.connections c.args.command.now.terms
+    came_to_shut c.args.command.now.manner g.X.Port.Link.Told.told g.X.Port.Link.Closable.closed (g.G.Gate.says c.args.gate.now) (map (hosted_at g.X.Keeper.Keeper.told g.X.Keeper.Keeper.keep_faults) c.args.accounts.items) (map g.X.Clock.Clock.coming c.in-Ok.clocks.items) c.args.command.now.workers c.args.command.now.connections c.args.command.now.terms
     (g.X.Site.terms c.args.site.now) (g.X.Site.terms c.listen.new.self) (g.X.Site.terms c.serve_terms-accounts.new.site) (g.X.Site.terms c.shut.new.self)
     (g.X.Site.counts c.args.site.now) (g.X.Site.counts c.listen.new.self) (g.X.Site.counts c.serve_terms-accounts.new.site) (g.X.Site.counts c.shut.new.self) (g.X.Port.Port.counts (port_in c.serve_terms-accounts.new.port))
     (map (hosted_at g.X.Keeper.Keeper.told g.X.Keeper.Keeper.keep_faults) c.serve_terms-accounts.result.0.items) c.serve_terms-accounts.result.1

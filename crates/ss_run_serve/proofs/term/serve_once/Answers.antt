@@ -10,22 +10,22 @@ use Rattle.ss_run_serve.proofs.term.serve_once.Goals as goal
 
 pub returns-in-Town-clause-once : goal.returns-in-Town-clause-once
 returns-in-Town-clause-once g c =
-    once_refused g.X.Keeper.Keeper.told g.X.Keeper.Keeper.keep_faults c.args.manner g.X.Port.Link.Told.told g.X.Port.Link.Closable.closed c.args.crew.accounts.items c.serve_term-accounts.result.accounts.items c.serve_term-accounts.result.links.items
+    once_refused g.X.Keeper.Keeper.told g.X.Keeper.Keeper.keep_faults c.args.manner g.X.Port.Link.Told.told g.X.Port.Link.Closable.closed (g.G.Gate.says c.args.gate.now) c.args.crew.accounts.items c.serve_term-accounts.result.accounts.items c.serve_term-accounts.result.links.items
     (map g.X.Clock.Clock.coming c.args.crew.clocks.items) (map g.X.Clock.Clock.coming c.serve_term-accounts.result.clocks.items) c.serve_term-accounts.result.ended c.in-Town.field-0 (g.X.Site.terms c.args.site.now) (g.X.Site.counts c.args.site.now)
     c.args.connections (g.X.Port.Port.counts (port_in c.args.port.now)) (g.X.Port.Port.counts (port_in c.serve_term-accounts.new.port)) c.in-Town.is c.requires.begun c.serve_term-accounts.ensures.says c.serve_term-accounts.ensures.cause
 
 pub returns-in-Ok-clause-once : goal.returns-in-Ok-clause-once
 returns-in-Ok-clause-once g c =
-    once_done g.X.Keeper.Keeper.told g.X.Keeper.Keeper.keep_faults c.args.manner g.X.Port.Link.Told.told g.X.Port.Link.Closable.closed c.args.crew.accounts.items c.serve_term-accounts.result.accounts.items c.serve_term-accounts.result.links.items
+    once_done g.X.Keeper.Keeper.told g.X.Keeper.Keeper.keep_faults c.args.manner g.X.Port.Link.Told.told g.X.Port.Link.Closable.closed (g.G.Gate.says c.args.gate.now) c.args.crew.accounts.items c.serve_term-accounts.result.accounts.items c.serve_term-accounts.result.links.items
     (map g.X.Clock.Clock.coming c.args.crew.clocks.items) (map g.X.Clock.Clock.coming c.serve_term-accounts.result.clocks.items) c.serve_term-accounts.result.ended (g.X.Site.terms c.args.site.now) (g.X.Site.terms c.tell.new.site)
     (g.X.Site.counts c.args.site.now) (g.X.Site.counts c.tell.new.site) c.args.connections (g.X.Port.Port.counts (port_in c.args.port.now)) (g.X.Port.Port.counts (port_in c.serve_term-accounts.new.port)) c.stop_after-last.result
     c.in_default.not-Town c.serve_term-accounts.ensures.says
     (subst (λ (accounts : List (ℕ × Booked g.row.X-Keeper.Denot g.X.Keeper.Keeper)). HasAdded (record { reports = c.serve_term-accounts.result.links.items; journals = map {B = ℕ × Journal} (λ (a : ℕ × Booked g.row.X-Keeper.Denot g.X.Keeper.Keeper). (a.0, journal_of a.1)) accounts }) (g.X.Site.terms c.args.site.now) (g.X.Site.terms c.tell.new.site)) c.as_slice-in_default.ensures.value c.in-Ok.ensures.told)
-    c.in-Ok.ensures.counts c.serve_term-accounts.ensures.given c.serve_term-accounts.ensures.few c.serve_term-accounts.ensures.cause c.stop_after-last.ensures
+    c.in-Ok.ensures.counts c.serve_term-accounts.ensures.given c.serve_term-accounts.ensures.few c.serve_term-accounts.ensures.gated c.serve_term-accounts.ensures.cause c.stop_after-last.ensures
 
 pub returns-in-Err-clause-once : goal.returns-in-Err-clause-once
 returns-in-Err-clause-once g c =
-    once_untold g.X.Keeper.Keeper.told g.X.Keeper.Keeper.keep_faults c.args.manner g.X.Port.Link.Told.told g.X.Port.Link.Closable.closed c.args.crew.accounts.items c.serve_term-accounts.result.accounts.items c.serve_term-accounts.result.links.items
+    once_untold g.X.Keeper.Keeper.told g.X.Keeper.Keeper.keep_faults c.args.manner g.X.Port.Link.Told.told g.X.Port.Link.Closable.closed (g.G.Gate.says c.args.gate.now) c.args.crew.accounts.items c.serve_term-accounts.result.accounts.items c.serve_term-accounts.result.links.items
     (map g.X.Clock.Clock.coming c.args.crew.clocks.items) (map g.X.Clock.Clock.coming c.serve_term-accounts.result.clocks.items) c.serve_term-accounts.result.ended (g.X.Site.terms c.args.site.now) (g.X.Site.terms c.tell.new.site)
     (g.X.Site.counts c.args.site.now) (g.X.Site.counts c.tell.new.site) c.args.connections (g.X.Port.Port.counts (port_in c.args.port.now)) (g.X.Port.Port.counts (port_in c.serve_term-accounts.new.port)) c.in-Err.stop
-    c.in_default.not-Town c.serve_term-accounts.ensures.says c.in-Err.ensures.terms c.in-Err.ensures.untold c.serve_term-accounts.ensures.given c.serve_term-accounts.ensures.few
+    c.in_default.not-Town c.serve_term-accounts.ensures.says c.in-Err.ensures.terms c.in-Err.ensures.untold c.serve_term-accounts.ensures.given c.serve_term-accounts.ensures.few c.serve_term-accounts.ensures.gated

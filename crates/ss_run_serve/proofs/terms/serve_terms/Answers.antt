@@ -12,7 +12,7 @@ use Rattle.ss_run_serve.proofs.terms.serve_terms.Goals as goal
 
 pub terms-init : goal.terms-init
 terms-init g c = record {
-  progress = progress_first c.args.command.now.manner g.X.Port.Link.Told.told g.X.Port.Link.Closable.closed (map (hosted_at g.X.Keeper.Keeper.told g.X.Keeper.Keeper.keep_faults) c.args.crew.accounts.items) (map g.X.Clock.Clock.coming c.args.crew.clocks.items) c.args.command.now.connections c.args.command.now.terms
+  progress = progress_first c.args.command.now.manner g.X.Port.Link.Told.told g.X.Port.Link.Closable.closed (g.G.Gate.says c.args.gate.now) (map (hosted_at g.X.Keeper.Keeper.told g.X.Keeper.Keeper.keep_faults) c.args.crew.accounts.items) (map g.X.Clock.Clock.coming c.args.crew.clocks.items) c.args.command.now.connections c.args.command.now.terms
       (g.X.Site.terms c.args.site.now) (g.X.Site.counts c.args.site.now) (g.X.Port.Port.counts (port_in c.args.port.now)) c.requires.begun c.requires.idle;
   clocks = refl;
   lent = refl;
@@ -28,7 +28,7 @@ serve_once-after-requires-clause-begun g c κs within = all_begun c.terms.invari
 
 pub returns-in-Some-last-clause-course : goal.returns-in-Some-last-clause-course
 returns-in-Some-last-clause-course g c =
-    progress_stop c.args.command.now.manner g.X.Port.Link.Told.told g.X.Port.Link.Closable.closed (map (hosted_at g.X.Keeper.Keeper.told g.X.Keeper.Keeper.keep_faults) c.args.crew.accounts.items) (map g.X.Clock.Clock.coming c.args.crew.clocks.items) c.args.command.now.connections c.args.command.now.terms
+    progress_stop c.args.command.now.manner g.X.Port.Link.Told.told g.X.Port.Link.Closable.closed (g.G.Gate.says c.args.gate.now) (map (hosted_at g.X.Keeper.Keeper.told g.X.Keeper.Keeper.keep_faults) c.args.crew.accounts.items) (map g.X.Clock.Clock.coming c.args.crew.clocks.items) c.args.command.now.connections c.args.command.now.terms
     (g.X.Site.terms c.args.site.now) (g.X.Site.terms c.terms.site) (g.X.Site.terms c.serve_once-after.new.site) (g.X.Site.counts c.args.site.now) (g.X.Site.counts c.terms.site) (g.X.Site.counts c.serve_once-after.new.site)
     (g.X.Port.Port.counts (port_in c.terms.port)) (g.X.Port.Port.counts (port_in c.serve_once-after.new.port)) c.terms.left (map (hosted_at g.X.Keeper.Keeper.told g.X.Keeper.Keeper.keep_faults) c.terms.crew.accounts.items) (map (hosted_at g.X.Keeper.Keeper.told g.X.Keeper.Keeper.keep_faults) c.serve_once-after.result.0.accounts.items)
     (map g.X.Clock.Clock.coming c.terms.crew.clocks.items) (map g.X.Clock.Clock.coming c.serve_once-after.result.0.clocks.items)
@@ -36,25 +36,25 @@ returns-in-Some-last-clause-course g c =
 
 pub returns-then-left-eq1-clause-course : goal.returns-then-left-eq1-clause-course
 returns-then-left-eq1-clause-course g c =
-    progress_terms c.args.command.now.manner g.X.Port.Link.Told.told g.X.Port.Link.Closable.closed (map (hosted_at g.X.Keeper.Keeper.told g.X.Keeper.Keeper.keep_faults) c.args.crew.accounts.items) (map g.X.Clock.Clock.coming c.args.crew.clocks.items) c.args.command.now.connections c.args.command.now.terms
+    progress_terms c.args.command.now.manner g.X.Port.Link.Told.told g.X.Port.Link.Closable.closed (g.G.Gate.says c.args.gate.now) (map (hosted_at g.X.Keeper.Keeper.told g.X.Keeper.Keeper.keep_faults) c.args.crew.accounts.items) (map g.X.Clock.Clock.coming c.args.crew.clocks.items) c.args.command.now.connections c.args.command.now.terms
     (g.X.Site.terms c.args.site.now) (g.X.Site.terms c.terms.site) (g.X.Site.terms c.serve_once-after.new.site) (g.X.Site.counts c.args.site.now) (g.X.Site.counts c.terms.site) (g.X.Site.counts c.serve_once-after.new.site)
     (g.X.Port.Port.counts (port_in c.terms.port)) (g.X.Port.Port.counts (port_in c.serve_once-after.new.port)) c.terms.left (map (hosted_at g.X.Keeper.Keeper.told g.X.Keeper.Keeper.keep_faults) c.terms.crew.accounts.items) (map (hosted_at g.X.Keeper.Keeper.told g.X.Keeper.Keeper.keep_faults) c.serve_once-after.result.0.accounts.items)
     (map g.X.Clock.Clock.coming c.terms.crew.clocks.items) (map g.X.Clock.Clock.coming c.serve_once-after.result.0.clocks.items)
     c.requires.connections c.requires.terms c.if-left-eq1.true c.terms.invariant.progress
-    (once_on c.args.command.now.manner g.X.Port.Link.Told.told g.X.Port.Link.Closable.closed (map (hosted_at g.X.Keeper.Keeper.told g.X.Keeper.Keeper.keep_faults) c.args.crew.accounts.items) (map g.X.Clock.Clock.coming c.args.crew.clocks.items) c.args.command.now.connections c.args.command.now.terms
+    (once_on c.args.command.now.manner g.X.Port.Link.Told.told g.X.Port.Link.Closable.closed (g.G.Gate.says c.args.gate.now) (map (hosted_at g.X.Keeper.Keeper.told g.X.Keeper.Keeper.keep_faults) c.args.crew.accounts.items) (map g.X.Clock.Clock.coming c.args.crew.clocks.items) c.args.command.now.connections c.args.command.now.terms
     (g.X.Site.terms c.args.site.now) (g.X.Site.terms c.terms.site) (g.X.Site.terms c.serve_once-after.new.site) (g.X.Site.counts c.args.site.now) (g.X.Site.counts c.terms.site) (g.X.Site.counts c.serve_once-after.new.site)
     (g.X.Port.Port.counts (port_in c.terms.port)) (g.X.Port.Port.counts (port_in c.serve_once-after.new.port)) c.terms.left (map (hosted_at g.X.Keeper.Keeper.told g.X.Keeper.Keeper.keep_faults) c.terms.crew.accounts.items) (map (hosted_at g.X.Keeper.Keeper.told g.X.Keeper.Keeper.keep_faults) c.serve_once-after.result.0.accounts.items)
     (map g.X.Clock.Clock.coming c.terms.crew.clocks.items) (map g.X.Clock.Clock.coming c.serve_once-after.result.0.clocks.items) c.serve_once-after.result.1 c.serve_once-after.ensures.once c.in-None-last.is)
 
 pub returns-in-Err-clause-course : goal.returns-in-Err-clause-course
 returns-in-Err-clause-course g c =
-    progress_short c.args.command.now.manner g.X.Port.Link.Told.told g.X.Port.Link.Closable.closed (map (hosted_at g.X.Keeper.Keeper.told g.X.Keeper.Keeper.keep_faults) c.args.crew.accounts.items) (map g.X.Clock.Clock.coming c.args.crew.clocks.items) c.args.command.now.connections c.args.command.now.terms
+    progress_short c.args.command.now.manner g.X.Port.Link.Told.told g.X.Port.Link.Closable.closed (g.G.Gate.says c.args.gate.now) (map (hosted_at g.X.Keeper.Keeper.told g.X.Keeper.Keeper.keep_faults) c.args.crew.accounts.items) (map g.X.Clock.Clock.coming c.args.crew.clocks.items) c.args.command.now.connections c.args.command.now.terms
     (g.X.Site.terms c.args.site.now) (g.X.Site.terms c.terms.site) (g.X.Site.terms c.serve_once-after.new.site) (g.X.Site.counts c.args.site.now) (g.X.Site.counts c.terms.site) (g.X.Site.counts c.serve_once-after.new.site)
     (g.X.Port.Port.counts (port_in c.terms.port)) (g.X.Port.Port.counts (port_in c.serve_once-after.new.port)) c.terms.left (map (hosted_at g.X.Keeper.Keeper.told g.X.Keeper.Keeper.keep_faults) c.terms.crew.accounts.items) (map (hosted_at g.X.Keeper.Keeper.told g.X.Keeper.Keeper.keep_faults) c.serve_once-after.result.0.accounts.items)
     (map g.X.Clock.Clock.coming c.terms.crew.clocks.items) (map g.X.Clock.Clock.coming c.serve_once-after.result.0.clocks.items)
     (map (hosted_at g.X.Keeper.Keeper.told g.X.Keeper.Keeper.keep_faults) (take c.serve_once-after.result.0.accounts.len (c.fold_all.new.accounts ++ drop (length c.fold_all.new.accounts) c.serve_once-after.result.0.accounts.items)))
     c.requires.connections c.terms.invariant.progress
-    (once_on c.args.command.now.manner g.X.Port.Link.Told.told g.X.Port.Link.Closable.closed (map (hosted_at g.X.Keeper.Keeper.told g.X.Keeper.Keeper.keep_faults) c.args.crew.accounts.items) (map g.X.Clock.Clock.coming c.args.crew.clocks.items) c.args.command.now.connections c.args.command.now.terms
+    (once_on c.args.command.now.manner g.X.Port.Link.Told.told g.X.Port.Link.Closable.closed (g.G.Gate.says c.args.gate.now) (map (hosted_at g.X.Keeper.Keeper.told g.X.Keeper.Keeper.keep_faults) c.args.crew.accounts.items) (map g.X.Clock.Clock.coming c.args.crew.clocks.items) c.args.command.now.connections c.args.command.now.terms
     (g.X.Site.terms c.args.site.now) (g.X.Site.terms c.terms.site) (g.X.Site.terms c.serve_once-after.new.site) (g.X.Site.counts c.args.site.now) (g.X.Site.counts c.terms.site) (g.X.Site.counts c.serve_once-after.new.site)
     (g.X.Port.Port.counts (port_in c.terms.port)) (g.X.Port.Port.counts (port_in c.serve_once-after.new.port)) c.terms.left (map (hosted_at g.X.Keeper.Keeper.told g.X.Keeper.Keeper.keep_faults) c.terms.crew.accounts.items) (map (hosted_at g.X.Keeper.Keeper.told g.X.Keeper.Keeper.keep_faults) c.serve_once-after.result.0.accounts.items)
     (map g.X.Clock.Clock.coming c.terms.crew.clocks.items) (map g.X.Clock.Clock.coming c.serve_once-after.result.0.clocks.items) c.serve_once-after.result.1 c.serve_once-after.ensures.once c.in-None-last.is)
@@ -62,13 +62,13 @@ returns-in-Err-clause-course g c =
 
 pub terms-preserved : goal.terms-preserved
 terms-preserved g c =
-    let done = (once_on c.args.command.now.manner g.X.Port.Link.Told.told g.X.Port.Link.Closable.closed (map (hosted_at g.X.Keeper.Keeper.told g.X.Keeper.Keeper.keep_faults) c.args.crew.accounts.items) (map g.X.Clock.Clock.coming c.args.crew.clocks.items) c.args.command.now.connections c.args.command.now.terms
+    let done = (once_on c.args.command.now.manner g.X.Port.Link.Told.told g.X.Port.Link.Closable.closed (g.G.Gate.says c.args.gate.now) (map (hosted_at g.X.Keeper.Keeper.told g.X.Keeper.Keeper.keep_faults) c.args.crew.accounts.items) (map g.X.Clock.Clock.coming c.args.crew.clocks.items) c.args.command.now.connections c.args.command.now.terms
     (g.X.Site.terms c.args.site.now) (g.X.Site.terms c.terms.site) (g.X.Site.terms c.serve_once-after.new.site) (g.X.Site.counts c.args.site.now) (g.X.Site.counts c.terms.site) (g.X.Site.counts c.serve_once-after.new.site)
     (g.X.Port.Port.counts (port_in c.terms.port)) (g.X.Port.Port.counts (port_in c.serve_once-after.new.port)) c.terms.left (map (hosted_at g.X.Keeper.Keeper.told g.X.Keeper.Keeper.keep_faults) c.terms.crew.accounts.items) (map (hosted_at g.X.Keeper.Keeper.told g.X.Keeper.Keeper.keep_faults) c.serve_once-after.result.0.accounts.items)
     (map g.X.Clock.Clock.coming c.terms.crew.clocks.items) (map g.X.Clock.Clock.coming c.serve_once-after.result.0.clocks.items) c.serve_once-after.result.1 c.serve_once-after.ensures.once c.in-None-last.is) in
     let less : c.saturating_sub-left.result ≡ c.terms.left - 1 = omega arith in
     record {
-      progress = rw less (progress_on c.args.command.now.manner g.X.Port.Link.Told.told g.X.Port.Link.Closable.closed (map (hosted_at g.X.Keeper.Keeper.told g.X.Keeper.Keeper.keep_faults) c.args.crew.accounts.items) (map g.X.Clock.Clock.coming c.args.crew.clocks.items) c.args.command.now.connections c.args.command.now.terms
+      progress = rw less (progress_on c.args.command.now.manner g.X.Port.Link.Told.told g.X.Port.Link.Closable.closed (g.G.Gate.says c.args.gate.now) (map (hosted_at g.X.Keeper.Keeper.told g.X.Keeper.Keeper.keep_faults) c.args.crew.accounts.items) (map g.X.Clock.Clock.coming c.args.crew.clocks.items) c.args.command.now.connections c.args.command.now.terms
           (g.X.Site.terms c.args.site.now) (g.X.Site.terms c.terms.site) (g.X.Site.terms c.serve_once-after.new.site) (g.X.Site.counts c.args.site.now) (g.X.Site.counts c.terms.site) (g.X.Site.counts c.serve_once-after.new.site)
           (g.X.Port.Port.counts (port_in c.terms.port)) (g.X.Port.Port.counts (port_in c.serve_once-after.new.port)) c.terms.left (map (hosted_at g.X.Keeper.Keeper.told g.X.Keeper.Keeper.keep_faults) c.terms.crew.accounts.items) (map (hosted_at g.X.Keeper.Keeper.told g.X.Keeper.Keeper.keep_faults) c.serve_once-after.result.0.accounts.items)
           (map g.X.Clock.Clock.coming c.terms.crew.clocks.items) (map g.X.Clock.Clock.coming c.serve_once-after.result.0.clocks.items)

@@ -1,11 +1,13 @@
 //! Connections, terms, servers and what they stand on, a case a line. `text NAME "..."` names a text. A line
-//! `connection` serves links one after the other over one town, `term` a port over two accounts, `server` a site, of
-//! which `status` tells only the status and how many terms there were.
+//! `connection` serves links one after the other over one town, `term` a port over two accounts, of
+//! which `filling` tells besides how often the gate was told of a journal that fills, `server` a site, of which `status`
+//! tells only the status and how many terms there were.
 
 mod accounts;
 mod case;
 mod connections;
 mod ending;
+mod filling;
 mod fronts;
 mod held;
 mod ports;
@@ -36,6 +38,7 @@ fn served<R: Threads + Wait + Sync>(
         "fronts" => fronts::told(rt, alloc, case),
         "term" => terms::told(rt, alloc, case),
         "held" => held::told(rt, alloc, case),
+        "filling" => filling::told(rt, alloc, case),
         "server" => servers::told(rt, alloc, case),
         "status" => servers::status(rt, alloc, case),
         _ => bail!("no kind of case"),

@@ -121,7 +121,7 @@ fn uids(alloc: Global, accounts: &[(u32, Booked<MemKeeper>)]) -> Result<String, 
 }
 
 /// What is told of a term that ended: why, which accounts came back, and its links.
-fn reported(alloc: Global, ended: &Ended) -> anyhow::Result<String> {
+pub fn reported(alloc: Global, ended: &Ended) -> anyhow::Result<String> {
     let uids = uids(alloc, ended.accounts.as_slice())?;
     let lines = lines(alloc, ended.links.as_slice())?;
     Ok(format!(in alloc; "{:?}, accounts{uids}{lines}", ended.ended)?)

@@ -54,9 +54,6 @@ head_behind text moment most k h = other_line text (Log moment most) k h no
     no (next.Call entry) e = cc
     no next.End e = cc
 
-pub none_behind : (text : List ℕ) → NoLogLineBegins text → NoneBehind text
-none_behind text none n back form at = none (next_line n) back form at
-
 pub no_calls : (text : List ℕ) (es : List Entry) → es ≡ [] → AreReadCalls text es 0
 no_calls text es none = subst (λ es. AreReadCalls text es 0) (sym none) (record { are = tt; inside = omega arith; text_is = refl })
 
@@ -88,15 +85,6 @@ bad_call text es used h none = record {
 -- where the text is over no line follows
 pub over_calls : (text : List ℕ) (used : ℕ) → length text ≤ used → NoneBehind (drop used text)
 over_calls text used le n back form at = no_front (next_line n) back (at ∙ drop_of_length-le text le)
-
--- no more entries than bytes
-pub calls_few : (text : List ℕ) (es : List Entry) (used : ℕ) → AreReadCalls text es used → length es ≤ used
-calls_few text es used h =
-    let few = lines_few (calls_of es) in
-    let n : length (take used text) ≡ length (text_of (calls_of es)) = ap length h.text_is in
-    let m : length (take used text) ≡ used = length-take-le used text h.inside in
-    let c : length (calls_of es) ≡ length es = length-map es (λ x. Call x) in
-    omega arith
 
 -- ---- how a log begins
 
@@ -293,12 +281,4 @@ bad_few text n h =
     let few : length h.lines ≤ length (text_of h.lines) = lines_few h.lines in
     let t : length text ≡ length (text_of h.lines) + length h.rest = ap length h.text_is ∙ length-append (text_of h.lines) h.rest in
     let c : n ≡ length h.lines + 1 = h.number in
-    omega arith
-
-pub bad_call_few : (text : List ℕ) (n : ℕ) → IsBadCall text n → n ≤ length text + 1
-bad_call_few text n h =
-    let few : length (calls_of h.entries) ≤ length (text_of (calls_of h.entries)) = lines_few (calls_of h.entries) in
-    let t : length text ≡ length (text_of (calls_of h.entries)) + length h.rest = ap length h.text_is ∙ length-append (text_of (calls_of h.entries)) h.rest in
-    let m : length (calls_of h.entries) ≡ length h.entries = length-map h.entries (λ x. Call x) in
-    let c : n ≡ length h.entries + 1 = h.number in
     omega arith

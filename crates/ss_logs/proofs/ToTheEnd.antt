@@ -2,7 +2,7 @@
 use Rattle.std.proofs.Common.{◌≡◌, ℕ, ◌+◌, ◌-◌, ◌<◌, ◌≤◌, List, [], ◌∷◌, ◌++◌, length, take, drop, append_assoc, append-nil, refl, sym, ap, ap₂, ◌∙◌, subst, arith, length-append, length-drop}
 use Rattle.std.specs.List.{AllByRecursion, flat_map}
 use Rattle.std.proofs.Math.Seq.{take-add}
-use Rattle.std.proofs.lemmas.List.{length-take-le, take-append-drop, take_all}
+use Rattle.std.proofs.lemmas.List.{length-take-le, take-append-drop}
 use Rattle.ss_laws.specs.Journal.{Journal}
 use Rattle.ss_log_lines.specs.LogLines.{IsLogLine}
 use Rattle.ss_log_lines.specs.declared.lines.LogLine.{LogLine}
@@ -34,9 +34,6 @@ one_read text logs log used lines k n h f = record {
   text_is = take-add used k text ∙ (ap₂ (λ a b. a ++ b) h.text_is f.text_is ∙ sym (text_more logs log));
   counted = ap₂ (λ a b. a + b) h.counted f.counted ∙ (sym (length-append (flat_map log_lines logs) (log_lines log)) ∙ ap length (sym (lines_more logs log)));
 }
-
-pub all_read : (text : List ℕ) (logs : List Journal) (used lines : ℕ) → AreReadTo text logs used lines → length text ≤ used → AreLogs text logs
-all_read text logs used lines h le = record { are = h.are; text_is = sym (take_all used text le) ∙ h.text_is }
 
 pub read_few : (text : List ℕ) (logs : List Journal) (used lines : ℕ) → AreReadTo text logs used lines → lines ≤ used
 read_few text logs used lines h =

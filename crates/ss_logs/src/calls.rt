@@ -1,9 +1,9 @@
 //! The entries of a log: what stands behind its opening.
 
-ghost use Rattle.std.specs.Prelude.{◌≡◌, ◌≢◌, ◌<◌, ◌≤◌, IfOk, IfErr, IfSome, IfNone, true, false, length};
+ghost use Rattle.std.specs.Prelude.{◌≡◌, ◌≢◌, IfOk, IfErr, IfSome, IfNone, true, false};
 ghost use Rattle.ss_lines.specs.declared.lines.Line.TheVariants.{End};
 ghost use Rattle.ss_log_lines.specs.LogLines.{IsLogFront};
-ghost use Rattle.ss_logs.specs.Fronts.{AreCalls, AreReadCalls, IsCallsFault, NoneBehind, next_line};
+ghost use Rattle.ss_logs.specs.Fronts.{AreCalls, IsCallsFault, NoneBehind, next_line};
 
 use crate::faults::LogFault;
 use ss_laws::Entry;

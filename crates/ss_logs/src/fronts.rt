@@ -13,7 +13,7 @@ use ss_bso::{Kept, Plain};
 use ss_dump::{DumpFront, LineFault, front_dump};
 use ss_log_lines::{LogLine, next_log_line};
 use ss_text::Stamp;
-use std::alloc::{AllocError, Global};
+use std::alloc::Global;
 
 /// The log at the front of a text, how many bytes it is, and how many lines.
 #[derive(Drop)]

@@ -1,0 +1,204 @@
+//! The file of an account's database, and how it is opened. A file that is made has small pages, since a commit writes
+//! whole pages and is mostly smaller than one.
+
+ghost use Rattle.std.specs.Prelude.{◌≡◌, IsTrue, IfOk};
+ghost use Rattle.sqlite_std_file.specs.File.{file_is_usable};
+ghost use Rattle.sqlite_store.specs.Unopened.{files_of};
+
+use crate::faults::NO_MEMORY;
+use sqlite::{
+    Connection, Error, ErrorCode, File, FileFrom, FileStore, Files, Options, Start, Unknown,
+};
+use sqlite_disk::{Disk, Tally};
+use sqlite_pager::Pager;
+use sqlite_pool::probe_blank;
+use sqlite_std_file::OpenError as PathError;
+use sqlite_store::{OpenError, Unopened, name_fault};
+use sqlite_trees::error::StoreError;
+use sqlite_wal::{PageSize, probe_page_size};
+use std::alloc::{AllocFailed, Global};
+use std::hash::{BuildHasher, RandomState};
+use std::io::ErrorKind;
+
+/// The bytes of a page in a file that is made.
+const PAGE_BYTES: usize = 1024;
+
+/// How many bytes of pages are held in memory: of those that were read, and of those that a transaction writes.
+const HELD_BYTES: usize = 8_388_608;
+
+/// How many bytes of pages the log has before it is copied into the file.
+const LOG_BYTES: usize = 4_194_304;
+
+const CANNOT_OPEN: Error = Error::SqliteFailure(ErrorCode::CannotOpen);
+
+const FAILED: Error = Error::SqliteFailure(ErrorCode::SystemIoFailure);
+
+/// The choices for a file whose pages have so many bytes.
+fn options(seed: u64, page_bytes: usize) -> Options {
+    let chosen = Options::new(seed);
+    Options {
+        cache_pages: HELD_BYTES
+            .checked_div(page_bytes)
+            .unwrap_or(chosen.cache_pages),
+        spill_pages: HELD_BYTES
+            .checked_div(page_bytes)
+            .unwrap_or(chosen.spill_pages),
+        checkpoint_frames: LOG_BYTES
+            .checked_div(page_bytes)
+            .unwrap_or(chosen.checkpoint_frames),
+        seed,
+    }
+}
+
+fn probe_error(error: sqlite_wal::Error) -> Error {
+    match error {
+        sqlite_wal::Error::OutOfMemory => NO_MEMORY,
+        sqlite_wal::Error::Io(_) => FAILED,
+        sqlite_wal::Error::Full => Error::SqliteFailure(ErrorCode::DiskFull),
+        _ => Error::SqliteFailure(ErrorCode::NotADatabase),
+    }
+}
+
+fn open_error(error: OpenError) -> Error {
+    match error {
+        OpenError::OutOfMemory => NO_MEMORY,
+        OpenError::Io => FAILED,
+        OpenError::Full => Error::SqliteFailure(ErrorCode::DiskFull),
+        OpenError::Refused => Error::SqliteFailure(ErrorCode::DatabaseCorrupt),
+    }
+}
+
+/// Where a call of the disk failed, its failure by what the files met since then.
+fn named(error: Error, before: Tally, now: Tally) -> Error {
+    if error != FAILED {
+        return error;
+    }
+    match name_fault(before, now) {
+        StoreError::Full => Error::SqliteFailure(ErrorCode::DiskFull),
+        StoreError::Corrupt => Error::SqliteFailure(ErrorCode::DatabaseCorrupt),
+        _ => FAILED,
+    }
+}
+
+/// Files that no database is in, with what is to become one.
+fn unopened<D: Disk>(
+    alloc: Global,
+    files: Files<D>,
+    size: PageSize,
+    seed: u64,
+) -> Result<Unopened<D>, Files<D>>
+    ensures { IfOk result (λ fresh. files_of fresh ≡ (files.log, files.db)) }
+{
+    let pager = match Pager::new(alloc, files, size, options(seed, size.bytes())) {
+        Ok(pager) => pager,
+        Err(AllocFailed { value }) => return Err(value),
+    };
+    match Unopened::new(alloc, pager, &[]) {
+        Ok(fresh) => Ok(fresh),
+        Err(AllocFailed { value }) => Err(value.close()),
+    }
+}
+
+/// Makes an empty database in files, or goes on where a stop left one half made.
+fn make<D: Disk + Drop>(
+    alloc: Global,
+    files: Files<D>,
+    size: PageSize,
+    seed: u64,
+) -> Result<Connection<FileStore<D>>, (Error, Files<D>)>
+    requires log { IsTrue (D.Disk.is_usable files.log) }
+    requires db { IsTrue (D.Disk.is_usable files.db) }
+{
+    let fresh = match unopened(alloc, files, size, seed) {
+        Ok(fresh) => fresh,
+        Err(files) => return Err((NO_MEMORY, files)),
+    };
+    let store = match fresh.create() {
+        Ok(store) => store,
+        Err((error, left)) => return Err((open_error(error), left.close())),
+    };
+    match Connection::over(alloc, store) {
+        Ok(connection) => Ok(connection),
+        Err((error, store)) => Err((error, store.close())),
+    }
+}
+
+/// Opens the database in files.
+fn open_made<D: Disk + Drop>(
+    alloc: Global,
+    mut files: Files<D>,
+    seed: u64,
+) -> Result<Connection<FileStore<D>>, (Error, Files<D>)>
+    requires log { IsTrue (D.Disk.is_usable files.log) }
+    requires db { IsTrue (D.Disk.is_usable files.db) }
+{
+    let chosen = match probe_page_size(&mut files) {
+        Ok(Some(size)) => options(seed, size.bytes()),
+        Ok(None) => Options::new(seed),
+        Err(_) => return Err((FAILED, files)),
+    };
+    match Connection::open_files(alloc, files, chosen) {
+        Ok(connection) => Ok(connection),
+        Err((error, left)) => Err((error, left.into_files())),
+    }
+}
+
+/// Opens the database in files: in empty ones, and in those that a stop left half made, it makes one with pages of
+/// 1,024 bytes. The files come back where it can't be opened. The seed is a random number.
+pub fn open_files<D: Disk + Drop>(
+    alloc: Global,
+    mut files: Files<D>,
+    seed: u64,
+) -> Result<Connection<FileStore<D>>, (Error, Files<D>)>
+    requires log { IsTrue (D.Disk.is_usable files.log) }
+    requires db { IsTrue (D.Disk.is_usable files.db) }
+{
+    let before = files.tally();
+    let size = PageSize::new(PAGE_BYTES).unwrap();
+    let opened = match probe_blank(alloc, &mut files, size, false) {
+        Ok(true) => make(alloc, files, size, seed),
+        Ok(false) => open_made(alloc, files, seed),
+        Err(error) => Err((probe_error(error), files)),
+    };
+    match opened {
+        Ok(connection) => Ok(connection),
+        Err((error, files)) => {
+            let now = files.tally();
+            Err((named(error, before, now), files))
+        }
+    }
+}
+
+/// The files at a path, which are made where they aren't there.
+fn files_at<S: Start>(rt: &HostRuntime, path: &str, start: S) -> Result<Files<FileFrom<S>>, Error>
+    ensures log { IfOk result (λ files. IsTrue (file_is_usable S.Start files.log)) }
+    ensures db { IfOk result (λ files. IsTrue (file_is_usable S.Start files.db)) }
+{
+    if path == ":memory:" || path.starts_with("file:") {
+        return Err(CANNOT_OPEN);
+    }
+    match sqlite_std_file::open(rt, path, start) {
+        Ok(files) => Ok(files),
+        Err(PathError::OutOfMemory) => Err(NO_MEMORY),
+        Err(PathError::Busy) => Err(Error::SqliteFailure(ErrorCode::DatabaseBusy)),
+        Err(PathError::Io(error)) if error.kind() == ErrorKind::OutOfMemory => Err(NO_MEMORY),
+        Err(_) => Err(CANNOT_OPEN),
+    }
+}
+
+/// Opens the database at a path, and makes it where there is no file or an empty one, with pages of 1,024 bytes. One
+/// connection at a time has a file.
+pub fn open_file(rt: &HostRuntime, path: &str) -> Result<Connection<FileStore<File>>, Error> {
+    let files = files_at(rt, path, Unknown)?;
+    let seed = match RandomState::new(rt) {
+        Ok(state) => state.hash_one(&0u8),
+        Err(_) => return Err(CANNOT_OPEN),
+    };
+    match open_files(rt.alloc(), files, seed) {
+        Ok(connection) => Ok(connection),
+        Err((error, files)) => {
+            drop(files);
+            Err(error)
+        }
+    }
+}

@@ -23,15 +23,15 @@ light journal e =
 
 within_term : (journal : Journal) → IsOfTerm journal → AreWithin journal.most journal.entries
 within_term journal t = record {
-  most = t.legal.within;
-  few = omega (arith, t.legal.within, t.room);
-  bytes = λ k lt. light (record journal { entries = take k journal.entries }) (t.entered k lt);
+  most = t.made.legal.within;
+  few = omega (arith, t.made.legal.within, t.room);
+  bytes = λ k lt. light (record journal { entries = take k journal.entries }) (t.made.had_room k lt);
 }
 
 pub terms_sound : (journals : List Journal) → AreOfTerms journals → AreSound journals
 terms_sound journals t = record {
   each = λ k d lt.
       let term : IsOfTerm (get_or journals k d) = t.each k d lt in
-      record { opening = term.legal.opening; tickets = term.legal.tickets; within = within_term (get_or journals k d) term };
+      record { opening = term.made.legal.opening; tickets = term.made.legal.tickets; within = within_term (get_or journals k d) term };
   go_on = λ k d lt. same_goes_on (closing_of (get_or journals k d)) (get_or journals (k + 1) d).opening (t.go_on k d lt);
 }

@@ -1,17 +1,16 @@
 -- The journals of an account's terms, as the contracts of the calls that make them give them.
-use Rattle.std.specs.Prelude.{◌≡◌, ◌≤◌, ◌<◌, ℕ, List, length, take, None, All}
+use Rattle.std.specs.Prelude.{◌≤◌, List, length, All}
 use Rattle.std.specs.List.{AllAdjacentBelow}
 use Rattle.ss_bso.specs.Validity.{SameAccount}
 use Rattle.ss_laws.specs.Journal.{Journal}
-use Rattle.ss_laws.specs.Journals.{IsLegal, account_after}
-use Rattle.ss_booked.specs.Sizes.{full_of, most_entries}
+use Rattle.ss_laws.specs.Journals.{account_after}
+use Rattle.ss_booked.specs.Sizes.{most_entries}
+use Rattle.ss_booked.specs.Turns.{IsMadeByCalls}
 
--- the journal of a term: it is legal, it had room for no more entries than a journal may have, and each call was entered where it
--- wasn't full
+-- the journal of a term: calls made it, and it had room for no more entries than a journal may have
 pub record IsOfTerm (journal : Journal) : Type 0 where
-  pub legal : IsLegal journal
+  pub made : IsMadeByCalls journal
   pub room : journal.most ≤ most_entries
-  pub entered : (k : ℕ) → k < length journal.entries → full_of (record journal { entries = take k journal.entries }) ≡ None
 
 -- the journals of an account's terms, one after the other: each after the first opens with the account that the one before leaves,
 -- whatever the order of its rows, collections and batches

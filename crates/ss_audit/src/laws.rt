@@ -9,9 +9,8 @@ ghost use Rattle.ss_audit.specs.Sound.{AreSound, IsSoundLog};
 ghost use Rattle.ss_audit.specs.Terms.{AreOfTerms};
 ghost use Rattle.ss_audit.specs.Verdicts.{IsVerdict};
 
-/// The logs of a server's terms are sound, so a yes is no accident: the journals of an account's terms, each legal, with
-/// every call entered where its journal wasn't full, and each after the first with the account for its opening that the
-/// one before it leaves.
+/// The logs of a server's terms are sound, so a yes is no accident: the journals of an account's terms, each as a term hands
+/// it back, and each after the first with the account for its opening that the one before it leaves.
 pub fn terms_are_sound()
     ensures { (journals : List Journal) → AreOfTerms journals → AreSound journals }
 {}

@@ -27,7 +27,7 @@ use Rattle.ss_account.specs.Keeping.{IsKeptBy}
 use Rattle.ss_account.specs.Opening.{IsGood}
 use Rattle.ss_outside.specs.Causes.{Rose}
 use Rattle.ss_desk.specs.declared.journaled.Full.{Full}
-use Rattle.ss_booked.specs.Sizes.{request_bytes, journal_bytes, full_of}
+use Rattle.ss_booked.specs.Sizes.{request_bytes, journal_bytes, full_of, HadRoom}
 use Rattle.ss_booked.specs.Sound.{IsSound, RoseBy, is_keeper, keeper_marks}
 use Rattle.ss_text.proofs.Basics.{neither_left}
 
@@ -59,16 +59,27 @@ legal-entered journal entry legal fits above room = record {
     one : {X : Type 0} (P : X → Type 0) (x : X) → P x → All P (x ∷ [])
     one P x p = λ k d lt. let z : k ≡ zero = omega arith in subst (λ i. P (get_or (x ∷ []) i d)) (sym z) p
 
+take-last : (entries : List Entry) (entry : Entry) → take (length entries) (entries ++ entry ∷ []) ≡ entries
+take-last [] entry = refl
+take-last (e ∷ entries) entry = ap (λ es. e ∷ es) (take-last entries entry)
+
+pub room-entered : (journal : Journal) (entry : Entry) → HadRoom journal → full_of journal ≡ None → HadRoom (with_entry journal entry)
+room-entered journal entry had none k lt =
+    let entries = journal.entries in
+    let len : length (entries ++ entry ∷ []) ≡ length entries + 1 = length-append entries (entry ∷ []) in
+    let FullAt : List Entry → Type 0 = λ (es : List Entry). full_of (record journal { entries = es }) ≡ None in
+    dite (dec_lt k (length entries))
+    (λ inside. subst FullAt (sym (take-append-le k entries (entry ∷ []) (omega arith))) (had k inside))
+    (λ past.
+    let last : k ≡ length entries = omega (arith, past, lt, len) in
+    subst FullAt (sym (ap (λ n. take n (entries ++ entry ∷ [])) last ∙ take-last entries entry)) none)
+
 pub after-entered : (opening : Plain) (entries : List Entry) (entry : Entry) → account_after opening (entries ++ entry ∷ []) ≡ (entered (account_after opening entries) entry).account
 after-entered opening entries entry = fold-append (λ (account : Plain) (e : Entry). (entered account e).account) opening entries (entry ∷ [])
 
 get-last : (entries : List Entry) (entry : Entry) → slice_get (entries ++ entry ∷ []) (length entries) ≡ Some entry
 get-last [] entry = refl
 get-last (e ∷ entries) entry = get-last entries entry
-
-take-last : (entries : List Entry) (entry : Entry) → take (length entries) (entries ++ entry ∷ []) ≡ entries
-take-last [] entry = refl
-take-last (e ∷ entries) entry = ap (λ es. e ∷ es) (take-last entries entry)
 
 pub reply-entered : (journal : Journal) (entry : Entry) → reply_at (with_entry journal entry) (length journal.entries) ≡ Some (entered (account_after journal.opening journal.entries) entry).reply
 reply-entered journal entry =
@@ -122,19 +133,6 @@ pub record Stepped (told : Option Kept) (after : Plain) (mark : Mark) (now later
   pub faults : now ≤ later
   pub cause : mark ≡ Keeper → Rose now later
 
-pub sound-entered : (told told_after : Option Kept) (journal : Journal) (entry : Entry) (account after : Plain) (reply : Reply) (bytes more before now later : ℕ) → IsSound told account journal bytes before now
-    → IsFitRequest entry.request → All (λ (e : Entry). e.ticket < entry.ticket) journal.entries → length journal.entries < journal.most → Told journal entry reply after → Stepped told_after after entry.mark now later
-    → more ≡ request_bytes entry.request → IsSound told_after after (with_entry journal entry) (bytes + more) before later
-sound-entered told told_after journal entry account after reply bytes more before now later sound fits above room is stepped counted = record {
-  legal = legal-entered journal entry sound.legal fits above room;
-  leaves = is.left;
-  valid = stepped.valid;
-  kept = stepped.kept;
-  again = stepped.again;
-  counted = ap (λ n. n + more) sound.counted ∙ ap (λ n. journal_bytes journal.entries + n) counted ∙ sym (bytes-entered journal.entries entry);
-  rose = rose-entered journal.entries entry before now later sound.rose stepped.faults stepped.cause;
-}
-
 test-none : {X : Type 0} (b : Bool) (x : X) → (if b then Some x else None) ≡ None → b ≡ false
 test-none true x e = absurd (let no : Some x ≡ None = e in cc)
 test-none false x e = refl
@@ -145,6 +143,20 @@ room-left journal none within =
     let other : (length journal.entries == journal.most) ≡ false = neither_left _ _ (test-none _ _ none) in
     grind (arith, other, within)
 
+pub sound-entered : (told told_after : Option Kept) (journal : Journal) (entry : Entry) (account after : Plain) (reply : Reply) (bytes more before now later : ℕ) → IsSound told account journal bytes before now
+    → IsFitRequest entry.request → All (λ (e : Entry). e.ticket < entry.ticket) journal.entries → full_of journal ≡ None → Told journal entry reply after → Stepped told_after after entry.mark now later
+    → more ≡ request_bytes entry.request → IsSound told_after after (with_entry journal entry) (bytes + more) before later
+sound-entered told told_after journal entry account after reply bytes more before now later sound fits above none is stepped counted = record {
+  legal = legal-entered journal entry sound.legal fits above (room-left journal none sound.legal.within);
+  had_room = room-entered journal entry sound.had_room none;
+  leaves = is.left;
+  valid = stepped.valid;
+  kept = stepped.kept;
+  again = stepped.again;
+  counted = ap (λ n. n + more) sound.counted ∙ ap (λ n. journal_bytes journal.entries + n) counted ∙ sym (bytes-entered journal.entries entry);
+  rose = rose-entered journal.entries entry before now later sound.rose stepped.faults stepped.cause;
+}
+
 pub legal-begun : (account opening : Plain) (journal : Journal) (most : ℕ) → journal ≡ begun opening most → IsValid account → SameAccount account opening → IsLegal journal
 legal-begun account opening journal most is valid same = subst (λ (j : Journal). IsLegal j) (sym is) record {
   opening = valid-same account opening valid same;
@@ -153,10 +165,14 @@ legal-begun account opening journal most is valid same = subst (λ (j : Journal)
   within = omega arith;
 }
 
+pub room-begun : (opening : Plain) (journal : Journal) (most : ℕ) → journal ≡ begun opening most → HadRoom journal
+room-begun opening journal most is = subst (λ (j : Journal). HadRoom j) (sym is) (λ k lt. absurd (omega arith))
+
 pub sound-begun : (told : Option Kept) (account opening : Plain) (journal : Journal) (most before faults : ℕ) → journal ≡ begun opening most → before ≡ faults → SameAccount account opening → IsValid account → IsKeptBy told account → IfSome told IsGood
     → IsSound told account journal 0 before faults
 sound-begun told account opening journal most before faults is stands same valid kept again = subst (λ (j : Journal). IsSound told account j 0 before faults) (sym is) record {
   legal = legal-begun account opening (begun opening most) most refl valid same;
+  had_room = room-begun opening (begun opening most) most refl;
   leaves = same-back account opening same;
   valid = valid;
   kept = kept;

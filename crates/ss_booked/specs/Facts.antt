@@ -1,4 +1,4 @@
--- That a journal is legal is a fact, of which there is at most one proof, and of a journal without entries it says that its opening is valid.
+-- That a journal is legal, and that each of its entries had room, are facts, of which there is at most one proof.
 use Rattle.std.specs.Prelude.{◌≡◌, List, []}
 use Rattle.std.proofs.Common.{subst}
 use Rattle.std.specs.Option.{IsSomeAnd-prop}
@@ -9,6 +9,7 @@ use Rattle.ss_query.specs.Fit.{IsFitRequest}
 use Rattle.ss_laws.specs.declared.journal.Entry.{Entry}
 use Rattle.ss_laws.specs.Journal.{Journal}
 use Rattle.ss_laws.specs.Journals.{IsLegal}
+use Rattle.ss_booked.specs.Sizes.{HadRoom}
 
 fit_prop : (request : Request) → IsProp (IsFitRequest request)
 fit_prop (Post collection records mode cond) = Prim.hlevel props
@@ -24,6 +25,6 @@ fit_prop (Delete collection id cond) = Prim.hlevel props
 pub legal_prop : (journal : Journal) → IsProp (IsLegal journal)
 legal_prop journal = Prim.hlevel (fit_prop, props)
 
--- a journal without entries is legal as the one that it is
-pub starts_legal : (journal : Journal) → journal.entries ≡ [] → IsLegal journal → IsLegal (record journal { entries = [] })
-starts_legal journal empty legal = subst (λ (entries : List Entry). IsLegal (record journal { entries = entries })) empty legal
+-- that each of its entries had room is one too
+pub room_prop : (journal : Journal) → IsProp (HadRoom journal)
+room_prop journal = Prim.hlevel props

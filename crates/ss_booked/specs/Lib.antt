@@ -4,3 +4,4 @@ pub mod Facts
 pub mod Book
 pub mod Booked
 pub mod Turns
+pub mod Starts

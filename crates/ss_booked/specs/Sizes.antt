@@ -1,5 +1,5 @@
 -- What a journal counts for its entries, and when it is full (limits of this project).
-use Rattle.std.specs.Prelude.{ℕ, ◌+◌, ◌*◌, ◌/◌, ◌==◌, Bool, ◌||◌, nat_le, nat_lt, List, length, sum_by, Option, Some, None, if◌then◌else◌}
+use Rattle.std.specs.Prelude.{◌≡◌, ◌<◌, ℕ, ◌+◌, ◌*◌, ◌/◌, ◌==◌, Bool, ◌||◌, nat_le, nat_lt, List, length, take, sum_by, Option, Some, None, if◌then◌else◌}
 use Rattle.std.specs.Option.{option_map_or}
 use Rattle.ss_bso.specs.Limits.{part_bytes, payload_size}
 use Rattle.ss_query.specs.declared.requests.Request.{Request}
@@ -52,3 +52,7 @@ is_half_full journal = nat_lt (journal.most / 2) (length journal.entries) || nat
 -- the two numbers of a journal that is full
 abbrev pub full_of : Journal → Option Full
 full_of journal = if is_full journal then Some (record { entries = length journal.entries; bytes = journal_bytes journal.entries }) else None
+
+-- each entry of a journal was made while it had room for a call
+abbrev pub HadRoom : Journal → Type 0
+HadRoom journal = (k : ℕ) → k < length journal.entries → full_of (record journal { entries = take k journal.entries }) ≡ None

@@ -10,7 +10,7 @@ use Rattle.ss_laws.specs.Journal.{Journal}
 use Rattle.ss_laws.specs.Journals.{account_after, IsLegal}
 use Rattle.ss_account.specs.Keeping.{IsKeptBy}
 use Rattle.ss_account.specs.Opening.{IsGood}
-use Rattle.ss_booked.specs.Sizes.{journal_bytes}
+use Rattle.ss_booked.specs.Sizes.{journal_bytes, HadRoom}
 
 -- the count rose by at least so many; one that stands at the greatest u64 counts as risen
 pub record RoseBy (times before now : ℕ) : Type 0 where
@@ -26,11 +26,12 @@ is_keeper _ = false
 abbrev pub keeper_marks : List Entry → ℕ
 keeper_marks entries = count_by (λ entry. is_keeper entry.mark) entries
 
--- the journal is legal and leaves the account, whatever the order of its rows, collections and batches; the account is valid and
+-- the journal is legal, each of its entries was made while it had room, and it leaves the account, whatever the order of its rows, collections and batches; the account is valid and
 -- kept, and can be opened again; the count of bytes is that of the entries; since the journal was opened the keeper's count of
 -- faults rose by at least the number of entries that say so
 pub record IsSound (told : Option Kept) (account : Plain) (journal : Journal) (bytes before faults : ℕ) : Type 0 where
   pub legal : IsLegal journal
+  pub had_room : HadRoom journal
   pub leaves : SameAccount (account_after journal.opening journal.entries) account
   pub valid : IsValid account
   pub kept : IsKeptBy told account

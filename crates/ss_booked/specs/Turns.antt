@@ -7,7 +7,7 @@ use Rattle.ss_laws.specs.Journals.{reply_at, IsLegal}
 use Rattle.ss_booked.specs.declared.booked.Answered.{Answered}
 use Rattle.ss_booked.specs.declared.booked.Asked.{Asked}
 use Rattle.ss_booked.specs.declared.booked.Terms.{Terms}
-use Rattle.ss_booked.specs.Sizes.{full_of, is_half_full}
+use Rattle.ss_booked.specs.Sizes.{full_of, is_half_full, HadRoom}
 
 -- what was asked by the call of an entry
 abbrev pub ask_of : Entry → Asked
@@ -17,9 +17,14 @@ ask_of entry = record { now = entry.now; request = entry.request }
 abbrev pub journal_on : Terms → List Entry → Journal
 journal_on terms entries = record { opening = terms.opening; most = terms.most; entries = entries }
 
--- it is legal
+-- a journal as calls make it: it is legal, and each of its entries was made while it had room
+pub record IsMadeByCalls (journal : Journal) : Type 0 where
+  pub legal : IsLegal journal
+  pub had_room : HadRoom journal
+
+-- it is so
 abbrev pub IsLegalOn : Terms → List Entry → Type 0
-IsLegalOn terms entries = IsLegal (journal_on terms entries)
+IsLegalOn terms entries = IsMadeByCalls (journal_on terms entries)
 
 -- the reply at its last place, and whether it is more than half full with that
 abbrev pub RepliesLast : Terms → List Entry → Answered → Type 0

@@ -9,9 +9,9 @@ ghost use Rattle.ss_query.specs.Marks.{mark_of};
 ghost use Rattle.ss_laws.specs.Journals.{account_after, begun, with_entry, reply_at, IsLegal};
 ghost use Rattle.ss_account.specs.Keeping.{IsKeptBy};
 ghost use Rattle.ss_account.specs.Opening.{IsGood};
-ghost use Rattle.ss_booked.specs.Sizes.{full_of, most_entries};
+ghost use Rattle.ss_booked.specs.Sizes.{full_of, most_entries, HadRoom};
 ghost use Rattle.ss_booked.specs.Sound.{RoseBy, keeper_marks};
-ghost use Rattle.ss_booked.specs.Facts.{legal_prop};
+ghost use Rattle.ss_booked.specs.Facts.{legal_prop, room_prop};
 
 use crate::bound::Bound;
 use ss_account::Account;
@@ -51,6 +51,7 @@ pub struct Terms {
 pub struct Booked<K: Keeper> {
     bound: Bound<K>,
     pub ghost legal: { IsLegal bound.journal } by { legal_prop bound.journal },
+    pub ghost had_room: { HadRoom bound.journal } by { room_prop bound.journal },
     pub ghost rose: { RoseBy (keeper_marks bound.journal.entries) (K.keep_faults bound.before) (K.keep_faults bound.account.keeper) },
 }
 
@@ -107,11 +108,12 @@ impl<K: Keeper> Booked<K> {
         self.bound.call(ticket, pass, now, request)
     }
 
-    /// The journal, lent: it is legal and leaves the account. Since it was opened the keeper has failed at least as
+    /// The journal, lent: it is legal, each of its entries was made while it had room, and it leaves the account. Since it was opened the keeper has failed at least as
     /// often as it has entries that say so.
     pub fn journal(&self) -> &Journal
         ensures journal { result.now ≡ journal_of self.now }
         ensures legal { IsLegal (journal_of self.now) }
+        ensures roomy { HadRoom (journal_of self.now) }
         ensures leaves { SameAccount (account_after (journal_of self.now).opening (journal_of self.now).entries)
             (account_of self.now).plain }
         ensures faults { RoseBy (keeper_marks (journal_of self.now).entries) (K.keep_faults (keeper_before self.now))
@@ -156,7 +158,7 @@ impl<K: Keeper + Drop> Journaled for Booked<K> {
     ghost use Rattle.ss_query.specs.Fit.{IsFitRequest};
     ghost use Rattle.ss_booked.specs.Booked.{terms_of, journal_of};
     ghost use Rattle.ss_booked.specs.Turns.{ask_of, full_on, IsLegalOn, RepliesLast};
-    ghost use Rattle.ss_booked.specs.Facts.{starts_legal};
+    ghost use Rattle.ss_booked.specs.Starts.{made_of_none};
 
     type Fixed = Terms;
 
@@ -191,5 +193,5 @@ impl<K: Keeper + Drop> Journaled for Booked<K> {
         Ok(Answered { reply, half_full })
     }
 
-    ghost starts = { λ b empty. starts_legal b.bound.journal empty b.legal };
+    ghost starts = { λ b empty. made_of_none b.bound.journal empty b.legal };
 }

@@ -9,7 +9,7 @@ ghost use Rattle.ss_query.specs.Marks.{mark_of};
 ghost use Rattle.ss_laws.specs.Journals.{account_after, begun, with_entry, reply_at, IsLegal};
 ghost use Rattle.ss_account.specs.Keeping.{IsKeptBy};
 ghost use Rattle.ss_account.specs.Opening.{IsGood};
-ghost use Rattle.ss_booked.specs.Sizes.{full_of, is_half_full, most_entries};
+ghost use Rattle.ss_booked.specs.Sizes.{full_of, is_half_full, most_entries, HadRoom};
 ghost use Rattle.ss_booked.specs.Sound.{RoseBy, keeper_marks};
 
 use crate::limits::MOST_JOURNAL_BYTES;
@@ -65,6 +65,7 @@ impl<K: Keeper> Bound<K> {
         ensures begun { IfOk result (λ b. b.journal ≡ begun b.journal.opening most) }
         ensures before { IfOk result (λ b. b.before ≡ account.keeper) }
         ensures legal { IfOk result (λ b. IsLegal b.journal) }
+        ensures roomy { IfOk result (λ b. HadRoom b.journal) }
         ensures returned { IfErr result (λ refused. refused.0 ≡ account) }
     {
         let opening = match account.plain(alloc) {
@@ -110,6 +111,7 @@ impl<K: Keeper> Bound<K> {
         ensures quiet { IfOk result (λ reply. (mark_of reply ≡ KeeperMark → ⊥)
             → K.keep_faults self.new.account.keeper ≡ K.keep_faults self.old.account.keeper) }
         ensures legal { IsLegal self.new.journal }
+        ensures roomy { HadRoom self.new.journal }
         ensures rose { RoseBy (keeper_marks self.new.journal.entries) (K.keep_faults self.new.before)
             (K.keep_faults self.new.account.keeper) }
     {
@@ -176,6 +178,7 @@ impl<K: Keeper> Bound<K> {
         ensures before { OnOk result (self.new.before ≡ self.old.account.keeper) }
         ensures unchanged { OnErr result (self.new ≡ self.old) }
         ensures legal { IsLegal self.new.journal }
+        ensures roomy { HadRoom self.new.journal }
         ensures rose { RoseBy (keeper_marks self.new.journal.entries) (K.keep_faults self.new.before)
             (K.keep_faults self.new.account.keeper) }
     {

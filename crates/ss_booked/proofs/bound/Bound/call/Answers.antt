@@ -7,7 +7,7 @@ use Rattle.ss_laws.specs.Journals.{with_entry, reply_at}
 use Rattle.ss_booked.specs.Book.{Book}
 use Rattle.ss_booked.specs.Sizes.{full_of}
 use Rattle.ss_booked.specs.Sound.{IsSound}
-use Rattle.ss_booked.proofs.Entering.{Told, Stepped, told-entered, sound-entered, room-left}
+use Rattle.ss_booked.proofs.Entering.{Told, Stepped, told-entered, sound-entered}
 use Rattle.ss_booked.proofs.bound.Bound.call.Goals as goal
 use Rattle.ss_booked.proofs.bound.Bound.call.Given.{Over}
 
@@ -40,7 +40,7 @@ sound_is g c =
     } in
     subst (λ (j : Journal). IsSound (g.K.Keeper.told c.step-reply.new.self.keeper) c.step-reply.new.self.plain j (c.self.inside.bytes + c.bytes_of_request-bytes.result) (g.K.Keeper.keep_faults c.self.inside.before.value) (g.K.Keeper.keep_faults c.step-reply.new.self.keeper)) (sym (entered_is g c))
     (sound-entered _ _ journal entry c.self.inside.account.plain c.step-reply.new.self.plain c.step-reply.result c.self.inside.bytes c.bytes_of_request-bytes.result _ _ _ c.self.invariant c.requires.fits above
-    (room-left journal none c.self.invariant.legal.within) (told_is g c) stepped c.bytes_of_request-bytes.ensures.bytes)
+    none (told_is g c) stepped c.bytes_of_request-bytes.ensures.bytes)
 
 pub invariant_of-self : goal.invariant_of-self
 invariant_of-self g c = sound_is g c
@@ -53,3 +53,6 @@ returns-clause-reply g c =
 
 pub returns-clause-legal : goal.returns-clause-legal
 returns-clause-legal g c = (sound_is g c).legal
+
+pub returns-clause-roomy : goal.returns-clause-roomy
+returns-clause-roomy g c = (sound_is g c).had_room

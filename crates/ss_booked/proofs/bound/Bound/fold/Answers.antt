@@ -5,7 +5,7 @@ use Rattle.ss_bso.proofs.Reordering.{same-through}
 use Rattle.ss_laws.specs.Journal.{Journal}
 use Rattle.ss_laws.specs.Journals.{account_after}
 use Rattle.ss_booked.specs.Book.{Book}
-use Rattle.ss_booked.proofs.Entering.{legal-begun, sound-begun}
+use Rattle.ss_booked.proofs.Entering.{legal-begun, room-begun, sound-begun}
 use Rattle.ss_booked.proofs.bound.Bound.fold.Goals as goal
 
 pub invariant_of-self : goal.invariant_of-self
@@ -21,3 +21,6 @@ returns-clause-follows g c =
 
 pub returns-clause-legal : goal.returns-clause-legal
 returns-clause-legal g c = legal-begun c.self.inside.account.plain c.in_ok-opening.opening c.restart.new.self c.self.inside.journal.most c.restart.ensures.begun c.plain.ensures.valid c.in_ok-opening.ensures.plain
+
+pub returns-clause-roomy : goal.returns-clause-roomy
+returns-clause-roomy g c = room-begun c.in_ok-opening.opening c.restart.new.self c.self.inside.journal.most c.restart.ensures.begun

@@ -1,5 +1,5 @@
 use Rattle.std.proofs.Common.{ap, ◌∙◌}
-use Rattle.ss_booked.proofs.Entering.{legal-begun, sound-begun}
+use Rattle.ss_booked.proofs.Entering.{legal-begun, room-begun, sound-begun}
 use Rattle.ss_booked.proofs.bound.Bound.open.Goals as goal
 
 pub invariant_of-result : goal.invariant_of-result
@@ -9,3 +9,6 @@ invariant_of-result g c =
 
 pub returns-clause-legal : goal.returns-clause-legal
 returns-clause-legal g c = legal-begun c.args.account.plain c.in-Ok.opening c.in-Ok-new.journal c.args.most c.in-Ok-new.ensures.begun c.plain.ensures.valid c.in-Ok.ensures.plain
+
+pub returns-clause-roomy : goal.returns-clause-roomy
+returns-clause-roomy g c = room-begun c.in-Ok.opening c.in-Ok-new.journal c.args.most c.in-Ok-new.ensures.begun

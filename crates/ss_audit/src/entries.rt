@@ -8,9 +8,8 @@ ghost use Rattle.ss_query.specs.Fit.{IsFitRequest};
 ghost use Rattle.ss_audit.specs.Sound.{IsSoundLog};
 ghost use Rattle.ss_audit.specs.Verdicts.{FailsAt, GoesOnFrom};
 
-use crate::sizes::bytes_of_request;
 use crate::verdict::Why;
-use ss_booked::{MOST_ENTRIES, MOST_JOURNAL_BYTES};
+use ss_booked::{MOST_ENTRIES, MOST_JOURNAL_BYTES, bytes_of_request};
 use ss_logs::Log;
 
 /// Where a log isn't sound: at its opening, which is entry 0, or at an entry, counted from 1; and why.

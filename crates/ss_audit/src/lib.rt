@@ -9,7 +9,6 @@ mod entries;
 mod equal;
 mod going_on;
 mod laws;
-mod sizes;
 mod validity;
 mod verdict;
 

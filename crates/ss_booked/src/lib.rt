@@ -11,5 +11,6 @@ mod sizes;
 
 pub use booked::{Answered, Asked, Booked, Terms};
 pub use limits::{ENTRY_BYTES, MOST_ENTRIES, MOST_JOURNAL_BYTES};
+pub use sizes::bytes_of_request;
 pub use ss_desk::Full;
 pub use ss_laws::{Entry, Journal};

@@ -72,8 +72,9 @@ fn bytes_of_payloads(request: &Request) -> u64
     }
 }
 
-/// The bytes that a journal counts for a request.
-pub(crate) fn bytes_of_request(request: &Request) -> u64
+/// The bytes that a journal counts for a request: 256, 256 more for each part, failed record and listed id, and its payload
+/// bytes (this project).
+pub fn bytes_of_request(request: &Request) -> u64
     requires fits { IsFitRequest request.now }
     ensures bytes { result ≡ request_bytes request.now }
     ensures few { result < 2 ^ 63 + 2 ^ 15 }

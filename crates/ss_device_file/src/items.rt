@@ -2,10 +2,7 @@
 
 ghost use Rattle.std.specs.Prelude.{◌≡◌, IfOk, IfSome, Some, option_map};
 ghost use Rattle.std.specs.Str.{IsUtf8};
-ghost use Rattle.serde_json.specs.Find.{as_object};
-ghost use Rattle.serde_json.specs.Read.{read};
-ghost use Rattle.serde_json.specs.View.{members_view, view};
-ghost use Rattle.ss_text.specs.Decimals.{marked};
+ghost use Rattle.serde_json.specs.View.{members_view};
 ghost use Rattle.ss_device.specs.Writing.{item_line};
 ghost use Rattle.ss_device_file.specs.Lines.{IsItemLine, record_in};
 ghost use Rattle.ss_device_file.specs.Records.{all_ids, id_told, in_place, item_from, read_item, record_id, record_parts};
@@ -14,42 +11,18 @@ ghost use Rattle.ss_device_file.specs.declared.lines.ItemLine.{ItemLine as ItemL
 use crate::cuts::{cut_item, time_of};
 use crate::lines::ItemLine;
 use serde_json::{Map, Value};
-use ss_record::{Item, Reading, Sheet, Words, is_places, member, read_record, string_of};
-use ss_text::{Id, Ids, Stamp, Word, mark_decimals};
+use ss_record::{
+    Item, Reading, Sheet, Words, into_members, is_places, member, read_record, read_value,
+    string_of,
+};
+use ss_text::{Id, Ids, Stamp, Word};
 use std::alloc::{AllocError, Global};
-
-/// The value that a text is as JSON, its decimals marked first.
-fn value_of(alloc: Global, text: &str) -> Result<Option<Value>, AllocError>
-    ensures { IfOk result (λ found. option_map view found ≡ read (marked text.now)) }
-{
-    let marked = mark_decimals(alloc, text.as_bytes())?;
-    match Value::from_slice(alloc, marked.as_slice()) {
-        Ok(value) => Ok(Some(value)),
-        Err(error) => {
-            if error.is_memory() {
-                Err(AllocError)
-            } else {
-                Ok(None)
-            }
-        }
-    }
-}
-
-/// The members of an object.
-fn into_members(value: Value) -> Option<Map<String, Value>>
-    ensures { option_map (λ m. members_view m.entries) result ≡ as_object (view value) }
-{
-    match value {
-        Value::Object(members) => Some(members),
-        _ => None,
-    }
-}
 
 /// The members of a record.
 fn record_parts(alloc: Global, text: &str) -> Result<Option<Map<String, Value>>, AllocError>
     ensures { IfOk result (λ found. option_map (λ m. members_view m.entries) found ≡ record_parts text.now) }
 {
-    match value_of(alloc, text)? {
+    match read_value(alloc, text)? {
         Some(value) => Ok(into_members(value)),
         None => Ok(None),
     }

@@ -35,7 +35,8 @@ use Rattle.ss_lines.specs.Lines.{IsPart, field, integer, natural, optional, time
 use Rattle.ss_lines.specs.Values.{field_of, id_of, integer_of, name_of, optional_of, seconds_of}
 use Rattle.ss_lines.specs.declared.lines.Line.TheVariants as told
 use Rattle.ss_lines.proofs.Told.{field_back, integer_back, integer_more, integer_other, optional_back, seconds_back, told_again}
-use Rattle.ss_log_lines.specs.Requests.{AreFields, IsCond, IsFailure, IsId, IsMode, IsQuery, IsRequest, IsTime, asked_word, cond_data, failure_data, listed, mode_data, part_data, query_data, reason_word, request_data, sort_word}
+use Rattle.ss_query.specs.Reasons.{reason_name}
+use Rattle.ss_log_lines.specs.Requests.{AreFields, IsCond, IsFailure, IsId, IsMode, IsQuery, IsRequest, IsTime, asked_word, cond_data, failure_data, listed, mode_data, part_data, query_data, request_data, sort_word}
 use Rattle.ss_log_lines.specs.LogLines.{IsEntry, IsLogLine, call_list, log_list_of, mark_word}
 use Rattle.ss_log_lines.specs.Values.{all_from, asked_of, cond_from, delete_all_from, delete_collection_from, delete_from, delete_ids_from, entry_from, failure_from, fields_told, get_from, id_from, info_from, list_from, list_request_from, log_from, log_line_from, mark_of, mode_from, part_from, post_from, put_from, query_from, reason_of, request_from, sort_of, time_from}
 use Rattle.ss_log_lines.specs.declared.lines.LogLine.{LogLine}
@@ -57,7 +58,7 @@ sort_back Newest = refl
 sort_back Oldest = refl
 sort_back Index = refl
 
-reason_back : (r : Reason) → reason_of (reason_word r) ≡ Some r
+reason_back : (r : Reason) → reason_of (reason_name r) ≡ Some r
 reason_back Payload = refl
 reason_back TooLarge = refl
 reason_back Sortindex = refl

@@ -29,7 +29,8 @@ use Rattle.ss_query.specs.declared.replies.Mark.TheVariants.{Done, Keeper, Memor
 use Rattle.ss_laws.specs.declared.journal.Entry.{Entry}
 use Rattle.ss_lines.specs.Lines.{IsPart, OfOption, field, integer, natural, optional, time}
 use Rattle.ss_lines.proofs.Told.{field_flat, integer_flat, line_flat, seconds_flat}
-use Rattle.ss_log_lines.specs.Requests.{AreFields, IsCond, IsFailure, IsId, IsMode, IsQuery, IsRequest, IsTime, asked_word, cond_data, failure_data, fields_data, listed, mode_data, part_data, query_data, reason_word, request_data, sort_word}
+use Rattle.ss_query.specs.Reasons.{reason_name}
+use Rattle.ss_log_lines.specs.Requests.{AreFields, IsCond, IsFailure, IsId, IsMode, IsQuery, IsRequest, IsTime, asked_word, cond_data, failure_data, fields_data, listed, mode_data, part_data, query_data, request_data, sort_word}
 use Rattle.ss_log_lines.specs.LogLines.{IsEntry, IsLogLine, call_list, log_list_of, mark_word}
 use Rattle.ss_log_lines.specs.declared.lines.LogLine.{LogLine}
 use Rattle.ss_log_lines.specs.declared.lines.LogLine.TheVariants.{Log, Account, Call}
@@ -49,7 +50,7 @@ sort_utf8 Newest = IsUtf8-are_ascii (codes "newest") refl
 sort_utf8 Oldest = IsUtf8-are_ascii (codes "oldest") refl
 sort_utf8 Index = IsUtf8-are_ascii (codes "index") refl
 
-reason_utf8 : (r : Reason) → IsUtf8 (reason_word r)
+reason_utf8 : (r : Reason) → IsUtf8 (reason_name r)
 reason_utf8 Payload = IsUtf8-are_ascii (codes "payload") refl
 reason_utf8 TooLarge = IsUtf8-are_ascii (codes "payload size") refl
 reason_utf8 Sortindex = IsUtf8-are_ascii (codes "sortindex") refl

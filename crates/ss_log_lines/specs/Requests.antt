@@ -10,7 +10,6 @@ use Rattle.ss_text.specs.declared.stamps.Cond.TheVariants.{Free, IfModified, IfU
 use Rattle.ss_bso.specs.declared.parts.Fields.{Fields}
 use Rattle.ss_bso.specs.declared.parts.Part.{Part}
 use Rattle.ss_bso.specs.declared.parts.Reason.{Reason}
-use Rattle.ss_bso.specs.declared.parts.Reason.TheVariants.{Payload, TooLarge, Sortindex, Ttl}
 use Rattle.ss_query.specs.declared.requests.Info.{Info as Asked}
 use Rattle.ss_query.specs.declared.requests.Info.TheVariants.{Collections, Counts, Usage, Quota, Configuration}
 use Rattle.ss_query.specs.declared.requests.Mode.{Mode}
@@ -20,6 +19,7 @@ use Rattle.ss_query.specs.declared.requests.Request.{Request}
 use Rattle.ss_query.specs.declared.requests.Request.TheVariants.{Info, DeleteAll, List as ListOf, Post, DeleteCollection, DeleteIds, Get, Put, Delete}
 use Rattle.ss_query.specs.declared.requests.Sort.{Sort}
 use Rattle.ss_query.specs.declared.requests.Sort.TheVariants.{Newest, Oldest, Index}
+use Rattle.ss_query.specs.Reasons.{reason_name}
 use Rattle.ss_lines.specs.Lines.{IsPart, OfOption, field, integer, natural, optional, time}
 
 -- ---- lists
@@ -43,13 +43,6 @@ abbrev pub sort_word : Sort → List ℕ
 sort_word Newest = codes "newest"
 sort_word Oldest = codes "oldest"
 sort_word Index = codes "index"
-
--- why a record failed, as a client is told it
-abbrev pub reason_word : Reason → List ℕ
-reason_word Payload = codes "payload"
-reason_word TooLarge = codes "payload size"
-reason_word Sortindex = codes "sortindex"
-reason_word Ttl = codes "ttl"
 
 -- ---- the parts of a request
 
@@ -80,7 +73,7 @@ abbrev pub part_data : Part → Data
 part_data p = list_data (string p.id ∷ field string p.fields.payload ∷ field integer p.fields.sortindex ∷ field natural p.fields.ttl ∷ [])
 
 abbrev pub failure_data : List ℕ × Reason → Data
-failure_data f = list_data (string f.0 ∷ string (reason_word f.1) ∷ [])
+failure_data f = list_data (string f.0 ∷ string (reason_name f.1) ∷ [])
 
 -- ---- requests
 

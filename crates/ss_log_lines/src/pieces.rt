@@ -9,10 +9,10 @@ ghost use Rattle.ss_log_lines.specs.Pieces.{query_piece_data};
 ghost use Rattle.ss_log_lines.specs.Requests.{cond_data, fields_data, listed, mode_data, query_data};
 
 use crate::arrays::{Written, push_array};
-use crate::words::{reason_word, sort_word};
+use crate::words::sort_word;
 use ss_bso::{Fields, Part, Reason};
 use ss_lines::cells::{Cell, integer_field, natural_field, payload_field};
-use ss_query::{Mode, Query};
+use ss_query::{Mode, Query, reason_name};
 use ss_text::{Cond, Id, Stamp, push_json_text};
 use std::alloc::AllocError;
 
@@ -48,7 +48,7 @@ impl Written for (Id, Reason) {
     ghost json = { failure_data };
 
     fn push(&self, out: &mut Vec<u8>) -> Result<(), AllocError> {
-        let cells = [Cell::Text(self.0.as_str()), Cell::Text(reason_word(self.1))];
+        let cells = [Cell::Text(self.0.as_str()), Cell::Text(reason_name(self.1))];
         push_array(out, &cells)
     }
 }

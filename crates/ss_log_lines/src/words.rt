@@ -2,7 +2,7 @@
 
 ghost use Rattle.std.specs.Prelude.{◌≡◌};
 ghost use Rattle.ss_log_lines.specs.LogLines.{mark_word};
-ghost use Rattle.ss_log_lines.specs.Requests.{asked_word, reason_word, sort_word};
+ghost use Rattle.ss_log_lines.specs.Requests.{asked_word, sort_word};
 ghost use Rattle.ss_log_lines.specs.Values.{asked_of, mark_of, reason_of, sort_of};
 
 use ss_bso::Reason;
@@ -55,17 +55,6 @@ pub(crate) fn sort_of(word: &str) -> Option<Sort>
 }
 
 /// Why a record failed, as a client is told it.
-pub(crate) fn reason_word(reason: Reason) -> &'static str
-    ensures { result.now ≡ reason_word reason }
-{
-    match reason {
-        Reason::Payload => "payload",
-        Reason::TooLarge => "payload size",
-        Reason::Sortindex => "sortindex",
-        Reason::Ttl => "ttl",
-    }
-}
-
 pub(crate) fn reason_of(word: &str) -> Option<Reason>
     ensures { result ≡ reason_of word.now }
 {

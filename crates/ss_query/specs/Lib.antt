@@ -5,5 +5,6 @@ pub mod Fit
 pub mod Flat
 pub mod Marks
 pub mod Parameters
+pub mod Reasons
 pub mod Refused
 pub mod Told

@@ -60,7 +60,7 @@ pub fn string_of(value: &Value) -> Option<&str>
 
 /// A text as a marked text has it.
 #[tactic(auto, unfolding(crate::specs::Marks::marked_string))]
-pub(crate) fn marked_string(alloc: Global, text: &str) -> Result<String, AllocError>
+pub fn marked_string(alloc: Global, text: &str) -> Result<String, AllocError>
     ensures { IfOk result (λ marked. string_bytes marked ≡ marked_string text.now) }
 {
     if !begins_marked(text) {
@@ -133,7 +133,7 @@ fn members_plain(members: &Map<String, Value>) -> bool
 }
 
 /// The compact text of an object without floats, in which each marked number stands with the characters that it had.
-pub(crate) fn plain_text(alloc: Global, members: Map<String, Value>) -> Result<Word, AllocError>
+pub fn plain_text(alloc: Global, members: Map<String, Value>) -> Result<Word, AllocError>
     requires { members_have_float (members_view members.entries) ≡ false }
     ensures { IfOk result (λ text. text ≡ plain_text (object (members_view members.entries))) }
 {

@@ -62,7 +62,7 @@ fn is_json(alloc: Global, text: &str) -> Result<bool, AllocError>
 }
 
 /// The value that a text is as JSON, its decimals marked first.
-fn read(alloc: Global, text: &str) -> Result<Option<Value>, AllocError>
+pub fn read_value(alloc: Global, text: &str) -> Result<Option<Value>, AllocError>
     ensures { IfOk result (λ found. option_map view found ≡ read (marked text.now)) }
 {
     let marked = mark_decimals(alloc, text.as_bytes())?;
@@ -79,7 +79,7 @@ fn read(alloc: Global, text: &str) -> Result<Option<Value>, AllocError>
 }
 
 /// The members of an object.
-fn into_members(value: Value) -> Option<Map<String, Value>>
+pub fn into_members(value: Value) -> Option<Map<String, Value>>
     ensures { option_map (λ m. members_view m.entries) result ≡ as_object (view value) }
 {
     match value {
@@ -99,7 +99,7 @@ pub(crate) fn members_of(
     if !is_json(alloc, text)? {
         return Ok(None);
     }
-    match read(alloc, text)? {
+    match read_value(alloc, text)? {
         Some(value) if fits(&value, LEVELS) && is_plain(&value) => Ok(into_members(value)),
         _ => Ok(None),
     }

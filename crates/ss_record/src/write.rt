@@ -16,7 +16,7 @@ use ss_text::{Id, Word};
 use std::alloc::{AllocError, Global};
 
 /// The object with this member, in place of an earlier one of its name.
-fn with_member(
+pub fn with_member(
     alloc: Global,
     mut members: Map<String, Value>,
     name: &str,

@@ -12,8 +12,8 @@ ghost use Rattle.ss_rehearse.specs.Bookmarks.{address, bookmark, bookmark_id, el
 
 use itoa::Buffer;
 use serde_json::{Map, Value};
-use ss_record::{Item, ItemFault, Kind};
-use ss_text::{Id, Word, unmark_decimals};
+use ss_record::{Item, ItemFault, Kind, plain_text, with_member};
+use ss_text::{Id, Word};
 use std::alloc::{AllocError, Global};
 
 /// Eleven digits that are zeros.
@@ -101,19 +101,6 @@ fn numbered(alloc: Global, words: &str, number: u64) -> Result<String, AllocErro
     format!(in alloc; "{words}{number}")
 }
 
-/// The object with this member, in place of an earlier one of its name.
-fn with_member(
-    alloc: Global,
-    mut members: Map<String, Value>,
-    name: &str,
-    value: Value,
-) -> Result<Map<String, Value>, AllocError>
-    ensures { IfOk result (λ m. members_view m.entries ≡ put name.now (view value) (members_view members.entries)) }
-{
-    members.insert(String::from_str(alloc, name)?, value)?;
-    Ok(members)
-}
-
 /// The members of the content of the bookmark of a number, for which this was drawn.
 #[tactic(auto, unfolding(crate::specs::Bookmarks::address, crate::specs::Bookmarks::title))]
 fn members(alloc: Global, number: u64, drawn: u64) -> Result<Map<String, Value>, AllocError>
@@ -123,19 +110,6 @@ fn members(alloc: Global, number: u64, drawn: u64) -> Result<Map<String, Value>,
     let address = numbered(alloc, "http://h/", number)?;
     let members = with_member(alloc, Map::new(alloc), "title", Value::String(title))?;
     with_member(alloc, members, "bmkUri", Value::String(address))
-}
-
-/// The compact text of an object without floats, in which each marked number stands with the characters that it had.
-fn plain_text(alloc: Global, members: Map<String, Value>) -> Result<Word, AllocError>
-    requires { members_have_float (members_view members.entries) ≡ false }
-    ensures { IfOk result (λ text. text ≡ plain_text (object (members_view members.entries))) }
-{
-    let marked = Value::Object(members).to_string(alloc)?;
-    let bytes = unmark_decimals(alloc, marked.as_str().as_bytes())?;
-    match String::from_utf8(bytes) {
-        Ok(text) => Ok(Word::new(text)),
-        Err(_) => unreachable!(),
-    }
 }
 
 /// The bookmark with this content, with which it is fit.

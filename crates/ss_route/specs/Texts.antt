@@ -9,11 +9,11 @@ use Rattle.ss_bso.specs.Limits.{most_post_records, most_post_bytes, most_batch_r
 use Rattle.ss_http.specs.Limits.{most_body_bytes}
 use Rattle.ss_bso.specs.declared.rows.Row.{Row}
 use Rattle.ss_bso.specs.declared.parts.Reason.{Reason}
-use Rattle.ss_bso.specs.declared.parts.Reason.TheVariants as reasons
 use Rattle.ss_query.specs.declared.replies.Body.{Body}
 use Rattle.ss_query.specs.declared.replies.Body.TheVariants.{Times, Counts, Usage, Quota, Limits, Gone, Ids, Rows, Posted, Staged, One, At, Empty, Code, Said as Word}
 use Rattle.ss_query.specs.declared.replies.Said.{Said}
 use Rattle.ss_query.specs.declared.replies.Said.TheVariants as words
+use Rattle.ss_query.specs.Reasons.{reason_name}
 use Rattle.ss_route.specs.Posts.{token}
 
 -- a string in JSON
@@ -53,13 +53,6 @@ row_text row =
 -- payload bytes in KB, rounded down to hundredths
 unfoldable pub kilobytes_text : ℕ → List ℕ
 kilobytes_text bytes = stamp_text (bytes * 100 / 1024)
-
--- the text of a reason
-abbrev pub reason_name : Reason → List ℕ
-reason_name reasons.Payload = codes "payload"
-reason_name reasons.TooLarge = codes "payload size"
-reason_name reasons.Sortindex = codes "sortindex"
-reason_name reasons.Ttl = codes "ttl"
 
 -- the failed records of a POST, each with a list of its one reason
 abbrev pub failure_text : List ℕ × Reason → List ℕ

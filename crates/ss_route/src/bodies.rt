@@ -1,21 +1,17 @@
 //! Types of bodies, and what the bodies of PUT and POST give.
 
-ghost use Rattle.std.specs.Prelude.{◌≡◌, option_map, nat_le};
+ghost use Rattle.std.specs.Prelude.{◌≡◌, option_map};
 ghost use Rattle.std.specs.Str.{str_eq_ignore_ascii_case};
-ghost use Rattle.ss_bso.specs.Limits.{part_bytes, payload_size};
-ghost use Rattle.ss_query.specs.Fit.{most_post_bytes};
 ghost use Rattle.ss_route.specs.Bodies.{is_coded, lines_of_type, lines_of_field, is_in_lines, fields_in, within_limits, records_in};
 ghost use Rattle.ss_route.specs.Refusals.{Settles, reason_refusal, fields_refusal, body_refusal};
 
 use crate::cuts::is_same;
 use crate::fields::without_parameters;
 use crate::routed::{Local, Stop, code, said};
-use ss_bso::limits::{MOST_POST_BYTES, MOST_POST_RECORDS};
-use ss_bso::{
-    BodyFault, Field, Fields, FieldsFault, Part, Reason, Records, read_fields, read_parts,
-};
+use ss_bso::limits::MOST_POST_RECORDS;
+use ss_bso::{BodyFault, Fields, FieldsFault, Reason, Records, read_fields, read_parts};
 use ss_http::FieldLines;
-use ss_query::Said;
+use ss_query::{Said, are_within_post};
 use std::alloc::Global;
 
 fn is_coded(fields: &FieldLines) -> bool
@@ -93,37 +89,13 @@ pub fn fields_in(alloc: Global, body: &[u8]) -> Result<Fields, Stop>
     }
 }
 
-fn payload_size(part: &Part) -> usize
-    ensures { result ≡ payload_size part.now.fields.payload }
-{
-    match &part.fields.payload {
-        Field::Set(payload) => payload.as_str().len(),
-        Field::Keep | Field::Clear => 0,
-    }
-}
-
-/// Whether the payloads of the parts are within the limit of one POST.
-fn are_within(parts: &[Part]) -> bool
-    ensures { result ≡ nat_le (part_bytes parts.now) most_post_bytes }
-{
-    let mut room = MOST_POST_BYTES;
-    for part in parts {
-        let size = payload_size(part) as u64;
-        if size > room {
-            return false;
-        }
-        room -= size;
-    }
-    true
-}
-
 fn within_limits(records: Records) -> Result<Records, Stop>
     ensures { Settles result (within_limits records) }
 {
     let parts = records.parts.as_slice();
     let good = parts.len() as u64;
     let failed = records.failed.as_slice().len() as u64;
-    if good <= MOST_POST_RECORDS && failed <= MOST_POST_RECORDS - good && are_within(parts) {
+    if good <= MOST_POST_RECORDS && failed <= MOST_POST_RECORDS - good && are_within_post(parts) {
         Ok(records)
     } else {
         Err(Stop::Refused(code(17)))

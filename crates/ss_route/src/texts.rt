@@ -5,8 +5,9 @@ ghost use Rattle.std.specs.Fmt.{signed_decimal};
 ghost use Rattle.std.specs.List.{join_with_byte};
 ghost use Rattle.ss_text.specs.Time.{stamp_text};
 ghost use Rattle.ss_bso.specs.Limits.{most_payload_bytes};
+ghost use Rattle.ss_query.specs.Reasons.{reason_name};
 ghost use Rattle.ss_route.specs.Posts.{token};
-ghost use Rattle.ss_route.specs.Texts.{json_text, list_text, object_text, lines_text, elements_text, member_text, sortindex_text, row_text, kilobytes_text, reason_name, failure_text, records_text, word_text, limits_text, body_text};
+ghost use Rattle.ss_route.specs.Texts.{json_text, list_text, object_text, lines_text, elements_text, member_text, sortindex_text, row_text, kilobytes_text, failure_text, records_text, word_text, limits_text, body_text};
 
 use crate::scalars::{put, put_json, put_kilobytes, put_number, put_signed};
 use base64::engine::general_purpose::URL_SAFE_NO_PAD;
@@ -17,7 +18,7 @@ use ss_bso::limits::{
 };
 use ss_bso::{Failures, Reason, Row};
 use ss_http::limits::BODY_ROOM;
-use ss_query::{Body, Said};
+use ss_query::{Body, Said, reason_name};
 use ss_text::{Id, Ids, Name, Stamp, push_stamp};
 use std::alloc::{AllocError, Global};
 
@@ -86,24 +87,13 @@ impl Element for (Id, Reason) {
     }
 }
 
-fn name_of(reason: Reason) -> &'static str
-    ensures { result.now ≡ reason_name reason }
-{
-    match reason {
-        Reason::Payload => "payload",
-        Reason::TooLarge => "payload size",
-        Reason::Sortindex => "sortindex",
-        Reason::Ttl => "ttl",
-    }
-}
-
 /// The reason of a failure, as the one string of a list.
 #[tactic(auto, using(crate::proofs::Appending::append_append))]
 fn put_reason(out: &mut Vec<u8>, reason: Reason) -> Result<(), AllocError>
     ensures { OnOk result (out.new.items ≡ out.old.items ++ (codes "[\"" ++ reason_name reason ++ codes "\"]")) }
 {
     put(out, b"[\"")?;
-    put(out, name_of(reason).as_bytes())?;
+    put(out, reason_name(reason).as_bytes())?;
     put(out, b"\"]")
 }
 

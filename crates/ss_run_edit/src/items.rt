@@ -11,7 +11,7 @@ ghost use Rattle.ss_run_edit.specs.Items.{IsMade};
 
 use crate::endings::Ending;
 use serde_json::{Map, Value};
-use ss_record::{Item, ItemFault, Kind};
+use ss_record::{Item, ItemFault, Kind, with_member};
 use ss_text::{Id, Word};
 use std::alloc::{AllocError, Global};
 
@@ -19,19 +19,6 @@ fn text(alloc: Global, text: &str) -> Result<Value, AllocError>
     ensures { IfOk result (λ v. view v ≡ string text.now) }
 {
     Ok(Value::String(String::from_str(alloc, text)?))
-}
-
-/// The members with one more, in place of an earlier one of its name.
-fn with_member(
-    alloc: Global,
-    mut members: Map<String, Value>,
-    name: &str,
-    value: Value,
-) -> Result<Map<String, Value>, AllocError>
-    ensures { IfOk result (λ m. members_view m.entries ≡ put name.now (view value) (members_view members.entries)) }
-{
-    members.insert(String::from_str(alloc, name)?, value)?;
-    Ok(members)
 }
 
 /// The compact text of an object without floats.

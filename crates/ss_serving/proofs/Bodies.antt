@@ -9,7 +9,8 @@ use Rattle.ss_bso.specs.declared.rows.Row.{Row}
 use Rattle.ss_bso.specs.declared.parts.Reason.{Reason}
 use Rattle.ss_route.specs.Posts.{token}
 use Rattle.ss_route.specs.Texts as texts
-use Rattle.ss_route.specs.Texts.{list_text, object_text, member_text, row_text, sortindex_text, failure_text, reason_name, records_text, limits, limits_text}
+use Rattle.ss_query.specs.Reasons.{reason_name}
+use Rattle.ss_route.specs.Texts.{list_text, object_text, member_text, row_text, sortindex_text, failure_text, records_text, limits, limits_text}
 use Rattle.ss_serving.proofs.JsonTexts.{json_text, items_text, members_text}
 
 -- ---- pieces in a row

@@ -20,7 +20,7 @@ use Rattle.ss_record.specs.declared.readings.Sheet.{Sheet}
 use Rattle.ss_bso.specs.declared.rows.Row.{Row}
 use Rattle.ss_bso.specs.declared.parts.Reason.{Reason}
 use Rattle.ss_route.specs.Posts.{token, batch_of}
-use Rattle.ss_route.specs.Texts.{reason_name}
+use Rattle.ss_query.specs.Reasons.{reason_name}
 use Rattle.ss_hearing.specs.Bodies.{each, id_of, stamp_in}
 use Rattle.ss_hearing.specs.Lists as lists
 use Rattle.ss_hearing.specs.Lists.{ids_of, next_of}

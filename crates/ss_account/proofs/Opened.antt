@@ -15,7 +15,7 @@ use Rattle.ss_bso.specs.declared.account.Staged.{Staged}
 use Rattle.ss_bso.specs.Batches.{fit}
 use Rattle.ss_bso.specs.Changes.{kept_of, latest, opened, plain_of}
 use Rattle.ss_bso.proofs.Full.{within-both, within-bytes, within-number}
-use Rattle.ss_bso.specs.Limits.{is_too_much, most_batch_bytes, most_batch_records, most_live_batches, most_payload_bytes, most_rows_and_collections, part_bytes, row_bytes}
+use Rattle.ss_bso.specs.Limits.{is_too_much, most_batch_bytes, most_batch_records, most_live_batches, most_account_payload_bytes, most_rows_and_collections, part_bytes, row_bytes}
 use Rattle.ss_bso.specs.Validity.{IsValid, IsValidBatch, SameAccount}
 use Rattle.ss_account.specs.Keeping.{IsHeldBy}
 use Rattle.ss_account.specs.Opening.{IsGood, first_bad, is_astray, is_bad_batch, is_bad_collection, is_bad_row}
@@ -236,7 +236,7 @@ valid-plain_of kept last good =
           (each-none (λ (other : List ℕ × ℕ). bytes_eq other.0 entry.0) before (neither_left (named before entry) (nat_lt kept.store entry.1 || nat_le most_rows_and_collections (length before)) e))) kept.collections good.collections);
       limits = record {
         within = within-both kept.rows (length kept.collections)
-            (whole-good rows (λ (all : List Row). row_bytes all ≤ most_payload_bytes) (omega arith)
+            (whole-good rows (λ (all : List Row). row_bytes all ≤ most_account_payload_bytes) (omega arith)
             (λ before row e. within-bytes (before ++ row ∷ []) (length kept.collections) (full before row e)) kept.rows good.rows)
             (whole-good rows (λ (all : List Row). length all + length kept.collections ≤ most_rows_and_collections) (omega (arith, few))
             (λ before row e. within-number (before ++ row ∷ []) (length kept.collections) (full before row e)) kept.rows good.rows);
@@ -315,7 +315,7 @@ good-kept kept account rows_are times_are batches_are store_is counter_is valid 
     (subst (λ ts. Each (λ (entry : List ℕ × ℕ). entry.1 ≤ account.store) ts) times_are (Each-from_All (λ (entry : List ℕ × ℕ). entry.1 ≤ account.store) account.collections valid.times)) in
     let within : is_too_much kept.rows (length kept.collections) ≡ false =
     subst (λ ts. is_too_much kept.rows (length ts) ≡ false) times_are (subst (λ rs. is_too_much rs (length account.collections) ≡ false) rows_are valid.limits.within) in
-    let bytes : row_bytes kept.rows ≤ most_payload_bytes = within-bytes kept.rows (length kept.collections) within in
+    let bytes : row_bytes kept.rows ≤ most_account_payload_bytes = within-bytes kept.rows (length kept.collections) within in
     let number : length kept.rows + length kept.collections ≤ most_rows_and_collections = within-number kept.rows (length kept.collections) within in
     let numbers : Pairs OtherNumber kept.batches = subst (λ bs. Pairs OtherNumber bs) batches_are (Pairs-from_AllPairs OtherNumber account.batches valid.numbers) in
     let few : length kept.batches ≤ most_live_batches = subst (λ bs. length bs ≤ most_live_batches) batches_are valid.few in
@@ -341,7 +341,7 @@ good-kept kept account rows_are times_are batches_are store_is counter_is valid 
         let few : nat_le most_rows_and_collections (length before) ≡ false = few_before (length before) (omega (arith, long, number)) in
         λ i. alone i || (early i || few i)
 
-    good-row : (kept : Kept) → Pairs Apart kept.rows → Each (IsItem kept.collections) kept.rows → row_bytes kept.rows ≤ most_payload_bytes → length kept.rows + length kept.collections ≤ most_rows_and_collections
+    good-row : (kept : Kept) → Pairs Apart kept.rows → Each (IsItem kept.collections) kept.rows → row_bytes kept.rows ≤ most_account_payload_bytes → length kept.rows + length kept.collections ≤ most_rows_and_collections
         → (before : List Row) (row : Row) (later : List Row) → kept.rows ≡ before ++ row ∷ later → is_bad_row kept.collections before row ≡ false
     good-row kept places items bytes number before row later e =
         let alone : list_any (is_at row.collection row.id) before ≡ false =

@@ -11,7 +11,7 @@ use Rattle.ss_query.specs.declared.requests.Mode.TheVariants.{Plain as PlainPost
 use Rattle.ss_query.specs.declared.replies.Mark.TheVariants.{Done}
 use Rattle.ss_query.specs.Marks.{mark_of}
 use Rattle.ss_bso.specs.Write.{is_among, rows_without}
-use Rattle.ss_bso.specs.Limits.{most_payload_bytes, most_rows_and_collections, rows_of, row_bytes}
+use Rattle.ss_bso.specs.Limits.{most_account_payload_bytes, most_rows_and_collections, rows_of, row_bytes}
 use Rattle.ss_bso.proofs.Full.{within-both, within-bytes, within-number}
 use Rattle.ss_bso.specs.Validity.{IsWithinLimits, SameAccount}
 use Rattle.ss_bso.proofs.Reordering.{same-self}
@@ -111,7 +111,7 @@ over-deleted account collection within =
     let bytes : row_bytes left.rows ≤ row_bytes account.rows = sum_by-filter_le (λ (row : Row). not (bytes_eq row.collection collection)) (λ (row : Row). length row.payload) account.rows in
     let rows : length left.rows ≤ length account.rows = length-filter_le (λ (row : Row). not (bytes_eq row.collection collection)) account.rows in
     let names : length left.collections ≤ length account.collections = length-filter_le (λ (entry : List ℕ × ℕ). not (bytes_eq entry.0 collection)) account.collections in
-    let light : row_bytes account.rows ≤ most_payload_bytes = within-bytes account.rows (length account.collections) within.within in
+    let light : row_bytes account.rows ≤ most_account_payload_bytes = within-bytes account.rows (length account.collections) within.within in
     let few : length account.rows + length account.collections ≤ most_rows_and_collections = within-number account.rows (length account.collections) within.within in
     over_test true left (λ e. record { within = within-both left.rows (length left.collections) (omega (arith, bytes, light)) (omega (arith, rows, names, few)) })
 
@@ -120,7 +120,7 @@ pub counted-exact : (measure : Measure) (account : Plain) (name : List ℕ) → 
 counted-exact Records account name within = refl
 counted-exact Bytes account name within =
     let bytes : row_bytes (rows_of name account.rows) ≤ row_bytes account.rows = sum_by-filter_le (λ (row : Row). bytes_eq row.collection name) (λ (row : Row). length row.payload) account.rows in
-    let all : row_bytes account.rows ≤ most_payload_bytes = within-bytes account.rows (length account.collections) within.within in
+    let all : row_bytes account.rows ≤ most_account_payload_bytes = within-bytes account.rows (length account.collections) within.within in
     omega (arith, bytes, all)
 
 pub numbers-exact : (measure : Measure) (account : Plain) → IsWithinLimits account
@@ -129,7 +129,7 @@ numbers-exact measure account within = λ i. map (λ (entry : List ℕ × ℕ). 
 
 pub used-exact : (account : Plain) (total : ℕ) → IsWithinLimits account → total ≡ capped (row_bytes account.rows) → total ≡ row_bytes account.rows
 used-exact account total within bytes =
-    let all : row_bytes account.rows ≤ most_payload_bytes = within-bytes account.rows (length account.collections) within.within in
+    let all : row_bytes account.rows ≤ most_account_payload_bytes = within-bytes account.rows (length account.collections) within.within in
     omega (arith, bytes, all)
 
 pub none-from : (o : Option ℕ) → ((x : ℕ) → o ≡ Some x → ⊥) → o ≡ None

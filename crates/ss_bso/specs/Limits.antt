@@ -7,8 +7,8 @@ use Rattle.ss_bso.specs.declared.parts.Field.{Field}
 use Rattle.ss_bso.specs.Put.{field_value}
 
 -- the most bytes of one payload
-abbrev pub most_payload : ℕ
-most_payload = 2097152
+abbrev pub most_record_payload_bytes : ℕ
+most_record_payload_bytes = 2097152
 
 -- the least sortindex, -999,999,999, and the greatest (SyncStorage API 1.5: at most 9 digits)
 abbrev pub least_sortindex : ℤ
@@ -34,8 +34,8 @@ abbrev pub most_ids : ℕ
 most_ids = 100
 
 -- the most payload bytes of an account's rows
-abbrev pub most_payload_bytes : ℕ
-most_payload_bytes = 134217728
+abbrev pub most_account_payload_bytes : ℕ
+most_account_payload_bytes = 134217728
 
 -- the most rows and collections of an account, together
 abbrev pub most_rows_and_collections : ℕ
@@ -63,7 +63,7 @@ row_bytes rows = sum_by (λ row. length row.payload) rows
 
 -- whether rows and so many collections are more than an account may have
 abbrev pub is_too_much : List Row → ℕ → Bool
-is_too_much rows collections = nat_lt most_payload_bytes (row_bytes rows) || nat_lt most_rows_and_collections (length rows + collections)
+is_too_much rows collections = nat_lt most_account_payload_bytes (row_bytes rows) || nat_lt most_rows_and_collections (length rows + collections)
 
 -- the payload bytes that a part brings
 abbrev pub payload_size : Field (List ℕ) → ℕ

@@ -6,7 +6,7 @@ use Rattle.serde_json.specs.Data.{Data}
 use Rattle.serde_json.specs.Read.{read}
 use Rattle.serde_json.specs.Find.{get, as_null, as_str, as_number, as_i64, as_u64, as_object}
 use Rattle.ss_text.specs.Decimals.{wrapped}
-use Rattle.ss_bso.specs.Limits.{most_payload, least_sortindex, most_sortindex, most_ttl}
+use Rattle.ss_bso.specs.Limits.{most_record_payload_bytes, least_sortindex, most_sortindex, most_ttl}
 use Rattle.ss_bso.specs.declared.parts.Field.{Field}
 use Rattle.ss_bso.specs.declared.parts.Field.TheVariants.{Keep, Clear, Set}
 use Rattle.ss_bso.specs.declared.parts.Fields.{Fields}
@@ -31,7 +31,7 @@ member_field value (Some d) = if is_some (as_null d) then Ok Clear else value d
 -- a payload: a string of at most so many bytes
 abbrev pub payload_value : Option (List ℕ) → Result (Field (List ℕ)) Reason
 payload_value None = Err Payload
-payload_value (Some text) = if nat_lt most_payload (length text) then Err TooLarge else Ok (Set text)
+payload_value (Some text) = if nat_lt most_record_payload_bytes (length text) then Err TooLarge else Ok (Set text)
 
 -- a sortindex: a whole number from -999,999,999 to 999,999,999
 abbrev pub sortindex_value : Option ℤ → Result (Field ℤ) Reason

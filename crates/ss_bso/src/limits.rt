@@ -3,7 +3,7 @@
 //! the UTF-8 bytes of the decoded string.
 
 /// The most bytes of one payload.
-pub const MOST_PAYLOAD: usize = 2_097_152;
+pub const MOST_RECORD_PAYLOAD_BYTES: usize = 2_097_152;
 
 /// The least sortindex (SyncStorage API 1.5: at most 9 digits).
 pub const LEAST_SORTINDEX: i64 = -999_999_999;
@@ -36,7 +36,7 @@ pub const MOST_LIVE_BATCHES: usize = 4;
 pub const BATCH_LIFE: u64 = 720_000;
 
 /// The most payload bytes of an account's rows.
-pub const MOST_PAYLOAD_BYTES: u64 = 134_217_728;
+pub const MOST_ACCOUNT_PAYLOAD_BYTES: u64 = 134_217_728;
 
 /// The most rows and collections of an account, together.
 pub const MOST_ROWS_AND_COLLECTIONS: u64 = 200_000;

@@ -5,7 +5,7 @@ ghost use Rattle.serde_json.specs.View.{view};
 ghost use Rattle.ss_bso.specs.Members.{json_of, parsed, payload_of, sortindex_of, ttl_of, fields_of, fields_of_text, GivesFields};
 ghost use Rattle.ss_bso.specs.declared.members.FieldsFault.TheVariants.{Memory};
 
-use crate::limits::{LEAST_SORTINDEX, MOST_PAYLOAD, MOST_SORTINDEX, MOST_TTL};
+use crate::limits::{LEAST_SORTINDEX, MOST_RECORD_PAYLOAD_BYTES, MOST_SORTINDEX, MOST_TTL};
 use crate::parts::{Field, Fields, Reason};
 use serde_json::Value;
 use ss_text::{Word, count_decimals, wrap_decimals};
@@ -67,7 +67,7 @@ fn payload_in(member: Option<&mut Value>) -> Result<Field<Word>, Reason>
     };
     match value {
         Value::Null => Ok(Field::Clear),
-        Value::String(text) => if text.len() > MOST_PAYLOAD {
+        Value::String(text) => if text.len() > MOST_RECORD_PAYLOAD_BYTES {
             Err(Reason::TooLarge)
         } else {
             Ok(Field::Set(Word::new(text)))

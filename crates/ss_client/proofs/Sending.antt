@@ -5,7 +5,7 @@ use Rattle.std.proofs.lemmas.List.Elements.{All-take, All-drop, All-cons, All-ap
 use Rattle.std.proofs.lemmas.List.{length-take-le}
 use Rattle.ss_http.specs.declared.heard.Heard.{Heard}
 use Rattle.ss_tree.specs.declared.entries.Entry.{Entry}
-use Rattle.ss_bso.specs.declared.limits.TheConstants.{MOST_PAYLOAD, MOST_POST_RECORDS, MOST_POST_BYTES}
+use Rattle.ss_bso.specs.declared.limits.TheConstants.{MOST_RECORD_PAYLOAD_BYTES, MOST_POST_RECORDS, MOST_POST_BYTES}
 use Rattle.ss_bso.specs.declared.parts.Part.{Part}
 use Rattle.ss_bso.specs.declared.parts.Field.{Field}
 use Rattle.ss_bso.specs.declared.parts.Field.TheVariants.{Keep, Clear, Set}
@@ -49,7 +49,7 @@ first_none : (o : Option Part) (f : Part → PlanFault) (rest : Option PlanFault
 first_none None f rest e = refl
 first_none (Some p) f rest e = cc
 
-pub not_refused : (limits : Limits) (parts : List Part) → AreOurs limits → refusal limits parts ≡ None → All (λ p. payload_bytes p ≤ MOST_PAYLOAD) parts
+pub not_refused : (limits : Limits) (parts : List Part) → AreOurs limits → refusal limits parts ≡ None → All (λ p. payload_bytes p ≤ MOST_RECORD_PAYLOAD_BYTES) parts
 unfolding refusal
 not_refused limits parts ours e =
     let all = none_over limits.max_record_payload_bytes parts (first_none (first_over payload_bytes limits.max_record_payload_bytes parts) _ _ e) in
@@ -75,14 +75,14 @@ fit_within limits parts ours e =
     let g = and_parts (nat_le (sum_by payload_bytes parts) limits.max_post_bytes) (nat_le (length (uploads_text parts)) limits.max_request_bytes) h.1 in
     (omega (arith, leb-true _ _ h.0, ours.records), omega (arith, leb-true _ _ g.0, ours.bytes, bytes_are parts))
 
-one_within : (parts : List Part) (n : ℕ) → All (λ p. payload_bytes p ≤ MOST_PAYLOAD) parts → n ≡ 1 → n ≤ length parts → (length (take n parts) ≤ MOST_POST_RECORDS) × (part_bytes (take n parts) ≤ MOST_POST_BYTES)
+one_within : (parts : List Part) (n : ℕ) → All (λ p. payload_bytes p ≤ MOST_RECORD_PAYLOAD_BYTES) parts → n ≡ 1 → n ≤ length parts → (length (take n parts) ≤ MOST_POST_RECORDS) × (part_bytes (take n parts) ≤ MOST_POST_BYTES)
 one_within [] n small e there = absurd (omega arith)
 one_within (p ∷ parts) n small e there =
     let one : take n (p ∷ parts) ≡ p ∷ [] = ap (λ k. take k (p ∷ parts)) e in
-    let here : payload_bytes p ≤ MOST_PAYLOAD = small 0 p (omega arith) in
+    let here : payload_bytes p ≤ MOST_RECORD_PAYLOAD_BYTES = small 0 p (omega arith) in
     (subst (λ l. length l ≤ MOST_POST_RECORDS) (sym one) (omega arith), subst (λ l. part_bytes l ≤ MOST_POST_BYTES) (sym one) (omega (arith, here, size_is p)))
 
-pub next_within : (limits : Limits) (parts : List Part) (n : ℕ) → AreOurs limits → All (λ p. payload_bytes p ≤ MOST_PAYLOAD) parts → IsNext limits parts n → (length (take n parts) ≤ MOST_POST_RECORDS) × (part_bytes (take n parts) ≤ MOST_POST_BYTES)
+pub next_within : (limits : Limits) (parts : List Part) (n : ℕ) → AreOurs limits → All (λ p. payload_bytes p ≤ MOST_RECORD_PAYLOAD_BYTES) parts → IsNext limits parts n → (length (take n parts) ≤ MOST_POST_RECORDS) × (part_bytes (take n parts) ≤ MOST_POST_BYTES)
 next_within limits parts n ours small i = go i.within
   where
     go : (n ≡ 1) ⊎ (fits limits (take n parts) ≡ true) → (length (take n parts) ≤ MOST_POST_RECORDS) × (part_bytes (take n parts) ≤ MOST_POST_BYTES)

@@ -8,7 +8,7 @@ use Rattle.ss_http.specs.declared.heard.Heard.{Heard}
 use Rattle.ss_record.specs.declared.readings.Sheet.{Sheet}
 use Rattle.ss_tree.specs.declared.entries.Entry.{Entry}
 use Rattle.ss_build.specs.Rows.{readings, rows_of}
-use Rattle.ss_bso.specs.declared.limits.TheConstants.{MOST_PAYLOAD, MOST_POST_RECORDS, MOST_POST_BYTES}
+use Rattle.ss_bso.specs.declared.limits.TheConstants.{MOST_RECORD_PAYLOAD_BYTES, MOST_POST_RECORDS, MOST_POST_BYTES}
 use Rattle.ss_bso.specs.declared.parts.Part.{Part}
 use Rattle.ss_bso.specs.Limits.{part_bytes}
 use Rattle.ss_plan.specs.declared.limits.Limits.{Limits}
@@ -52,7 +52,7 @@ again_sound run time next ours e = at next (again run time) e (by (nat_lt (lengt
 ends_sound : (run : Run) (rows : List Sheet) (merged : List Entry) (parts : List Part) (stamp : ℕ) (next : Next) → Ends run rows merged parts stamp next → IsSoundNext next
 ends_sound run rows merged parts stamp next e = at next _ e.done tt
 
-begins_sound : (run : Run) (time : ℕ) (rows : List Sheet) (merged : List Entry) (parts : List Part) (next : Next) → AreOurs run.limits → All IsUpload parts → All (λ p. payload_bytes p ≤ MOST_PAYLOAD) parts
+begins_sound : (run : Run) (time : ℕ) (rows : List Sheet) (merged : List Entry) (parts : List Part) (next : Next) → AreOurs run.limits → All IsUpload parts → All (λ p. payload_bytes p ≤ MOST_RECORD_PAYLOAD_BYTES) parts
     → Begins run time rows merged parts next → IsSoundNext next
 begins_sound run time rows merged [] next ours up small b = ends_sound run rows merged [] time next b
 begins_sound run time rows merged (p ∷ ps) next ours up small b =
@@ -73,7 +73,7 @@ holds_sound : (run : Run) (u : UploadView) (batch : ℕ) (rest : List Part) (nex
 holds_sound run u batch [] next ours c e h = unread_sound run next h
 holds_sound run u batch (p ∷ ps) next ours c e h =
     let left : drop (u.sent + u.count) u.parts ≡ p ∷ ps = sym (rest-is u) ∙ e in
-    let small = subst (λ l. All (λ q. payload_bytes q ≤ MOST_PAYLOAD) l) left (All-drop (λ q. payload_bytes q ≤ MOST_PAYLOAD) (u.sent + u.count) u.parts c.small) in
+    let small = subst (λ l. All (λ q. payload_bytes q ≤ MOST_RECORD_PAYLOAD_BYTES) l) left (All-drop (λ q. payload_bytes q ≤ MOST_RECORD_PAYLOAD_BYTES) (u.sent + u.count) u.parts c.small) in
     let w = next_within run.limits (p ∷ ps) h.0 ours small h.1 in
     at next (posting run (uploads u.time u.rows u.merged u.parts (Some batch) (u.sent + u.count) h.0)) h.2 (
       ours,

@@ -2,7 +2,7 @@
 use Rattle.std.proofs.Common.{◌≡◌, ℕ, ◌≤◌, List, min, Bool, true, false, cond, ◌==◌, ◌&&◌, Option, Some, None, option_map, option_and_then, unwrap_or, codes, refl, sym, ap, ◌∙◌, subst, arith}
 use Rattle.json.specs.Json.{Json}
 use Rattle.ss_text.specs.Numbers.{number_of}
-use Rattle.ss_bso.specs.declared.limits.TheConstants.{MOST_PAYLOAD, MOST_POST_RECORDS, MOST_POST_BYTES, MOST_BATCH_RECORDS, MOST_BATCH_BYTES}
+use Rattle.ss_bso.specs.declared.limits.TheConstants.{MOST_RECORD_PAYLOAD_BYTES, MOST_POST_RECORDS, MOST_POST_BYTES, MOST_BATCH_RECORDS, MOST_BATCH_BYTES}
 use Rattle.ss_http.specs.declared.limits.TheConstants.{BODY_ROOM}
 use Rattle.ss_http.specs.declared.heard.Heard.{Heard}
 use Rattle.ss_plan.specs.declared.limits.Limits.{Limits}
@@ -39,7 +39,7 @@ limits_ours d limits e =
     let c = bound (limit_in (codes "max_post_bytes") MOST_POST_BYTES d) _ limits b.2 in
     let f = bound (limit_in (codes "max_total_records") MOST_BATCH_RECORDS d) _ limits c.2 in
     let g = bound (limit_in (codes "max_total_bytes") MOST_BATCH_BYTES d) _ limits f.2 in
-    let h = bound (limit_in (codes "max_record_payload_bytes") MOST_PAYLOAD d) _ limits g.2 in
+    let h = bound (limit_in (codes "max_record_payload_bytes") MOST_RECORD_PAYLOAD_BYTES d) _ limits g.2 in
     let records : b.0 ≡ limits.max_post_records = cc h.2 in
     let bytes : c.0 ≡ limits.max_post_bytes = cc h.2 in
     let payload : h.0 ≡ limits.max_record_payload_bytes = cc h.2 in
@@ -47,7 +47,7 @@ limits_ours d limits e =
     record {
       records = subst (λ n. n ≤ MOST_POST_RECORDS) records (limit_ours _ MOST_POST_RECORDS d b.0 b.1);
       bytes = subst (λ n. n ≤ MOST_POST_BYTES) bytes (limit_ours _ MOST_POST_BYTES d c.0 c.1);
-      payload = subst (λ n. n ≤ MOST_PAYLOAD) payload (limit_ours _ MOST_PAYLOAD d h.0 h.1);
+      payload = subst (λ n. n ≤ MOST_RECORD_PAYLOAD_BYTES) payload (limit_ours _ MOST_RECORD_PAYLOAD_BYTES d h.0 h.1);
       total = subst (λ n. n ≤ MOST_BATCH_RECORDS) total (limit_ours _ MOST_BATCH_RECORDS d f.0 f.1);
     }
 

@@ -1,7 +1,7 @@
 -- Requests that can be sent.
 use Rattle.std.specs.Prelude.{◌≡◌, ℕ, ◌≤◌, length, All, ⊤}
 use Rattle.ss_bso.specs.declared.parts.Part.{Part}
-use Rattle.ss_bso.specs.Limits.{part_bytes, most_payload, most_post_records, most_post_bytes, most_batch_records}
+use Rattle.ss_bso.specs.Limits.{part_bytes, most_record_payload_bytes, most_post_records, most_post_bytes, most_batch_records}
 use Rattle.ss_plan.specs.declared.limits.Limits.{Limits}
 use Rattle.ss_plan.specs.Refusals.{payload_bytes}
 use Rattle.ss_route.specs.Sending.{IsUpload}
@@ -18,7 +18,7 @@ use Rattle.ss_client.specs.Machine.{Next, Send, Done, Stop}
 pub record AreOurs (limits : Limits) : Type 0 where
   pub records : limits.max_post_records ≤ most_post_records
   pub bytes : limits.max_post_bytes ≤ most_post_bytes
-  pub payload : limits.max_record_payload_bytes ≤ most_payload
+  pub payload : limits.max_record_payload_bytes ≤ most_record_payload_bytes
   pub total : limits.max_total_records ≤ most_batch_records
 
 -- the limits that an answer tells, if it tells any, are no greater than ours
@@ -29,7 +29,7 @@ TellsOurs _ = ⊤
 -- an upload whose parts set their payloads, none too large, and whose POST is within the limits of one
 pub record CanUpload (u : UploadView) : Type 0 where
   pub uploads : All IsUpload u.parts
-  pub small : All (λ p. payload_bytes p ≤ most_payload) u.parts
+  pub small : All (λ p. payload_bytes p ≤ most_record_payload_bytes) u.parts
   pub few : length (post_of u) ≤ most_post_records
   pub short : part_bytes (post_of u) ≤ most_post_bytes
 

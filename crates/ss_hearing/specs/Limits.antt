@@ -2,7 +2,7 @@
 use Rattle.std.specs.Prelude.{ℕ, min, List, Option, Some, option_map, option_and_then, codes}
 use Rattle.json.specs.Json.{Json}
 use Rattle.ss_text.specs.Numbers.{number_of}
-use Rattle.ss_bso.specs.Limits.{most_payload, most_post_records, most_post_bytes, most_batch_records, most_batch_bytes}
+use Rattle.ss_bso.specs.Limits.{most_record_payload_bytes, most_post_records, most_post_bytes, most_batch_records, most_batch_bytes}
 use Rattle.ss_http.specs.Limits.{most_body_bytes}
 use Rattle.ss_plan.specs.declared.limits.Limits.{Limits}
 use Rattle.ss_hearing.specs.Bodies.{number_in, ◌>>=◌}
@@ -19,7 +19,7 @@ limits_of d = do
   post_bytes ← limit_in (codes "max_post_bytes") most_post_bytes d
   total_records ← limit_in (codes "max_total_records") most_batch_records d
   total_bytes ← limit_in (codes "max_total_bytes") most_batch_bytes d
-  payload_bytes ← limit_in (codes "max_record_payload_bytes") most_payload d
+  payload_bytes ← limit_in (codes "max_record_payload_bytes") most_record_payload_bytes d
   Some (record {
     max_request_bytes = request_bytes;
     max_post_records = post_records;

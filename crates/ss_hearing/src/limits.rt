@@ -7,7 +7,8 @@ ghost use Rattle.ss_hearing.specs.Limits.{limit_in, limits_of};
 use crate::bodies::number_in;
 use json::Value;
 use ss_bso::limits::{
-    MOST_BATCH_BYTES, MOST_BATCH_RECORDS, MOST_PAYLOAD, MOST_POST_BYTES, MOST_POST_RECORDS,
+    MOST_BATCH_BYTES, MOST_BATCH_RECORDS, MOST_POST_BYTES, MOST_POST_RECORDS,
+    MOST_RECORD_PAYLOAD_BYTES,
 };
 use ss_http::limits::BODY_ROOM;
 use ss_plan::Limits;
@@ -33,6 +34,10 @@ pub(crate) fn limits_of(value: &Value) -> Option<Limits>
         max_post_bytes: limit_in(value, "max_post_bytes", MOST_POST_BYTES)?,
         max_total_records: limit_in(value, "max_total_records", MOST_BATCH_RECORDS)?,
         max_total_bytes: limit_in(value, "max_total_bytes", MOST_BATCH_BYTES)?,
-        max_record_payload_bytes: limit_in(value, "max_record_payload_bytes", MOST_PAYLOAD as u64)?,
+        max_record_payload_bytes: limit_in(
+            value,
+            "max_record_payload_bytes",
+            MOST_RECORD_PAYLOAD_BYTES as u64,
+        )?,
     })
 }

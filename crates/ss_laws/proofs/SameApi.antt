@@ -11,7 +11,7 @@ use Rattle.ss_bso.specs.declared.parts.Records.{Records}
 use Rattle.ss_bso.specs.declared.account.Plain.{Plain}
 use Rattle.ss_bso.specs.declared.account.Staged.{Staged}
 use Rattle.ss_bso.specs.Account.{tick, is_alive, is_open, row_at, time_of}
-use Rattle.ss_bso.specs.Limits.{most_live_batches, most_rows_and_collections, most_payload_bytes, rows_of}
+use Rattle.ss_bso.specs.Limits.{most_live_batches, most_rows_and_collections, most_account_payload_bytes, rows_of}
 use Rattle.ss_bso.specs.Validity.{IsValid, SameAccount}
 use Rattle.ss_bso.specs.Write.{ids_of, parts_of, is_among, put_all, stamped, write, rows_without, rows_written}
 use Rattle.ss_query.specs.declared.requests.Request.{Request}
@@ -251,7 +251,7 @@ module _ (one other : Plain) (s : SameAccount one other) (k : Keyed one) where
   over_eq : (request : Request) → is_over (effect one request) ≡ is_over (effect other request)
   over_eq request =
       let e = effect_same request in
-      λ i. nat_lt most_payload_bytes (sum_by-reordered (λ (row : Row). length row.payload) e.rows i) || nat_lt most_rows_and_collections (length-reordered e.rows i + length-reordered e.collections i)
+      λ i. nat_lt most_account_payload_bytes (sum_by-reordered (λ (row : Row). length row.payload) e.rows i) || nat_lt most_rows_and_collections (length-reordered e.rows i + length-reordered e.collections i)
 
   misses_item_eq : (request : Request) → misses_item one request ≡ misses_item other request
   misses_item_eq (Info what condition) = refl

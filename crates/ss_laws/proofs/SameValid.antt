@@ -3,7 +3,7 @@ use Rattle.std.specs.Prelude.{◌≡◌, ℕ, ◌+◌, ◌≤◌, List, length, 
 use Rattle.std.proofs.Common.{subst, sym, arith}
 use Rattle.ss_bso.specs.declared.rows.Row.{Row}
 use Rattle.ss_bso.specs.declared.account.Plain.{Plain}
-use Rattle.ss_bso.specs.Limits.{most_payload_bytes, most_rows_and_collections, row_bytes}
+use Rattle.ss_bso.specs.Limits.{most_account_payload_bytes, most_rows_and_collections, row_bytes}
 use Rattle.ss_bso.specs.Validity.{IsValid, IsValidBatch, SameAccount}
 use Rattle.ss_bso.proofs.Full.{within-both, within-bytes, within-number}
 use Rattle.ss_bso.proofs.Lists.{Each-imp, Each-from_All, All-from_Each, Pairs-from_AllPairs, AllPairs-from_Pairs}
@@ -27,7 +27,7 @@ valid-same account other v s =
       names = AllPairs-from_Pairs NamedApart other.collections
           (Pairs-reordered NamedApart (λ entry next e. bytes_eq-flip next.0 entry.0 e) s.collections names);
       limits =
-          let light : row_bytes account.rows ≤ most_payload_bytes = within-bytes account.rows (length account.collections) v.limits.within in
+          let light : row_bytes account.rows ≤ most_account_payload_bytes = within-bytes account.rows (length account.collections) v.limits.within in
           let few : length account.rows + length account.collections ≤ most_rows_and_collections = within-number account.rows (length account.collections) v.limits.within in
           record { within = within-both other.rows (length other.collections) (omega (arith, light)) (omega (arith, few)) };
       items = All-from_Each (IsItem other.collections) other.rows

@@ -12,7 +12,7 @@ use Rattle.ss_bso.specs.declared.parts.Part.{Part}
 use Rattle.ss_bso.specs.declared.account.Plain.{Plain}
 use Rattle.ss_bso.specs.declared.account.Staged.{Staged}
 use Rattle.ss_bso.specs.Account.{tick, is_alive, is_open, time_of}
-use Rattle.ss_bso.specs.Limits.{most_live_batches, most_batch_bytes, most_batch_records, most_rows_and_collections, most_payload_bytes, row_bytes, part_bytes}
+use Rattle.ss_bso.specs.Limits.{most_live_batches, most_batch_bytes, most_batch_records, most_rows_and_collections, most_account_payload_bytes, row_bytes, part_bytes}
 use Rattle.ss_bso.specs.Validity.{IsValid, IsValidBatch, IsWithinLimits}
 use Rattle.ss_bso.proofs.Full.{within-both, within-bytes, within-number}
 use Rattle.ss_bso.specs.Write.{stamped, write, rows_without, rows_written, times_without, times_with, is_among}
@@ -44,7 +44,7 @@ OtherNumber batch other = batch.number ≢ other.number
 pub record Stored (s : Shown) : Type 0 where
   pub places : Pairs Apart s.rows
   pub names : Pairs NamedApart s.collections
-  pub bytes : row_bytes s.rows ≤ most_payload_bytes
+  pub bytes : row_bytes s.rows ≤ most_account_payload_bytes
   pub number : length s.rows + length s.collections ≤ most_rows_and_collections
   pub items : Each (IsItem s.collections) s.rows
   pub times : Each (λ (entry : List ℕ × ℕ). entry.1 ≤ s.store) s.collections

@@ -13,7 +13,7 @@ use Rattle.json.specs.Json.{Json}
 use Rattle.ss_text.specs.Numbers.{number_of}
 use Rattle.ss_http.specs.Limits.{most_body_bytes}
 use Rattle.ss_http.specs.declared.heard.Heard.{Heard}
-use Rattle.ss_bso.specs.Limits.{most_payload, most_post_records, most_post_bytes, most_batch_records, most_batch_bytes}
+use Rattle.ss_bso.specs.Limits.{most_record_payload_bytes, most_post_records, most_post_bytes, most_batch_records, most_batch_bytes}
 use Rattle.ss_plan.specs.declared.limits.Limits.{Limits}
 use Rattle.ss_route.specs.Posts.{batch_of}
 use Rattle.ss_route.specs.Targets.{positive_of}
@@ -111,7 +111,7 @@ limits_room d limits e =
     let c = bound (limit_in (codes "max_post_bytes") most_post_bytes d) _ limits b.2 in
     let f = bound (limit_in (codes "max_total_records") most_batch_records d) _ limits c.2 in
     let g = bound (limit_in (codes "max_total_bytes") most_batch_bytes d) _ limits f.2 in
-    let h = bound (limit_in (codes "max_record_payload_bytes") most_payload d) _ limits g.2 in
+    let h = bound (limit_in (codes "max_record_payload_bytes") most_record_payload_bytes d) _ limits g.2 in
     let is : a.0 ≡ limits.max_request_bytes = cc h.2 in
     subst (λ n. n ≤ most_body_bytes) is (limit_ours _ most_body_bytes d a.0 a.1)
 

@@ -27,7 +27,7 @@ use Rattle.ss_bso.specs.declared.parts.Reason.TheVariants.{TooLarge}
 use Rattle.serde_json.specs.Data.{Data, string, object, array, put, no_members, Items, item, no_items}
 use Rattle.ss_route.specs.Sending.{IsUpload as SetsPayload, payload_set, upload_text, uploads_text}
 use Rattle.ss_route.specs.Texts.{list_text, json_text}
-use Rattle.ss_bso.specs.declared.limits.TheConstants.{MOST_PAYLOAD}
+use Rattle.ss_bso.specs.declared.limits.TheConstants.{MOST_RECORD_PAYLOAD_BYTES}
 use Rattle.ss_text.proofs.NameLemmas.{IsUtf8-from_id}
 
 -- an id and a payload
@@ -44,7 +44,7 @@ objects_text us = codes "[" ++ join_with_byte 44 (map object_text us) ++ codes "
 record IsUpload (u : Upload) : Type 0 where
   id : is_id u.id ≡ true
   payload : IsUtf8 u.payload
-  size : length u.payload ≤ MOST_PAYLOAD
+  size : length u.payload ≤ MOST_RECORD_PAYLOAD_BYTES
 
 abbrev part_from : Upload → Part
 part_from u = record { id = u.id; fields = record { payload = Set u.payload; sortindex = Keep; ttl = Keep } }
@@ -160,7 +160,7 @@ id_again u h = ap (λ b. cond b (Some u.id) None) h.id
 
 fields_again : (u : Upload) → IsUpload u → fields_of (data_of u) ≡ Ok (record { payload = Set u.payload; sortindex = Keep; ttl = Keep })
 unfolding fields_of payload_of sortindex_of ttl_of
-fields_again u h = ap (λ b. cond b (Err TooLarge) (Ok (Set u.payload)) >>= (λ p. Ok (record { payload = p; sortindex = Keep; ttl = Keep }))) (le-ltb MOST_PAYLOAD (length u.payload) h.size)
+fields_again u h = ap (λ b. cond b (Err TooLarge) (Ok (Set u.payload)) >>= (λ p. Ok (record { payload = p; sortindex = Keep; ttl = Keep }))) (le-ltb MOST_RECORD_PAYLOAD_BYTES (length u.payload) h.size)
 
 abbrev elements : List Upload → List (Option Data)
 elements us = items_list (datas_of us)
@@ -219,7 +219,7 @@ pub record IsPart (part : Part) : Type 0 where
   pub id : is_id part.id ≡ true
   pub sets : SetsPayload part
   pub payload : IsUtf8 (payload_set part.fields.payload)
-  pub size : length (payload_set part.fields.payload) ≤ MOST_PAYLOAD
+  pub size : length (payload_set part.fields.payload) ≤ MOST_RECORD_PAYLOAD_BYTES
 
 abbrev upload_of : Part → Upload
 upload_of part = record { id = part.id; payload = payload_set part.fields.payload }

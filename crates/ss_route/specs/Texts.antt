@@ -5,7 +5,7 @@ use Rattle.std.specs.List.{join_with_byte}
 use Rattle.serde_json.specs.Data.{string}
 use Rattle.serde_json.specs.Written.{compact_text}
 use Rattle.ss_text.specs.Time.{stamp_text}
-use Rattle.ss_bso.specs.Limits.{most_post_records, most_post_bytes, most_batch_records, most_batch_bytes, most_payload, most_payload_bytes}
+use Rattle.ss_bso.specs.Limits.{most_post_records, most_post_bytes, most_batch_records, most_batch_bytes, most_record_payload_bytes, most_account_payload_bytes}
 use Rattle.ss_http.specs.Limits.{most_body_bytes}
 use Rattle.ss_bso.specs.declared.rows.Row.{Row}
 use Rattle.ss_bso.specs.declared.parts.Reason.{Reason}
@@ -92,7 +92,7 @@ word_text words.Type = codes "type"
 abbrev pub limits : List (List ℕ × ℕ)
 limits =
     (codes "max_request_bytes", most_body_bytes) ∷ (codes "max_post_records", most_post_records) ∷ (codes "max_post_bytes", most_post_bytes)
-    ∷ (codes "max_total_records", most_batch_records) ∷ (codes "max_total_bytes", most_batch_bytes) ∷ (codes "max_record_payload_bytes", most_payload)
+    ∷ (codes "max_total_records", most_batch_records) ∷ (codes "max_total_bytes", most_batch_bytes) ∷ (codes "max_record_payload_bytes", most_record_payload_bytes)
     ∷ []
 
 unfoldable pub limits_text : List ℕ
@@ -103,7 +103,7 @@ unfoldable pub body_text : Bool → Body → List ℕ
 body_text lines (Times times) = object_text (map (λ entry. member_text entry.0 (stamp_text entry.1)) times)
 body_text lines (Counts counts) = object_text (map (λ entry. member_text entry.0 (decimal entry.1)) counts)
 body_text lines (Usage usage) = object_text (map (λ entry. member_text entry.0 (kilobytes_text entry.1)) usage)
-body_text lines (Quota used) = codes "[" ++ kilobytes_text used ++ codes "," ++ kilobytes_text most_payload_bytes ++ codes "]"
+body_text lines (Quota used) = codes "[" ++ kilobytes_text used ++ codes "," ++ kilobytes_text most_account_payload_bytes ++ codes "]"
 body_text lines Limits = limits_text
 body_text lines (Gone time) = codes "{\"modified\":" ++ stamp_text time ++ codes "}"
 body_text lines (Ids ids) = elements_text lines (map json_text ids)

@@ -4,7 +4,7 @@ ghost use Rattle.std.specs.Prelude.{◌≡◌, ◌++◌, List, ℕ, OnOk, IfOk, 
 ghost use Rattle.std.specs.Fmt.{signed_decimal};
 ghost use Rattle.std.specs.List.{join_with_byte};
 ghost use Rattle.ss_text.specs.Time.{stamp_text};
-ghost use Rattle.ss_bso.specs.Limits.{most_payload_bytes};
+ghost use Rattle.ss_bso.specs.Limits.{most_account_payload_bytes};
 ghost use Rattle.ss_query.specs.Reasons.{reason_name};
 ghost use Rattle.ss_route.specs.Posts.{token};
 ghost use Rattle.ss_route.specs.Texts.{json_text, list_text, object_text, lines_text, elements_text, member_text, sortindex_text, row_text, kilobytes_text, failure_text, records_text, word_text, limits_text, body_text};
@@ -13,8 +13,8 @@ use crate::scalars::{put, put_json, put_kilobytes, put_number, put_signed};
 use base64::engine::general_purpose::URL_SAFE_NO_PAD;
 use itoa::Buffer;
 use ss_bso::limits::{
-    MOST_BATCH_BYTES, MOST_BATCH_RECORDS, MOST_PAYLOAD, MOST_PAYLOAD_BYTES, MOST_POST_BYTES,
-    MOST_POST_RECORDS,
+    MOST_ACCOUNT_PAYLOAD_BYTES, MOST_BATCH_BYTES, MOST_BATCH_RECORDS, MOST_POST_BYTES,
+    MOST_POST_RECORDS, MOST_RECORD_PAYLOAD_BYTES,
 };
 use ss_bso::{Failures, Reason, Row};
 use ss_http::limits::BODY_ROOM;
@@ -228,12 +228,12 @@ fn put_usage(alloc: Global, out: &mut Vec<u8>, usage: &[(Name, u64)]) -> Result<
 #[tactic(auto, using(crate::proofs::Appending::append_append))]
 fn put_quota(out: &mut Vec<u8>, used: u64) -> Result<(), AllocError>
     ensures { OnOk result (out.new.items ≡ out.old.items ++ (codes "[" ++ kilobytes_text used ++ codes ","
-        ++ kilobytes_text most_payload_bytes ++ codes "]")) }
+        ++ kilobytes_text most_account_payload_bytes ++ codes "]")) }
 {
     put(out, b"[")?;
     put_kilobytes(out, used)?;
     put(out, b",")?;
-    put_kilobytes(out, MOST_PAYLOAD_BYTES)?;
+    put_kilobytes(out, MOST_ACCOUNT_PAYLOAD_BYTES)?;
     put(out, b"]")
 }
 
@@ -283,7 +283,7 @@ fn put_limits(out: &mut Vec<u8>) -> Result<(), AllocError>
             },
             Limit {
                 name: "max_record_payload_bytes",
-                most: MOST_PAYLOAD as u64,
+                most: MOST_RECORD_PAYLOAD_BYTES as u64,
             },
         ],
     )

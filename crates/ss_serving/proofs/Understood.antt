@@ -26,7 +26,7 @@ use Rattle.ss_hearing.specs.Lists as lists
 use Rattle.ss_hearing.specs.Lists.{ids_of, next_of}
 use Rattle.ss_hearing.specs.Limits.{limits_of, limit_in}
 use Rattle.ss_hearing.specs.Posts.{are_words, are_failures, first_name, failure_of, failure_in, batch_in}
-use Rattle.ss_bso.specs.declared.limits.TheConstants.{MOST_PAYLOAD, MOST_POST_RECORDS, MOST_POST_BYTES, MOST_BATCH_RECORDS, MOST_BATCH_BYTES}
+use Rattle.ss_bso.specs.declared.limits.TheConstants.{MOST_RECORD_PAYLOAD_BYTES, MOST_POST_RECORDS, MOST_POST_BYTES, MOST_BATCH_RECORDS, MOST_BATCH_BYTES}
 use Rattle.ss_http.specs.declared.limits.TheConstants.{BODY_ROOM}
 use Rattle.ss_serving.specs.Asking.{first_failed, our_limits}
 use Rattle.ss_serving.specs.Typed.{IsTypedRow}
@@ -257,7 +257,7 @@ limits_clean = (
           limit_clean MOST_BATCH_BYTES (lit< tt),
           (
             IsUtf8-are_ascii (codes "max_record_payload_bytes") refl,
-            limit_clean MOST_PAYLOAD (lit< tt),
+            limit_clean MOST_RECORD_PAYLOAD_BYTES (lit< tt),
             tt,
           ),
         ),

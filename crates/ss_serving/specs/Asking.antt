@@ -6,7 +6,7 @@ use Rattle.ss_bso.specs.declared.rows.Row.{Row}
 use Rattle.ss_bso.specs.declared.parts.Part.{Part}
 use Rattle.ss_bso.specs.declared.parts.Records.{Records}
 use Rattle.ss_bso.specs.declared.parts.Reason.{Reason}
-use Rattle.ss_bso.specs.Limits.{most_payload, most_post_records, most_post_bytes, most_batch_records, most_batch_bytes}
+use Rattle.ss_bso.specs.Limits.{most_record_payload_bytes, most_post_records, most_post_bytes, most_batch_records, most_batch_bytes}
 use Rattle.ss_http.specs.Limits.{most_body_bytes}
 use Rattle.ss_query.specs.declared.requests.Info.TheVariants.{Configuration}
 use Rattle.ss_query.specs.declared.requests.Mode.TheVariants.{Plain, Begin, Append, Commit}
@@ -84,7 +84,7 @@ our_limits = record {
   max_post_bytes = most_post_bytes;
   max_total_records = most_batch_records;
   max_total_bytes = most_batch_bytes;
-  max_record_payload_bytes = most_payload;
+  max_record_payload_bytes = most_record_payload_bytes;
 }
 
 -- the id of the record that failed first

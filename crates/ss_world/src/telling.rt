@@ -26,7 +26,7 @@ fn our_limits() -> Limits
         max_post_bytes: limits::MOST_POST_BYTES,
         max_total_records: limits::MOST_BATCH_RECORDS,
         max_total_bytes: limits::MOST_BATCH_BYTES,
-        max_record_payload_bytes: limits::MOST_PAYLOAD as u64,
+        max_record_payload_bytes: limits::MOST_RECORD_PAYLOAD_BYTES as u64,
     }
 }
 

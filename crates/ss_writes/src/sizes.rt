@@ -14,7 +14,7 @@ ghost use Rattle.ss_writes.specs.Parts.{IsSize, OtherText};
 
 use crate::targets::Targets;
 use ss_bso::limits::{
-    MOST_BATCH_BYTES, MOST_BATCH_RECORDS, MOST_PAYLOAD_BYTES, MOST_ROWS_AND_COLLECTIONS,
+    MOST_ACCOUNT_PAYLOAD_BYTES, MOST_BATCH_BYTES, MOST_BATCH_RECORDS, MOST_ROWS_AND_COLLECTIONS,
 };
 use ss_bso::{Field, Part, Row};
 use ss_index::Shelf;
@@ -71,7 +71,7 @@ impl Size {
     pub fn is_full(self, collections: usize) -> bool
         ensures { (rows : List RowValue) → IsSize rows self → result ≡ is_too_much rows collections }
     {
-        self.bytes > MOST_PAYLOAD_BYTES
+        self.bytes > MOST_ACCOUNT_PAYLOAD_BYTES
             || self.rows.saturating_add(collections as u64) > MOST_ROWS_AND_COLLECTIONS
     }
 

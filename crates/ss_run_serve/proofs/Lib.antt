@@ -8,3 +8,4 @@ pub mod Progress
 pub mod Shutting
 pub mod Whole
 pub mod Ending
+pub mod Sounding

@@ -8,3 +8,4 @@ pub mod Terms
 pub mod Once
 pub mod Course
 pub mod Serving
+pub mod Logged

@@ -4,6 +4,7 @@
 //! cause of each status.
 #![tactic(auto)]
 
+mod laws;
 mod lines;
 mod opening;
 mod retiring;
@@ -14,5 +15,6 @@ mod term;
 mod terms;
 mod watched;
 
+pub use laws::logs_of_a_server_are_sound;
 pub use run::run_serve;
 pub use stop::Stop;

@@ -1,11 +1,15 @@
-//! Why a database isn't taken as an account's.
+//! Why a database isn't taken as an account's, and why what it holds isn't read or written.
 
 ghost use Rattle.std.specs.Prelude.{◌≡◌, ◌≢◌, ◌↔◌, ℤ, IsOkAnd, IsTrue, IfOk, OnOk, Ok, Err};
-ghost use Rattle.ss_keep_sql.specs.Opening.{IsOther, IsTaken};
+ghost use Rattle.ss_keep_sql.specs.Opening.{HasVersion, IsOther, IsTaken};
 
-use crate::tables::{VERSION, VERSION_WITHOUT_BATCHES};
+use crate::tables::{VERSION, VERSION_WITHOUT_BATCHES, VERSION_WITHOUT_COMMITS};
 use sqlite::{Error, ErrorCode};
+use std::alloc::AllocError;
 use thiserror::Error;
+
+/// That memory is wanting, as SQLite tells it.
+pub(crate) const NO_MEMORY: Error = Error::SqliteFailure(ErrorCode::OutOfMemory);
 
 /// Why a database isn't taken as an account's.
 #[derive(Clone, Copy, Debug, PartialEq, Eq, Error)]
@@ -14,12 +18,48 @@ pub enum SqlFault {
     #[error("the database was refused")]
     Fault,
 
-    /// Its tables are of a version that is neither 1 nor 2.
+    /// Its tables are of a version that is none of 1, 2 and 3.
     #[error("the database has version {found}")]
     Version { found: i64 },
 
+    /// The row of this number in the table `commits` isn't the text of a commit.
+    #[error("row {number} of the table commits isn't the text of a commit")]
+    Commit { number: i64 },
+
     #[error("out of memory")]
     Memory,
+}
+
+/// Why what is held wasn't read or written.
+#[derive(Clone, Copy, Debug)]
+pub(crate) enum Refusal {
+    /// A statement was refused, or memory was wanting.
+    Statement(Error),
+
+    /// The row of this number in the table `commits` isn't the text of a commit.
+    Commit { number: i64 },
+}
+
+impl Refusal {
+    /// Whether memory was wanting, and nothing else.
+    pub(crate) fn is_memory(self) -> bool {
+        match self {
+            Refusal::Statement(error) => is_memory(error),
+            Refusal::Commit { .. } => false,
+        }
+    }
+}
+
+impl From<Error> for Refusal {
+    fn from(error: Error) -> Refusal {
+        Refusal::Statement(error)
+    }
+}
+
+impl From<AllocError> for Refusal {
+    fn from(_error: AllocError) -> Refusal {
+        Refusal::Statement(NO_MEMORY)
+    }
 }
 
 /// Whether memory was wanting, and nothing else.
@@ -41,6 +81,16 @@ pub(crate) fn fault_of(error: Error) -> SqlFault
     }
 }
 
+/// Why a database isn't taken whose commits weren't made to its tables: never for its version.
+pub(crate) fn fault_of_fold(refusal: Refusal) -> SqlFault
+    ensures { HasVersion result }
+{
+    match refusal {
+        Refusal::Statement(error) => fault_of(error),
+        Refusal::Commit { number } => SqlFault::Commit { number },
+    }
+}
+
 /// Whether a database is taken of which this version was read, or could not be read.
 pub(crate) fn taken(read: Result<i64, Error>) -> Result<(), SqlFault>
     ensures ok { OnOk result (IsOkAnd read IsTaken) }
@@ -48,7 +98,7 @@ pub(crate) fn taken(read: Result<i64, Error>) -> Result<(), SqlFault>
     ensures refused { IfOk read (λ found. IsTaken found → result ≡ Ok tt) }
 {
     match read {
-        Ok(VERSION | VERSION_WITHOUT_BATCHES) => Ok(()),
+        Ok(VERSION | VERSION_WITHOUT_COMMITS | VERSION_WITHOUT_BATCHES) => Ok(()),
         Ok(found) => Err(SqlFault::Version { found }),
         Err(error) => Err(fault_of(error)),
     }

@@ -2,22 +2,32 @@
 
 ghost use Rattle.std.specs.Prelude.{◌≡◌, ◌≢◌, ◌≤◌, IfOk, IfErr, None};
 ghost use Rattle.ss_outside.specs.Causes.{Rose};
+ghost use Rattle.ss_keeper.specs.Keeping.{HasCause};
 ghost use Rattle.ss_keep_sql.specs.Opening.{HasVersion};
 
-use crate::faults::{SqlFault, fault_of, is_memory, taken};
+use crate::commits::{add_commit, payload_bytes};
+use crate::faults::{Refusal, SqlFault, fault_of, fault_of_fold, taken};
+use crate::files::open_file;
+use crate::folding::{fold, write_commit};
 use crate::reading::read;
 use crate::tables::ready;
-use crate::writing::write;
-use sqlite::{Alter, Connection, Error, File, FileStore};
+use sqlite::{Alter, Connection, File, FileStore};
 use ss_bso::{Changes, Kept};
 use ss_keeper::{KeepFault, Keeper};
 use std::alloc::Global;
 use std::marker::Model;
 
+/// How many bytes the texts of commits have at most before a further one makes them to the tables, and the payloads of a
+/// commit at most before it is made to the tables itself (16 MiB).
+const MOST_WEIGHT: u64 = 16_777_216;
+
 /// An account in a database of its own. It tells no rows, and counts each refused statement.
 #[derive(Drop)]
 pub struct SqlKeeper<S: Alter + Drop = FileStore<File>> {
     connection: Connection<S>,
+
+    /// How many bytes the texts of the commits have that weren't made to the tables.
+    weight: u64,
     faults: u64,
 }
 
@@ -36,8 +46,8 @@ impl SqlKeeper {
         ensures count { IfOk result (λ keeper. keeper ≡ 0) }
         ensures cause { IfErr result HasVersion }
     {
-        match Connection::open(rt, path) {
-            Ok(connection) => match SqlKeeper::adopt(connection) {
+        match open_file(rt, path) {
+            Ok(connection) => match SqlKeeper::adopt(rt.alloc(), connection) {
                 Ok(keeper) => Ok(keeper),
                 Err((connection, fault)) => {
                     drop(connection);
@@ -50,18 +60,73 @@ impl SqlKeeper {
 }
 
 impl<S: Alter + Drop> SqlKeeper<S> {
-    /// Takes the database of a connection. One without tables gets them; one with tables of version 1 gets those of
-    /// version 2, and one with tables of another version is refused. The connection comes back where it isn't taken.
-    pub fn adopt(mut connection: Connection<S>) -> Result<SqlKeeper<S>, (Connection<S>, SqlFault)>
+    /// Takes the database of a connection. One without tables gets them; one with tables of version 1 or 2 gets those of
+    /// version 3, and one with tables of another version is refused. Commits that stand beside the tables are made to
+    /// them. The connection comes back where it isn't taken.
+    pub fn adopt(
+        alloc: Global,
+        mut connection: Connection<S>,
+    ) -> Result<SqlKeeper<S>, (Connection<S>, SqlFault)>
         ensures count { IfOk result (λ keeper. keeper ≡ 0) }
         ensures cause { IfErr result (λ refused. HasVersion refused.1) }
     {
-        match taken(ready(&mut connection)) {
-            Ok(()) => Ok(SqlKeeper {
-                connection,
-                faults: 0,
-            }),
-            Err(fault) => Err((connection, fault)),
+        if let Err(fault) = taken(ready(&mut connection)) {
+            return Err((connection, fault));
+        }
+        if let Err(refusal) = fold(alloc, &mut connection) {
+            return Err((connection, fault_of_fold(refusal)));
+        }
+        Ok(SqlKeeper {
+            connection,
+            weight: 0,
+            faults: 0,
+        })
+    }
+
+    /// Makes the commits to the tables, where there are any. What is held stays as it is, and so do the commits where a
+    /// statement is refused.
+    pub fn fold(&mut self, alloc: Global) -> Result<(), KeepFault>
+        ensures { HasCause self.old self.new result }
+    {
+        match fold(alloc, &mut self.connection) {
+            Ok(()) => {
+                self.weight = 0;
+                Ok(())
+            }
+            Err(refusal) => Err(self.refused(refusal)),
+        }
+    }
+
+    /// Makes the commits to the tables, where they weigh much or the next one does.
+    fn fold_many(&mut self, alloc: Global, is_large: bool) -> Result<(), KeepFault>
+        ensures { HasCause self.old self.new result }
+    {
+        if !is_large && self.weight <= MOST_WEIGHT {
+            return Ok(());
+        }
+        self.fold(alloc)
+    }
+
+    /// Makes a commit to the tables, beside which no other one stands.
+    fn write(&mut self, alloc: Global, changes: &Changes) -> Result<(), KeepFault>
+        ensures { HasCause self.old self.new result }
+    {
+        match write_commit(alloc, &mut self.connection, changes) {
+            Ok(()) => Ok(()),
+            Err(refusal) => Err(self.refused(refusal)),
+        }
+    }
+
+    /// Adds a commit beside the tables.
+    fn add(&mut self, alloc: Global, changes: &Changes) -> Result<(), KeepFault>
+        ensures { HasCause self.old self.new result }
+    {
+        match add_commit(alloc, &mut self.connection, changes) {
+            Ok(bytes) => {
+                self.weight = self.weight.saturating_add(bytes);
+                Ok(())
+            }
+            Err(error) => Err(self.refused(Refusal::Statement(error))),
         }
     }
 
@@ -69,18 +134,19 @@ impl<S: Alter + Drop> SqlKeeper<S> {
     pub fn into_connection(self) -> Connection<S> {
         let SqlKeeper {
             connection,
+            weight: _,
             faults: _,
         } = self;
         connection
     }
 
-    /// Why a statement was refused; it is counted, unless memory was wanting.
-    fn refused(&mut self, error: Error) -> KeepFault
+    /// Why what is held wasn't read or written; it is counted, unless memory was wanting.
+    fn refused(&mut self, refusal: Refusal) -> KeepFault
         ensures later { self.old ≤ self.new }
         ensures fault { result ≡ KeepFault.Fault → Rose self.old self.new }
         ensures quiet { result ≢ KeepFault.Fault → self.new ≡ self.old }
     {
-        if is_memory(error) {
+        if refusal.is_memory() {
             return KeepFault::Memory;
         }
         self.faults = self.faults.saturating_add(1);
@@ -96,14 +162,16 @@ impl<S: Alter + Drop> Keeper for SqlKeeper<S> {
     fn load(&mut self, alloc: Global) -> Result<Kept, KeepFault> {
         match read(alloc, &mut self.connection) {
             Ok(kept) => Ok(kept),
-            Err(error) => Err(self.refused(error)),
+            Err(refusal) => Err(self.refused(refusal)),
         }
     }
 
-    fn commit(&mut self, _alloc: Global, changes: &Changes) -> Result<(), KeepFault> {
-        match write(&mut self.connection, changes) {
-            Ok(()) => Ok(()),
-            Err(error) => Err(self.refused(error)),
+    fn commit(&mut self, alloc: Global, changes: &Changes) -> Result<(), KeepFault> {
+        let is_large = payload_bytes(changes) > MOST_WEIGHT;
+        match self.fold_many(alloc, is_large) {
+            Ok(()) if is_large => self.write(alloc, changes),
+            Ok(()) => self.add(alloc, changes),
+            Err(fault) => Err(fault),
         }
     }
 }

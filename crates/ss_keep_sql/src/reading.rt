@@ -1,8 +1,11 @@
 //! What an account's database holds. A value out of form is a failure like any other.
 
+use crate::commits::read_commits;
+use crate::faults::{NO_MEMORY, Refusal};
 use crate::numbers::{integer, number};
-use sqlite::{Alter, Connection, Error, ErrorCode, Row as Values, params};
+use sqlite::{Alter, Connection, Error, Row as Values, params};
 use ss_bso::{Batches, Field, Fields, Kept, Part, Parts, Row, Rows, Staged, Times};
+use ss_keeper::make;
 use ss_text::{Id, Name, Stamp, Word};
 use std::alloc::Global;
 
@@ -16,8 +19,6 @@ const READ_BATCHES: &str = "SELECT number, collection, begun FROM batches ORDER 
 
 const READ_PARTS: &str =
     "SELECT id, has_payload, payload, has_sortindex, sortindex, has_ttl, ttl FROM parts WHERE number = ?1 ORDER BY place";
-
-const NO_MEMORY: Error = Error::SqliteFailure(ErrorCode::OutOfMemory);
 
 fn read_stamp(values: &Values, at: usize) -> Result<Stamp, Error> {
     let hundredths: i64 = values.get(at)?;
@@ -141,8 +142,8 @@ fn read_batch(alloc: Global, values: &Values) -> Result<Staged, Error> {
     })
 }
 
-/// The batches, without their parts.
-fn read_begun<S: Alter>(
+/// The batches of the table, without their parts.
+pub(crate) fn read_begun<S: Alter>(
     alloc: Global,
     connection: &mut Connection<S>,
 ) -> Result<Vec<Staged>, Error> {
@@ -171,8 +172,8 @@ fn read_batches<S: Alter>(
     Ok(batches)
 }
 
-/// All that is held.
-pub(crate) fn read<S: Alter>(alloc: Global, connection: &mut Connection<S>) -> Result<Kept, Error> {
+/// What the tables have.
+fn read_tables<S: Alter>(alloc: Global, connection: &mut Connection<S>) -> Result<Kept, Error> {
     let about = connection.query_row(READ_ABOUT, &[])?;
     let counter: i64 = about.get(2)?;
     Ok(Kept {
@@ -183,4 +184,15 @@ pub(crate) fn read<S: Alter>(alloc: Global, connection: &mut Connection<S>) -> R
         counter: number(counter),
         batches: Batches::new(read_batches(alloc, connection)?),
     })
+}
+
+/// All that is held: what the tables have, with the changes of the commits made to it.
+pub(crate) fn read<S: Alter>(
+    alloc: Global,
+    connection: &mut Connection<S>,
+) -> Result<Kept, Refusal> {
+    let mut kept = read_tables(alloc, connection)?;
+    let commits = read_commits(alloc, connection)?;
+    make(alloc, &mut kept, commits.as_slice())?;
+    Ok(kept)
 }

@@ -7,29 +7,47 @@
 //! are hundredths of a second since 1970. `counter`, `expires` and the numbers of batches are numbers without sign:
 //! from 2^63 on they stand as the number less 2^64.
 //!
-//! Version 1 has no batches. Its tables are those of version 2 without `batches` and `parts`.
+//! `commits` has the commits that weren't made to these tables yet, in the order of their numbers: of each the text of
+//! its changes, as `ss_commits` writes it. What is held is what the tables have, with the changes of these made to it
+//! one after the other.
+//!
+//! Version 2 has no commits: each was made to the tables at once, and `rows` had an index by expiry for that. Version 1
+//! has no batches either: its tables are those of version 2 without `batches` and `parts`.
 
 use sqlite::{Alter, Connection, Error, ErrorCode, Transaction};
 
 /// The version of the tables that this crate reads and writes.
-pub(crate) const VERSION: i64 = 2;
+pub(crate) const VERSION: i64 = 3;
+
+/// The version without commits, whose tables are taken over.
+pub(crate) const VERSION_WITHOUT_COMMITS: i64 = 2;
 
 /// The version without batches, whose tables are taken over.
 pub(crate) const VERSION_WITHOUT_BATCHES: i64 = 1;
 
-/// The tables of version 1, and the one row of `about` as it is at first there.
-pub(crate) const MAKE: &str = "\
+/// The tables of version 1 without its index, and the one row of `about` as it is at first there.
+const MAKE: &str = "\
 CREATE TABLE about (version INTEGER NOT NULL, store INTEGER NOT NULL, last_delete INTEGER NOT NULL, counter INTEGER NOT NULL) STRICT;
 CREATE TABLE collections (name TEXT NOT NULL PRIMARY KEY, time INTEGER NOT NULL) STRICT;
 CREATE TABLE rows (collection TEXT NOT NULL, id TEXT NOT NULL, modified INTEGER NOT NULL, sortindex INTEGER, payload TEXT NOT NULL, expires INTEGER, PRIMARY KEY (collection, id)) STRICT;
-CREATE INDEX rows_by_expiry ON rows (expires);
 INSERT INTO about (version, store, last_delete, counter) VALUES (1, 0, 0, 0);";
 
 /// What version 2 has besides.
 const ADD_BATCHES: &str = "\
 CREATE TABLE batches (number INTEGER NOT NULL PRIMARY KEY, collection TEXT NOT NULL, begun INTEGER NOT NULL) STRICT;
-CREATE TABLE parts (number INTEGER NOT NULL, place INTEGER NOT NULL, id TEXT NOT NULL, has_payload INTEGER NOT NULL, payload TEXT, has_sortindex INTEGER NOT NULL, sortindex INTEGER, has_ttl INTEGER NOT NULL, ttl INTEGER, PRIMARY KEY (number, place)) STRICT;
-UPDATE about SET version = 2;";
+CREATE TABLE parts (number INTEGER NOT NULL, place INTEGER NOT NULL, id TEXT NOT NULL, has_payload INTEGER NOT NULL, payload TEXT, has_sortindex INTEGER NOT NULL, sortindex INTEGER, has_ttl INTEGER NOT NULL, ttl INTEGER, PRIMARY KEY (number, place)) STRICT;";
+
+/// The table of commits, without any.
+const MAKE_COMMITS: &str =
+    "CREATE TABLE commits (number INTEGER PRIMARY KEY, changes TEXT NOT NULL) STRICT;";
+
+/// What version 3 hasn't any more, and its number.
+const DROP_INDEX: &str = "\
+DROP INDEX IF EXISTS rows_by_expiry;
+UPDATE about SET version = 3;";
+
+/// All rows of the table of commits go at once; to delete them one by one is some twenty times as dear.
+const DROP_COMMITS: &str = "DROP TABLE commits;";
 
 const COUNT_OBJECTS: &str = "SELECT count(*) FROM sqlite_schema";
 
@@ -47,17 +65,21 @@ fn version<S: Alter>(transaction: &mut Transaction<'_, S>) -> Result<i64, Error>
     transaction.query_row(READ_VERSION, &[])?.get(0)
 }
 
-/// Adds what version 2 has besides to tables of version 1, and tells the version that was found.
+/// Makes version 3 of tables of version 1 or 2, and tells the version that was found.
 fn found<S: Alter>(transaction: &mut Transaction<'_, S>) -> Result<i64, Error> {
     let found = version(transaction)?;
     if found == VERSION_WITHOUT_BATCHES {
         transaction.execute_batch(ADD_BATCHES)?;
     }
+    if found == VERSION_WITHOUT_BATCHES || found == VERSION_WITHOUT_COMMITS {
+        transaction.execute_batch(MAKE_COMMITS)?;
+        transaction.execute_batch(DROP_INDEX)?;
+    }
     Ok(found)
 }
 
-/// The version of the tables that was found. A database without tables gets them first, and one of version 1 is then
-/// made one of version 2: all of it or nothing.
+/// The version of the tables that was found. A database without tables gets them first, and one of an older version is
+/// then made one of version 3: all of it or nothing.
 pub(crate) fn ready<S: Alter>(connection: &mut Connection<S>) -> Result<i64, Error> {
     if !connection.is_autocommit() {
         return Err(IN_TRANSACTION);
@@ -69,4 +91,10 @@ pub(crate) fn ready<S: Alter>(connection: &mut Connection<S>) -> Result<i64, Err
     let found = found(&mut transaction)?;
     transaction.commit()?;
     Ok(found)
+}
+
+/// Empties the table of commits.
+pub(crate) fn clear_commits<S: Alter>(transaction: &mut Transaction<'_, S>) -> Result<(), Error> {
+    transaction.execute_batch(DROP_COMMITS)?;
+    transaction.execute_batch(MAKE_COMMITS)
 }

@@ -1,10 +1,14 @@
-//! Changes written to an account's database.
+//! What commits come to, written to the tables.
 
+use crate::faults::Refusal;
+use crate::many::insert_parts;
 use crate::numbers::integer;
-use crate::tables::IN_TRANSACTION;
-use sqlite::{Alter, Connection, Error, Transaction, params};
-use ss_bso::{BatchChange, Changes, CollectionChange, Field, Part, Row, RowChange, Staged};
-use ss_text::{Id, Name, Stamp};
+use crate::rows::write_rows;
+use sqlite::{Alter, Error, Transaction, params};
+use ss_bso::{BatchChange, Changes, CollectionChange, Kept, Staged, Times};
+use ss_text::{Name, Stamp};
+use std::alloc::{AllocError, Global};
+use std::collections::HashSet;
 
 /// An expiry from 2^63 on stands below 0, and no moment reaches it.
 const DROP_ENDED: &str = "DELETE FROM rows WHERE expires BETWEEN 0 AND ?1";
@@ -12,12 +16,6 @@ const DROP_ENDED: &str = "DELETE FROM rows WHERE expires BETWEEN 0 AND ?1";
 const DROP_ROWS: &str = "DELETE FROM rows WHERE collection = ?1";
 
 const DROP_COLLECTION: &str = "DELETE FROM collections WHERE name = ?1";
-
-const PUT_ROW: &str =
-    "INSERT INTO rows (collection, id, modified, sortindex, payload, expires) VALUES (?1, ?2, ?3, ?4, ?5, ?6) \
-ON CONFLICT (collection, id) DO UPDATE SET modified = excluded.modified, sortindex = excluded.sortindex, payload = excluded.payload, expires = excluded.expires";
-
-const DROP_ROW: &str = "DELETE FROM rows WHERE collection = ?1 AND id = ?2";
 
 const SET_COLLECTION: &str =
     "INSERT INTO collections (name, time) VALUES (?1, ?2) ON CONFLICT (name) DO UPDATE SET time = excluded.time";
@@ -30,49 +28,53 @@ const END_BATCH: &str = "DELETE FROM batches WHERE number = ?1";
 
 const BEGIN_BATCH: &str = "INSERT INTO batches (number, collection, begun) VALUES (?1, ?2, ?3)";
 
-const COUNT_BATCHES: &str = "SELECT count(*) FROM batches WHERE number = ?1";
-
 const LAST_PLACE: &str = "SELECT place FROM parts WHERE number = ?1 ORDER BY place DESC LIMIT 1";
 
-const ADD_PART: &str =
-    "INSERT INTO parts (number, place, id, has_payload, payload, has_sortindex, sortindex, has_ttl, ttl) VALUES (?1, ?2, ?3, ?4, ?5, ?6, ?7, ?8, ?9)";
+/// The latest moment of commits.
+fn last_moment(commits: &[Changes]) -> u64 {
+    let mut last = 0;
+    for commit in commits {
+        last = commit.moment.get().max(last);
+    }
+    last
+}
 
-fn drop_ended<S: Alter>(transaction: &mut Transaction<'_, S>, moment: Stamp) -> Result<(), Error> {
-    let _rows = transaction.execute(DROP_ENDED, params![integer(moment.get())])?;
+fn drop_ended<S: Alter>(transaction: &mut Transaction<'_, S>, moment: u64) -> Result<(), Error> {
+    let _rows = transaction.execute(DROP_ENDED, params![integer(moment)])?;
     Ok(())
 }
 
-fn drop_collection<S: Alter>(
+/// The collections that commits drop.
+fn dropped(alloc: Global, commits: &[Changes]) -> Result<HashSet<&Name>, AllocError> {
+    let mut names = HashSet::new(alloc);
+    for commit in commits {
+        note_dropped(&mut names, commit.collections.as_slice())?;
+    }
+    Ok(names)
+}
+
+fn note_dropped<'a>(
+    names: &mut HashSet<&'a Name>,
+    changes: &'a [CollectionChange],
+) -> Result<(), AllocError> {
+    for change in changes {
+        if let CollectionChange::Drop { name } = change {
+            let _added = names.insert(name)?;
+        }
+    }
+    Ok(())
+}
+
+/// Drops collections with their rows.
+fn drop_collections<S: Alter>(
+    alloc: Global,
     transaction: &mut Transaction<'_, S>,
-    name: &Name,
-) -> Result<(), Error> {
-    let _rows = transaction.execute(DROP_ROWS, params![name.as_str()])?;
-    let _collections = transaction.execute(DROP_COLLECTION, params![name.as_str()])?;
-    Ok(())
-}
-
-fn put_row<S: Alter>(transaction: &mut Transaction<'_, S>, row: &Row) -> Result<(), Error> {
-    let expires = row.expires.map(integer);
-    let _rows = transaction.execute(
-        PUT_ROW,
-        params![
-            row.collection.as_str(),
-            row.id.as_str(),
-            integer(row.modified.get()),
-            row.sortindex,
-            row.payload.as_str(),
-            expires,
-        ],
-    )?;
-    Ok(())
-}
-
-fn drop_row<S: Alter>(
-    transaction: &mut Transaction<'_, S>,
-    collection: &Name,
-    id: &Id,
-) -> Result<(), Error> {
-    let _rows = transaction.execute(DROP_ROW, params![collection.as_str(), id.as_str()])?;
+    commits: &[Changes],
+) -> Result<(), Refusal> {
+    for name in dropped(alloc, commits)? {
+        let _rows = transaction.execute(DROP_ROWS, params![name.as_str()])?;
+        let _collections = transaction.execute(DROP_COLLECTION, params![name.as_str()])?;
+    }
     Ok(())
 }
 
@@ -88,53 +90,41 @@ fn set_collection<S: Alter>(
     Ok(())
 }
 
-fn set_about<S: Alter>(
+fn set_collections<S: Alter>(
     transaction: &mut Transaction<'_, S>,
-    changes: &Changes,
+    times: &Times,
 ) -> Result<(), Error> {
+    for entry in times.as_slice() {
+        set_collection(transaction, &entry.0, entry.1)?;
+    }
+    Ok(())
+}
+
+fn set_about<S: Alter>(transaction: &mut Transaction<'_, S>, kept: &Kept) -> Result<(), Error> {
     let _about = transaction.execute(
         SET_ABOUT,
         params![
-            integer(changes.store.get()),
-            integer(changes.last_delete.get()),
-            integer(changes.counter),
+            integer(kept.store.get()),
+            integer(kept.last_delete.get()),
+            integer(kept.counter),
         ],
     )?;
     Ok(())
 }
 
-fn drop_collections<S: Alter>(
-    transaction: &mut Transaction<'_, S>,
-    changes: &[CollectionChange],
-) -> Result<(), Error> {
-    for change in changes {
-        if let CollectionChange::Drop { name } = change {
-            drop_collection(transaction, name)?;
-        }
+/// The numbers of the batches that commits end.
+fn ended(alloc: Global, commits: &[Changes]) -> Result<HashSet<u64>, AllocError> {
+    let mut numbers = HashSet::new(alloc);
+    for commit in commits {
+        note_ended(&mut numbers, commit.batches.as_slice())?;
     }
-    Ok(())
+    Ok(numbers)
 }
 
-fn change_rows<S: Alter>(
-    transaction: &mut Transaction<'_, S>,
-    changes: &[RowChange],
-) -> Result<(), Error> {
+fn note_ended(numbers: &mut HashSet<u64>, changes: &[BatchChange]) -> Result<(), AllocError> {
     for change in changes {
-        match change {
-            RowChange::Put(row) => put_row(transaction, row)?,
-            RowChange::Drop { collection, id } => drop_row(transaction, collection, id)?,
-        }
-    }
-    Ok(())
-}
-
-fn set_collections<S: Alter>(
-    transaction: &mut Transaction<'_, S>,
-    changes: &[CollectionChange],
-) -> Result<(), Error> {
-    for change in changes {
-        if let CollectionChange::Set { name, time } = change {
-            set_collection(transaction, name, *time)?;
+        if let BatchChange::End { number } = change {
+            let _added = numbers.insert(*number)?;
         }
     }
     Ok(())
@@ -146,52 +136,31 @@ fn end_batch<S: Alter>(transaction: &mut Transaction<'_, S>, number: u64) -> Res
     Ok(())
 }
 
-/// Whether a field is given, and its value where it has one.
-fn column<T>(field: &Field<T>) -> (bool, Option<&T>) {
-    match field {
-        Field::Keep => (false, None),
-        Field::Clear => (true, None),
-        Field::Set(value) => (true, Some(value)),
+/// Of the batches in the table those that commits don't end.
+fn going_on(
+    alloc: Global,
+    ended: &HashSet<u64>,
+    stored: &[u64],
+) -> Result<HashSet<u64>, AllocError> {
+    let mut left = HashSet::new(alloc);
+    for number in stored {
+        if !ended.contains(number) {
+            let _added = left.insert(*number)?;
+        }
     }
+    Ok(left)
 }
 
-fn add_part<S: Alter>(
+/// Ends those of the batches in the table that commits end.
+fn end_batches<S: Alter>(
     transaction: &mut Transaction<'_, S>,
-    number: u64,
-    place: i64,
-    part: &Part,
+    ended: &HashSet<u64>,
+    stored: &[u64],
 ) -> Result<(), Error> {
-    let (has_payload, payload) = column(&part.fields.payload);
-    let (has_sortindex, sortindex) = column(&part.fields.sortindex);
-    let (has_ttl, ttl) = column(&part.fields.ttl);
-    let _parts = transaction.execute(
-        ADD_PART,
-        params![
-            integer(number),
-            place,
-            part.id.as_str(),
-            has_payload,
-            payload.map(|text| text.as_str()),
-            has_sortindex,
-            sortindex.copied(),
-            has_ttl,
-            ttl.copied(),
-        ],
-    )?;
-    Ok(())
-}
-
-/// Writes parts of a batch, which come behind the part at this place.
-fn add_parts<S: Alter>(
-    transaction: &mut Transaction<'_, S>,
-    number: u64,
-    last: i64,
-    parts: &[Part],
-) -> Result<(), Error> {
-    let mut place = last;
-    for part in parts {
-        place = place.saturating_add(1);
-        add_part(transaction, number, place, part)?;
+    for number in stored {
+        if ended.contains(number) {
+            end_batch(transaction, *number)?;
+        }
     }
     Ok(())
 }
@@ -208,17 +177,10 @@ fn begin_batch<S: Alter>(
             integer(staged.begun.get()),
         ],
     )?;
-    add_parts(transaction, staged.number, 0, staged.parts.as_slice())
+    Ok(())
 }
 
-fn is_batch<S: Alter>(transaction: &mut Transaction<'_, S>, number: u64) -> Result<bool, Error> {
-    let batches: i64 = transaction
-        .query_row(COUNT_BATCHES, params![integer(number)])?
-        .get(0)?;
-    Ok(batches != 0)
-}
-
-/// The place of a batch's last part; 0 where it has none.
+/// The place of a batch's last part in the table; 0 where it has none.
 fn last_place<S: Alter>(transaction: &mut Transaction<'_, S>, number: u64) -> Result<i64, Error> {
     let mut answer = transaction.query(LAST_PLACE, params![integer(number)])?;
     match answer.next()? {
@@ -227,79 +189,59 @@ fn last_place<S: Alter>(transaction: &mut Transaction<'_, S>, number: u64) -> Re
     }
 }
 
-/// Writes parts behind those of a batch, where there is one.
-fn append_parts<S: Alter>(
+/// Writes a batch with its parts, or, where it is in the table, the parts that come behind those there.
+fn write_batch<S: Alter>(
+    alloc: Global,
     transaction: &mut Transaction<'_, S>,
-    number: u64,
-    parts: &[Part],
-) -> Result<(), Error> {
-    if !is_batch(transaction, number)? {
-        return Ok(());
-    }
-    let last = last_place(transaction, number)?;
-    add_parts(transaction, number, last, parts)
+    staged: &Staged,
+    is_stored: bool,
+) -> Result<(), Refusal> {
+    let last = if is_stored {
+        last_place(transaction, staged.number)?
+    } else {
+        begin_batch(transaction, staged)?;
+        0
+    };
+    insert_parts(
+        alloc,
+        transaction,
+        staged.number,
+        last,
+        staged.parts.as_slice(),
+    )
 }
 
-fn end_batches<S: Alter>(
+/// Writes what commits make of batches: those of these numbers are in the table.
+fn write_batches<S: Alter>(
+    alloc: Global,
     transaction: &mut Transaction<'_, S>,
-    changes: &[BatchChange],
-) -> Result<(), Error> {
-    for change in changes {
-        if let BatchChange::End { number } = change {
-            end_batch(transaction, *number)?;
-        }
-    }
-    Ok(())
-}
-
-fn begin_batches<S: Alter>(
-    transaction: &mut Transaction<'_, S>,
-    changes: &[BatchChange],
-) -> Result<(), Error> {
-    for change in changes {
-        if let BatchChange::Begin(staged) = change {
-            begin_batch(transaction, staged)?;
-        }
-    }
-    Ok(())
-}
-
-fn append_all<S: Alter>(
-    transaction: &mut Transaction<'_, S>,
-    changes: &[BatchChange],
-) -> Result<(), Error> {
-    for change in changes {
-        if let BatchChange::Append { number, parts } = change {
-            append_parts(transaction, *number, parts.as_slice())?;
-        }
+    commits: &[Changes],
+    stored: &[u64],
+    batches: &[Staged],
+) -> Result<(), Refusal> {
+    let ended = ended(alloc, commits)?;
+    let left = going_on(alloc, &ended, stored)?;
+    end_batches(transaction, &ended, stored)?;
+    for batch in batches {
+        write_batch(alloc, transaction, batch, left.contains(&batch.number))?;
     }
     Ok(())
 }
 
-/// Writes changes of batches: first those that end, then those that begin, and then the parts that are appended.
-fn change_batches<S: Alter>(
-    transaction: &mut Transaction<'_, S>,
-    changes: &[BatchChange],
-) -> Result<(), Error> {
-    end_batches(transaction, changes)?;
-    begin_batches(transaction, changes)?;
-    append_all(transaction, changes)
-}
-
-/// Writes changes in one transaction, which is rolled back where a statement is refused.
+/// Writes what commits make of the tables. Of what they bring, `made` has what is there in the end: the rows, the times of
+/// collections, and of the batches the parts that aren't in the tables. `stored` are the numbers of the batches that are.
 pub(crate) fn write<S: Alter>(
-    connection: &mut Connection<S>,
-    changes: &Changes,
-) -> Result<(), Error> {
-    if !connection.is_autocommit() {
-        return Err(IN_TRANSACTION);
-    }
-    let mut transaction = connection.transaction();
-    drop_ended(&mut transaction, changes.moment)?;
-    drop_collections(&mut transaction, changes.collections.as_slice())?;
-    change_rows(&mut transaction, changes.rows.as_slice())?;
-    set_collections(&mut transaction, changes.collections.as_slice())?;
-    change_batches(&mut transaction, changes.batches.as_slice())?;
-    set_about(&mut transaction, changes)?;
-    transaction.commit()
+    alloc: Global,
+    transaction: &mut Transaction<'_, S>,
+    commits: &[Changes],
+    stored: &[u64],
+    made: &Kept,
+) -> Result<(), Refusal> {
+    drop_ended(transaction, last_moment(commits))?;
+    drop_collections(alloc, transaction, commits)?;
+    write_rows(alloc, transaction, commits, made.rows.as_slice())?;
+    set_collections(transaction, &made.collections)?;
+    write_batches(alloc, transaction, commits, stored, made.batches.as_slice())?;
+    set_about(transaction, made)?;
+    Ok(())
 }

@@ -31,6 +31,15 @@ impl AccountFile {
     {
         self.keeper.has_failed()
     }
+
+    /// Makes the commits that stand beside the tables to them, and lets go of the file. Where that fails they stand on,
+    /// and are made as the file is opened again.
+    pub(crate) fn settle(self, alloc: Global) {
+        let AccountFile { keeper } = self;
+        let mut keeper = keeper.into_keeper();
+        let _folded = keeper.fold(alloc).is_ok();
+        drop(keeper);
+    }
 }
 
 impl Keeper for AccountFile {

@@ -10,7 +10,7 @@ ghost use Rattle.ss_real_site.specs.Real.{no_entries, no_terms};
 use crate::account_file::AccountFile;
 use crate::trouble::Trouble;
 use sqlite::{Connection, Error, ErrorCode, File, FileStore};
-use ss_keep_sql::{SqlFault, SqlKeeper};
+use ss_keep_sql::{SqlFault, SqlKeeper, open_file};
 use ss_laws::Journal;
 use ss_links::{ServedLink, TcpPort, Traffic};
 use ss_outside::SystemClock;
@@ -138,7 +138,7 @@ impl<'a, N: Net + Clock> RealSite<'a, N> {
         ensures lent { HasLent result self.old.lent self.new.lent }
     {
         let is_new = matches!(fs::exists(self.files, path), Ok(false));
-        match Connection::open(self.files, path) {
+        match open_file(self.files, path) {
             Ok(connection) => {
                 self.made = if is_new { Some(uid) } else { None };
                 self.adopt(uid, connection)
@@ -220,7 +220,7 @@ impl<'a, N: Net + Clock> RealSite<'a, N> {
         ensures cause { HasCause result self.old.counts self.new.counts }
         ensures lent { HasLent result self.old.lent self.new.lent }
     {
-        match SqlKeeper::adopt(connection) {
+        match SqlKeeper::adopt(self.files.alloc(), connection) {
             Ok(keeper) => {
                 self.lend();
                 Ok(AccountFile::new(keeper))
@@ -229,6 +229,10 @@ impl<'a, N: Net + Clock> RealSite<'a, N> {
             Err((_, SqlFault::Version { found })) => Err(self.fail(Trouble::Version {
                 uid,
                 found,
+            })),
+            Err((_, SqlFault::Commit { number })) => Err(self.fail(Trouble::Commit {
+                uid,
+                number,
             })),
             Err((_, SqlFault::Memory)) => Err(SiteFault::Memory),
         }
@@ -300,7 +304,7 @@ impl<'a, N: Net + Clock> Site for RealSite<'a, N> {
             self.trouble = Some(Trouble::Keeper { uid });
             self.faults = self.faults.saturating_add(1);
         }
-        drop(keeper);
+        keeper.settle(self.files.alloc());
     }
 
     fn shut(&mut self, port: CountedPort<TcpPort<'a, N>>) {

@@ -28,6 +28,9 @@ pub enum Trouble {
     /// The database of an account has tables of a version that isn't known.
     Version { uid: u32, found: i64 },
 
+    /// The row of this number in the table `commits` of an account's database isn't the text of a commit.
+    Commit { uid: u32, number: i64 },
+
     /// The database of an account failed while it was open.
     Keeper { uid: u32 },
 
@@ -79,6 +82,10 @@ impl Display for Trouble {
                     "the file {uid}.db has version {found}, which this program doesn't know"
                 )
             }
+            Trouble::Commit { uid, number } => write!(
+                f,
+                "the file {uid}.db is damaged: row {number} of its table commits isn't the text of a commit"
+            ),
             Trouble::Keeper { uid } => write!(f, "the file {uid}.db failed while it was open"),
             Trouble::Port => f.write_str("the port failed while it listened"),
         }

@@ -165,7 +165,7 @@ fn in_memory(alloc: Global, exchange: &Exchange) -> anyhow::Result<Both<MemKeepe
 
 /// A keeper in a database in memory, which is empty at first.
 fn fresh(alloc: Global) -> anyhow::Result<SqlKeeper<MemStore>> {
-    match SqlKeeper::adopt(Connection::open_in_memory(alloc)?) {
+    match SqlKeeper::adopt(alloc, Connection::open_in_memory(alloc)?) {
         Ok(keeper) => Ok(keeper),
         Err((connection, fault)) => {
             drop(connection);

@@ -15,7 +15,7 @@ fn database(alloc: Global, sql: &str) -> anyhow::Result<Connection<MemStore>> {
 
 /// A keeper over a database on which statements were run.
 fn keeper(alloc: Global, sql: &str) -> anyhow::Result<SqlKeeper<MemStore>> {
-    match SqlKeeper::adopt(database(alloc, sql)?) {
+    match SqlKeeper::adopt(alloc, database(alloc, sql)?) {
         Ok(keeper) => Ok(keeper),
         Err((connection, fault)) => {
             drop(connection);
@@ -47,7 +47,7 @@ pub fn committed_to(alloc: Global, commits: &Commits, numbers: &[u64]) -> anyhow
 
 /// Why the database that statements make isn't taken, and how many tables it has when it comes back.
 pub fn refused(alloc: Global, sql: &str) -> anyhow::Result<String> {
-    match SqlKeeper::adopt(database(alloc, sql)?) {
+    match SqlKeeper::adopt(alloc, database(alloc, sql)?) {
         Ok(_) => Ok(String::from_str(alloc, "taken")?),
         Err((mut connection, fault)) => {
             let tables: i64 = connection

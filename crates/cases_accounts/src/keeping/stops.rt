@@ -35,7 +35,7 @@ fn write<S: Alter + Drop>(
         return Ok((connection, is_made));
     }
     let changes = commits.changes(alloc, number)?;
-    Ok(match SqlKeeper::adopt(connection) {
+    Ok(match SqlKeeper::adopt(alloc, connection) {
         Ok(mut keeper) => {
             let is_written = keeper.commit(alloc, &changes).is_ok();
             (keeper.into_connection(), is_written)
@@ -78,7 +78,7 @@ fn recovered(alloc: Global, mut files: Files<Stopping>) -> anyhow::Result<Vec<St
     let Ok(connection) = Connection::open_files(alloc, files, Options::new(7)) else {
         return Ok(Vec::new(alloc));
     };
-    match SqlKeeper::adopt(connection) {
+    match SqlKeeper::adopt(alloc, connection) {
         Ok(mut keeper) => loaded(alloc, &mut keeper),
         Err((connection, fault)) => {
             drop(connection);

@@ -6,7 +6,6 @@
 mod answers;
 mod exchanges;
 mod held;
-mod keeping;
 mod rows;
 mod words;
 
@@ -19,7 +18,6 @@ fn tell_part(rt: &HostRuntime, heading: &str, cases: &[String]) -> anyhow::Resul
         "== rows" => rows::tell_cases(rt, cases),
         "== exchanges" => exchanges::tell_cases(rt, cases),
         "== answers" => answers::tell_cases(rt, cases),
-        "== keeping" => keeping::tell_cases(rt, cases),
         _ => bail!("no part has this heading"),
     }
 }

@@ -1,7 +1,7 @@
 //! Keepers over databases in memory.
 
-use crate::keeping::commits::Commits;
-use crate::keeping::comparing::{committed, compared, loaded};
+use crate::commits::Commits;
+use crate::comparing::{Step, compared, done, loaded};
 use sqlite::{Connection, MemStore};
 use ss_keep_sql::SqlKeeper;
 use std::alloc::Global;
@@ -24,25 +24,25 @@ fn keeper(alloc: Global, sql: &str) -> anyhow::Result<SqlKeeper<MemStore>> {
     }
 }
 
-/// The statements before commits, and the commits that are left: a first one that has a database of version 1 is made
-/// by its statements.
-fn begun<'a>(commits: &'a Commits, numbers: &'a [u64]) -> (&'a str, &'a [u64]) {
-    if let Some((first, rest)) = numbers.split_first() {
+/// The statements before steps, and the steps that are left: the commit of an older database is made by its statements,
+/// as the first.
+fn begun<'a>(commits: &'a Commits, steps: &'a [Step]) -> (&'a str, &'a [Step]) {
+    if let Some((Step::Commit(first), rest)) = steps.split_first() {
         if let Some(sql) = commits.old_tables(*first) {
             return (sql, rest);
         }
     }
-    ("", numbers)
+    ("", steps)
 }
 
-/// How many commits a keeper makes, and what it then holds.
-pub fn committed_to(alloc: Global, commits: &Commits, numbers: &[u64]) -> anyhow::Result<String> {
-    let (sql, rest) = begun(commits, numbers);
+/// How many steps a keeper takes, and what it then holds.
+pub fn told(alloc: Global, commits: &Commits, steps: &[Step]) -> anyhow::Result<String> {
+    let (sql, rest) = begun(commits, steps);
     let mut keeper = keeper(alloc, sql)?;
-    let count = committed(alloc, commits, &mut keeper, rest)?;
+    let count = done(alloc, commits, &mut keeper, rest)?;
     let found = loaded(alloc, &mut keeper)?;
-    let compared = compared(alloc, commits, numbers, found.as_slice())?;
-    Ok(format!(in alloc; "{count} of {} committed, {compared}", rest.len())?)
+    let compared = compared(alloc, commits, steps, found.as_slice())?;
+    Ok(format!(in alloc; "{count} of {} done, {compared}", rest.len())?)
 }
 
 /// Why the database that statements make isn't taken, and how many tables it has when it comes back.

@@ -85,7 +85,9 @@ fn row_changes(alloc: Global, words: &str) -> anyhow::Result<RowChanges> {
     }
     let mut changes = Vec::new(alloc);
     for word in words.split('|') {
-        changes.push(row_change(alloc, word)?)?;
+        if !word.is_empty() {
+            changes.push(row_change(alloc, word)?)?;
+        }
     }
     Ok(RowChanges::new(changes))
 }
@@ -105,7 +107,9 @@ fn time_change(alloc: Global, word: &str) -> anyhow::Result<CollectionChange> {
 fn time_changes(alloc: Global, words: &str) -> anyhow::Result<CollectionChanges> {
     let mut changes = Vec::new(alloc);
     for word in words.split('|') {
-        changes.push(time_change(alloc, word)?)?;
+        if !word.is_empty() {
+            changes.push(time_change(alloc, word)?)?;
+        }
     }
     Ok(CollectionChanges::new(changes))
 }
@@ -196,8 +200,8 @@ struct Commit {
 #[derive(Drop)]
 pub struct Commits {
     commits: Vec<Commit>,
-    /// The number of a commit, and the statements that make a database of version 1 with what it makes.
-    old: Option<(u64, String)>,
+    /// Numbers of commits, and the statements that make a database of an older version with what each makes.
+    old: Vec<(u64, String)>,
 }
 
 /// The text at a place of a line.
@@ -210,7 +214,7 @@ impl Commits {
     pub fn new(alloc: Global) -> Commits {
         Commits {
             commits: Vec::new(alloc),
-            old: None,
+            old: Vec::new(alloc),
         }
     }
 
@@ -225,21 +229,23 @@ impl Commits {
         Ok(())
     }
 
-    /// Takes statements that make a database of version 1 with what the last commit makes.
+    /// Takes statements that make a database of an older version with what the last commit makes.
     pub fn add_old(&mut self, alloc: Global, sql: &str) -> anyhow::Result<()> {
         let Some(last) = self.commits.len().checked_sub(1) else {
             bail!("no commit");
         };
-        self.old = Some((last as u64, String::from_str(alloc, sql)?));
+        self.old.push((last as u64, String::from_str(alloc, sql)?))?;
         Ok(())
     }
 
-    /// The statements that make a database of version 1 with what a commit makes, where there are such.
+    /// The statements that make a database of an older version with what a commit makes, where there are such.
     pub fn old_tables(&self, number: u64) -> Option<&str> {
-        match &self.old {
-            Some((old, sql)) if *old == number => Some(sql.as_str()),
-            _ => None,
+        for old in &self.old {
+            if old.0 == number {
+                return Some(old.1.as_str());
+            }
         }
+        None
     }
 
     /// The changes of a commit. Its moment isn't its store's time, and the last deletion is later than both.

@@ -1,7 +1,7 @@
 //! Keepers over files, in a folder of their own, which isn't there before nor behind a case.
 
-use crate::keeping::commits::Commits;
-use crate::keeping::comparing::{committed, compared, loaded};
+use crate::commits::Commits;
+use crate::comparing::{Step, compared, done, loaded};
 use anyhow::{Context, bail};
 use sqlite::Connection;
 use ss_keep_sql::{SqlFault, SqlKeeper};
@@ -14,10 +14,13 @@ const FILE: &str = "keeping/a.db";
 
 const NO_DATABASE: &str = "no database at all";
 
-/// Opens a file, makes a commit and closes it.
-fn written(rt: &HostRuntime, commits: &Commits, number: u64) -> anyhow::Result<usize> {
+/// Indexes that SQLite makes for keys have no statement.
+const NAMED: &str = "SELECT name FROM sqlite_schema WHERE sql IS NOT NULL ORDER BY name";
+
+/// Opens a file, takes a step and closes it.
+fn written(rt: &HostRuntime, commits: &Commits, step: Step) -> anyhow::Result<usize> {
     let mut keeper = SqlKeeper::open(rt, FILE)?;
-    let count = committed(rt.alloc(), commits, &mut keeper, &[number])?;
+    let count = done(rt.alloc(), commits, &mut keeper, &[step])?;
     keeper.into_connection().close()?;
     Ok(count)
 }
@@ -30,29 +33,29 @@ fn opened(rt: &HostRuntime, path: &str) -> anyhow::Result<Result<Vec<String>, Sq
     }
 }
 
-/// What opening a file answers, and whether it then holds what a keeper in memory does after commits.
+/// What opening a file answers, and whether it then holds what a keeper in memory does after steps.
 fn told_opened(
     rt: &HostRuntime,
     commits: &Commits,
     path: &str,
-    numbers: &[u64],
+    steps: &[Step],
 ) -> anyhow::Result<String> {
     match opened(rt, path)? {
-        Ok(found) => compared(rt.alloc(), commits, numbers, found.as_slice()),
+        Ok(found) => compared(rt.alloc(), commits, steps, found.as_slice()),
         Err(fault) => Ok(format!(in rt.alloc(); "{fault:?}")?),
     }
 }
 
-/// Makes commits to a file that is closed after each, and tells what it holds when it is opened again.
-fn reopened(rt: &HostRuntime, commits: &Commits, numbers: &[u64]) -> anyhow::Result<String> {
+/// Takes steps over a file that is closed after each, and tells what it holds when it is opened again.
+fn reopened(rt: &HostRuntime, commits: &Commits, steps: &[Step]) -> anyhow::Result<String> {
     let mut line = String::new(rt.alloc());
-    for at in 0..numbers.len() {
-        let (front, _) = numbers.split_at(at + 1);
-        let last = front.last().context("a commit")?;
+    for at in 0..steps.len() {
+        let (front, _) = steps.split_at(at + 1);
+        let last = front.last().context("a step")?;
         let count = written(rt, commits, *last)?;
         let told = told_opened(rt, commits, FILE, front)?;
         let mark = if at == 0 { "" } else { "; " };
-        line.push_str(format!(in rt.alloc(); "{mark}{count} committed, {told}")?.as_str())?;
+        line.push_str(format!(in rt.alloc(); "{mark}{count} done, {told}")?.as_str())?;
     }
     Ok(line)
 }
@@ -77,32 +80,58 @@ fn opened_text(rt: &HostRuntime, commits: &Commits) -> anyhow::Result<String> {
     Ok(format!(in rt.alloc(); "{told}, the file {left}")?)
 }
 
-/// The version that a file tells, and how many of the two tables of batches it has.
+/// The version that a file tells, and the names of its tables and indexes.
 fn version_of(rt: &HostRuntime) -> anyhow::Result<String> {
+    let alloc = rt.alloc();
     let mut connection = Connection::open(rt, FILE)?;
     let version: i64 = connection
         .query_row("SELECT version FROM about", &[])?
         .get(0)?;
-    let tables: i64 = connection
-        .query_row(
-            "SELECT count(*) FROM sqlite_schema WHERE name IN ('batches', 'parts')",
-            &[],
-        )?
-        .get(0)?;
+    let mut told = format!(in alloc; "version {version} with")?;
+    for values in connection.query_all(NAMED, &[])? {
+        let name: String = values.get(0)?;
+        told.push_str(format!(in alloc; " {name}")?.as_str())?;
+    }
     connection.close()?;
-    Ok(format!(in rt.alloc(); "version {version} with {tables} tables of batches")?)
+    Ok(told)
 }
 
-/// The version of a file before and after it is opened, whose statements make what a commit makes.
-fn upgraded(rt: &HostRuntime, commits: &Commits, number: u64) -> anyhow::Result<String> {
-    let sql = commits.old_tables(number).context("tables of version 1")?;
+/// Makes a file by the statements of an older database.
+fn make_old(rt: &HostRuntime, commits: &Commits, step: Step) -> anyhow::Result<()> {
+    let Step::Commit(number) = step else {
+        bail!("no commit");
+    };
+    let sql = commits.old_tables(number).context("older tables")?;
     let mut connection = Connection::open(rt, FILE)?;
     connection.execute_batch(sql)?;
     connection.close()?;
+    Ok(())
+}
+
+/// The version of a file before and after it is opened, whose statements make what a commit makes.
+fn upgraded(rt: &HostRuntime, commits: &Commits, step: Step) -> anyhow::Result<String> {
+    make_old(rt, commits, step)?;
     let before = version_of(rt)?;
-    let told = told_opened(rt, commits, FILE, &[number])?;
+    let told = told_opened(rt, commits, FILE, &[step])?;
     let after = version_of(rt)?;
     Ok(format!(in rt.alloc(); "{before}; {told}; {after}")?)
+}
+
+/// The bytes of a page, as the header of a file that was closed says: in its bytes 16 and 17.
+fn page_bytes(rt: &HostRuntime) -> anyhow::Result<String> {
+    let keeper = SqlKeeper::open(rt, FILE)?;
+    keeper.into_connection().close()?;
+    let bytes = fs::read(rt, FILE)?;
+    let high = bytes.get(16).context("a header")?;
+    let low = bytes.get(17).context("a header")?;
+    let size = u32::from(*high) * 256 + u32::from(*low);
+    Ok(format!(in rt.alloc(); "{size}")?)
+}
+
+/// The bytes of a page of a file that an older program made.
+fn old_page_bytes(rt: &HostRuntime, commits: &Commits, step: Step) -> anyhow::Result<String> {
+    make_old(rt, commits, step)?;
+    page_bytes(rt)
 }
 
 /// What a case tells in its folder.
@@ -110,11 +139,13 @@ fn told_inside(
     rt: &HostRuntime,
     commits: &Commits,
     kind: &str,
-    numbers: &[u64],
+    steps: &[Step],
 ) -> anyhow::Result<String> {
-    match (kind, numbers) {
-        ("file", numbers) => reopened(rt, commits, numbers),
-        ("old-file", [number]) => upgraded(rt, commits, *number),
+    match (kind, steps) {
+        ("file", steps) => reopened(rt, commits, steps),
+        ("old-file", [step]) => upgraded(rt, commits, *step),
+        ("page-size", []) => page_bytes(rt),
+        ("page-size", [step]) => old_page_bytes(rt, commits, *step),
         ("file-twice", []) => opened_twice(rt, commits),
         ("text-file", []) => opened_text(rt, commits),
         ("folder", []) => told_opened(rt, commits, FOLDER, &[]),
@@ -128,11 +159,11 @@ pub fn told(
     rt: &HostRuntime,
     commits: &Commits,
     kind: &str,
-    numbers: &[u64],
+    steps: &[Step],
 ) -> anyhow::Result<String> {
     let _ = fs::remove_dir_all(rt, FOLDER);
     fs::create_dir(rt, FOLDER)?;
-    let told = told_inside(rt, commits, kind, numbers)?;
+    let told = told_inside(rt, commits, kind, steps)?;
     fs::remove_dir_all(rt, FOLDER)?;
     Ok(told)
 }

@@ -7,7 +7,7 @@ use Rattle.std.proofs.lemmas.List.{take_all}
 use Rattle.std.proofs.lemmas.List.Sums.{split_at_first, passes_at_first}
 use Rattle.ss_words.specs.declared.names.Name.{Name}
 use Rattle.ss_words.specs.declared.names.OptionName.{OptionName}
-use Rattle.ss_words.specs.declared.names.OptionName.TheVariants.{At, Newer, Workers, Connections, Terms, Firefox}
+use Rattle.ss_words.specs.declared.names.OptionName.TheVariants.{At, Newer, Workers, Connections, Terms, Firefox, Journal, From}
 use Rattle.ss_words.specs.declared.lines.Place.TheVariants.{Between, Value, Behind}
 use Rattle.ss_words.specs.Names.{option_text, option_of, takes, has_value}
 use Rattle.ss_words.specs.Lines.{Line, is_dashed}
@@ -36,8 +36,10 @@ named text x y h = same_text text (option_text x) h.0 ∙ ap option_text (sym h.
 option_is : (text : List ℕ) (option : OptionName) → option_of text ≡ Some option → text ≡ option_text option
 unfolding option_of
 option_is text option e =
-    let last : Option OptionName = cond (bytes_eq text (codes "--firefox")) (Some Firefox) None in
-    let fifth : Option OptionName = cond (bytes_eq text (codes "--terms")) (Some Terms) last in
+    let last : Option OptionName = cond (bytes_eq text (codes "--from")) (Some From) None in
+    let seventh : Option OptionName = cond (bytes_eq text (codes "--journal")) (Some Journal) last in
+    let sixth : Option OptionName = cond (bytes_eq text (codes "--firefox")) (Some Firefox) seventh in
+    let fifth : Option OptionName = cond (bytes_eq text (codes "--terms")) (Some Terms) sixth in
     let fourth : Option OptionName = cond (bytes_eq text (codes "--connections")) (Some Connections) fifth in
     let third : Option OptionName = cond (bytes_eq text (codes "--workers")) (Some Workers) fourth in
     let second : Option OptionName = cond (bytes_eq text (codes "--newer")) (Some Newer) third in
@@ -49,11 +51,17 @@ option_is text option e =
           | inl h ↦ named text Workers option h
           | inr e ↦ elim (choice (bytes_eq text (codes "--connections")) Connections fifth option e) [
             | inl h ↦ named text Connections option h
-            | inr e ↦ elim (choice (bytes_eq text (codes "--terms")) Terms last option e) [
+            | inr e ↦ elim (choice (bytes_eq text (codes "--terms")) Terms sixth option e) [
               | inl h ↦ named text Terms option h
-              | inr e ↦ elim (choice (bytes_eq text (codes "--firefox")) Firefox None option e) [
+              | inr e ↦ elim (choice (bytes_eq text (codes "--firefox")) Firefox seventh option e) [
                 | inl h ↦ named text Firefox option h
-                | inr e ↦ cc
+                | inr e ↦ elim (choice (bytes_eq text (codes "--journal")) Journal last option e) [
+                  | inl h ↦ named text Journal option h
+                  | inr e ↦ elim (choice (bytes_eq text (codes "--from")) From None option e) [
+                    | inl h ↦ named text From option h
+                    | inr e ↦ cc
+                  ]
+                ]
               ]
             ]
           ]

@@ -3,7 +3,7 @@ use Rattle.std.specs.Prelude.{◌≡◌, ℕ, ◌<◌, Bool, true, false, cond, 
 use Rattle.std.proofs.Common.{sym, ap, ◌∙◌, arith, lt-ltb}
 use Rattle.ss_words.specs.declared.names.Name.{Name}
 use Rattle.ss_words.specs.declared.names.OptionName.{OptionName}
-use Rattle.ss_words.specs.declared.names.OptionName.TheVariants.{At, Newer, Workers, Connections, Terms, Firefox}
+use Rattle.ss_words.specs.declared.names.OptionName.TheVariants.{At, Newer, Workers, Connections, Terms, Firefox, Journal, From}
 use Rattle.ss_words.specs.declared.lines.Place.TheVariants.{Between, Value, Behind}
 use Rattle.ss_words.specs.Names.{option_text, option_of, takes, has_value}
 use Rattle.ss_words.specs.Lines.{Line, is_dashed}
@@ -33,6 +33,8 @@ apart_step name line Workers t v = ap (λ b. cond b (Some (at (Value Workers) li
 apart_step name line Connections t v = ap (λ b. cond b (Some (at (Value Connections) line)) None) t
 apart_step name line Terms t v = ap (λ b. cond b (Some (at (Value Terms) line)) None) t
 apart_step name line Firefox t v = cc
+apart_step name line Journal t v = ap (λ b. cond b (Some (at (Value Journal) line)) None) t
+apart_step name line From t v = ap (λ b. cond b (Some (at (Value From) line)) None) t
 
 pub bare_step : (name : Name) (line : Line) (option : OptionName) → takes name option ≡ true → has_value option ≡ false → between name line (option_text option) ≡ Some (at Between (with_option line option []))
 unfolding option_of
@@ -42,6 +44,8 @@ bare_step name line Workers t v = cc
 bare_step name line Connections t v = cc
 bare_step name line Terms t v = cc
 bare_step name line Firefox t v = ap (λ b. cond b (Some (at Between (with_option line Firefox []))) None) t
+bare_step name line Journal t v = cc
+bare_step name line From t v = cc
 
 -- the value in a word of an option with a value
 joined_value : (k : ℕ) (word value : List ℕ) → k < length word → cond (nat_lt k (length word)) (Some value) None ≡ Some value
@@ -59,3 +63,5 @@ joined_step name line Workers value t v = joined_by name line Workers _ value t 
 joined_step name line Connections value t v = joined_by name line Connections _ value t (joined_value 13 (codes "--connections=" ++ value) value (omega arith))
 joined_step name line Terms value t v = joined_by name line Terms _ value t (joined_value 7 (codes "--terms=" ++ value) value (omega arith))
 joined_step name line Firefox value t v = cc
+joined_step name line Journal value t v = joined_by name line Journal _ value t (joined_value 9 (codes "--journal=" ++ value) value (omega arith))
+joined_step name line From value t v = joined_by name line From _ value t (joined_value 6 (codes "--from=" ++ value) value (omega arith))

@@ -8,9 +8,10 @@ use Rattle.ss_route.specs.declared.manner.Manner.TheVariants.{Profile, Browser}
 use Rattle.ss_town.specs.Limits.{most_connections, most_workers}
 use Rattle.ss_words.specs.declared.commands.Command.{Command}
 use Rattle.ss_words.specs.declared.commands.Command.TheVariants as asked
+use Rattle.ss_words.specs.declared.commands.LogFolder.{LogFolder}
 use Rattle.ss_words.specs.declared.names.Name.{Name}
 use Rattle.ss_words.specs.declared.names.Name.TheVariants.{Answer, Edit, Merge, Rehearse, Sync, Serve}
-use Rattle.ss_words.specs.declared.names.OptionName.TheVariants.{At, Newer, Workers, Connections, Terms, Firefox}
+use Rattle.ss_words.specs.declared.names.OptionName.TheVariants.{At, Newer, Workers, Connections, Terms, Firefox, Journal, From}
 use Rattle.ss_words.specs.Names.{name_of}
 use Rattle.ss_words.specs.Lines.{Line, IsLine}
 use Rattle.ss_words.specs.Values.{given, number_in, number_given, accounts_of, are_accounts}
@@ -57,9 +58,23 @@ abbrev pub manner_of : Option (List ℕ) → Manner
 manner_of None = Profile
 manner_of (Some value) = Browser
 
+-- the greatest number of the first term whose logs are kept
+abbrev pub most_from : ℕ
+most_from = 999999
+
+-- where the logs of terms are kept: a folder has a name, and a number stands only beside a folder
+abbrev pub logs_of : Option (List ℕ) → Option ℕ → Option (Option LogFolder)
+logs_of None None = Some None
+logs_of None (Some from) = None
+logs_of (Some []) from = None
+logs_of (Some (byte ∷ bytes)) from = Some (Some (record { folder = byte ∷ bytes; from = unwrap_or from 1 }))
+
+unfoldable pub logs_in : Line → Option (Option LogFolder)
+logs_in line = option_and_then (λ from. option_and_then (λ folder. logs_of folder from) (given Journal line)) (number_given From 1 most_from line)
+
 -- `serve ADDRESS FOLDER UID ..`
-abbrev pub serve_words : ℕ → ℕ → ℕ → Manner → List (List ℕ) → Option Command
-serve_words workers connections terms manner (address ∷ folder ∷ uids) =
+abbrev pub serve_words : ℕ → ℕ → ℕ → Manner → Option LogFolder → List (List ℕ) → Option Command
+serve_words workers connections terms manner logs (address ∷ folder ∷ uids) =
     option_map (λ uids. asked.Serve (record {
       address = address;
       folder = folder;
@@ -68,14 +83,15 @@ serve_words workers connections terms manner (address ∷ folder ∷ uids) =
       connections = connections;
       terms = terms;
       manner = manner;
+      logs = logs;
     })) (accounts_of uids)
-serve_words workers connections terms manner _ = None
+serve_words workers connections terms manner logs _ = None
 
 unfoldable pub serve_in : Line → Option Command
 serve_in line =
-    option_and_then (λ workers. option_and_then (λ connections. option_and_then (λ terms. option_and_then (λ firefox.
-    serve_words (unwrap_or workers 4) (unwrap_or connections 100) (unwrap_or terms 0) (manner_of firefox) line.positionals)
-    (given Firefox line)) (number_given Terms 0 most line)) (number_given Connections 1 most_connections line)) (number_given Workers 1 most_workers line)
+    option_and_then (λ workers. option_and_then (λ connections. option_and_then (λ terms. option_and_then (λ firefox. option_and_then (λ logs.
+    serve_words (unwrap_or workers 4) (unwrap_or connections 100) (unwrap_or terms 0) (manner_of firefox) logs line.positionals)
+    (logs_in line)) (given Firefox line)) (number_given Terms 0 most line)) (number_given Connections 1 most_connections line)) (number_given Workers 1 most_workers line)
 
 -- what the line of a command asks
 abbrev pub command_in : Name → Line → Option Command
@@ -91,6 +107,10 @@ abbrev pub HasAddress : Command → Type 0
 HasAddress (asked.Serve command) = (address : SocketAddrV4) × IsSocketV4Text command.address address
 HasAddress _ = ⊤
 
+-- the range of the number of the first term whose logs are kept
+abbrev pub HasNumber : LogFolder → Type 0
+HasNumber logs = (1 ≤ logs.from) × (logs.from ≤ most_from)
+
 -- the ranges of the numbers of a command, its accounts, and the host of its server
 abbrev pub HasRange : Command → Type 0
 HasRange (asked.Answer command) = IfSome command.at (λ at. at ≤ most)
@@ -99,7 +119,7 @@ HasRange asked.Merge = ⊤
 HasRange (asked.Rehearse command) = (1 ≤ command.items) × (command.items ≤ 15000) × (command.seed ≤ most)
 HasRange (asked.Sync command) = HasHost command.server
 HasRange (asked.Serve command) =
-    (1 ≤ command.workers) × (command.workers ≤ most_workers) × (1 ≤ command.connections) × (command.connections ≤ most_connections) × (command.terms ≤ most) × (are_accounts command.uids ≡ true)
+    (1 ≤ command.workers) × (command.workers ≤ most_workers) × (1 ≤ command.connections) × (command.connections ≤ most_connections) × (command.terms ≤ most) × (are_accounts command.uids ≡ true) × IfSome command.logs HasNumber
 
 -- the words behind a command's name ask this
 pub record AsksOf (name : Name) (words : List (List ℕ)) (command : Command) : Type 0 where

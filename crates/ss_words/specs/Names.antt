@@ -3,7 +3,7 @@ use Rattle.std.specs.Prelude.{ℕ, Bool, true, false, List, Option, Some, None, 
 use Rattle.ss_words.specs.declared.names.Name.{Name}
 use Rattle.ss_words.specs.declared.names.Name.TheVariants.{Answer, Edit, Merge, Rehearse, Sync, Serve}
 use Rattle.ss_words.specs.declared.names.OptionName.{OptionName}
-use Rattle.ss_words.specs.declared.names.OptionName.TheVariants.{At, Newer, Workers, Connections, Terms, Firefox}
+use Rattle.ss_words.specs.declared.names.OptionName.TheVariants.{At, Newer, Workers, Connections, Terms, Firefox, Journal, From}
 
 -- a command's name
 abbrev pub name_text : Name → List ℕ
@@ -32,6 +32,8 @@ option_text Workers = codes "--workers"
 option_text Connections = codes "--connections"
 option_text Terms = codes "--terms"
 option_text Firefox = codes "--firefox"
+option_text Journal = codes "--journal"
+option_text From = codes "--from"
 
 -- the option that a text writes
 unfoldable pub option_of : List ℕ → Option OptionName
@@ -41,7 +43,9 @@ option_of text =
     else (if bytes_eq text (codes "--workers") then Some Workers
     else (if bytes_eq text (codes "--connections") then Some Connections
     else (if bytes_eq text (codes "--terms") then Some Terms
-    else (if bytes_eq text (codes "--firefox") then Some Firefox else None)))))
+    else (if bytes_eq text (codes "--firefox") then Some Firefox
+    else (if bytes_eq text (codes "--journal") then Some Journal
+    else (if bytes_eq text (codes "--from") then Some From else None)))))))
 
 -- the options of each command
 abbrev pub takes : Name → OptionName → Bool
@@ -52,6 +56,8 @@ takes Serve Workers = true
 takes Serve Connections = true
 takes Serve Terms = true
 takes Serve Firefox = true
+takes Serve Journal = true
+takes Serve From = true
 takes _ _ = false
 
 -- whether a value belongs to an option
@@ -62,3 +68,5 @@ has_value Workers = true
 has_value Connections = true
 has_value Terms = true
 has_value Firefox = false
+has_value Journal = true
+has_value From = true

@@ -6,7 +6,7 @@ ghost use Rattle.std.specs.Option.{option_copied};
 ghost use Rattle.std.specs.declared.net.socket_addr.SocketAddrV4.{SocketAddrV4};
 ghost use Rattle.ss_town.specs.Limits.{most_connections, most_workers};
 ghost use Rattle.ss_words.specs.Refused.{IsRefused};
-ghost use Rattle.ss_words.specs.Commands.{answer_in, answer_words, edit_in, merge_words, rehearse_words, sync_in, sync_words, manner_of, serve_in, serve_words, command_in, HasAddress, HasRange, AsksOf, Asks};
+ghost use Rattle.ss_words.specs.Commands.{answer_in, answer_words, edit_in, merge_words, rehearse_words, sync_in, sync_words, manner_of, most_from, logs_of, logs_in, serve_in, serve_words, command_in, HasAddress, HasNumber, HasRange, AsksOf, Asks};
 
 use crate::actions::{Action, action_in, wrong_count};
 use crate::lines::{Line, read_line};
@@ -22,6 +22,9 @@ use std::net::SocketAddrV4;
 
 /// The greatest number of 12 digits.
 const MOST: u64 = 999_999_999_999;
+
+/// The greatest number of the first term whose logs are kept.
+const MOST_FROM: u64 = 999_999;
 
 /// `answer UID [--at N]`
 #[derive(Drop, Debug)]
@@ -65,7 +68,17 @@ pub struct SyncCommand {
     pub newer: bool,
 }
 
-/// `serve ADDRESS FOLDER UID .. [--workers N] [--connections N] [--terms N] [--firefox]`
+/// The folder that keeps the logs of a server's terms, and the number of the first term.
+#[derive(Drop, Debug)]
+pub struct LogFolder {
+    /// The name of the folder, which isn't empty.
+    pub folder: Word,
+
+    /// 1 to 999,999, 1 where nothing is said.
+    pub from: u64,
+}
+
+/// `serve ADDRESS FOLDER UID .. [--workers N] [--connections N] [--terms N] [--firefox] [--journal FOLDER [--from N]]`
 #[derive(Drop, Debug)]
 pub struct ServeCommand {
     /// An IPv4 address, a colon and a port.
@@ -88,6 +101,9 @@ pub struct ServeCommand {
 
     /// How conditions are read: as browsers mean them with `--firefox`, else by the letter of the API.
     pub manner: Manner,
+
+    /// Where the logs of terms are kept, if they are.
+    pub logs: Option<LogFolder>,
 }
 
 /// What words ask.
@@ -188,20 +204,57 @@ fn manner_of(firefox: Option<&str>) -> Manner
     }
 }
 
+/// A folder of logs, by what `--journal` and `--from` say.
+fn log_folder<'a>(
+    alloc: Global,
+    folder: &'a str,
+    from: Option<u64>,
+) -> Result<LogFolder, WordsFault<'a>>
+    requires { IfSome from (λ from. (1 ≤ from) × (from ≤ most_from)) }
+    ensures ok { IfOk result (λ logs. logs_of (Some folder.now) from ≡ Some (Some logs)) }
+    ensures range { IfOk result HasNumber }
+    ensures refused { IfErr result (λ fault. IsRefused fault → logs_of (Some folder.now) from ≡ None) }
+{
+    if folder.is_empty() {
+        return Err(WordsFault::at(Cause::NoValue, OptionName::Journal.text()));
+    }
+    Ok(LogFolder {
+        folder: copied(alloc, folder)?,
+        from: from.unwrap_or(1),
+    })
+}
+
+/// Where the logs of terms are kept, by `--journal` and `--from`.
+#[tactic(auto, unfolding(crate::specs::Commands::logs_in))]
+fn logs_in<'a>(alloc: Global, line: &Line<'a>) -> Result<Option<LogFolder>, WordsFault<'a>>
+    ensures ok { IfOk result (λ logs. logs_in line.now ≡ Some logs) }
+    ensures range { IfOk result (λ logs. IfSome logs HasNumber) }
+    ensures refused { IfErr result (λ fault. IsRefused fault → logs_in line.now ≡ None) }
+{
+    let from = number_given(line, OptionName::From, 1, MOST_FROM)?;
+    match (given(line, OptionName::Journal)?, from) {
+        (Some(folder), from) => Ok(Some(log_folder(alloc, folder, from)?)),
+        (None, Some(_)) => Err(WordsFault::at(Cause::NoJournal, OptionName::From.text())),
+        (None, None) => Ok(None),
+    }
+}
+
 fn serve_words<'a>(
     alloc: Global,
     sizes: Sizes,
     manner: Manner,
+    logs: Option<LogFolder>,
     words: &[&'a str],
 ) -> Result<Command, WordsFault<'a>>
     requires workers { (1 ≤ sizes.workers) × (sizes.workers ≤ most_workers) }
     requires connections { (1 ≤ sizes.connections) × (sizes.connections ≤ most_connections) }
     requires terms { sizes.terms ≤ 999999999999 }
+    requires logs { IfSome logs HasNumber }
     ensures ok { IfOk result (λ command. serve_words sizes.workers sizes.connections sizes.terms
-        manner (map (λ word. word.now) words.now) ≡ Some command) }
+        manner logs (map (λ word. word.now) words.now) ≡ Some command) }
     ensures range { IfOk result HasRange }
     ensures refused { IfErr result (λ fault. IsRefused fault → serve_words sizes.workers sizes.connections sizes.terms
-        manner (map (λ word. word.now) words.now) ≡ None) }
+        manner logs (map (λ word. word.now) words.now) ≡ None) }
 {
     match words {
         [address, folder, uids @ ..] => Ok(Command::Serve(ServeCommand {
@@ -212,6 +265,7 @@ fn serve_words<'a>(
             connections: sizes.connections,
             terms: sizes.terms,
             manner,
+            logs,
         })),
         _ => Err(WordsFault::missing(Cause::TooFew)),
     }
@@ -227,12 +281,13 @@ fn serve_in<'a>(alloc: Global, line: &Line<'a>) -> Result<Command, WordsFault<'a
     let connections = number_given(line, OptionName::Connections, 1, MOST_CONNECTIONS)?;
     let terms = number_given(line, OptionName::Terms, 0, MOST)?;
     let manner = manner_of(given(line, OptionName::Firefox)?);
+    let logs = logs_in(alloc, line)?;
     let sizes = Sizes {
         workers: workers.unwrap_or(4),
         connections: connections.unwrap_or(100),
         terms: terms.unwrap_or(0),
     };
-    serve_words(alloc, sizes, manner, line.positionals())
+    serve_words(alloc, sizes, manner, logs, line.positionals())
 }
 
 fn command_in<'a>(alloc: Global, name: Name, line: &Line<'a>) -> Result<Command, WordsFault<'a>>

@@ -14,7 +14,8 @@ mod values;
 
 pub use actions::Action;
 pub use commands::{
-    AnswerCommand, Command, EditCommand, RehearseCommand, ServeCommand, SyncCommand, read_command,
+    AnswerCommand, Command, EditCommand, LogFolder, RehearseCommand, ServeCommand, SyncCommand,
+    read_command,
 };
 pub use laws::words_ask_one;
 pub use lines::Place;

@@ -34,6 +34,12 @@ pub enum OptionName {
 
     /// `--firefox`, without a value: conditions are read as Firefox means them.
     Firefox,
+
+    /// `--journal FOLDER`: the logs of terms are kept there.
+    Journal,
+
+    /// `--from N`: the number of the first term whose logs are kept.
+    From,
 }
 
 impl Name {
@@ -80,6 +86,8 @@ impl Name {
                     | OptionName::Connections
                     | OptionName::Terms
                     | OptionName::Firefox
+                    | OptionName::Journal
+                    | OptionName::From
             ),
             Name::Merge | Name::Rehearse => false,
         }
@@ -99,6 +107,8 @@ impl OptionName {
             "--connections" => Some(OptionName::Connections),
             "--terms" => Some(OptionName::Terms),
             "--firefox" => Some(OptionName::Firefox),
+            "--journal" => Some(OptionName::Journal),
+            "--from" => Some(OptionName::From),
             _ => None,
         }
     }
@@ -114,6 +124,8 @@ impl OptionName {
             OptionName::Connections => "--connections",
             OptionName::Terms => "--terms",
             OptionName::Firefox => "--firefox",
+            OptionName::Journal => "--journal",
+            OptionName::From => "--from",
         }
     }
 

@@ -50,6 +50,9 @@ pub enum Cause {
 
     /// The word is no IPv4 address with a port.
     Address,
+
+    /// The number of the first logs stands there, and no folder that keeps them.
+    NoJournal,
 }
 
 /// Why words ask nothing, with the word at which that was seen.
@@ -121,6 +124,7 @@ impl Display for Cause {
             Cause::Id => "not an id, of 1 to 64 printable characters of ASCII",
             Cause::Url => "not the URL of an account, as http://host:port/1.5/UID",
             Cause::Address => "not an IPv4 address, a colon and a port, as 127.0.0.1:8000",
+            Cause::NoJournal => "it stands only beside --journal",
         })
     }
 }

@@ -7,6 +7,8 @@ use ss_real_site::RealSite;
 use ss_site::{Site, SiteFault};
 use ss_words::{Command, ServeCommand, read_command};
 use std::alloc::{AllocError, Global};
+use std::sync::Wait;
+use std::thread::{Builder, JoinHandle, Threads};
 
 /// Whether the address of a server can be listened at; else the status. The folder isn't made before that is known.
 fn try_address(
@@ -51,6 +53,47 @@ fn try_memory(system: &HostRuntime, command: &ServeCommand) -> Result<(), u8> {
     Ok(())
 }
 
+/// Waits for threads, and tells how many there were.
+fn join_all(rt: &(impl Threads + Wait), threads: Vec<JoinHandle<u8>>) -> u64 {
+    let mut count = 0;
+    for thread in threads {
+        let _ = thread.join(rt);
+        count += 1;
+    }
+    count
+}
+
+/// Whether so many threads can be there at once. They do nothing.
+fn can_start(rt: &(impl Threads + Wait), alloc: Global, count: u64) -> bool {
+    let Ok(mut threads) = Vec::with_capacity(alloc, count as usize) else {
+        return false;
+    };
+    for _ in 0..count {
+        match Builder::new().spawn(rt, || 0u8) {
+            Ok(thread) => threads.push_reserved(thread),
+            Err(_) => break,
+        }
+    }
+    join_all(rt, threads) == count
+}
+
+/// Whether a thread can be started for each worker of a server; else the status. Where none can, a server accepts all
+/// connections of a term before it serves the first of them.
+fn try_threads(
+    system: &HostRuntime,
+    rt: &(impl Threads + Wait),
+    command: &ServeCommand,
+) -> Result<(), u8> {
+    if can_start(rt, system.alloc(), command.workers) {
+        return Ok(());
+    }
+    let _ = eprintln!(system;
+        "syncstore: no thread can be started for each of {} workers",
+        command.workers
+    );
+    Err(8)
+}
+
 /// Whether the word for a server's folder names one; else the status.
 fn try_folder(system: &HostRuntime, command: &ServeCommand) -> Result<(), u8> {
     if command.folder.as_str().is_empty() {
@@ -64,6 +107,7 @@ fn try_folder(system: &HostRuntime, command: &ServeCommand) -> Result<(), u8> {
 /// status. Of words that ask for no server nothing is said.
 pub fn prepare(
     system: &HostRuntime,
+    rt: &(impl Threads + Wait),
     site: &mut RealSite<'_, HostRuntime>,
     words: &[String],
 ) -> Result<(), u8> {
@@ -71,6 +115,7 @@ pub fn prepare(
         Ok(Command::Serve(command)) => {
             try_folder(system, &command)?;
             try_memory(system, &command)?;
+            try_threads(system, rt, &command)?;
             try_address(system, site, &command)?;
             tell_limits(system, command.uids.as_slice().len() as u64);
             Ok(())

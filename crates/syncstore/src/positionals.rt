@@ -80,12 +80,14 @@ pub fn form_of(name: Name, positionals: &[&str]) -> &'static str {
     }
 }
 
-/// The numbers that an option takes.
+/// What an option takes: which numbers, or what kind of name.
 pub fn numbers_of(option: OptionName) -> &'static str {
     match option {
         OptionName::Workers => "--workers takes a number from 1 to 16",
         OptionName::Connections => "--connections takes a number from 1 to 1000",
         OptionName::Terms => "--terms takes a number from 0 to 999999999999",
+        OptionName::From => "--from takes a number from 1 to 999999",
+        OptionName::Journal => "--journal takes the name of a folder",
         _ => "--at takes a number from 0 to 999999999999",
     }
 }
@@ -100,7 +102,11 @@ fn is_rehearsed(word: &str) -> bool {
 
 /// The numbers that `serve` takes where this word stands as an option's value.
 fn numbers_served(words: &[String], word: &str) -> &'static str {
-    for option in [OptionName::Workers, OptionName::Connections] {
+    for option in [
+        OptionName::Workers,
+        OptionName::Connections,
+        OptionName::From,
+    ] {
         if value_of(words, option) == Some(word) {
             return numbers_of(option);
         }

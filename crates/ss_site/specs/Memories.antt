@@ -1,5 +1,6 @@
 -- What a site in memory counts and tells.
-use Rattle.std.specs.Prelude.{List, Option, Some, None, map, string_bytes, if◌then◌else◌}
+use Rattle.std.specs.Prelude.{List, Option, Some, None, map, option_map, string_bytes, if◌then◌else◌}
+use Rattle.ss_links.specs.Stores.{Files, files_of}
 use Rattle.ss_site.specs.declared.memory_site.KeptTerm.{KeptTerm}
 use Rattle.ss_site.specs.declared.memory_site.MemSite.{MemSite}
 use Rattle.ss_site.specs.Sites.{Counts, Lent, Term, Entries}
@@ -20,3 +21,6 @@ module _ {T : Type 0} where
 
   abbrev pub site_kept : MemSite T → Option Entries
   site_kept s = if s.is_told then Some (entries_of s.table) else None
+
+  abbrev pub site_logs : MemSite T → Option Files
+  site_logs s = option_map (λ store. files_of store.entries) s.logs

@@ -9,15 +9,15 @@ use Rattle.ss_links.specs.Ports.{Accepts}
 use Rattle.ss_site.specs.declared.site.SiteFault.{SiteFault}
 use Rattle.ss_site.specs.declared.site.SiteFault.TheVariants.{Fault, Memory}
 
--- what a site counts: its calls that failed, and the keepers and ports that came back after a fault; the links of the ports that
--- were shut; those of these ports that had ended; and how often these ports rested
+-- what a site counts: its calls that failed, and the keepers, ports and stores that came back after a fault; the links of the ports
+-- that were shut; those of these ports that had ended; and how often these ports rested
 pub record Counts : Type 0 where
   pub faults : ℕ
   pub links : ℕ
   pub ends : ℕ
   pub rests : ℕ
 
--- how many keepers and ports a site gave, and how many of them came back; and the address of each port that it gave, in order
+-- how many keepers, ports and stores a site gave, and how many of them came back; and the address of each port that it gave, in order
 pub record Lent : Type 0 where
   pub given : ℕ
   pub back : ℕ
@@ -38,7 +38,7 @@ HasCause (Ok value) old new = new ≡ old
 HasCause (Err Fault) old new = Rose old.faults new.faults × (new.links ≡ old.links) × (new.ends ≡ old.ends) × (new.rests ≡ old.rests)
 HasCause (Err Memory) old new = new ≡ old
 
--- a keeper was given where the answer is one, and nothing where it is a fault
+-- a keeper or a store was given where the answer is one, and nothing where it is a fault
 abbrev pub HasLent : {T : Type 0} → Result T SiteFault → Lent → Lent → Type 0
 HasLent (Ok value) old new = RoseBy 1 old.given new.given × (new.back ≡ old.back) × (new.addresses ≡ old.addresses)
 HasLent (Err why) old new = new ≡ old
@@ -79,6 +79,10 @@ pub record CountsKeeper (n : ℕ) (old new : Counts) : Type 0 where
   pub links : new.links ≡ old.links
   pub ends : new.ends ≡ old.ends
   pub rests : new.rests ≡ old.rests
+
+-- the counts after a store came back that had failed so often: as after a keeper
+abbrev pub CountsStore : ℕ → Counts → Counts → Type 0
+CountsStore n old new = CountsKeeper n old new
 
 -- the counts after a port was shut
 pub record CountsPort (port : Accepts) (old new : Counts) : Type 0 where

@@ -1,19 +1,22 @@
 //! A site in memory.
 
-ghost use Rattle.std.specs.Prelude.{◌≡◌, ◌⊎◌, ℕ, [], Some, None, IfOk, IfErr, OnOk, OnErr, map};
+ghost use Rattle.std.specs.Prelude.{◌≡◌, ◌⊎◌, ℕ, [], Some, None, IfOk, IfErr, OnOk, OnErr, map, option_and_then};
+ghost use Rattle.std.specs.Option.{option_copied};
 ghost use Rattle.ss_links.specs.Counts.{RoseBy};
-ghost use Rattle.ss_site.specs.Sites.{Counts, Lent, Term, HasCause, HasLent, IsBack, IsEntry, HasRetired, CountsKeeper, CountsPort, AddsTerm};
-ghost use Rattle.ss_site.specs.Memories.{site_counts, site_lent, site_terms, site_kept};
+ghost use Rattle.ss_links.specs.Stores.{Files, files_of};
+ghost use Rattle.ss_site.specs.Sites.{Counts, Lent, Term, HasCause, HasLent, IsBack, IsEntry, HasRetired, CountsKeeper, CountsPort, CountsStore, AddsTerm};
+ghost use Rattle.ss_site.specs.Memories.{site_counts, site_lent, site_terms, site_kept, site_logs};
 ghost use Rattle.ss_site.specs.Tables.{entries_of, held_of};
 
 use crate::counted_keeper::CountedKeeper;
 use crate::counted_port::CountedPort;
+use crate::counted_store::CountedStore;
 use crate::site::{Site, SiteFault};
 use crate::table::Table;
 use ss_bso::Kept;
 use ss_keeper::{KeepFault, MemKeeper};
 use ss_laws::Journal;
-use ss_links::MemPort;
+use ss_links::{MemPort, MemStore};
 use ss_outside::{CountClock, Faults, Numbered};
 use std::alloc::{AllocError, Global};
 
@@ -25,7 +28,8 @@ pub struct KeptTerm<T> {
 }
 
 /// A site in memory. It gives its ports in order; past the last one a call of `listen` is a fault. It tells what is
-/// kept as long as keepers come back to the folder and uid of which they came, and all terms.
+/// kept as long as keepers come back to the folder and uid of which they came, and all terms. It has one store of logs,
+/// whatever the folder, and tells the logs while that isn't out; while it is, a call of `log` is a fault.
 #[derive(Drop)]
 pub struct MemSite<T> {
     // From the last one to the next one.
@@ -34,6 +38,8 @@ pub struct MemSite<T> {
     table: Table,
     is_told: bool,
     terms: Vec<KeptTerm<T>>,
+    // None as long as the store that holds them is out.
+    logs: Option<MemStore>,
     faults: u64,
     links: u64,
     ends: u64,
@@ -48,8 +54,8 @@ pub struct MemSite<T> {
 
 impl<T> MemSite<T> {
     /// A site that gives these ports and clocks that count from `first`, and keeps these entries: of several under one
-    /// folder and uid the first counts, and where there is none a fresh one is kept. The calls of `listen`, `keeper`
-    /// and `ended` with the numbers `failing` fail, counted together from 1.
+    /// folder and uid the first counts, and where there is none a fresh one is kept. The calls of `listen`, `keeper`,
+    /// `log` and `ended` with the numbers `failing` fail, counted together from 1.
     pub fn new(
         alloc: Global,
         mut ports: Vec<MemPort>,
@@ -61,6 +67,7 @@ impl<T> MemSite<T> {
         ensures lent { IfOk result (λ site. site_lent site ≡ record { given = 0; back = 0; addresses = [] }) }
         ensures terms { IfOk result (λ site. site_terms site ≡ Some []) }
         ensures kept { IfOk result (λ site. site_kept site ≡ Some (entries_of (map held_of kept.items))) }
+        ensures logs { IfOk result (λ site. site_logs site ≡ Some (files_of [])) }
     {
         let mut table = Table::new(alloc);
         for (folder, uid, kept) in kept {
@@ -73,6 +80,7 @@ impl<T> MemSite<T> {
             table,
             is_told: true,
             terms: Vec::new(alloc),
+            logs: Some(MemStore::new(Vec::new(alloc), Vec::new(alloc))),
             faults: 0,
             links: 0,
             ends: 0,
@@ -85,16 +93,39 @@ impl<T> MemSite<T> {
         })
     }
 
-    /// The same site, whose calls of `listen`, `keeper` and `ended` with the numbers `wanting` find no memory, unless
-    /// they fail.
+    /// The same site, whose calls of `listen`, `keeper`, `log` and `ended` with the numbers `wanting` find no memory,
+    /// unless they fail.
     pub fn without_memory(mut self, wanting: Vec<u64>) -> MemSite<T>
         ensures counts { site_counts result ≡ site_counts self }
         ensures lent { site_lent result ≡ site_lent self }
         ensures terms { site_terms result ≡ site_terms self }
         ensures kept { site_kept result ≡ site_kept self }
+        ensures logs { site_logs result ≡ site_logs self }
     {
         self.wanting = Numbered::new(wanting);
         self
+    }
+
+    /// The same site without logs, in whose store of logs the calls with the numbers `failing` fail, counted from 1.
+    pub fn with_failing_logs(mut self, alloc: Global, failing: Vec<u64>) -> MemSite<T>
+        ensures counts { site_counts result ≡ site_counts self }
+        ensures lent { site_lent result ≡ site_lent self }
+        ensures terms { site_terms result ≡ site_terms self }
+        ensures kept { site_kept result ≡ site_kept self }
+        ensures logs { site_logs result ≡ Some (files_of []) }
+    {
+        self.logs = Some(MemStore::new(Vec::new(alloc), failing));
+        self
+    }
+
+    /// The log with this name; None where there is none, or the logs are out.
+    pub fn log_of(&self, name: &str) -> Option<&[u8]>
+        ensures { option_copied result ≡ option_and_then (λ files. files name.now) (site_logs self.now) }
+    {
+        match &self.logs {
+            Some(logs) => logs.file(name),
+            None => None,
+        }
     }
 
     /// The terms that it was told, in order.
@@ -108,6 +139,7 @@ impl<T> MemSite<T> {
         ensures lent { site_lent self.new ≡ site_lent self.old }
         ensures terms { site_terms self.new ≡ site_terms self.old }
         ensures kept { site_kept self.new ≡ site_kept self.old }
+        ensures logs { site_logs self.new ≡ site_logs self.old }
     {
         self.faults = self.faults.saturating_add(1);
         SiteFault::Fault
@@ -119,6 +151,7 @@ impl<T> MemSite<T> {
         ensures lent { site_lent self.new ≡ site_lent self.old }
         ensures terms { site_terms self.new ≡ site_terms self.old }
         ensures kept { site_kept self.new ≡ site_kept self.old }
+        ensures logs { site_logs self.new ≡ site_logs self.old }
     {
         let wants = self.wanting.fails();
         if self.failing.fails() {
@@ -138,6 +171,7 @@ impl<T> MemSite<T> {
         ensures counts { site_counts self.new ≡ site_counts self.old }
         ensures terms { site_terms self.new ≡ site_terms self.old }
         ensures kept { site_kept self.new ≡ site_kept self.old }
+        ensures logs { site_logs self.new ≡ site_logs self.old }
     {
         self.given = self.given.saturating_add(1);
     }
@@ -161,6 +195,8 @@ impl<T: Drop> Site for MemSite<T> {
 
     type Clock = CountClock;
 
+    type Log = CountedStore<MemStore>;
+
     type Report = T;
 
     ghost counts = { λ site. site_counts site };
@@ -170,6 +206,8 @@ impl<T: Drop> Site for MemSite<T> {
     ghost terms = { λ site. site_terms site };
 
     ghost kept = { λ site. site_kept site };
+
+    ghost logs = { λ site. site_logs site };
 
     fn listen(&mut self, alloc: Global, address: &str) -> Result<CountedPort<MemPort>, SiteFault> {
         self.begin_call()?;
@@ -236,6 +274,25 @@ impl<T: Drop> Site for MemSite<T> {
         CountClock::new(self.first)
     }
 
+    fn log(&mut self, _alloc: Global, _folder: &str) -> Result<CountedStore<MemStore>, SiteFault> {
+        self.begin_call()?;
+        match self.logs.take() {
+            Some(logs) => {
+                self.lend();
+                Ok(CountedStore::new(logs))
+            }
+            None => Err(self.fail()),
+        }
+    }
+
+    fn shelve(&mut self, log: CountedStore<MemStore>) {
+        self.back = self.back.saturating_add(1);
+        if log.has_failed() {
+            self.faults = self.faults.saturating_add(1);
+        }
+        self.logs = Some(log.into_store());
+    }
+
     fn ended(
         &mut self,
         alloc: Global,
@@ -248,6 +305,7 @@ impl<T: Drop> Site for MemSite<T> {
         ensures cause { HasCause result (site_counts self.old) (site_counts self.new) }
         ensures lent { site_lent self.new ≡ site_lent self.old }
         ensures kept { site_kept self.new ≡ site_kept self.old }
+        ensures logs { site_logs self.new ≡ site_logs self.old }
     {
         self.begin_call()?;
         let Ok(journals) = copies_of(alloc, journals) else {

@@ -2,11 +2,12 @@
 
 ghost use Rattle.std.specs.Prelude.{◌≡◌, ℕ, Option, List, IfOk, OnOk, OnErr};
 ghost use Rattle.ss_links.specs.Ports.{idle_port};
-ghost use Rattle.ss_site.specs.Sites.{Counts, Lent, Term, Entries, HasCause, HasLent, Listens, IsBack, IsEntry, HasRetired, CountsKeeper, CountsPort, AddsTerm};
+ghost use Rattle.ss_links.specs.Stores.{Files};
+ghost use Rattle.ss_site.specs.Sites.{Counts, Lent, Term, Entries, HasCause, HasLent, Listens, IsBack, IsEntry, HasRetired, CountsKeeper, CountsPort, CountsStore, AddsTerm};
 
 use ss_keeper::Keeper;
 use ss_laws::Journal;
-use ss_links::Port;
+use ss_links::{Port, Store};
 use ss_outside::Clock;
 use std::alloc::Global;
 
@@ -20,7 +21,7 @@ pub enum SiteFault {
     Memory,
 }
 
-/// Where a server's links, keepers and clocks come from and go back to, and where it tells its terms.
+/// Where a server's links, keepers, clocks and stores of logs come from and go back to, and where it tells its terms.
 pub trait Site {
     type Port: Port;
 
@@ -28,13 +29,16 @@ pub trait Site {
 
     type Clock: Clock;
 
+    /// A store of logs.
+    type Log: Store;
+
     /// What is told of a link.
     type Report;
 
     /// Its counts.
     ghost counts: { Self → Counts };
 
-    /// The keepers and ports that it gave, those that came back, and the addresses of the ports.
+    /// The keepers, ports and stores that it gave, those that came back, and the addresses of the ports.
     ghost lent: { Self → Lent };
 
     /// The terms that it was told, where it tells them.
@@ -43,13 +47,17 @@ pub trait Site {
     /// What is kept under each folder and uid, where that is told.
     ghost kept: { Self → Option Entries };
 
+    /// The logs by their names, where they are told.
+    ghost logs: { Self → Option Files };
+
     /// A port that listens at an address.
     fn listen(&mut self, alloc: Global, address: &str) -> Result<Self::Port, SiteFault>
         ensures idle { IfOk result (λ port. Self.Port.counts port ≡ idle_port) }
         ensures cause { HasCause result (counts self.old) (counts self.new) }
         ensures lent { Listens address.now result (lent self.old) (lent self.new) }
         ensures terms { terms self.new ≡ terms self.old }
-        ensures kept { kept self.new ≡ kept self.old };
+        ensures kept { kept self.new ≡ kept self.old }
+        ensures logs { logs self.new ≡ logs self.old };
 
     /// The keeper of an account, which tells its entry and has not failed.
     fn keeper(&mut self, alloc: Global, folder: &str, uid: u32) -> Result<Self::Keeper, SiteFault>
@@ -58,7 +66,8 @@ pub trait Site {
         ensures cause { HasCause result (counts self.old) (counts self.new) }
         ensures lent { HasLent result (lent self.old) (lent self.new) }
         ensures terms { terms self.new ≡ terms self.old }
-        ensures kept { kept self.new ≡ kept self.old };
+        ensures kept { kept self.new ≡ kept self.old }
+        ensures logs { logs self.new ≡ logs self.old };
 
     /// Takes the keeper of an account back: what it tells is the entry from now on. That it came back is counted, and
     /// that it had failed.
@@ -66,19 +75,42 @@ pub trait Site {
         ensures entry { HasRetired folder.now uid (Self.Keeper.told keeper) (kept self.old) (kept self.new) }
         ensures counted { CountsKeeper (Self.Keeper.keep_faults keeper) (counts self.old) (counts self.new) }
         ensures back { IsBack (lent self.old) (lent self.new) }
-        ensures terms { terms self.new ≡ terms self.old };
+        ensures terms { terms self.new ≡ terms self.old }
+        ensures logs { logs self.new ≡ logs self.old };
 
     /// Takes a port back. That it came back is counted, that it had failed or ended, its links, and how often it rested.
     fn shut(&mut self, port: Self::Port)
         ensures counted { CountsPort (Self.Port.counts port) (counts self.old) (counts self.new) }
         ensures back { IsBack (lent self.old) (lent self.new) }
         ensures terms { terms self.new ≡ terms self.old }
-        ensures kept { kept self.new ≡ kept self.old };
+        ensures kept { kept self.new ≡ kept self.old }
+        ensures logs { logs self.new ≡ logs self.old };
 
     /// A clock for a worker.
     fn clock(&mut self) -> Self::Clock
         ensures counts { counts self.new ≡ counts self.old }
         ensures lent { lent self.new ≡ lent self.old }
+        ensures terms { terms self.new ≡ terms self.old }
+        ensures kept { kept self.new ≡ kept self.old }
+        ensures logs { logs self.new ≡ logs self.old };
+
+    /// A store of logs in a folder, which holds the logs and has not failed. Until it comes back the site need not tell
+    /// them.
+    fn log(&mut self, alloc: Global, folder: &str) -> Result<Self::Log, SiteFault>
+        ensures fresh { IfOk result (λ log. Self.Log.store_faults log ≡ 0) }
+        ensures holds { IfOk result (λ log. Self.Log.held log ≡ logs self.old) }
+        ensures refused { OnErr result (logs self.new ≡ logs self.old) }
+        ensures cause { HasCause result (counts self.old) (counts self.new) }
+        ensures lent { HasLent result (lent self.old) (lent self.new) }
+        ensures terms { terms self.new ≡ terms self.old }
+        ensures kept { kept self.new ≡ kept self.old };
+
+    /// Takes a store of logs back: what it holds are the logs from now on. That it came back is counted, and that it had
+    /// failed.
+    fn shelve(&mut self, log: Self::Log)
+        ensures logs { logs self.new ≡ Self.Log.held log }
+        ensures counted { CountsStore (Self.Log.store_faults log) (counts self.old) (counts self.new) }
+        ensures back { IsBack (lent self.old) (lent self.new) }
         ensures terms { terms self.new ≡ terms self.old }
         ensures kept { kept self.new ≡ kept self.old };
 
@@ -93,5 +125,6 @@ pub trait Site {
         ensures refused { OnErr result (terms self.new ≡ terms self.old) }
         ensures cause { HasCause result (counts self.old) (counts self.new) }
         ensures lent { lent self.new ≡ lent self.old }
-        ensures kept { kept self.new ≡ kept self.old };
+        ensures kept { kept self.new ≡ kept self.old }
+        ensures logs { logs self.new ≡ logs self.old };
 }

@@ -1,5 +1,6 @@
--- What the site of the system counts; it tells neither terms nor what is kept.
+-- What the site of the system counts; it tells neither terms nor what is kept nor logs.
 use Rattle.std.specs.Prelude.{List, Option, None}
+use Rattle.ss_links.specs.Stores.{Files}
 use Rattle.ss_site.specs.Sites.{Counts, Entries, Lent, Term}
 
 -- its counts, and the keepers and ports that it gave and that came back
@@ -14,3 +15,7 @@ no_terms reports = None
 -- nothing of what is kept is told
 abbrev pub no_entries : Option Entries
 no_entries = None
+
+-- no logs are told
+abbrev pub no_logs : Option Files
+no_logs = None

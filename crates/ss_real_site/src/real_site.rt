@@ -5,9 +5,10 @@ ghost use Rattle.ss_links.specs.Counts.{RoseBy};
 ghost use Rattle.ss_site.specs.Counted.{faults_of};
 ghost use Rattle.ss_site.specs.Sites.{HasCause, HasLent, AddsTerm, RoseUnless};
 ghost use Rattle.ss_real_site.specs.Files.{counted_in};
-ghost use Rattle.ss_real_site.specs.Real.{no_entries, no_terms};
+ghost use Rattle.ss_real_site.specs.Real.{no_entries, no_logs, no_terms};
 
 use crate::account_file::AccountFile;
+use crate::log_files::LogFiles;
 use crate::trouble::Trouble;
 use sqlite::{Connection, Error, ErrorCode, File, FileStore};
 use ss_keep_sql::{SqlFault, SqlKeeper, open_file};
@@ -34,7 +35,8 @@ pub enum Folders {
 }
 
 /// Ports over TCP, a database of SQLite for each account, `<folder>/<uid>.db`, and the clock of the system. A folder that
-/// isn't there is made or missed; a file that isn't there is made. What it is told of a term it drops.
+/// isn't there is made or missed; a file that isn't there is made. Logs are files of a folder, which is made. What it is
+/// told of a term it drops.
 #[derive(Drop)]
 pub struct RealSite<'a, N: Net + Clock> {
     // The ports and the clocks of the system.
@@ -254,6 +256,8 @@ impl<'a, N: Net + Clock> Site for RealSite<'a, N> {
 
     type Clock = SystemClock<'a, N>;
 
+    type Log = LogFiles<'a>;
+
     type Report = LinkReport<ServedLink<'a, N>>;
 
     ghost counts = { λ site. site.counts };
@@ -263,6 +267,8 @@ impl<'a, N: Net + Clock> Site for RealSite<'a, N> {
     ghost terms = { λ site. None };
 
     ghost kept = { λ site. no_entries };
+
+    ghost logs = { λ site. no_logs };
 
     fn listen(
         &mut self,
@@ -320,6 +326,28 @@ impl<'a, N: Net + Clock> Site for RealSite<'a, N> {
         SystemClock::new(self.network)
     }
 
+    fn log(&mut self, alloc: Global, folder: &str) -> Result<LogFiles<'a>, SiteFault> {
+        match LogFiles::open(self.files, alloc, folder) {
+            Ok(log) => {
+                self.lend();
+                Ok(log)
+            }
+            Err(error) => {
+                let kind = error.kind();
+                Err(self.fault_of(error, Trouble::LogFolder(kind)))
+            }
+        }
+    }
+
+    fn shelve(&mut self, log: LogFiles<'a>) {
+        self.back = self.back.saturating_add(1);
+        if log.has_failed() {
+            self.trouble = log.trouble();
+            self.faults = self.faults.saturating_add(1);
+        }
+        drop(log);
+    }
+
     fn ended(
         &mut self,
         _alloc: Global,
@@ -332,6 +360,7 @@ impl<'a, N: Net + Clock> Site for RealSite<'a, N> {
         ensures cause { HasCause result self.old.counts self.new.counts }
         ensures lent { self.new.lent ≡ self.old.lent }
         ensures kept { no_entries ≡ no_entries }
+        ensures logs { no_logs ≡ no_logs }
     {
         let _ = journals;
         drop(reports);

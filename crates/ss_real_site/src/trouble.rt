@@ -36,6 +36,15 @@ pub enum Trouble {
 
     /// The port failed while it listened.
     Port,
+
+    /// The folder of the logs can't be made.
+    LogFolder(ErrorKind),
+
+    /// A log can't be written.
+    Log,
+
+    /// A file with the name of a log is there already.
+    LogIsThere,
 }
 
 // Why an account's database can't be opened.
@@ -88,6 +97,14 @@ impl Display for Trouble {
             ),
             Trouble::Keeper { uid } => write!(f, "the file {uid}.db failed while it was open"),
             Trouble::Port => f.write_str("the port failed while it listened"),
+            Trouble::LogFolder(ErrorKind::PermissionDenied) => f.write_str(
+                "the folder of the logs may not be made or written",
+            ),
+            Trouble::LogFolder(_) => f.write_str("the folder of the logs can't be made"),
+            Trouble::Log => f.write_str("a log can't be written"),
+            Trouble::LogIsThere => f.write_str(
+                "a log with this name is there already, and is not written over; --from tells the number of the first term",
+            ),
         }
     }
 }

@@ -1,5 +1,5 @@
 -- What one term of a server comes to, from what the term says.
-use Rattle.std.specs.Prelude.{◌≡◌, ◌≢◌, ◌⊎◌, ◌<◌, ◌≤◌, ℕ, zero, suc, Bool, List, [], ◌∷◌, length, map, get_or, Option, Some, None, All, Any, Contains, refl}
+use Rattle.std.specs.Prelude.{◌≡◌, ◌≢◌, ◌⊎◌, ◌<◌, ◌≤◌, ℕ, zero, suc, Bool, List, [], ◌∷◌, length, map, get_or, Option, Some, None, All, Any, Contains, IfSome, refl}
 use Rattle.std.specs.List.{AllZip}
 use Rattle.std.specs.List.Sorted.{IsPermutation}
 use Rattle.std.proofs.Common.{sym, ap, subst, ◌∙◌, inl, inr, arith}
@@ -15,6 +15,7 @@ use Rattle.ss_outside.specs.Told.{Meanings}
 use Rattle.ss_outside.specs.Causes.{Rose}
 use Rattle.ss_links.specs.Counts.{RoseBy}
 use Rattle.ss_links.specs.Ports.{Accepts}
+use Rattle.ss_links.specs.Stores.{Files}
 use Rattle.ss_bso.specs.declared.changes.Kept.{Kept}
 use Rattle.ss_bso.specs.declared.account.Plain.{Plain}
 use Rattle.ss_bso.specs.Validity.{SameAccount}
@@ -39,6 +40,8 @@ use Rattle.ss_run_serve.specs.Hosted.{Hosted, IsBegun, hosted, hosted_at, journa
 use Rattle.ss_run_serve.specs.Retiring.{uids_in}
 use Rattle.ss_run_serve.specs.Terms.{IsLeft}
 use Rattle.ss_run_serve.specs.Once.{Follows, TermsGoOn, HasFailed, IsDone, IsLast, IsLost, IsOnce, IsUnheard, IsUntold, TookPlace}
+use Rattle.ss_run_serve.specs.Logs.{logs_of_term, ArePartlySaved, AreSaved, AreLoggedOnce, HasCut, IsCut}
+use Rattle.ss_run_serve.proofs.Saving.{cut_logged, logged_once}
 use Rattle.ss_run_serve.proofs.Handed.{all_at, at_seen, contains_at, seen, seen_at, term_seen}
 use Rattle.ss_run_serve.proofs.Anew.{left_moved, left_themselves, left_zip}
 use Rattle.ss_run_serve.proofs.Progress.{IsFaulty, any_of, map_there, same_uids}
@@ -60,6 +63,31 @@ last_is (ended.Full uid) connections old new next town (inl end) (inl on) = absu
 last_is (ended.Full uid) connections old new next town (inr (inl rest)) (inl on) = subst (λ (n : Option Stop). IsLast connections old new n) (sym on.0) (inr rest, on.1)
 last_is (ended.Full uid) connections old new next town (inr (inr all)) (inl on) = subst (λ (n : Option Stop). IsLast connections old new n) (sym on.0) (inl all, on.1)
 last_is (ended.Full uid) connections old new next town why (inr over) = subst (λ (n : Option Stop). IsLast connections old new n) (sym over.0) over.1
+
+-- a log wasn't saved: no term follows
+cut_last : (faults connections : ℕ) (old new : Accepts) (last : Stop) → IsCut faults last → IsLast connections old new (Some last)
+cut_last faults connections old new stops.Logs cut = tt
+cut_last faults connections old new stops.Memory cut = tt
+cut_last faults connections old new stops.PortEnded cut = absurd cut
+cut_last faults connections old new stops.Terms cut = absurd cut
+cut_last faults connections old new stops.Site cut = absurd cut
+cut_last faults connections old new (stops.Keeper uid) cut = absurd cut
+cut_last faults connections old new stops.Port cut = absurd cut
+cut_last faults connections old new (stops.Account uid fault) cut = absurd cut
+
+-- what follows on how a term ended is no log that wasn't saved
+goes_on_has : (faults : ℕ) (port : Accepts) (next : Option Stop) → TermsGoOn port next → IfSome next (HasCut faults)
+goes_on_has faults port next (inl on) = subst (λ (n : Option Stop). IfSome n (HasCut faults)) (sym on.0) tt
+goes_on_has faults port next (inr over) = subst (λ (n : Option Stop). IfSome n (HasCut faults)) (sym over.0) tt
+
+pub follows_has : (faults : ℕ) (stop : TermStop) (port : Accepts) (next : Option Stop) → Follows stop port next → IfSome next (HasCut faults)
+follows_has faults ended.Port port next follows = subst (λ (n : Option Stop). IfSome n (HasCut faults)) (sym follows) tt
+follows_has faults ended.PortEnded port next follows = subst (λ (n : Option Stop). IfSome n (HasCut faults)) (sym follows) tt
+follows_has faults ended.Memory port next follows = subst (λ (n : Option Stop). IfSome n (HasCut faults)) (sym follows) tt
+follows_has faults (ended.Town fault) port next follows = subst (λ (n : Option Stop). IfSome n (HasCut faults)) (sym follows) tt
+follows_has faults ended.Connections port next follows = goes_on_has faults port next follows
+follows_has faults ended.Rested port next follows = goes_on_has faults port next follows
+follows_has faults (ended.Full uid) port next follows = goes_on_has faults port next follows
 
 -- of accounts that begin, one whose keeper had failed has failed
 begun_faulty : (given : List (ℕ × Hosted)) → All (λ (a : ℕ × Hosted). IsBegun a.1) given → Any HasFailed given → Any IsFaulty given
@@ -139,31 +167,57 @@ module _ {K : Type 0} {G : Ghosts K} (told : K → Option Kept) (faults : K → 
       gated = gated;
     }
 
-    -- the site was told of a term
-    pub once_done : (given handed : List (ℕ × Booked K G)) (reports : List (LinkReport L)) (coming coming' : List (Option (List ℕ))) (stop : TermStop) (terms terms' : Option (List (Term (LinkReport L))))
-        (old new : Counts) (connections : ℕ) (port port' : Accepts) (next : Option Stop) → ((fault : TownFault) → stop ≡ ended.Town fault → ⊥)
-        → TermSays fixed entries_in failures manner tells closed given handed reports coming coming' stop
-        → HasAdded (record { reports = reports; journals = map {B = ℕ × Journal} (λ (a : ℕ × Booked K G). (a.0, journal_of a.1)) handed }) terms terms'
-        → new ≡ old → RoseBy (length reports) port.links port'.links → length reports ≤ connections → AreAllGated says reports → HasEnded stop connections port port' → Follows stop port' next
-        → IsOnce manner tells closed says (hosted_all given) (hosted_all handed) coming coming' terms terms' old new connections port port' next
-    once_done given handed reports coming coming' stop terms terms' old new connections port port' next town so added counts links few gated why follows = inr (inr (record {
+    -- the site was told of a term, and then its logs were saved, or not all
+    once_told : (given handed : List (ℕ × Booked K G)) (reports : List (LinkReport L)) (coming coming' : List (Option (List ℕ))) (stop : TermStop) (terms terms' : Option (List (Term (LinkReport L))))
+        (old new : Counts) (connections : ℕ) (port port' : Accepts) (next : Option Stop) (number : ℕ) (logs logs' : Option Files) → ((fault : TownFault) → stop ≡ ended.Town fault → ⊥)
+        → TermSays fixed entries_in failures manner tells closed given handed reports coming coming' stop → HasAdded (term_told handed reports) terms terms'
+        → new ≡ old → RoseBy (length reports) port.links port'.links → length reports ≤ connections → AreAllGated says reports → IsLast connections port port' next
+        → AreLoggedOnce next (logs_of_term number (term_told handed reports).journals) logs logs'
+        → IsOnce manner tells closed says (hosted_all given) (hosted_all handed) coming coming' terms terms' old new connections port port' next number logs logs'
+    once_told given handed reports coming coming' stop terms terms' old new connections port port' next number logs logs' town so added counts links few gated why logged = inr (inr (record {
       term = term_told handed reports;
       told = added;
       took = took_place given handed reports coming coming' stop connections port port' town so links few gated;
       counts = counts;
-      why = last_is stop connections port port' next town why follows;
+      why = why;
+      logged = logged;
     }))
+
+    -- all were saved
+    pub once_done : (given handed : List (ℕ × Booked K G)) (reports : List (LinkReport L)) (coming coming' : List (Option (List ℕ))) (stop : TermStop) (terms terms' : Option (List (Term (LinkReport L))))
+        (old new : Counts) (connections : ℕ) (port port' : Accepts) (next : Option Stop) (number : ℕ) (logs logs' : Option Files) → ((fault : TownFault) → stop ≡ ended.Town fault → ⊥)
+        → TermSays fixed entries_in failures manner tells closed given handed reports coming coming' stop
+        → HasAdded (record { reports = reports; journals = map {B = ℕ × Journal} (λ (a : ℕ × Booked K G). (a.0, journal_of a.1)) handed }) terms terms'
+        → new ≡ old → RoseBy (length reports) port.links port'.links → length reports ≤ connections → AreAllGated says reports → HasEnded stop connections port port' → Follows stop port' next
+        → AreSaved (logs_of_term number (map {B = ℕ × Journal} (λ (a : ℕ × Booked K G). (a.0, journal_of a.1)) handed)) logs logs'
+        → IsOnce manner tells closed says (hosted_all given) (hosted_all handed) coming coming' terms terms' old new connections port port' next number logs logs'
+    once_done given handed reports coming coming' stop terms terms' old new connections port port' next number logs logs' town so added counts links few gated why follows saved =
+        once_told given handed reports coming coming' stop terms terms' old new connections port port' next number logs logs' town so added counts links few gated (last_is stop connections port port' next town why follows)
+        (logged_once next (logs_of_term number (term_told handed reports).journals) logs logs' saved)
+
+    -- not all were saved: the server stops
+    pub once_cut : (given handed : List (ℕ × Booked K G)) (reports : List (LinkReport L)) (coming coming' : List (Option (List ℕ))) (stop : TermStop) (terms terms' : Option (List (Term (LinkReport L))))
+        (old new : Counts) (connections : ℕ) (port port' : Accepts) (faults : ℕ) (last : Stop) (number : ℕ) (logs logs' : Option Files) → ((fault : TownFault) → stop ≡ ended.Town fault → ⊥)
+        → TermSays fixed entries_in failures manner tells closed given handed reports coming coming' stop
+        → HasAdded (record { reports = reports; journals = map {B = ℕ × Journal} (λ (a : ℕ × Booked K G). (a.0, journal_of a.1)) handed }) terms terms'
+        → new ≡ old → RoseBy (length reports) port.links port'.links → length reports ≤ connections → AreAllGated says reports → IsCut faults last
+        → ArePartlySaved (logs_of_term number (map {B = ℕ × Journal} (λ (a : ℕ × Booked K G). (a.0, journal_of a.1)) handed)) logs logs'
+        → IsOnce manner tells closed says (hosted_all given) (hosted_all handed) coming coming' terms terms' old new connections port port' (Some last) number logs logs'
+    once_cut given handed reports coming coming' stop terms terms' old new connections port port' faults last number logs logs' town so added counts links few gated cut partly =
+        once_told given handed reports coming coming' stop terms terms' old new connections port port' (Some last) number logs logs' town so added counts links few gated (cut_last faults connections port port' last cut)
+        (cut_logged faults last (logs_of_term number (term_told handed reports).journals) logs logs' cut partly)
 
     -- the site wasn't told
     pub once_untold : (given handed : List (ℕ × Booked K G)) (reports : List (LinkReport L)) (coming coming' : List (Option (List ℕ))) (stop : TermStop) (terms terms' : Option (List (Term (LinkReport L))))
-        (old new : Counts) (connections : ℕ) (port port' : Accepts) (last : Stop) → ((fault : TownFault) → stop ≡ ended.Town fault → ⊥)
+        (old new : Counts) (connections : ℕ) (port port' : Accepts) (last : Stop) (number : ℕ) (logs : Option Files) → ((fault : TownFault) → stop ≡ ended.Town fault → ⊥)
         → TermSays fixed entries_in failures manner tells closed given handed reports coming coming' stop → terms' ≡ terms → IsUntold old new last → RoseBy (length reports) port.links port'.links → length reports ≤ connections → AreAllGated says reports
-        → IsOnce manner tells closed says (hosted_all given) (hosted_all handed) coming coming' terms terms' old new connections port port' (Some last)
-    once_untold given handed reports coming coming' stop terms terms' old new connections port port' last town so same why links few gated = inr (inl (record {
+        → IsOnce manner tells closed says (hosted_all given) (hosted_all handed) coming coming' terms terms' old new connections port port' (Some last) number logs logs
+    once_untold given handed reports coming coming' stop terms terms' old new connections port port' last number logs town so same why links few gated = inr (inl (record {
       stop = last;
       is = refl;
       why = why;
       untold = same;
+      unlogged = refl;
       term = term_told handed reports;
       took = took_place given handed reports coming coming' stop connections port port' town so links few gated;
     }))
@@ -245,12 +299,12 @@ module _ {K : Type 0} {G : Ghosts K} (told : K → Option Kept) (faults : K → 
 
     -- no term took place
     pub once_refused : (given handed : List (ℕ × Booked K G)) (reports : List (LinkReport L)) (coming coming' : List (Option (List ℕ))) (stop : TermStop) (fault : TownFault)
-        (terms : Option (List (Term (LinkReport L)))) (old : Counts) (connections : ℕ) (port port' : Accepts) → stop ≡ ended.Town fault → All (λ (a : ℕ × Hosted). IsBegun a.1) (hosted_all given)
+        (terms : Option (List (Term (LinkReport L)))) (old : Counts) (connections : ℕ) (port port' : Accepts) (number : ℕ) (logs : Option Files) → stop ≡ ended.Town fault → All (λ (a : ℕ × Hosted). IsBegun a.1) (hosted_all given)
         → TermSays fixed entries_in failures manner tells closed given handed reports coming coming' stop → HasEnded stop connections port port'
-        → IsOnce manner tells closed says (hosted_all given) (hosted_all handed) coming coming' terms terms old old connections port port' (Some stops.Memory)
-    once_refused given handed reports coming coming' stop fault terms old connections port port' town begun so why =
+        → IsOnce manner tells closed says (hosted_all given) (hosted_all handed) coming coming' terms terms old old connections port port' (Some stops.Memory) number logs logs
+    once_refused given handed reports coming coming' stop fault terms old connections port port' number logs town begun so why =
         let refused : IsRefused fixed entries_in fault given handed reports coming coming' =
         (let P : TermStop → Type 0 = λ (s : TermStop). TermSays fixed entries_in failures manner tells closed given handed reports coming coming' s in subst P town so) in
         let back = back_after given handed fault begun refused.back in
         let same : port' ≡ port = (let P : TermStop → Type 0 = λ (s : TermStop). HasEnded s connections port port' in subst P town why) in
-        inl (record { stop = stops.Memory; is = refl; why = refl; untold = refl; links = ap (λ (p : Accepts). p.links) same; left = back.left; uids = back.uids; failed = back.failed })
+        inl (record { stop = stops.Memory; is = refl; why = refl; untold = refl; unlogged = refl; links = ap (λ (p : Accepts). p.links) same; left = back.left; uids = back.uids; failed = back.failed })

@@ -2,10 +2,12 @@ pub mod Rising
 pub mod Lent
 pub mod Retired
 pub mod Opened
+pub mod Saving
 pub mod Handed
 pub mod Anew
 pub mod Progress
 pub mod Shutting
+pub mod Closing
 pub mod Whole
 pub mod Ending
 pub mod Sounding

@@ -14,8 +14,10 @@ use lib.ListN.{get_elem?}
 use Rattle.ss_route.specs.declared.manner.Manner.{Manner}
 use Rattle.ss_outside.specs.Told.{Meanings}
 use Rattle.ss_outside.specs.Causes.{Rose}
+use Rattle.ss_outside.specs.Plans.{raised}
 use Rattle.ss_links.specs.Counts.{RoseBy}
 use Rattle.ss_links.specs.Ports.{Accepts, idle_port}
+use Rattle.ss_links.specs.Stores.{Files}
 use Rattle.ss_desk.proofs.Lists.{at_get}
 use Rattle.ss_bso.specs.Validity.{SameAccount}
 use Rattle.ss_booked.specs.Sound.{keeper_marks}
@@ -31,6 +33,8 @@ use Rattle.ss_run_serve.specs.Retiring.{uids_in}
 use Rattle.ss_run_serve.specs.Terms.{BeginsAnew, links_of, short_of, AreTerms, AreTold, IsLeft, IsTermOf, KeeperFailed}
 use Rattle.ss_run_serve.specs.Once.{HasFailed, IsDone, IsLast, IsLost, IsOnce, IsUnheard, IsUntold, TookPlace}
 use Rattle.ss_run_serve.specs.Course.{AreWithin, Course, IsToldOf, SameKeeper, Stops}
+use Rattle.ss_run_serve.specs.Logs.{Named, logs_of, logs_of_term, AreLogged, AreSaved}
+use Rattle.ss_run_serve.proofs.Saving.{all_partly, logged_of, logged_then, logs_more, none_saved, number_after, number_more, saved_then}
 use Rattle.ss_run_serve.proofs.Handed.{contains_at}
 use Rattle.ss_run_serve.proofs.Rising.{rose_less, rose_none, rose_then, rose_once}
 use Rattle.ss_run_serve.proofs.Anew.{begin_themselves, left_anew, left_themselves, left_through, left_zip}
@@ -194,10 +198,12 @@ module _ {L : Type 0} (manner : Manner) (tells : L → Meanings) (closed : L →
 
   -- the terms of a server so far, before the next one begins
   pub record Progress (opened : List (ℕ × Hosted)) (coming : List (Option (List ℕ))) (connections asked : ℕ) (told told' : Option (List (Term (LinkReport L)))) (old new : Counts) (port : Accepts) (left : ℕ)
-      (accounts : List (ℕ × Hosted)) (coming' : List (Option (List ℕ))) : Type 0 where
+      (accounts : List (ℕ × Hosted)) (coming' : List (Option (List ℕ))) (number number' : ℕ) (logs logs' : Option Files) : Type 0 where
     pub terms : List (Term (LinkReport L))
     pub handed : List (ℕ × Hosted)
     pub are_told : AreTold terms told told'
+    pub numbered : number' ≡ number_after number terms
+    pub saved : AreSaved (logs_of number terms) logs logs'
     pub stage : Stage opened coming port terms handed coming'
     pub anew : AllZip BeginsAnew handed accounts
     pub few : All (λ (term : Term (LinkReport L)). length term.reports ≤ connections) terms
@@ -209,12 +215,14 @@ module _ {L : Type 0} (manner : Manner) (tells : L → Meanings) (closed : L →
   told_none None = refl
   told_none (Some terms) = ap (λ (ts : List (Term (LinkReport L))). Some ts) (sym (append-nil terms))
 
-  pub progress_first : (opened : List (ℕ × Hosted)) (coming : List (Option (List ℕ))) (connections asked : ℕ) (told : Option (List (Term (LinkReport L)))) (old : Counts) (port : Accepts)
-      → All (λ (a : ℕ × Hosted). IsBegun a.1) opened → port ≡ idle_port → Progress opened coming connections asked told told old old port asked opened coming
-  progress_first opened coming connections asked told old port begun idle = record {
+  pub progress_first : (opened : List (ℕ × Hosted)) (coming : List (Option (List ℕ))) (connections asked : ℕ) (told : Option (List (Term (LinkReport L)))) (old : Counts) (port : Accepts) (number : ℕ) (logs : Option Files)
+      → All (λ (a : ℕ × Hosted). IsBegun a.1) opened → port ≡ idle_port → Progress opened coming connections asked told told old old port asked opened coming number number logs logs
+  progress_first opened coming connections asked told old port number logs begun idle = record {
     terms = [];
     handed = opened;
     are_told = told_none told;
+    numbered = refl;
+    saved = none_saved logs;
     stage = record {
       are = (refl, refl);
       failed = λ any. absurd (omega (arith, any.2));
@@ -241,30 +249,50 @@ module _ {L : Type 0} (manner : Manner) (tells : L → Meanings) (closed : L →
   all_of terms stops.Port = refl
   all_of terms (stops.Keeper uid) = refl
   all_of terms (stops.Account uid fault) = refl
+  all_of terms stops.Logs = refl
 
   no_faults : (old : Counts) → CountsFaults old old
   no_faults old = record { faults = omega arith; links = refl; ends = refl; rests = refl }
 
   module _ (opened : List (ℕ × Hosted)) (coming : List (Option (List ℕ))) (connections asked : ℕ) (told told' told'' : Option (List (Term (LinkReport L)))) (old mid new : Counts) (port port' : Accepts) (left : ℕ)
-      (given handed : List (ℕ × Hosted)) (coming' coming'' : List (Option (List ℕ))) where
-    within : (progress : Progress opened coming connections asked told told' old mid port left given coming') → AreWithin connections asked progress.terms
+      (given handed : List (ℕ × Hosted)) (coming' coming'' : List (Option (List ℕ))) (number number' : ℕ) (logs logs' logs'' : Option Files) where
+    within : (progress : Progress opened coming connections asked told told' old mid port left given coming' number number' logs logs') → AreWithin connections asked progress.terms
     within progress = record { few = progress.few; most = λ asks. (let counted = progress.remaining.some asks in omega (arith, counted.0, counted.1)) }
 
-    few_more : (progress : Progress opened coming connections asked told told' old mid port left given coming') (term : Term (LinkReport L)) → TookPlace manner tells closed says given handed coming' coming'' connections port port' term
+    few_more : (progress : Progress opened coming connections asked told told' old mid port left given coming' number number' logs logs') (term : Term (LinkReport L)) → TookPlace manner tells closed says given handed coming' coming'' connections port port' term
         → All (λ (t : Term (LinkReport L)). length t.reports ≤ connections) (progress.terms ++ term ∷ [])
     few_more progress term took = All-push (λ (t : Term (LinkReport L)). length t.reports ≤ connections) progress.terms term progress.few took.few
 
-    within_more : (progress : Progress opened coming connections asked told told' old mid port left given coming') (term : Term (LinkReport L)) → TookPlace manner tells closed says given handed coming' coming'' connections port port' term
+    within_more : (progress : Progress opened coming connections asked told told' old mid port left given coming' number number' logs logs') (term : Term (LinkReport L)) → TookPlace manner tells closed says given handed coming' coming'' connections port port' term
         → AreWithin connections asked (progress.terms ++ term ∷ [])
     within_more progress term took = record {
       few = few_more progress term took;
       most = λ asks. (let counted = progress.remaining.some asks in omega (arith, counted.0, counted.1, length-append progress.terms (term ∷ [])));
     }
 
+    -- no log was saved since
+    logged_left : (progress : Progress opened coming connections asked told told' old mid port left given coming' number number' logs logs') (stop : Stop) → logs'' ≡ logs' → AreLogged stop (logs_of number progress.terms) logs logs''
+    logged_left progress stop same = logged_of stop (logs_of number progress.terms) logs logs'' (subst (λ (l : Option Files). AreSaved (logs_of number progress.terms) logs l) (sym same) progress.saved)
+
+    -- the logs of the terms so far, and those of one more
+    more_logs : (progress : Progress opened coming connections asked told told' old mid port left given coming' number number' logs logs') (term : Term (LinkReport L))
+        → logs_of number progress.terms ++ logs_of_term number' term.journals ≡ logs_of number (progress.terms ++ term ∷ [])
+    more_logs progress term = ap (λ (n : ℕ). logs_of number progress.terms ++ logs_of_term n term.journals) progress.numbered ∙ sym (logs_more number progress.terms term)
+
+    logged_more : (progress : Progress opened coming connections asked told told' old mid port left given coming' number number' logs logs') (stop : Stop) (term : Term (LinkReport L))
+        → AreLogged stop (logs_of_term number' term.journals) logs' logs'' → AreLogged stop (logs_of number (progress.terms ++ term ∷ [])) logs logs''
+    logged_more progress stop term logged = subst (λ (all : List Named). AreLogged stop all logs logs'') (more_logs progress term)
+        (logged_then stop (logs_of number progress.terms) (logs_of_term number' term.journals) logs logs' logs'' progress.saved logged)
+
+    saved_more : (progress : Progress opened coming connections asked told told' old mid port left given coming' number number' logs logs')
+        → (done : IsDone manner tells closed says given handed coming' coming'' told' told'' mid new connections port port' None number' logs' logs'') → AreSaved (logs_of number (progress.terms ++ done.term ∷ [])) logs logs''
+    saved_more progress done = subst (λ (all : List Named). AreSaved all logs logs'') (more_logs progress done.term)
+        (saved_then (logs_of number progress.terms) (logs_of_term number' done.term.journals) logs logs' logs'' progress.saved done.logged)
+
     -- a term took place, after which no further one begins
-    pub progress_done : (stop : Stop) → connections ≤ 1000 → Progress opened coming connections asked told told' old mid port left given coming'
-        → IsDone manner tells closed says given handed coming' coming'' told' told'' mid new connections port port' (Some stop)
-        → Course manner tells closed says opened coming connections asked told told'' old new port' handed stop
+    pub progress_done : (stop : Stop) → connections ≤ 1000 → Progress opened coming connections asked told told' old mid port left given coming' number number' logs logs'
+        → IsDone manner tells closed says given handed coming' coming'' told' told'' mid new connections port port' (Some stop) number' logs' logs''
+        → Course manner tells closed says opened coming connections asked told told'' old new port' handed stop number logs logs''
     progress_done stop small progress done =
         let stage = stage_more opened coming port port' progress.terms progress.handed given handed coming' coming'' connections done.term small progress.stage progress.anew done.took in
         record {
@@ -272,6 +300,7 @@ module _ {L : Type 0} (manner : Manner) (tells : L → Meanings) (closed : L →
           told = progress.terms ++ done.term ∷ [];
           are_told = told_more progress.terms done.term told told' told'' progress.are_told done.told;
           of = all_of (progress.terms ++ done.term ∷ []) stop;
+          logged = logged_more progress stop done.term done.logged;
           handed = handed;
           coming' = coming'';
           are = stage.are;
@@ -293,6 +322,7 @@ module _ {L : Type 0} (manner : Manner) (tells : L → Meanings) (closed : L →
         stopped terms stops.Site why any = absurd why
         stopped terms (stops.Keeper uid) why any = absurd why
         stopped terms (stops.Account uid fault) why any = absurd why
+        stopped terms stops.Logs why any = tt
 
     untold_counts : (stop : Stop) → IsUntold old new stop → CountsFaults old new
     untold_counts stops.Site why = record { faults = why.0.later; links = why.1; ends = why.2; rests = why.3 }
@@ -302,6 +332,7 @@ module _ {L : Type 0} (manner : Manner) (tells : L → Meanings) (closed : L →
     untold_counts stops.Port why = absurd why
     untold_counts (stops.Keeper uid) why = absurd why
     untold_counts (stops.Account uid fault) why = absurd why
+    untold_counts stops.Logs why = absurd why
 
     untold_stops : (terms : List (Term (LinkReport L))) (stop : Stop) → IsUntold old new stop → Stops connections asked terms port' old new stop
     untold_stops terms stops.Site why = why.0
@@ -311,10 +342,11 @@ module _ {L : Type 0} (manner : Manner) (tells : L → Meanings) (closed : L →
     untold_stops terms stops.Port why = absurd why
     untold_stops terms (stops.Keeper uid) why = absurd why
     untold_stops terms (stops.Account uid fault) why = absurd why
+    untold_stops terms stops.Logs why = absurd why
 
     -- no term took place
-    pub progress_lost : (stop : Stop) → Progress opened coming connections asked told told' old mid port left given coming' → IsLost given handed told' told'' mid new port port' (Some stop)
-        → Course manner tells closed says opened coming connections asked told told'' old new port' handed stop
+    pub progress_lost : (stop : Stop) → Progress opened coming connections asked told told' old mid port left given coming' number number' logs logs' → IsLost given handed told' told'' mid new port port' (Some stop) logs' logs''
+        → Course manner tells closed says opened coming connections asked told told'' old new port' handed stop number logs logs''
     progress_lost stop progress lost =
         let same : lost.stop ≡ stop = cc in
         let why : IsUntold mid new stop = subst (λ (s : Stop). IsUntold mid new s) same lost.why in
@@ -324,6 +356,7 @@ module _ {L : Type 0} (manner : Manner) (tells : L → Meanings) (closed : L →
           told = progress.terms;
           are_told = subst (λ (t : Option (List (Term (LinkReport L)))). AreTold progress.terms told t) (sym lost.untold) progress.are_told;
           of = all_of progress.terms stop;
+          logged = logged_left progress stop lost.unlogged;
           handed = progress.handed;
           coming' = coming';
           are = progress.stage.are;
@@ -338,9 +371,9 @@ module _ {L : Type 0} (manner : Manner) (tells : L → Meanings) (closed : L →
         }
 
     -- a term took place, and the site wasn't told
-    pub progress_unheard : (stop : Stop) → connections ≤ 1000 → Progress opened coming connections asked told told' old mid port left given coming'
-        → IsUnheard manner tells closed says given handed coming' coming'' told' told'' mid new connections port port' (Some stop)
-        → Course manner tells closed says opened coming connections asked told told'' old new port' handed stop
+    pub progress_unheard : (stop : Stop) → connections ≤ 1000 → Progress opened coming connections asked told told' old mid port left given coming' number number' logs logs'
+        → IsUnheard manner tells closed says given handed coming' coming'' told' told'' mid new connections port port' (Some stop) logs' logs''
+        → Course manner tells closed says opened coming connections asked told told'' old new port' handed stop number logs logs''
     progress_unheard stop small progress unheard =
         let same : unheard.stop ≡ stop = cc in
         let why : IsUntold mid new stop = subst (λ (s : Stop). IsUntold mid new s) same unheard.why in
@@ -351,6 +384,7 @@ module _ {L : Type 0} (manner : Manner) (tells : L → Meanings) (closed : L →
           told = progress.terms;
           are_told = subst (λ (t : Option (List (Term (LinkReport L)))). AreTold progress.terms told t) (sym unheard.untold) progress.are_told;
           of = but_last progress.terms unheard.term stop why';
+          logged = logged_left progress stop unheard.unlogged;
           handed = handed;
           coming' = coming'';
           are = stage.are;
@@ -372,10 +406,11 @@ module _ {L : Type 0} (manner : Manner) (tells : L → Meanings) (closed : L →
         but_last terms term stops.Port why = absurd why
         but_last terms term (stops.Keeper uid) why = absurd why
         but_last terms term (stops.Account uid fault) why = absurd why
+        but_last terms term stops.Logs why = absurd why
 
     -- of the terms so far as many were short as the port rested times
-    rested_more : connections ≤ 1000 → asked ≤ 999999999999 → (progress : Progress opened coming connections asked told told' old mid port left given coming')
-        → (done : IsDone manner tells closed says given handed coming' coming'' told' told'' mid new connections port port' None) → asked ≢ 0
+    rested_more : connections ≤ 1000 → asked ≤ 999999999999 → (progress : Progress opened coming connections asked told told' old mid port left given coming' number number' logs logs')
+        → (done : IsDone manner tells closed says given handed coming' coming'' told' told'' mid new connections port port' None number' logs' logs'') → asked ≢ 0
         → RoseBy (short_of connections (progress.terms ++ done.term ∷ [])) 0 port'.rests
     rested_more small most progress done asks =
         let counted = progress.remaining.some asks in
@@ -393,9 +428,9 @@ module _ {L : Type 0} (manner : Manner) (tells : L → Meanings) (closed : L →
         ]
 
     -- the last term that was asked took place
-    pub progress_terms : connections ≤ 1000 → asked ≤ 999999999999 → left ≡ 1 → Progress opened coming connections asked told told' old mid port left given coming'
-        → IsDone manner tells closed says given handed coming' coming'' told' told'' mid new connections port port' None
-        → Course manner tells closed says opened coming connections asked told told'' old new port' handed stops.Terms
+    pub progress_terms : connections ≤ 1000 → asked ≤ 999999999999 → left ≡ 1 → Progress opened coming connections asked told told' old mid port left given coming' number number' logs logs'
+        → IsDone manner tells closed says given handed coming' coming'' told' told'' mid new connections port port' None number' logs' logs''
+        → Course manner tells closed says opened coming connections asked told told'' old new port' handed stops.Terms number logs logs''
     progress_terms small most last progress done =
         let stage = stage_more opened coming port port' progress.terms progress.handed given handed coming' coming'' connections done.term small progress.stage progress.anew done.took in
         let asks : asked ≢ 0 = λ none. absurd (omega (arith, progress.remaining.endless none, last)) in
@@ -405,6 +440,7 @@ module _ {L : Type 0} (manner : Manner) (tells : L → Meanings) (closed : L →
           told = progress.terms ++ done.term ∷ [];
           are_told = told_more progress.terms done.term told told' told'' progress.are_told done.told;
           of = refl;
+          logged = saved_more progress done;
           handed = handed;
           coming' = coming'';
           are = stage.are;
@@ -419,9 +455,9 @@ module _ {L : Type 0} (manner : Manner) (tells : L → Meanings) (closed : L →
         }
 
     -- a term took place, and the accounts couldn't all begin anew
-    pub progress_short : (accounts : List (ℕ × Hosted)) → connections ≤ 1000 → Progress opened coming connections asked told told' old mid port left given coming'
-        → IsDone manner tells closed says given handed coming' coming'' told' told'' mid new connections port port' None → AllZip SameKeeper handed accounts
-        → Course manner tells closed says opened coming connections asked told told'' old new port' accounts stops.Memory
+    pub progress_short : (accounts : List (ℕ × Hosted)) → connections ≤ 1000 → Progress opened coming connections asked told told' old mid port left given coming' number number' logs logs'
+        → IsDone manner tells closed says given handed coming' coming'' told' told'' mid new connections port port' None number' logs' logs'' → AllZip SameKeeper handed accounts
+        → Course manner tells closed says opened coming connections asked told told'' old new port' accounts stops.Memory number logs logs''
     progress_short accounts small progress done keepers =
         let stage = stage_more opened coming port port' progress.terms progress.handed given handed coming' coming'' connections done.term small progress.stage progress.anew done.took in
         record {
@@ -429,6 +465,7 @@ module _ {L : Type 0} (manner : Manner) (tells : L → Meanings) (closed : L →
           told = progress.terms ++ done.term ∷ [];
           are_told = told_more progress.terms done.term told told' told'' progress.are_told done.told;
           of = inl refl;
+          logged = all_partly (logs_of number (progress.terms ++ done.term ∷ [])) logs logs'' (saved_more progress done);
           handed = handed;
           coming' = coming'';
           are = stage.are;
@@ -443,13 +480,15 @@ module _ {L : Type 0} (manner : Manner) (tells : L → Meanings) (closed : L →
         }
 
     -- a term took place, and the accounts begin anew
-    pub progress_on : (accounts : List (ℕ × Hosted)) → connections ≤ 1000 → asked ≤ 999999999999 → left ≢ 1 → Progress opened coming connections asked told told' old mid port left given coming'
-        → IsDone manner tells closed says given handed coming' coming'' told' told'' mid new connections port port' None → AllZip BeginsAnew handed accounts
-        → Progress opened coming connections asked told told'' old new port' (left - 1) accounts coming''
-    progress_on accounts small most more progress done anew = record {
+    pub progress_on : (accounts : List (ℕ × Hosted)) (number'' : ℕ) → connections ≤ 1000 → asked ≤ 999999999999 → left ≢ 1 → Progress opened coming connections asked told told' old mid port left given coming' number number' logs logs'
+        → IsDone manner tells closed says given handed coming' coming'' told' told'' mid new connections port port' None number' logs' logs'' → AllZip BeginsAnew handed accounts
+        → number'' ≡ raised number' → Progress opened coming connections asked told told'' old new port' (left - 1) accounts coming'' number number'' logs logs''
+    progress_on accounts number'' small most more progress done anew next = record {
       terms = progress.terms ++ done.term ∷ [];
       handed = handed;
       are_told = told_more progress.terms done.term told told' told'' progress.are_told done.told;
+      numbered = next ∙ ap raised progress.numbered ∙ sym (number_more number progress.terms done.term);
+      saved = saved_more progress done;
       stage = stage_more opened coming port port' progress.terms progress.handed given handed coming' coming'' connections done.term small progress.stage progress.anew done.took;
       anew = anew;
       few = few_more progress done.term done.took;
@@ -463,21 +502,21 @@ module _ {L : Type 0} (manner : Manner) (tells : L → Meanings) (closed : L →
     }
 
     -- a term after which no further one begins
-    pub progress_stop : (stop : Stop) (last : Option Stop) → connections ≤ 1000 → Progress opened coming connections asked told told' old mid port left given coming'
-        → IsOnce manner tells closed says given handed coming' coming'' told' told'' mid new connections port port' last → last ≡ Some stop
-        → Course manner tells closed says opened coming connections asked told told'' old new port' handed stop
+    pub progress_stop : (stop : Stop) (last : Option Stop) → connections ≤ 1000 → Progress opened coming connections asked told told' old mid port left given coming' number number' logs logs'
+        → IsOnce manner tells closed says given handed coming' coming'' told' told'' mid new connections port port' last number' logs' logs'' → last ≡ Some stop
+        → Course manner tells closed says opened coming connections asked told told'' old new port' handed stop number logs logs''
     progress_stop stop last small progress once is =
-        let now : IsOnce manner tells closed says given handed coming' coming'' told' told'' mid new connections port port' (Some stop) =
-        subst (λ (l : Option Stop). IsOnce manner tells closed says given handed coming' coming'' told' told'' mid new connections port port' l) is once in
+        let now : IsOnce manner tells closed says given handed coming' coming'' told' told'' mid new connections port port' (Some stop) number' logs' logs'' =
+        subst (λ (l : Option Stop). IsOnce manner tells closed says given handed coming' coming'' told' told'' mid new connections port port' l number' logs' logs'') is once in
         elim now [ inl lost ↦ progress_lost stop progress lost | inr took ↦ elim took [ inl unheard ↦ progress_unheard stop small progress unheard | inr done ↦ progress_done stop small progress done ] ]
 
     -- a term after which a further one may begin
-    pub once_on : (last : Option Stop) → IsOnce manner tells closed says given handed coming' coming'' told' told'' mid new connections port port' last → last ≡ None
-        → IsDone manner tells closed says given handed coming' coming'' told' told'' mid new connections port port' None
+    pub once_on : (last : Option Stop) → IsOnce manner tells closed says given handed coming' coming'' told' told'' mid new connections port port' last number' logs' logs'' → last ≡ None
+        → IsDone manner tells closed says given handed coming' coming'' told' told'' mid new connections port port' None number' logs' logs''
     once_on last once is =
-        let now : IsOnce manner tells closed says given handed coming' coming'' told' told'' mid new connections port port' None =
-        subst (λ (l : Option Stop). IsOnce manner tells closed says given handed coming' coming'' told' told'' mid new connections port port' l) is once in
+        let now : IsOnce manner tells closed says given handed coming' coming'' told' told'' mid new connections port port' None number' logs' logs'' =
+        subst (λ (l : Option Stop). IsOnce manner tells closed says given handed coming' coming'' told' told'' mid new connections port port' l number' logs' logs'') is once in
         elim now [ inl lost ↦ impossible lost.stop lost.is | inr took ↦ elim took [ inl unheard ↦ impossible unheard.stop unheard.is | inr done ↦ done ] ]
       where
-        impossible : (stop : Stop) → None ≡ Some stop → IsDone manner tells closed says given handed coming' coming'' told' told'' mid new connections port port' None
+        impossible : (stop : Stop) → None ≡ Some stop → IsDone manner tells closed says given handed coming' coming'' told' told'' mid new connections port port' None number' logs' logs''
         impossible stop is = absurd cc

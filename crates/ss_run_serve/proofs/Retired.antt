@@ -136,6 +136,7 @@ refused_then folder kept old mid new accounts uids uid stop why counted there = 
     later stops.PortEnded why = absurd why
     later stops.Terms why = absurd why
     later stops.Port why = absurd why
+    later stops.Logs why = absurd why
 
 pub counts_then : (old mid new : Counts) (accounts : List (ℕ × Hosted)) → CountsFaults old mid → CountsKeepers accounts mid new → CountsFaults old new
 counts_then old mid new accounts first then = record { faults = omega (arith, first.faults, then.later); links = then.links ∙ first.links; ends = then.ends ∙ first.ends; rests = then.rests ∙ first.rests }

@@ -10,6 +10,7 @@ use Rattle.ss_outside.specs.Told.{Meanings}
 use Rattle.ss_outside.specs.Causes.{Rose}
 use Rattle.ss_links.specs.Counts.{RoseBy}
 use Rattle.ss_links.specs.Ports.{Accepts}
+use Rattle.ss_links.specs.Stores.{Files}
 use Rattle.ss_site.specs.Sites.{Counts, CountsPort, RoseUnless, Term}
 use Rattle.ss_serve.specs.declared.report.LinkReport.{LinkReport}
 use Rattle.ss_run_serve.specs.declared.stop.Stop.{Stop}
@@ -19,6 +20,7 @@ use Rattle.ss_run_serve.specs.Retiring.{uids_in}
 use Rattle.ss_run_serve.specs.Terms.{links_of, short_of, AreTold, KeeperFailed}
 use Rattle.ss_run_serve.specs.Once.{IsUntold}
 use Rattle.ss_run_serve.specs.Course.{CameTo, Course, ServedUntil, Stops}
+use Rattle.ss_run_serve.specs.Logs.{logs_of, AreLogged}
 use Rattle.ss_run_serve.proofs.Anew.{left_themselves}
 use Rattle.ss_run_serve.proofs.Progress.{all_of, told_none}
 use Rattle.ss_run_serve.proofs.Rising.{rose_by_count, rose_on, rose_after}
@@ -27,16 +29,22 @@ port_faults : (n before now : ℕ) → RoseUnless n before now → before ≤ no
 port_faults zero before now rose = omega (arith, rose.none refl)
 port_faults (suc n) before now rose = (rose.some (omega arith)).later
 
+module _ {L : Type 0} where
+  -- the logs of terms were saved, from this number on
+  abbrev pub Kept : Stop → ℕ → Option Files → Option Files → List (Term (LinkReport L)) → Type 0
+  Kept stop number logs logs' told = AreLogged stop (logs_of number told) logs logs'
+
 module _ {L : Type 0} (manner : Manner) (tells : L → Meanings) (closed : L → Bool) (says : ℕ → ℕ → Bool → Type 0) where
   -- accounts that were served until the port was shut
   pub came_to : (opened : List (ℕ × Hosted)) (coming : List (Option (List ℕ))) (workers connections asked : ℕ) (told told' : Option (List (Term (LinkReport L)))) (old mid new : Counts) (port : Accepts)
-      (accounts : List (ℕ × Hosted)) (stop : Stop) → length coming ≡ workers → Course manner tells closed says opened coming connections asked told told' old mid port accounts stop → CountsPort port mid new
-      → CameTo manner tells closed says opened workers connections asked told told' old new accounts stop
-  came_to opened coming workers connections asked told told' old mid new port accounts stop long course shut = record {
+      (accounts : List (ℕ × Hosted)) (stop : Stop) (number : ℕ) (logs logs' : Option Files) → length coming ≡ workers → Course manner tells closed says opened coming connections asked told told' old mid port accounts stop number logs logs'
+      → CountsPort port mid new → CameTo manner tells closed says opened workers connections asked told told' old new accounts stop (Kept stop number logs logs')
+  came_to opened coming workers connections asked told told' old mid new port accounts stop number logs logs' long course shut = record {
     terms = course.terms;
     told = course.told;
     are_told = course.are_told;
     of = course.of;
+    logged = course.logged;
     handed = course.handed;
     served = inr (coming, course.coming', long, course.are);
     within = course.within;
@@ -67,15 +75,17 @@ module _ {L : Type 0} (manner : Manner) (tells : L → Meanings) (closed : L →
       stopped terms stops.Memory why = tt
       stopped terms (stops.Keeper uid) why = absurd why
       stopped terms (stops.Account uid fault) why = absurd why
+      stopped terms stops.Logs why = tt
 
   -- accounts that weren't served, since there were no clocks or no port
-  pub came_to_none : (opened : List (ℕ × Hosted)) (workers connections asked : ℕ) (told : Option (List (Term (LinkReport L)))) (old new : Counts) (stop : Stop) → IsUntold old new stop
-      → CameTo manner tells closed says opened workers connections asked told told old new opened stop
-  came_to_none opened workers connections asked told old new stop why = record {
+  pub came_to_none : (opened : List (ℕ × Hosted)) (workers connections asked : ℕ) (told : Option (List (Term (LinkReport L)))) (old new : Counts) (stop : Stop) (Logged : List (Term (LinkReport L)) → Type 0) → Logged [] → IsUntold old new stop
+      → CameTo manner tells closed says opened workers connections asked told told old new opened stop Logged
+  came_to_none opened workers connections asked told old new stop Logged none why = record {
     terms = [];
     told = [];
     are_told = told_none manner tells closed says told;
     of = all_of manner tells closed says [] stop;
+    logged = none;
     handed = opened;
     served = inl (refl, refl);
     within = record { few = All-nil (λ (term : Term (LinkReport L)). length term.reports ≤ connections); most = λ asks. omega arith };
@@ -99,6 +109,7 @@ module _ {L : Type 0} (manner : Manner) (tells : L → Meanings) (closed : L →
       links stops.Port why = absurd why
       links (stops.Keeper uid) why = absurd why
       links (stops.Account uid fault) why = absurd why
+      links stops.Logs why = absurd why
 
       later : (stop : Stop) → IsUntold old new stop → old.faults ≤ new.faults
       later stops.Site why = why.0.later
@@ -108,6 +119,7 @@ module _ {L : Type 0} (manner : Manner) (tells : L → Meanings) (closed : L →
       later stops.Port why = absurd why
       later (stops.Keeper uid) why = absurd why
       later (stops.Account uid fault) why = absurd why
+      later stops.Logs why = absurd why
 
       stopped : (stop : Stop) → IsUntold old new stop → ServedUntil {L = L} connections asked [] old new stop
       stopped stops.Site why = why.0
@@ -117,20 +129,22 @@ module _ {L : Type 0} (manner : Manner) (tells : L → Meanings) (closed : L →
       stopped stops.Port why = absurd why
       stopped (stops.Keeper uid) why = absurd why
       stopped (stops.Account uid fault) why = absurd why
+      stopped stops.Logs why = absurd why
 
   -- the same after calls that told the site no term
-  pub came_to_unserved : (opened : List (ℕ × Hosted)) (workers connections asked : ℕ) (told told' : Option (List (Term (LinkReport L)))) (old mid new : Counts) (stop : Stop) → told' ≡ told → mid ≡ old → IsUntold mid new stop
-      → CameTo manner tells closed says opened workers connections asked told told' old new opened stop
-  came_to_unserved opened workers connections asked told told' old mid new stop same first why =
-      subst (λ (t : Option (List (Term (LinkReport L)))). CameTo manner tells closed says opened workers connections asked told t old new opened stop) (sym same)
-      (came_to_none opened workers connections asked told old new stop (subst (λ (c : Counts). IsUntold c new stop) first why))
+  pub came_to_unserved : (opened : List (ℕ × Hosted)) (workers connections asked : ℕ) (told told' : Option (List (Term (LinkReport L)))) (old mid new : Counts) (stop : Stop) (Logged : List (Term (LinkReport L)) → Type 0) → Logged [] → told' ≡ told → mid ≡ old → IsUntold mid new stop
+      → CameTo manner tells closed says opened workers connections asked told told' old new opened stop Logged
+  came_to_unserved opened workers connections asked told told' old mid new stop Logged none same first why =
+      subst (λ (t : Option (List (Term (LinkReport L)))). CameTo manner tells closed says opened workers connections asked told t old new opened stop Logged) (sym same)
+      (came_to_none opened workers connections asked told old new stop Logged none (subst (λ (c : Counts). IsUntold c new stop) first why))
 
   pub came_to_shut : (opened : List (ℕ × Hosted)) (coming : List (Option (List ℕ))) (workers connections asked : ℕ) (told first last told' : Option (List (Term (LinkReport L)))) (old begun mid new : Counts) (port : Accepts)
-      (accounts : List (ℕ × Hosted)) (stop : Stop) → first ≡ told → told' ≡ last → begun ≡ old → length coming ≡ workers → Course manner tells closed says opened coming connections asked first last begun mid port accounts stop
-      → CountsPort port mid new → CameTo manner tells closed says opened workers connections asked told told' old new accounts stop
-  came_to_shut opened coming workers connections asked told first last told' old begun mid new port accounts stop same same' counts long course shut =
-      let now : Course manner tells closed says opened coming connections asked told told' old mid port accounts stop =
-      subst (λ (c : Counts). Course manner tells closed says opened coming connections asked told told' c mid port accounts stop) counts
-      (subst (λ (t : Option (List (Term (LinkReport L)))). Course manner tells closed says opened coming connections asked t told' begun mid port accounts stop) same
-      (subst (λ (t : Option (List (Term (LinkReport L)))). Course manner tells closed says opened coming connections asked first t begun mid port accounts stop) (sym same') course)) in
-      came_to opened coming workers connections asked told told' old mid new port accounts stop long now shut
+      (accounts : List (ℕ × Hosted)) (stop : Stop) (number : ℕ) (logs logs' : Option Files) → first ≡ told → told' ≡ last → begun ≡ old → length coming ≡ workers
+      → Course manner tells closed says opened coming connections asked first last begun mid port accounts stop number logs logs'
+      → CountsPort port mid new → CameTo manner tells closed says opened workers connections asked told told' old new accounts stop (Kept stop number logs logs')
+  came_to_shut opened coming workers connections asked told first last told' old begun mid new port accounts stop number logs logs' same same' counts long course shut =
+      let now : Course manner tells closed says opened coming connections asked told told' old mid port accounts stop number logs logs' =
+      subst (λ (c : Counts). Course manner tells closed says opened coming connections asked told told' c mid port accounts stop number logs logs') counts
+      (subst (λ (t : Option (List (Term (LinkReport L)))). Course manner tells closed says opened coming connections asked t told' begun mid port accounts stop number logs logs') same
+      (subst (λ (t : Option (List (Term (LinkReport L)))). Course manner tells closed says opened coming connections asked first t begun mid port accounts stop number logs logs') (sym same') course)) in
+      came_to opened coming workers connections asked told told' old mid new port accounts stop number logs logs' long now shut

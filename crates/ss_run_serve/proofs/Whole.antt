@@ -7,6 +7,7 @@ use Rattle.std.proofs.lemmas.List.Sorted.{Contains-permutation, IsPermutation-sy
 use Rattle.ss_outside.specs.Told.{Meanings}
 use Rattle.ss_outside.specs.Causes.{Rose}
 use Rattle.ss_links.specs.Counts.{RoseBy}
+use Rattle.ss_links.specs.Stores.{Files}
 use Rattle.ss_bso.specs.declared.changes.Kept.{Kept}
 use Rattle.ss_account.specs.Keeping.{IsKept, IsKeptBy}
 use Rattle.ss_account.specs.Opening.{IsFaultOf}
@@ -21,11 +22,13 @@ use Rattle.ss_run_serve.specs.Retiring.{uids_in, ComeBack, CountsKeepers, HaveRe
 use Rattle.ss_run_serve.specs.Terms.{links_of, short_of, AreTerms, AreTold, IsLeft, KeeperFailed}
 use Rattle.ss_run_serve.specs.Once.{HasFailed}
 use Rattle.ss_run_serve.specs.Course.{CameTo, ServedUntil}
+use Rattle.ss_run_serve.specs.Logs.{AreLoggedAt, LogsFailed}
 use Rattle.ss_run_serve.specs.Serving.{AreServedBy, AreKept, HasStopped, IsServed, NoneServed, OthersStay, Sited}
 use Rattle.ss_run_serve.proofs.Anew.{kept_same}
 use Rattle.ss_run_serve.proofs.Retired.{all_as_before}
 use Rattle.ss_run_serve.proofs.Progress.{all_of, any_of, told_none}
 use Rattle.ss_run_serve.proofs.Rising.{rose_on, rose_after}
+use Rattle.ss_run_serve.proofs.Saving.{none_logged_at}
 
 -- an account whose keeper had failed before its journal began, or has failed now, has one that has failed
 failed_now : (h : Hosted) → Stands h → (h.fixed.faults ≢ 0) ⊎ (h.faults ≢ 0) → h.faults ≢ 0
@@ -57,8 +60,8 @@ refused_same kept old new folder folder' uids uids' stop one two refused =
 module _ {L : Type 0} (tells : L → Meanings) (closed : L → Bool) (says : ℕ → ℕ → Bool → Type 0) where
   -- an account wasn't opened
   pub refused_all : (command : ServeCommand) (stop : Stop) (old new : Sited (LinkReport L)) → RefusesOne command.folder old.kept old.counts new.counts command.uids stop → AreAsBefore old.kept new.kept
-      → CountsFaults old.counts new.counts → new.terms ≡ old.terms → IsServed tells closed says command stop old new
-  refused_all command stop old new refused before counted same = record {
+      → CountsFaults old.counts new.counts → new.terms ≡ old.terms → new.logs ≡ old.logs → IsServed tells closed says command stop old new
+  refused_all command stop old new refused before counted same unlogged = record {
     terms = [];
     told = [];
     are_told = subst (λ (t : Option (List (Term (LinkReport L)))). AreTold [] old.terms t) (sym same) (told_none command.manner tells closed says old.terms);
@@ -67,6 +70,7 @@ module _ {L : Type 0} (tells : L → Meanings) (closed : L → Bool) (says : ℕ
     faults = λ any. absurd (omega (arith, any.2));
     others = λ after is. (let b = before after is in (b.0, b.1, λ f uid apart. b.2 f uid));
     stopped = stopped refused;
+    logged = subst (λ (l : Option Files). AreLoggedAt {R = LinkReport L} command.logs stop [] old.logs l) (sym unlogged) (none_logged_at command.logs stop old.logs);
   }
     where
       none : NoneServed [] old new
@@ -80,6 +84,7 @@ module _ {L : Type 0} (tells : L → Meanings) (closed : L → Bool) (says : ℕ
       why stops.PortEnded uid there is = absurd is
       why stops.Terms uid there is = absurd is
       why stops.Port uid there is = absurd is
+      why stops.Logs uid there is = absurd is
 
       stopped : (stop ≡ stops.Memory) ⊎ Any (λ (uid : ℕ). IsUnopened command.folder old.kept old.counts new.counts uid stop) command.uids → HasStopped command [] old new stop
       stopped (inl memory) = subst (λ (s : Stop). HasStopped command [] old new s) (sym memory) tt
@@ -87,19 +92,21 @@ module _ {L : Type 0} (tells : L → Meanings) (closed : L → Bool) (says : ℕ
 
   -- accounts were opened, served, and given back
   pub served_all : (command : ServeCommand) (stop : Stop) (old mid new : Sited (LinkReport L)) (opened accounts : List (ℕ × Hosted)) → uids_in opened ≡ command.uids → All (IsOpened command.folder old.kept) opened
-      → CameTo command.manner tells closed says opened command.workers command.connections command.terms old.terms mid.terms old.counts mid.counts accounts stop → mid.kept ≡ old.kept → new.terms ≡ mid.terms
+      → CameTo command.manner tells closed says opened command.workers command.connections command.terms old.terms mid.terms old.counts mid.counts accounts stop (λ told. AreLoggedAt command.logs stop told old.logs mid.logs)
+      → LogsFailed old.counts mid.counts stop → mid.kept ≡ old.kept → new.terms ≡ mid.terms → new.logs ≡ mid.logs
       → HaveRetired command.folder accounts mid.kept new.kept → CountsKeepers accounts mid.counts new.counts → All (λ (a : ℕ × Hosted). Stands a.1) accounts → IsServed tells closed says command stop old new
-  served_all command stop old mid new opened accounts uids from came unchanged same retired counted stand = record {
+  served_all command stop old mid new opened accounts uids from came failed unchanged same unlogged retired counted stand = record {
     terms = came.terms;
     told = came.told;
     are_told = subst (λ (t : Option (List (Term (LinkReport L)))). AreTold came.told old.terms t) (sym same) came.are_told;
     of = came.of;
     served = served came.served;
-    faults = λ failed. rose_after old.counts.faults mid.counts.faults new.counts.faults came.faults (counted.some (faulty (came.failed failed)));
+    faults = λ marked. rose_after old.counts.faults mid.counts.faults new.counts.faults came.faults (counted.some (faulty (came.failed marked)));
     others = λ after is.
         (let r = retired after is in
         (r.0, sym unchanged ∙ r.1, λ f uid apart. r.2.others f uid (unlisted uid f apart)));
-    stopped = stopped stop came.until;
+    stopped = stopped stop came.until failed;
+    logged = subst (λ (l : Option Files). AreLoggedAt command.logs stop came.told old.logs l) (sym unlogged) came.logged;
   }
     where
       moved : IsPermutation command.uids (uids_in accounts)
@@ -161,22 +168,26 @@ module _ {L : Type 0} (tells : L → Meanings) (closed : L → Bool) (says : ℕ
       rose : Rose old.counts.faults mid.counts.faults → Rose old.counts.faults new.counts.faults
       rose first = rose_on old.counts.faults mid.counts.faults new.counts.faults first counted.later
 
-      stopped : (s : Stop) → ServedUntil command.connections command.terms came.terms old.counts mid.counts s → HasStopped command came.terms old new s
-      stopped stops.PortEnded why = (subst (λ (n : ℕ). Rose old.counts.ends n) (sym counted.ends) why.0, why.1)
-      stopped stops.Terms why = record { stated = why.stated; count = why.count; rested = subst (λ (n : ℕ). RoseBy (short_of command.connections came.terms) old.counts.rests n) (sym counted.rests) why.rested }
-      stopped stops.Port why = (rose why.0, why.1)
-      stopped stops.Site why = rose why
-      stopped stops.Memory why = tt
-      stopped (stops.Keeper uid) why = absurd why
-      stopped (stops.Account uid fault) why = absurd why
+      stopped : (s : Stop) → ServedUntil command.connections command.terms came.terms old.counts mid.counts s → LogsFailed old.counts mid.counts s → HasStopped command came.terms old new s
+      stopped stops.PortEnded why none = (subst (λ (n : ℕ). Rose old.counts.ends n) (sym counted.ends) why.0, why.1)
+      stopped stops.Terms why none = record { stated = why.stated; count = why.count; rested = subst (λ (n : ℕ). RoseBy (short_of command.connections came.terms) old.counts.rests n) (sym counted.rests) why.rested }
+      stopped stops.Port why none = (rose why.0, why.1)
+      stopped stops.Site why none = rose why
+      stopped stops.Memory why none = tt
+      stopped (stops.Keeper uid) why none = absurd why
+      stopped (stops.Account uid fault) why none = absurd why
+      stopped stops.Logs why lost = rose lost
 
   -- the same by what the site told once the accounts were opened
   pub served_open : (command : ServeCommand) (stop : Stop) (old first mid new : Sited (LinkReport L)) (opened accounts : List (ℕ × Hosted)) → uids_in opened ≡ command.uids → All (IsOpened command.folder old.kept) opened
-      → first.counts ≡ old.counts → first.kept ≡ old.kept → first.terms ≡ old.terms
-      → CameTo command.manner tells closed says opened command.workers command.connections command.terms first.terms mid.terms first.counts mid.counts accounts stop → mid.kept ≡ first.kept → new.terms ≡ mid.terms
+      → first.counts ≡ old.counts → first.kept ≡ old.kept → first.terms ≡ old.terms → first.logs ≡ old.logs
+      → CameTo command.manner tells closed says opened command.workers command.connections command.terms first.terms mid.terms first.counts mid.counts accounts stop (λ told. AreLoggedAt command.logs stop told first.logs mid.logs)
+      → LogsFailed first.counts mid.counts stop → mid.kept ≡ first.kept → new.terms ≡ mid.terms → new.logs ≡ mid.logs
       → HaveRetired command.folder accounts mid.kept new.kept → CountsKeepers accounts mid.counts new.counts → All (λ (a : ℕ × Hosted). Stands a.1) accounts → IsServed tells closed says command stop old new
-  served_open command stop old first mid new opened accounts uids from counts kept terms came unchanged same retired counted stand =
+  served_open command stop old first mid new opened accounts uids from counts kept terms logs came failed unchanged same unlogged retired counted stand =
+      let logged : CameTo command.manner tells closed says opened command.workers command.connections command.terms first.terms mid.terms first.counts mid.counts accounts stop (λ told. AreLoggedAt command.logs stop told old.logs mid.logs) =
+      subst (λ (l : Option Files). CameTo command.manner tells closed says opened command.workers command.connections command.terms first.terms mid.terms first.counts mid.counts accounts stop (λ told. AreLoggedAt command.logs stop told l mid.logs)) logs came in
       served_all command stop old mid new opened accounts uids from
-      (subst (λ (t : Option (List (Term (LinkReport L)))). CameTo command.manner tells closed says opened command.workers command.connections command.terms t mid.terms old.counts mid.counts accounts stop) terms
-      (subst (λ (n : Counts). CameTo command.manner tells closed says opened command.workers command.connections command.terms first.terms mid.terms n mid.counts accounts stop) counts came))
-      (unchanged ∙ kept) same retired counted stand
+      (subst (λ (t : Option (List (Term (LinkReport L)))). CameTo command.manner tells closed says opened command.workers command.connections command.terms t mid.terms old.counts mid.counts accounts stop (λ told. AreLoggedAt command.logs stop told old.logs mid.logs)) terms
+      (subst (λ (n : Counts). CameTo command.manner tells closed says opened command.workers command.connections command.terms first.terms mid.terms n mid.counts accounts stop (λ told. AreLoggedAt command.logs stop told old.logs mid.logs)) counts logged))
+      (subst (λ (n : Counts). LogsFailed n mid.counts stop) counts failed) (unchanged ∙ kept) same unlogged retired counted stand

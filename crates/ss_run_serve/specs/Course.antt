@@ -6,6 +6,7 @@ use Rattle.ss_outside.specs.Causes.{Rose}
 use Rattle.ss_bso.specs.Validity.{SameAccount}
 use Rattle.ss_links.specs.Counts.{RoseBy}
 use Rattle.ss_links.specs.Ports.{Accepts}
+use Rattle.ss_links.specs.Stores.{Files}
 use Rattle.ss_site.specs.Sites.{Counts, Term}
 use Rattle.ss_route.specs.declared.manner.Manner.{Manner}
 use Rattle.ss_serve.specs.declared.report.LinkReport.{LinkReport}
@@ -16,6 +17,7 @@ use Rattle.ss_run_serve.specs.Opening.{CountsFaults}
 use Rattle.ss_run_serve.specs.Retiring.{uids_in}
 use Rattle.ss_run_serve.specs.Terms.{links_of, short_of, AreTerms, AreTold, IsLeft, KeeperFailed}
 use Rattle.ss_run_serve.specs.Once.{HasFailed}
+use Rattle.ss_run_serve.specs.Logs.{logs_of, AreLogged}
 
 -- the same account, over a keeper that has not failed meanwhile
 pub record SameKeeper (before after : ℕ × Hosted) : Type 0 where
@@ -46,17 +48,19 @@ module _ {L : Type 0} where
   Stops connections asked terms port old new stops.Port = (port.faults ≢ 0) × (terms ≢ [])
   Stops connections asked terms port old new stops.Site = Rose old.faults new.faults
   Stops connections asked terms port old new stops.Memory = ⊤
+  Stops connections asked terms port old new stops.Logs = ⊤
   Stops connections asked terms port old new _ = ⊥
 
   module _ (manner : Manner) (tells : L → Meanings) (closed : L → Bool) (says : ℕ → ℕ → Bool → Type 0) where
-    -- the terms of accounts and clocks, in one manner, of so many connections each, and of these as many as were asked or without end; the accounts
-    -- that come back then are those that the last one left; and why
+    -- the terms of accounts and clocks, in one manner, of so many connections each, and of these as many as were asked or without end; the logs of
+    -- those that the site was told, from this number on; the accounts that come back then are those that the last one left; and why
     pub record Course (opened : List (ℕ × Hosted)) (coming : List (Option (List ℕ))) (connections asked : ℕ) (before after : Option (List (Term (LinkReport L)))) (old new : Counts) (port : Accepts)
-        (accounts : List (ℕ × Hosted)) (stop : Stop) : Type 0 where
+        (accounts : List (ℕ × Hosted)) (stop : Stop) (number : ℕ) (logs logs' : Option Files) : Type 0 where
       pub terms : List (Term (LinkReport L))
       pub told : List (Term (LinkReport L))
       pub are_told : AreTold told before after
       pub of : IsToldOf stop terms told
+      pub logged : AreLogged stop (logs_of number told) logs logs'
       pub handed : List (ℕ × Hosted)
       pub coming' : List (Option (List ℕ))
       pub are : AreTerms manner tells closed says opened coming terms handed coming'
@@ -84,16 +88,20 @@ module _ {L : Type 0} where
   ServedUntil connections asked terms old new stops.Port = Rose old.faults new.faults × (terms ≢ [])
   ServedUntil connections asked terms old new stops.Site = Rose old.faults new.faults
   ServedUntil connections asked terms old new stops.Memory = ⊤
+  ServedUntil connections asked terms old new stops.Logs = ⊤
   ServedUntil connections asked terms old new _ = ⊥
 
   module _ (manner : Manner) (tells : L → Meanings) (closed : L → Bool) (says : ℕ → ℕ → Bool → Type 0) where
     -- what came of accounts that are open, once the port was shut: none were served, and they come back as they are, or these terms
-    -- served them in this manner, with a clock for each worker; all links are counted that are reported
-    pub record CameTo (opened : List (ℕ × Hosted)) (workers connections asked : ℕ) (before after : Option (List (Term (LinkReport L)))) (old new : Counts) (accounts : List (ℕ × Hosted)) (stop : Stop) : Type 0 where
+    -- served them in this manner, with a clock for each worker; all links are counted that are reported; and what is said of the logs of the
+    -- terms that the site was told
+    pub record CameTo (opened : List (ℕ × Hosted)) (workers connections asked : ℕ) (before after : Option (List (Term (LinkReport L)))) (old new : Counts) (accounts : List (ℕ × Hosted)) (stop : Stop)
+        (Logged : List (Term (LinkReport L)) → Type 0) : Type 0 where
       pub terms : List (Term (LinkReport L))
       pub told : List (Term (LinkReport L))
       pub are_told : AreTold told before after
       pub of : IsToldOf stop terms told
+      pub logged : Logged told
       pub handed : List (ℕ × Hosted)
       pub served : ((terms ≡ []) × (accounts ≡ opened)) ⊎ ((coming : List (Option (List ℕ))) × (coming' : List (Option (List ℕ))) × (length coming ≡ workers) × AreTerms manner tells closed says opened coming terms handed coming')
       pub within : AreWithin connections asked terms

@@ -4,6 +4,8 @@ pub mod Hosted
 pub mod Opening
 pub mod Retiring
 pub mod Lending
+pub mod Logs
+pub mod Logbooks
 pub mod Terms
 pub mod Once
 pub mod Course

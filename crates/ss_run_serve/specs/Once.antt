@@ -5,6 +5,7 @@ use Rattle.ss_outside.specs.Told.{Meanings}
 use Rattle.ss_outside.specs.Causes.{Rose}
 use Rattle.ss_links.specs.Counts.{RoseBy}
 use Rattle.ss_links.specs.Ports.{Accepts}
+use Rattle.ss_links.specs.Stores.{Files}
 use Rattle.ss_site.specs.Sites.{Counts, Term, HasAdded}
 use Rattle.ss_route.specs.declared.manner.Manner.{Manner}
 use Rattle.ss_serve.specs.declared.report.LinkReport.{LinkReport}
@@ -17,6 +18,7 @@ use Rattle.ss_run_serve.specs.declared.stop.Stop.TheVariants as stops
 use Rattle.ss_run_serve.specs.Hosted.{Hosted, journal_in}
 use Rattle.ss_run_serve.specs.Retiring.{uids_in}
 use Rattle.ss_run_serve.specs.Terms.{IsLeft}
+use Rattle.ss_run_serve.specs.Logs.{logs_of_term, AreLoggedOnce}
 
 -- a site that isn't told a term failed and counts that, or no memory was found
 abbrev pub IsUntold : Counts → Counts → Stop → Type 0
@@ -49,15 +51,17 @@ IsLast connections old new None = (GaveAll connections old new ⊎ HasRested con
 IsLast connections old new (Some stops.PortEnded) = new.ends ≢ 0
 IsLast connections old new (Some stops.Port) = new.faults ≢ 0
 IsLast connections old new (Some stops.Memory) = ⊤
+IsLast connections old new (Some stops.Logs) = ⊤
 IsLast connections old new (Some _) = ⊥
 
 module _ {L : Type 0} where
   -- no term took place: the accounts come back as they were left, and the server stops
-  pub record IsLost (given handed : List (ℕ × Hosted)) (terms terms' : Option (List (Term (LinkReport L)))) (old new : Counts) (port port' : Accepts) (last : Option Stop) : Type 0 where
+  pub record IsLost (given handed : List (ℕ × Hosted)) (terms terms' : Option (List (Term (LinkReport L)))) (old new : Counts) (port port' : Accepts) (last : Option Stop) (logs logs' : Option Files) : Type 0 where
     pub stop : Stop
     pub is : last ≡ Some stop
     pub why : IsUntold old new stop
     pub untold : terms' ≡ terms
+    pub unlogged : logs' ≡ logs
     pub links : port'.links ≡ port.links
     pub left : All (IsLeft given) handed
     pub uids : IsPermutation (uids_in given) (uids_in handed)
@@ -75,25 +79,28 @@ module _ {L : Type 0} where
 
     -- a term took place and the site wasn't told: the server stops
     pub record IsUnheard (given handed : List (ℕ × Hosted)) (coming coming' : List (Option (List ℕ))) (terms terms' : Option (List (Term (LinkReport L)))) (old new : Counts)
-        (connections : ℕ) (port port' : Accepts) (last : Option Stop) : Type 0 where
+        (connections : ℕ) (port port' : Accepts) (last : Option Stop) (logs logs' : Option Files) : Type 0 where
       pub stop : Stop
       pub is : last ≡ Some stop
       pub why : IsUntold old new stop
       pub untold : terms' ≡ terms
+      pub unlogged : logs' ≡ logs
       pub term : Term (LinkReport L)
       pub took : TookPlace given handed coming coming' connections port port' term
 
-    -- a term took place, and the site was told
+    -- a term took place, the site was told, and then the logs were saved
     pub record IsDone (given handed : List (ℕ × Hosted)) (coming coming' : List (Option (List ℕ))) (terms terms' : Option (List (Term (LinkReport L)))) (old new : Counts)
-        (connections : ℕ) (port port' : Accepts) (last : Option Stop) : Type 0 where
+        (connections : ℕ) (port port' : Accepts) (last : Option Stop) (number : ℕ) (logs logs' : Option Files) : Type 0 where
       pub term : Term (LinkReport L)
       pub told : HasAdded term terms terms'
       pub took : TookPlace given handed coming coming' connections port port' term
       pub counts : new ≡ old
       pub why : IsLast connections port port' last
+      pub logged : AreLoggedOnce last (logs_of_term number term.journals) logs logs'
 
     -- one of the three
     abbrev pub IsOnce : List (ℕ × Hosted) → List (ℕ × Hosted) → List (Option (List ℕ)) → List (Option (List ℕ)) → Option (List (Term (LinkReport L))) → Option (List (Term (LinkReport L))) → Counts → Counts
-        → ℕ → Accepts → Accepts → Option Stop → Type 0
-    IsOnce given handed coming coming' terms terms' old new connections port port' last =
-        IsLost given handed terms terms' old new port port' last ⊎ IsUnheard given handed coming coming' terms terms' old new connections port port' last ⊎ IsDone given handed coming coming' terms terms' old new connections port port' last
+        → ℕ → Accepts → Accepts → Option Stop → ℕ → Option Files → Option Files → Type 0
+    IsOnce given handed coming coming' terms terms' old new connections port port' last number logs logs' =
+        IsLost given handed terms terms' old new port port' last logs logs' ⊎ IsUnheard given handed coming coming' terms terms' old new connections port port' last logs logs'
+        ⊎ IsDone given handed coming coming' terms terms' old new connections port port' last number logs logs'

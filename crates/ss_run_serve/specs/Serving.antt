@@ -4,6 +4,7 @@ use Rattle.std.specs.List.Sorted.{IsPermutation}
 use Rattle.ss_outside.specs.Told.{Meanings}
 use Rattle.ss_outside.specs.Causes.{Rose}
 use Rattle.ss_links.specs.Counts.{RoseBy}
+use Rattle.ss_links.specs.Stores.{Files}
 use Rattle.ss_account.specs.Keeping.{IsKept}
 use Rattle.ss_account.specs.Opening.{IsFaultOf}
 use Rattle.ss_site.specs.Sites.{Counts, Entries, Term}
@@ -20,12 +21,14 @@ use Rattle.ss_run_serve.specs.Opening.{AreAsBefore, IsBad, IsOpened, IsUnopened}
 use Rattle.ss_run_serve.specs.Retiring.{uids_in}
 use Rattle.ss_run_serve.specs.Terms.{links_of, AreTerms, AreTold, KeeperFailed}
 use Rattle.ss_run_serve.specs.Course.{AreWithin, IsServedOut, IsToldOf}
+use Rattle.ss_run_serve.specs.Logs.{AreLoggedAt}
 
--- what a site counts, the terms that it tells, and the entries that it tells
+-- what a site counts, the terms that it tells, the entries that it tells, and the logs
 pub record Sited (R : Type 0) : Type 0 where
   pub counts : Counts
   pub terms : Option (List (Term R))
   pub kept : Option Entries
+  pub logs : Option Files
 
 -- of the entries that are told, all but those of these uids in this folder are as they were
 abbrev pub OthersStay : List ℕ → List ℕ → Option Entries → Option Entries → Type 0
@@ -54,6 +57,7 @@ module _ {L : Type 0} where
   HasStopped command terms old new (stops.Account uid fault) =
       Contains command.uids uid × IsBad fault × ((entries : Entries) → old.kept ≡ Some entries → IsFaultOf (entries command.folder uid) fault) × NoneServed terms old new
   HasStopped command terms old new stops.Memory = ⊤
+  HasStopped command terms old new stops.Logs = Rose old.counts.faults new.counts.faults
 
   module _ (tells : L → Meanings) (closed : L → Bool) (says : ℕ → ℕ → Bool → Type 0) where
     -- the listed accounts were opened from their entries, with one clock for each worker, and then served by these terms, in the
@@ -87,6 +91,9 @@ module _ {L : Type 0} where
       pub faults : KeeperFailed terms → Rose old.counts.faults new.counts.faults
       pub others : OthersStay command.folder command.uids old.kept new.kept
       pub stopped : HasStopped command terms old new stop
+      -- where the words name a folder for logs, the logs of the terms that the site was told were saved, unless they are too large, each
+      -- under its account's name and its term's number: all, or after a fault of their store or for want of memory some that come first
+      pub logged : AreLoggedAt command.logs stop told old.logs new.logs
 
     -- The words ask for a server, and it was one; or they ask none, and nothing was done. The same with 8, where no memory was found
     -- to read them

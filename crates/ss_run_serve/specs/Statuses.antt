@@ -12,3 +12,4 @@ status_of (stops.Keeper uid) = 2
 status_of stops.Port = 3
 status_of (stops.Account uid fault) = 4
 status_of stops.Memory = 8
+status_of stops.Logs = 7

@@ -6,6 +6,7 @@
 
 mod laws;
 mod lines;
+mod logbook;
 mod opening;
 mod retiring;
 mod run;

@@ -144,3 +144,18 @@ fn stopping(alloc: Global, folder: &str, stop: Stop) -> Result<String, AllocErro
 pub(crate) fn tell_stop<T: Sink>(alloc: Global, err: &mut T, command: &ServeCommand, stop: Stop) {
     say(err, stopping(alloc, command.folder.as_str(), stop));
 }
+
+/// That the log with this name is saved, or can't be.
+pub(crate) fn tell_log<T: Sink>(alloc: Global, err: &mut T, name: &str, is_saved: bool) {
+    let line = if is_saved {
+        format!(in alloc; "syncstore: the log {name} is saved\n")
+    } else {
+        format!(in alloc; "syncstore: the log {name} can't be saved\n")
+    };
+    say(err, line);
+}
+
+/// That the log of an account is too large, and how many bytes it has.
+pub(crate) fn tell_too_large<T: Sink>(alloc: Global, err: &mut T, uid: u32, bytes: usize) {
+    say(err, format!(in alloc; "log too large {uid} {bytes}\n"));
+}

@@ -49,6 +49,7 @@ fn open_kept<X: Site>(
     ensures as_before { OnErr result (AreAsBefore (X.kept site.old) (X.kept site.new)) }
     ensures counted { CountsFaults (X.counts site.old) (X.counts site.new) }
     ensures terms { X.terms site.new ≡ X.terms site.old }
+    ensures logs { X.logs site.new ≡ X.logs site.old }
     ensures lent { OnOk result (X.lent site.new ≡ X.lent site.old) }
     ensures returned { OnErr result (IsBack (X.lent site.old) (X.lent site.new)) }
 {
@@ -81,6 +82,7 @@ fn begin<X: Site>(
     ensures as_before { OnErr result (AreAsBefore (X.kept site.old) (X.kept site.new)) }
     ensures counted { CountsFaults (X.counts site.old) (X.counts site.new) }
     ensures terms { X.terms site.new ≡ X.terms site.old }
+    ensures logs { X.logs site.new ≡ X.logs site.old }
     ensures lent { OnOk result (X.lent site.new ≡ X.lent site.old) }
     ensures returned { OnErr result (IsBack (X.lent site.old) (X.lent site.new)) }
 {
@@ -109,6 +111,7 @@ fn open_account<X: Site>(
     ensures as_before { OnErr result (AreAsBefore (X.kept site.old) (X.kept site.new)) }
     ensures counted { CountsFaults (X.counts site.old) (X.counts site.new) }
     ensures terms { X.terms site.new ≡ X.terms site.old }
+    ensures logs { X.logs site.new ≡ X.logs site.old }
     ensures lent { OnOk result (AreOut 1 (X.lent site.old) (X.lent site.new)) }
     ensures returned { OnErr result (AllAreBack (X.lent site.old) (X.lent site.new)) }
     ensures addresses { (X.lent site.new).addresses ≡ (X.lent site.old).addresses }
@@ -140,6 +143,7 @@ pub(crate) fn open_accounts<X: Site>(
     ensures as_before { OnErr result (AreAsBefore (X.kept site.old) (X.kept site.new)) }
     ensures counted { CountsFaults (X.counts site.old) (X.counts site.new) }
     ensures terms { X.terms site.new ≡ X.terms site.old }
+    ensures logs { X.logs site.new ≡ X.logs site.old }
     ensures lent { IfOk result (λ accounts. AreOut (length accounts.items) (X.lent site.old) (X.lent site.new)) }
     ensures returned { OnErr result (AllAreBack (X.lent site.old) (X.lent site.new)) }
     ensures addresses { (X.lent site.new).addresses ≡ (X.lent site.old).addresses }

@@ -18,6 +18,7 @@ fn retire<X: Site>(site: &mut X, folder: &str, uid: u32, booked: Booked<X::Keepe
         (X.counts site.new) }
     ensures stands { Stands (hosted X.Keeper.told X.Keeper.keep_faults booked) }
     ensures terms { X.terms site.new ≡ X.terms site.old }
+    ensures logs { X.logs site.new ≡ X.logs site.old }
     ensures returned { IsBack (X.lent site.old) (X.lent site.new) }
 {
     let keeper = booked.unbook().into_keeper();
@@ -37,6 +38,7 @@ pub(crate) fn retire_all<X: Site>(
     ensures stand { All (λ account. Stands account.1) (map (hosted_at X.Keeper.told X.Keeper.keep_faults)
         accounts.items) }
     ensures terms { X.terms site.new ≡ X.terms site.old }
+    ensures logs { X.logs site.new ≡ X.logs site.old }
     ensures returned { HaveComeBack (length accounts.items) (X.lent site.old) (X.lent site.new) }
 {
     for (uid, booked) in accounts {

@@ -17,9 +17,9 @@ use std::thread::Threads;
 
 /// Serves the accounts that the words ask for, from what a site keeps, and answers the status: 0 where the port ended
 /// or as many terms were served as was asked; 1 where the words ask for no server; 2 where a call of the site failed,
-/// or a keeper while its account was opened; 3 where the port failed; 4 where what is kept of an account is bad; 8
-/// where no memory was found outside a reply. Every keeper that the site gave is given back to it, and the port is
-/// shut. What `err` is told is for people, and nothing is said of it.
+/// or a keeper while its account was opened; 3 where the port failed; 4 where what is kept of an account is bad; 7 where
+/// a log couldn't be saved; 8 where no memory was found outside a reply. Every keeper that the site gave is given back to
+/// it, the port is shut, and the store of logs is shelved. What `err` is told is for people, and nothing is said of it.
 pub fn run_serve<X, G, T, R>(
     rt: &R,
     alloc: Global,
@@ -37,9 +37,19 @@ where
     T: Sink,
     R: Threads + Wait + Sync,
     ensures runs { Runs X.Port.Link.Told.told X.Port.Link.closed (G.says gate.now) (map (λ word. string_bytes word) words.now) result
-        (record { counts = X.counts site.old; terms = X.terms site.old; kept = X.kept site.old })
-        (record { counts = X.counts site.new; terms = X.terms site.new; kept = X.kept site.new }) }
-    // Every keeper and port that the site gave came back to it, whatever the status.
+        (record {
+          counts = X.counts site.old;
+          terms = X.terms site.old;
+          kept = X.kept site.old;
+          logs = X.logs site.old;
+        })
+        (record {
+          counts = X.counts site.new;
+          terms = X.terms site.new;
+          kept = X.kept site.new;
+          logs = X.logs site.new;
+        }) }
+    // Every keeper, port and store that the site gave came back to it, whatever the status.
     ensures returned { AllAreBack (X.lent site.old) (X.lent site.new) }
     // It listens at the address of the words, and nowhere else.
     ensures listens { ListensAsAsked (map (λ word. string_bytes word) words.now) (X.lent site.old) (X.lent site.new) }

@@ -8,8 +8,11 @@ ghost use Rattle.ss_run_serve.specs.Hosted.{hosted_at, IsBegun};
 ghost use Rattle.ss_run_serve.specs.Lending.{AllAreBack, ListensAt};
 ghost use Rattle.ss_run_serve.specs.Course.{CameTo};
 ghost use Rattle.ss_run_serve.specs.Serving.{IsServed};
+ghost use Rattle.ss_run_serve.specs.Logs.{logs_of, AreLogged, AreLoggedAt, HasCut, LogsFailed};
+ghost use Rattle.ss_run_serve.specs.Logbooks.{number_in, is_kept, files_in, failures_in};
 
 use crate::lines;
+use crate::logbook::{Logbook, close_book, open_book};
 use crate::opening::open_accounts;
 use crate::retiring::retire_all;
 use crate::stop::Stop;
@@ -39,6 +42,7 @@ where
     ensures terms { X.terms site.new ≡ X.terms site.old }
     ensures kept { X.kept site.new ≡ X.kept site.old }
     ensures lent { X.lent site.new ≡ X.lent site.old }
+    ensures logs { X.logs site.new ≡ X.logs site.old }
 {
     let mut clocks = Vec::with_capacity(alloc, workers)?;
     for _worker in 0..workers {
@@ -49,6 +53,56 @@ where
 
 /// Serves accounts that are open. They come back, and why the server stopped.
 fn serve_opened<X, G, T, R>(
+    rt: &R,
+    alloc: Global,
+    site: &mut X,
+    gate: &G,
+    err: &mut T,
+    command: &ServeCommand,
+    book: &mut Logbook<X::Log>,
+    accounts: Vec<(u32, Booked<X::Keeper>)>,
+) -> (Vec<(u32, Booked<X::Keeper>)>, Stop)
+where
+    X: Site<Report = LinkReport<<<X as Site>::Port as Port>::Link>>,
+    X::Keeper: Send,
+    X::Clock: Drop + Send,
+    <<X as Site>::Port as Port>::Link: Drop + Send,
+    G: Gate + Sync,
+    T: Sink,
+    R: Threads + Wait + Sync,
+    requires range { HasRange (Serve command.now) }
+    requires begun { All (λ account. IsBegun account.1) (map (hosted_at X.Keeper.told X.Keeper.keep_faults)
+        accounts.items) }
+    ensures came { CameTo command.now.manner X.Port.Link.Told.told X.Port.Link.closed (G.says gate.now)
+        (map (hosted_at X.Keeper.told X.Keeper.keep_faults) accounts.items) command.now.workers command.now.connections command.now.terms
+        (X.terms site.old) (X.terms site.new) (X.counts site.old) (X.counts site.new) (map (hosted_at X.Keeper.told X.Keeper.keep_faults) result.0.items) result.1
+        (λ told. AreLogged result.1 (logs_of (number_in book.old) told) (files_in X.Log.held book.old)
+        (files_in X.Log.held book.new)) }
+    ensures cut { HasCut (failures_in X.Log.store_faults book.new) result.1 }
+    ensures same { is_kept book.new ≡ is_kept book.old }
+    ensures logs { X.logs site.new ≡ X.logs site.old }
+    ensures kept { X.kept site.new ≡ X.kept site.old }
+    ensures returned { AllAreBack (X.lent site.old) (X.lent site.new) }
+    ensures listens { ListensAt command.now.address (X.lent site.old) (X.lent site.new) }
+{
+    let Ok(clocks) = clocks_of(alloc, site, command.workers as usize) else {
+        return (accounts, Stop::Memory);
+    };
+    let mut port = match site.listen(alloc, command.address.as_str()) {
+        Ok(port) => Watched::new(port),
+        Err(SiteFault::Fault) => return (accounts, Stop::Site),
+        Err(SiteFault::Memory) => return (accounts, Stop::Memory),
+    };
+    lines::tell_listening(alloc, err, command);
+    let crew = Crew { accounts, clocks };
+    let (accounts, stop) = serve_terms(rt, alloc, site, &mut port, gate, err, command, book, crew);
+    site.shut(port.into_port());
+    (accounts, stop)
+}
+
+/// Serves accounts that are open, and keeps the logs of their terms where the command names a folder. The accounts come
+/// back, and why the server stopped.
+fn serve_logged<X, G, T, R>(
     rt: &R,
     alloc: Global,
     site: &mut X,
@@ -70,23 +124,19 @@ where
         accounts.items) }
     ensures came { CameTo command.now.manner X.Port.Link.Told.told X.Port.Link.closed (G.says gate.now)
         (map (hosted_at X.Keeper.told X.Keeper.keep_faults) accounts.items) command.now.workers command.now.connections command.now.terms
-        (X.terms site.old) (X.terms site.new) (X.counts site.old) (X.counts site.new) (map (hosted_at X.Keeper.told X.Keeper.keep_faults) result.0.items) result.1 }
+        (X.terms site.old) (X.terms site.new) (X.counts site.old) (X.counts site.new) (map (hosted_at X.Keeper.told X.Keeper.keep_faults) result.0.items) result.1
+        (λ told. AreLoggedAt command.now.logs result.1 told (X.logs site.old) (X.logs site.new)) }
+    ensures failed { LogsFailed (X.counts site.old) (X.counts site.new) result.1 }
     ensures kept { X.kept site.new ≡ X.kept site.old }
     ensures returned { AllAreBack (X.lent site.old) (X.lent site.new) }
     ensures listens { ListensAt command.now.address (X.lent site.old) (X.lent site.new) }
 {
-    let Ok(clocks) = clocks_of(alloc, site, command.workers as usize) else {
-        return (accounts, Stop::Memory);
+    let mut book = match open_book(alloc, site, command) {
+        Ok(book) => book,
+        Err(stop) => return (accounts, stop),
     };
-    let mut port = match site.listen(alloc, command.address.as_str()) {
-        Ok(port) => Watched::new(port),
-        Err(SiteFault::Fault) => return (accounts, Stop::Site),
-        Err(SiteFault::Memory) => return (accounts, Stop::Memory),
-    };
-    lines::tell_listening(alloc, err, command);
-    let crew = Crew { accounts, clocks };
-    let (accounts, stop) = serve_terms(rt, alloc, site, &mut port, gate, err, command, crew);
-    site.shut(port.into_port());
+    let (accounts, stop) = serve_opened(rt, alloc, site, gate, err, command, &mut book, accounts);
+    close_book(site, book);
     (accounts, stop)
 }
 
@@ -109,8 +159,18 @@ where
     R: Threads + Wait + Sync,
     requires range { HasRange (Serve command.now) }
     ensures served { IsServed X.Port.Link.Told.told X.Port.Link.closed (G.says gate.now) command.now result
-        (record { counts = X.counts site.old; terms = X.terms site.old; kept = X.kept site.old })
-        (record { counts = X.counts site.new; terms = X.terms site.new; kept = X.kept site.new }) }
+        (record {
+          counts = X.counts site.old;
+          terms = X.terms site.old;
+          kept = X.kept site.old;
+          logs = X.logs site.old;
+        })
+        (record {
+          counts = X.counts site.new;
+          terms = X.terms site.new;
+          kept = X.kept site.new;
+          logs = X.logs site.new;
+        }) }
     ensures returned { AllAreBack (X.lent site.old) (X.lent site.new) }
     ensures listens { ListensAt command.now.address (X.lent site.old) (X.lent site.new) }
 {
@@ -119,7 +179,7 @@ where
         Ok(accounts) => accounts,
         Err(stop) => return stop,
     };
-    let (accounts, stop) = serve_opened(rt, alloc, site, gate, err, command, accounts);
+    let (accounts, stop) = serve_logged(rt, alloc, site, gate, err, command, accounts);
     retire_all(site, folder, accounts);
     stop
 }

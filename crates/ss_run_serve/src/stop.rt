@@ -28,6 +28,9 @@ pub enum Stop {
 
     /// No memory was found, outside a reply.
     Memory,
+
+    /// The store of the logs failed.
+    Logs,
 }
 
 impl Stop {
@@ -43,6 +46,7 @@ impl Stop {
             Stop::Port => 3,
             Stop::Account { .. } => 4,
             Stop::Memory => 8,
+            Stop::Logs => 7,
         }
     }
 }
@@ -60,6 +64,7 @@ impl Display for Stop {
             Stop::Port => f.write_str("the port failed"),
             Stop::Account { uid, fault } => write!(f, "account {uid} can't be opened: {fault}"),
             Stop::Memory => f.write_str("no memory was found"),
+            Stop::Logs => f.write_str("a log couldn't be saved"),
         }
     }
 }

@@ -1,16 +1,20 @@
 //! One term of a server, and what its site is told of it.
 
-ghost use Rattle.std.specs.Prelude.{◌≡◌, ◌<◌, ◌≤◌, ℕ, map, vec_len, All, IfOk, IfErr, OnOk, OnErr};
+ghost use Rattle.std.specs.Prelude.{◌≡◌, ◌<◌, ◌≤◌, ℕ, map, vec_len, All, IfOk, IfErr, IfSome, IfNone, OnOk, OnErr};
 ghost use Rattle.ss_laws.specs.Journal.{Journal};
 ghost use Rattle.ss_booked.specs.Booked.{journal_of};
 ghost use Rattle.ss_links.specs.Ports.{Accepts};
 ghost use Rattle.ss_town.specs.Opening.{AreBare};
 ghost use Rattle.ss_site.specs.Sites.{HasAdded};
+ghost use Rattle.ss_outside.specs.Plans.{raised};
+ghost use Rattle.ss_run_serve.specs.Logs.{HasCut};
+ghost use Rattle.ss_run_serve.specs.Logbooks.{number_in, is_kept, files_in, failures_in};
 ghost use Rattle.ss_run_serve.specs.Watched.{port_in};
 ghost use Rattle.ss_run_serve.specs.Hosted.{hosted_at, IsBegun};
 ghost use Rattle.ss_run_serve.specs.Once.{Follows, IsOnce, IsUntold};
 
 use crate::lines;
+use crate::logbook::Logbook;
 use crate::stop::Stop;
 use crate::watched::Watched;
 use ss_booked::Booked;
@@ -67,6 +71,7 @@ where
     ensures terms { OnErr result (X.terms site.new ≡ X.terms site.old) }
     ensures kept { X.kept site.new ≡ X.kept site.old }
     ensures lent { X.lent site.new ≡ X.lent site.old }
+    ensures logs { X.logs site.new ≡ X.logs site.old }
 {
     let Ok(journals) = journals_of(alloc, accounts) else {
         return Err(Stop::Memory);
@@ -93,8 +98,8 @@ fn stop_after<P: Port>(ended: TermStop, port: &Watched<P>) -> Option<Stop>
     }
 }
 
-/// One term: the accounts are served in this manner, and the site is told what came of it. Why no further term begins
-/// comes with what is handed back.
+/// One term: the accounts are served in this manner, the site is told what came of it, and the logs are saved. Why no
+/// further term begins comes with what is handed back.
 pub(crate) fn serve_once<X, G, T, R>(
     rt: &R,
     alloc: Global,
@@ -104,6 +109,7 @@ pub(crate) fn serve_once<X, G, T, R>(
     gate: &G,
     err: &mut T,
     connections: u32,
+    book: &mut Logbook<X::Log>,
     crew: Crew<X::Keeper, X::Clock>,
 ) -> (Crew<X::Keeper, X::Clock>, Option<Stop>)
 where
@@ -122,9 +128,14 @@ where
     ensures once { IsOnce manner X.Port.Link.Told.told X.Port.Link.closed (G.says gate.now)
         (map (hosted_at X.Keeper.told X.Keeper.keep_faults) crew.accounts.items)
         (map (hosted_at X.Keeper.told X.Keeper.keep_faults) result.0.accounts.items) (map X.Clock.coming crew.clocks.items) (map X.Clock.coming result.0.clocks.items)
-        (X.terms site.old) (X.terms site.new) (X.counts site.old) (X.counts site.new) connections (X.Port.counts (port_in port.old)) (X.Port.counts (port_in port.new)) result.1 }
+        (X.terms site.old) (X.terms site.new) (X.counts site.old) (X.counts site.new) connections (X.Port.counts (port_in port.old)) (X.Port.counts (port_in port.new)) result.1
+        (number_in book.old) (files_in X.Log.held book.old) (files_in X.Log.held book.new) }
+    ensures number { IfNone result.1 (number_in book.new ≡ raised (number_in book.old)) }
+    ensures cut { IfSome result.1 (HasCut (failures_in X.Log.store_faults book.new)) }
+    ensures same { is_kept book.new ≡ is_kept book.old }
     ensures kept { X.kept site.new ≡ X.kept site.old }
     ensures lent { X.lent site.new ≡ X.lent site.old }
+    ensures logs { X.logs site.new ≡ X.logs site.old }
 {
     let Crew { accounts, clocks } = crew;
     let TermEnd {
@@ -143,7 +154,10 @@ where
             match tell(alloc, site, links, accounts.as_slice()) {
                 Ok(()) => {
                     let last = stop_after(ended, port);
-                    (Crew { accounts, clocks }, last)
+                    match book.save_term(alloc, err, accounts.as_slice()) {
+                        Ok(()) => (Crew { accounts, clocks }, last),
+                        Err(stop) => (Crew { accounts, clocks }, Some(stop)),
+                    }
                 }
                 Err(stop) => (Crew { accounts, clocks }, Some(stop)),
             }

@@ -3,11 +3,14 @@
 ghost use Rattle.std.specs.Prelude.{◌≡◌, ◌<◌, ◌≤◌, map, vec_len, All, OnOk};
 ghost use Rattle.std.specs.List.{AllZip};
 ghost use Rattle.ss_links.specs.Ports.{idle_port};
+ghost use Rattle.ss_run_serve.specs.Logs.{HasCut};
+ghost use Rattle.ss_run_serve.specs.Logbooks.{number_in, is_kept, files_in, failures_in};
 ghost use Rattle.ss_run_serve.specs.Watched.{port_in};
 ghost use Rattle.ss_run_serve.specs.Hosted.{hosted, hosted_at, IsBegun};
 ghost use Rattle.ss_run_serve.specs.Terms.{BeginsAnew};
 ghost use Rattle.ss_run_serve.specs.Course.{Course, SameKeeper};
 
+use crate::logbook::Logbook;
 use crate::stop::Stop;
 use crate::term::{Crew, serve_once};
 use crate::watched::Watched;
@@ -46,7 +49,7 @@ fn fold_all<K: Keeper>(accounts: &mut [(u32, Booked<K>)]) -> Result<(), AllocErr
 }
 
 /// Serves terms one after the other, in the command's manner, until the server stops, and folds the journals between
-/// two. The accounts come back, and why it stopped.
+/// two, once their logs are saved. The accounts come back, and why it stopped.
 pub(crate) fn serve_terms<X, G, T, R>(
     rt: &R,
     alloc: Global,
@@ -55,6 +58,7 @@ pub(crate) fn serve_terms<X, G, T, R>(
     gate: &G,
     err: &mut T,
     command: &ServeCommand,
+    book: &mut Logbook<X::Log>,
     mut crew: Crew<X::Keeper, X::Clock>,
 ) -> (Vec<(u32, Booked<X::Keeper>)>, Stop)
 where
@@ -74,9 +78,13 @@ where
     ensures course { Course command.now.manner X.Port.Link.Told.told X.Port.Link.closed (G.says gate.now)
         (map (hosted_at X.Keeper.told X.Keeper.keep_faults) crew.accounts.items) (map X.Clock.coming crew.clocks.items)
         command.now.connections command.now.terms (X.terms site.old) (X.terms site.new) (X.counts site.old) (X.counts site.new) (X.Port.counts (port_in port.new))
-        (map (hosted_at X.Keeper.told X.Keeper.keep_faults) result.0.items) result.1 }
+        (map (hosted_at X.Keeper.told X.Keeper.keep_faults) result.0.items) result.1
+        (number_in book.old) (files_in X.Log.held book.old) (files_in X.Log.held book.new) }
+    ensures cut { HasCut (failures_in X.Log.store_faults book.new) result.1 }
+    ensures same { is_kept book.new ≡ is_kept book.old }
     ensures kept { X.kept site.new ≡ X.kept site.old }
     ensures lent { X.lent site.new ≡ X.lent site.old }
+    ensures logs { X.logs site.new ≡ X.logs site.old }
 {
     let mut left = command.terms;
     'terms: for _ in rt.forever() {
@@ -89,6 +97,7 @@ where
             gate,
             err,
             command.connections as u32,
+            book,
             crew,
         );
         crew = after;

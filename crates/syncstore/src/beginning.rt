@@ -7,6 +7,7 @@ use ss_real_site::RealSite;
 use ss_site::{Site, SiteFault};
 use ss_words::{Command, ServeCommand, read_command};
 use std::alloc::{AllocError, Global};
+use std::fs;
 use std::sync::Wait;
 use std::thread::{Builder, JoinHandle, Threads};
 
@@ -103,6 +104,28 @@ fn try_folder(system: &HostRuntime, command: &ServeCommand) -> Result<(), u8> {
     Ok(())
 }
 
+/// Whether the logs of the first term have no files yet; else the status. Where that can't be seen it is known as the
+/// first is saved.
+fn try_logs(system: &HostRuntime, command: &ServeCommand) -> Result<(), u8> {
+    let Some(logs) = &command.logs else {
+        return Ok(());
+    };
+    for uid in command.uids.as_slice() {
+        let (folder, from) = (logs.folder.as_str(), logs.from);
+        let Ok(path) = format!(in system.alloc(); "{folder}/{uid}-{from}") else {
+            explain_memory(system);
+            return Err(8);
+        };
+        if let Ok(true) = fs::exists(system, path.as_str()) {
+            let _ = eprintln!(system;
+                "syncstore: {path}: a log is there already, and is not written over; --from tells the number of the first term"
+            );
+            return Err(7);
+        }
+    }
+    Ok(())
+}
+
 /// Looks whether a server can begin, and tells of limits that its accounts may meet; else says why not, and answers the
 /// status. Of words that ask for no server nothing is said.
 pub fn prepare(
@@ -114,6 +137,7 @@ pub fn prepare(
     match read_command(system.alloc(), words) {
         Ok(Command::Serve(command)) => {
             try_folder(system, &command)?;
+            try_logs(system, &command)?;
             try_memory(system, &command)?;
             try_threads(system, rt, &command)?;
             try_address(system, site, &command)?;

@@ -67,8 +67,11 @@ fn trouble_of(
     command: &ServeCommand,
     trouble: Trouble,
 ) -> Result<String, AllocError> {
-    let place = match trouble {
-        Trouble::Address(_) | Trouble::Port => command.address.as_str(),
+    let place = match (trouble, &command.logs) {
+        (Trouble::Address(_) | Trouble::Port, _) => command.address.as_str(),
+        (Trouble::LogFolder(_) | Trouble::Log | Trouble::LogIsThere, Some(logs)) => {
+            logs.folder.as_str()
+        }
         _ => command.folder.as_str(),
     };
     format!(in alloc; "syncstore: {}: {trouble}", shown(alloc, place)?)

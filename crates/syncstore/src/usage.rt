@@ -181,6 +181,7 @@ example: syncstore sync http://127.0.0.1:8000/1.5/7 device
 
 const SERVE: &str = "\
 usage: syncstore serve ADDRESS FOLDER UID .. [--workers N] [--connections N] [--terms N] [--firefox]
+                       [--journal FOLDER [--from N]]
 
 Serves accounts from SQLite files over HTTP/1.1, without login and without TLS: docs/SERVING.md tells what to put before it. It runs
 until it is stopped by a signal, at any moment: what was answered is in the files.
@@ -194,9 +195,14 @@ until it is stopped by a signal, at any moment: what was answered is in the file
   --terms N          how many terms are served: 0 to 999999999999; 0, which is the default, means without end
   --firefox          reads conditions as Firefox means them: nothing changed since 0 is that the target isn't there, and 11 to 18
                      digits, thousandths of a second taken for seconds, are the last time that there is
+  --journal FOLDER   keeps the log of each account and term there, as UID-1, UID-2 and so on, for syncstore audit; the folder is made
+                     where it isn't there. A log that is there is not written over; one of more than 268435456 bytes isn't kept, and
+                     standard error says so: log too large UID BYTES
+  --from N           the number of the first term's logs: 1 to 999999, 1 where nothing is said; only beside --journal
 
-exit status: 0 all terms were served; 1 faulty words; 2 the folder, a file or the address failed; 3 the port failed while it listened;
-4 what a file holds is no account; 8 no memory outside a response. Standard error tells when it listens, a line a term, and why it stops.
+exit status: 0 all terms were served; 1 faulty words; 2 a folder, a file or the address failed; 3 the port failed while it listened;
+4 what a file holds is no account; 7 a log couldn't be saved; 8 no memory outside a response. Standard error tells when it listens, a
+line a term and a log, and why it stops.
 
 example: syncstore serve 127.0.0.1:8000 data 7 8
 ";

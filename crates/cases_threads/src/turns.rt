@@ -5,6 +5,7 @@ ghost use Rattle.std.specs.Thread.{IsSync};
 
 mod account;
 mod counters;
+mod pair;
 mod telling;
 mod threads;
 mod towns;
@@ -27,6 +28,8 @@ fn told<R: Threads + Wait + Sync>(rt: &R, alloc: Global, line: &str) -> anyhow::
         "town" => towns::opened(alloc, words::numbers(alloc, rest)?.as_slice()),
         "asks" => towns::asked(rt, alloc, words::numbers(alloc, rest)?.as_slice()),
         "account" => account::called(rt, alloc, words::numbers(alloc, rest)?.as_slice()),
+        "pair" => pair::told(rt, alloc, words::numbers(alloc, rest)?.as_slice()),
+        "room" => pair::past_room(rt, alloc, words::numbers(alloc, rest)?.as_slice()),
         _ => bail!("no kind of case"),
     }
 }

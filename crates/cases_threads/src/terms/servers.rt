@@ -4,12 +4,13 @@ use crate::terms::case::{Case, Failing, Planned};
 use crate::terms::ending::Ending;
 use crate::terms::terms::{lines, port};
 use anyhow::bail;
-use ss_bso::{Kept, Times};
+use ss_bso::{Kept, Row, Times};
+use ss_keeper::{KeepFault, Keeper};
 use ss_links::{MemLink, MemPort};
 use ss_outside::SureSink;
 use ss_run_serve::run_serve;
 use ss_serve::LinkReport;
-use ss_site::{KeptTerm, MemSite};
+use ss_site::{KeptTerm, MemSite, Site};
 use ss_text::{Name, Stamp};
 use std::alloc::{AllocError, Global};
 use std::sync::Wait;
@@ -136,4 +137,48 @@ pub fn told<R: Threads + Wait + Sync>(rt: &R, alloc: Global, case: Case) -> anyh
     let text = reported(alloc, &site, status);
     drop(site);
     text
+}
+
+/// A row that is kept, behind an end of a line.
+fn row(alloc: Global, row: &Row) -> Result<String, AllocError> {
+    format!(in alloc;
+        "\n  {}/{} at {}, {}",
+        row.collection.as_str(),
+        row.id.as_str(),
+        row.modified.get(),
+        row.payload.as_str()
+    )
+}
+
+/// The rows of what is kept, a line each.
+fn rows(alloc: Global, kept: &Kept) -> Result<String, AllocError> {
+    let mut text = String::new(alloc);
+    for kept in kept.rows.as_slice() {
+        text.push_str(row(alloc, kept)?.as_str())?;
+    }
+    Ok(text)
+}
+
+/// What the entry of the account 7 in the folder `f` has; the keeper that loads it is given back.
+fn entry(alloc: Global, site: &mut Terms) -> anyhow::Result<String> {
+    let mut keeper = match site.keeper(alloc, "f", 7) {
+        Ok(keeper) => keeper,
+        Err(fault) => return Ok(format!(in alloc; "no keeper, {fault:?}")?),
+    };
+    let kept: Result<Kept, KeepFault> = keeper.load(alloc);
+    site.retire("f", 7, keeper);
+    match kept {
+        Ok(kept) => Ok(rows(alloc, &kept)?),
+        Err(fault) => Ok(format!(in alloc; "no entry, {fault:?}")?),
+    }
+}
+
+/// A server's status, how many terms the site was told, and what the entry of the account 7 has then.
+pub fn kept<R: Threads + Wait + Sync>(rt: &R, alloc: Global, case: Case) -> anyhow::Result<String> {
+    let (mut site, status) = served(rt, alloc, case)?;
+    let count = site.terms().len();
+    let entry = entry(alloc, &mut site);
+    drop(site);
+    let entry = entry?;
+    Ok(format!(in alloc; "status {status}, {count} terms, and the rows{entry}")?)
 }

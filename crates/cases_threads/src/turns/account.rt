@@ -19,8 +19,8 @@ use std::alloc::{AllocError, Global};
 use std::sync::Wait;
 use std::thread::{Threads, join};
 
-/// What a call is told: its ticket, with the time of the write, or that the journal is full.
-type Told = Result<(u64, Option<Stamp>), Full>;
+/// What a call is told: its ticket, the status and the time of the write or the target, or that the journal is full.
+pub type Told = Result<(u64, u16, Option<Stamp>), Full>;
 
 /// The fields of a record with four payload bytes.
 fn fields(alloc: Global) -> Result<Fields, AllocError> {
@@ -32,7 +32,7 @@ fn fields(alloc: Global) -> Result<Fields, AllocError> {
 }
 
 /// A PUT of four payload bytes.
-fn put(alloc: Global, now: u64, id: &str) -> anyhow::Result<Asked>
+pub fn put(alloc: Global, now: u64, id: &str) -> anyhow::Result<Asked>
     ensures { IfOk result (λ ask. IsFitRequest ask.request) }
 {
     let Some(collection) = Name::new(alloc, b"forms")? else {
@@ -77,7 +77,7 @@ fn desk<K: Keeper + Drop>(
 }
 
 /// One call.
-fn call<R: Wait, K: Keeper + Drop>(
+pub fn call<R: Wait, K: Keeper + Drop>(
     rt: &R,
     desk: &Desk<Booked<K>>,
     mut pass: Pass<Booked<K>>,
@@ -94,7 +94,7 @@ fn call<R: Wait, K: Keeper + Drop>(
                 reply,
                 half_full: _,
             } = answered;
-            Ok((ticket, reply.modified))
+            Ok((ticket, reply.status, reply.modified))
         }
         Err(full) => Err(full),
     };
@@ -102,7 +102,7 @@ fn call<R: Wait, K: Keeper + Drop>(
 }
 
 /// Calls by two passes side by side, each with half of the pass's numbers.
-fn call_both<R: Threads + Wait + Sync>(
+pub fn call_both<R: Threads + Wait + Sync>(
     rt: &R,
     desk: &Desk<Booked<SureKeeper>>,
     mut pass: Pass<Booked<SureKeeper>>,
@@ -191,7 +191,7 @@ fn puts(alloc: Global, now: u64, one: &str, other: &str) -> anyhow::Result<(Aske
 }
 
 /// A desk of a fresh account with room for so many entries, and the pass with all numbers.
-fn fresh_desk(
+pub fn fresh_desk(
     alloc: Global,
     most: u32,
 ) -> anyhow::Result<(Desk<Booked<SureKeeper>>, Pass<Booked<SureKeeper>>)>
@@ -256,8 +256,11 @@ fn called_four<R: Threads + Wait + Sync>(
 /// A line on what a call is told.
 fn line(alloc: Global, told: &Told) -> Result<String, AllocError> {
     match told {
-        Ok((ticket, Some(time))) => format!(in alloc; "\n  ticket {ticket}, time {}", time.get()),
-        Ok((ticket, None)) => format!(in alloc; "\n  ticket {ticket}, no time"),
+        Ok((ticket, _, Some(time))) => format!(in alloc;
+            "\n  ticket {ticket}, time {}",
+            time.get()
+        ),
+        Ok((ticket, _, None)) => format!(in alloc; "\n  ticket {ticket}, no time"),
         Err(full) => format!(in alloc; "\n  {full:?}"),
     }
 }

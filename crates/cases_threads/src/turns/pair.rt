@@ -66,7 +66,8 @@ fn called_twice<R: Wait>(
     let (desk, pass) = fresh_desk(alloc, most)?;
     let (pass, told) = call(rt, &desk, pass, ask);
     let (pass, other_told) = call(rt, &desk, pass, other);
-    drop(desk.close(pass));
+    let booked = desk.close(pass);
+    drop(booked);
     Ok((told, other_told))
 }
 

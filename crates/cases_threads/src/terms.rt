@@ -1,7 +1,8 @@
 //! Connections, terms, servers and what they stand on, a case a line. `text NAME "..."` names a text. A line
 //! `connection` serves links one after the other over one town, `term` a port over two accounts, of
 //! which `filling` tells besides how often the gate was told of a journal that fills, `server` a site, of which `status`
-//! tells only the status and how many terms there were, and `kept` besides what is then kept of account 7.
+//! tells only the status and how many terms there were, `kept` besides what is then kept of account 7, and `logs` what
+//! `audit` says of the logs that it kept.
 
 mod accounts;
 mod case;
@@ -42,6 +43,7 @@ fn served<R: Threads + Wait + Sync>(
         "server" => servers::told(rt, alloc, case),
         "status" => servers::status(rt, alloc, case),
         "kept" => servers::kept(rt, alloc, case),
+        "logs" => servers::logs(rt, alloc, case),
         _ => bail!("no kind of case"),
     }
 }

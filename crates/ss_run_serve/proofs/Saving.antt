@@ -1,10 +1,10 @@
 -- The logs of terms that were saved, and those of one term more.
-use Rattle.std.specs.Prelude.{◌≡◌, ◌≢◌, ℕ, zero, suc, Bool, true, false, cond, List, [], ◌∷◌, ◌++◌, length, map, take, drop, Option, Some, None, IfNone, IfSome, bytes_eq, refl}
+use Rattle.std.specs.Prelude.{◌≡◌, ◌≢◌, ◌<◌, ◌+◌, ℕ, zero, suc, Bool, true, false, cond, List, [], ◌∷◌, ◌++◌, length, get_or, map, take, drop, Option, Some, None, IfNone, IfSome, bytes_eq, refl}
 use Rattle.std.specs.Option.{option_or}
 use Rattle.std.specs.List.{flat_map}
 use Rattle.std.proofs.Common.{sym, ap, subst, ◌∙◌, append_assoc, append-nil}
 use Rattle.std.proofs.lemmas.Bool.{false≢true}
-use Rattle.std.proofs.lemmas.Grind.{flat_map-append}
+use Rattle.std.proofs.lemmas.List.{take_more}
 use Rattle.ss_outside.specs.Plans.{raised}
 use Rattle.ss_laws.specs.Journal.{Journal}
 use Rattle.ss_links.specs.Stores.{Files, HasSaved}
@@ -44,9 +44,12 @@ untold_saved logs = refl
 pub saved_then : (xs ys : List Named) (old mid new : Option Files) → AreSaved xs old mid → AreSaved ys mid new → AreSaved (xs ++ ys) old new
 saved_then xs ys None mid new first then = subst (λ (m : Option Files). AreSaved ys m new) first then
 saved_then xs ys (Some old) mid new first then =
-    let later : AreSaved ys (Some first.0) new = subst (λ (m : Option Files). AreSaved ys m new) first.1 then in
-    (later.0, later.1, λ name. later.2 name ∙ ap (λ (o : Option (List ℕ)). option_or (last_named name ys) o) (first.2 name)
-    ∙ sym (or_assoc (last_named name ys) (last_named name xs) (old name)) ∙ ap (λ (o : Option (List ℕ)). option_or o (old name)) (sym (last_append name xs ys)))
+    let later : AreSaved ys (Some first.0) new = subst (λ (m : Option Files). AreSaved ys m new) first.1 then in (
+      later.0,
+      later.1,
+      λ name. later.2 name ∙ ap (λ (o : Option (List ℕ)). option_or (last_named name ys) o) (first.2 name)
+          ∙ sym (or_assoc (last_named name ys) (last_named name xs) (old name)) ∙ ap (λ (o : Option (List ℕ)). option_or o (old name)) (sym (last_append name xs ys)),
+    )
 
 one_there : (name bytes : List ℕ) (old files : Files) (other : List ℕ) (b : Bool) → bytes_eq name other ≡ b → files name ≡ Some bytes → (other ≢ name → files other ≡ old other)
     → files other ≡ option_or (cond b (Some bytes) None) (old other)
@@ -140,9 +143,12 @@ untold_has old new faults (stops.Account uid fault) why = absurd why
 untold_has old new faults stops.Logs why = absurd why
 
 -- no terms were told
-pub none_logged_at : {R : Type 0} (folder : Option LogFolder) (stop : Stop) (files : Option Files) → AreLoggedAt {R = R} folder stop [] files files
-none_logged_at None stop files = refl
-none_logged_at (Some folder) stop files = logged_of stop [] files files (none_saved files)
+pub none_logged_at : (R : Type 0) (folder : Option LogFolder) (stop : Stop) (files : Option Files) → AreLoggedAt {R = R} folder stop [] files files
+none_logged_at R None stop files = refl
+none_logged_at R (Some folder) stop files = logged_of stop [] files files (none_saved files)
+
+pub none_logged_still : (R : Type 0) (folder : Option LogFolder) (stop : Stop) (old new : Option Files) → new ≡ old → AreLoggedAt {R = R} folder stop [] old new
+none_logged_still R folder stop old new same = subst (λ (l : Option Files). AreLoggedAt {R = R} folder stop [] old l) (sym same) (none_logged_at R folder stop old)
 
 pub if_none : {X : Type 0} (o : Option X) (P : Type 0) → P → IfNone o P
 if_none None P is = is
@@ -151,8 +157,8 @@ if_none (Some x) P is = tt
 pub none_holds : {X : Type 0} {P : Type 0} (o : Option X) → o ≡ None → IfNone o P → P
 none_holds {X} {P} o none is = (let Q : Option X → Type 0 = λ (x : Option X). IfNone x P in subst Q none is)
 
-pub some_holds : {X : Type 0} {P : X → Type 0} (o : Option X) (x : X) → o ≡ Some x → IfSome o P → P x
-some_holds {X} {P} o x some is = (let Q : Option X → Type 0 = λ (y : Option X). IfSome y P in subst Q some is)
+pub some_holds : {X : Type 0} (P : X → Type 0) (o : Option X) (x : X) → o ≡ Some x → IfSome o P → P x
+some_holds {X} P o x some is = (let Q : Option X → Type 0 = λ (y : Option X). IfSome y P in subst Q some is)
 
 -- ---- one term more
 
@@ -188,3 +194,14 @@ logs_push f number [] x = append-nil (saved_of number (f x))
 logs_push f number (y ∷ xs) x =
     ap (λ (logs : List Named). saved_of number (f y) ++ logs) (logs_push f number xs x)
     ∙ sym (append_assoc (saved_of number (f y)) (logs_of_term number (map f xs)) (saved_of number (f x)))
+
+pub saved_at : {X : Type 0} (f : X → ℕ × Journal) (number : ℕ) (xs : List X) (i : ℕ) (x : X) (old mid new : Option Files) → i < length xs → x ≡ get_or xs i x → AreSaved (logs_of_term number (map f (take i xs))) old mid
+    → AreSaved (saved_of number (f x)) mid new → AreSaved (logs_of_term number (map f (take (i + 1) xs))) old new
+saved_at f number xs i x old mid new inside here first then =
+    let more : take (i + 1) xs ≡ take i xs ++ x ∷ [] = take_more xs i x inside ∙ ap (λ (y : _). take i xs ++ y ∷ []) (sym here) in
+    subst (λ (logs : List Named). AreSaved logs old new) (sym (logs_push f number (take i xs) x) ∙ ap (λ (ys : _). logs_of_term number (map f ys)) (sym more))
+    (saved_then (logs_of_term number (map f (take i xs))) (saved_of number (f x)) old mid new first then)
+
+-- some of the logs of the accounts up to a place
+pub partly_at : {X : Type 0} (f : X → ℕ × Journal) (number : ℕ) (xs : List X) (i : ℕ) (old new : Option Files) → AreSaved (logs_of_term number (map f (take i xs))) old new → ArePartlySaved (logs_of_term number (map f xs)) old new
+partly_at f number xs i old new saved = record { saved = logs_of_term number (map f (take i xs)); rest = logs_of_term number (map f (drop i xs)); are = logs_split f number xs i; files = saved }

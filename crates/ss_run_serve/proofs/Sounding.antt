@@ -86,11 +86,16 @@ abbrev Chain : List Journal → Type 0
 Chain [] = ⊤
 Chain (journal ∷ journals) = Follow journal journals × Chain journals
 
+adjacent_next : (journals : List Journal) → Chain journals → (k : ℕ) (d : Journal) → suc k < length journals → GoesOn (get_or journals k d) (get_or journals (suc k) d)
+adjacent_next [] chain k d lt = absurd (omega (arith, lt))
+adjacent_next (journal ∷ []) chain k d lt = absurd (omega (arith, lt))
+adjacent_next (journal ∷ next ∷ journals) chain zero d lt = chain.0
+adjacent_next (journal ∷ next ∷ journals) chain (suc k) d lt = adjacent_next (next ∷ journals) chain.1 k d (omega (arith, lt))
+
 adjacent : (journals : List Journal) → Chain journals → (k : ℕ) (d : Journal) → k + 1 < length journals → GoesOn (get_or journals k d) (get_or journals (k + 1) d)
-adjacent [] chain k d lt = absurd (omega (arith, lt))
-adjacent (journal ∷ []) chain k d lt = absurd (omega (arith, lt))
-adjacent (journal ∷ next ∷ journals) chain zero d lt = chain.0
-adjacent (journal ∷ next ∷ journals) chain (suc k) d lt = adjacent (next ∷ journals) chain.1 k d (omega (arith, lt))
+adjacent journals chain k d lt =
+    let one : suc k ≡ k + 1 = omega arith in
+    subst (λ (n : ℕ). GoesOn (get_or journals k d) (get_or journals n d)) one (adjacent_next journals chain k d (omega (arith, lt)))
 
 follows : (between : List (ℕ × Hosted)) → IsStrictlyIncreasing (uids_in between) → (uid : ℕ) (h : Hosted) → Contains between (uid, h) → (journals : List Journal) → Opens between uid journals → Follow (journal_in h) journals
 follows between rise uid h there [] opens = tt
@@ -111,14 +116,16 @@ module _ {L : Type 0} (manner : Manner) (tells : L → Meanings) (closed : L →
       let given = moved_at of.given of.served.order k before.0 of.served.moved before.1 in
       let left_one = beside BeginsAnew left of.given before.0 of.anew (contains_at of.given given.0 before.0 given.1) in
       let fixed : account.1.fixed ≡ before.0.1.fixed = ap (λ (a : ℕ × Hosted). a.1.fixed) (sym same) ∙ back.2 in
-      let made : IsMadeByCalls (journal_in account.1) = (of.served.served.lawful k account.0 account.1 at).0 in
-      (made, record {
-        account = left_one.0;
-        there = left_one.1;
-        named = sym left_one.2.uid ∙ ap (λ (a : ℕ × Hosted). a.0) same;
-        opening = subst (λ (t : Terms). SameAccount (left_by left_one.0.1) t.opening) (sym fixed) left_one.2.opening;
-        most = ap (λ (t : Terms). t.most) fixed ∙ left_one.2.most;
-      })
+      let made : IsMadeByCalls (journal_in account.1) = (of.served.served.lawful k account.0 account.1 at).0 in (
+        made,
+        record {
+          account = left_one.0;
+          there = left_one.1;
+          named = sym left_one.2.uid ∙ ap (λ (a : ℕ × Hosted). a.0) same;
+          opening = subst (λ (t : Terms). SameAccount (left_by left_one.0.1) t.opening) (sym fixed) left_one.2.opening;
+          most = ap (λ (t : Terms). t.most) fixed ∙ left_one.2.most;
+        },
+      )
 
   term_roomy : (left : List (ℕ × Hosted)) (coming : List (Option (List ℕ))) (term : Term (LinkReport L)) (handed : List (ℕ × Hosted)) (coming' : List (Option (List ℕ)))
       → IsTermOf manner tells closed says left coming term handed coming' → Roomy left → Roomy handed

@@ -70,7 +70,7 @@ module _ {L : Type 0} (tells : L → Meanings) (closed : L → Bool) (says : ℕ
     faults = λ any. absurd (omega (arith, any.2));
     others = λ after is. (let b = before after is in (b.0, b.1, λ f uid apart. b.2 f uid));
     stopped = stopped refused;
-    logged = subst (λ (l : Option Files). AreLoggedAt {R = LinkReport L} command.logs stop [] old.logs l) (sym unlogged) (none_logged_at command.logs stop old.logs);
+    logged = subst (λ (l : Option Files). AreLoggedAt {R = LinkReport L} command.logs stop [] old.logs l) (sym unlogged) (none_logged_at (LinkReport L) command.logs stop old.logs);
   }
     where
       none : NoneServed [] old new

@@ -1,5 +1,5 @@
 //! A case as its line tells it: `manner=browser` of reading conditions, `most=ENTRIES` of a journal, `connections=LINKS` of a term, which call of the keepers,
-//! the port, the site or a link `fails`, `gate=MESSAGE` from which on the gate ends a link, `rests=1` where the port rests after each link, and the texts that come from each link, with `/` between two links. Behind `
+//! the port, the site, the store of logs or a link `fails`, `gate=MESSAGE` from which on the gate ends a link, `rests=1` where the port rests after each link, and the texts that come from each link, with `/` between two links. Behind `
 //! -- ` are a server's words.
 
 use crate::terms::texts::Texts;
@@ -23,6 +23,8 @@ pub struct Failing {
     pub site: u64,
     /// The call of the site that finds no memory.
     pub memory: u64,
+    /// The call of the store of a server's logs.
+    pub log: u64,
 }
 
 #[derive(Drop)]
@@ -56,6 +58,7 @@ impl Case {
                 port: 0,
                 site: 0,
                 memory: 0,
+                log: 0,
             },
             gate: 0,
             rests: false,
@@ -85,6 +88,7 @@ impl Case {
             "port" => self.failing.port = value,
             "site" => self.failing.site = value,
             "memory" => self.failing.memory = value,
+            "log" => self.failing.log = value,
             "gate" => self.gate = value,
             "rests" => self.rests = value == 1,
             _ => bail!("no such setting"),

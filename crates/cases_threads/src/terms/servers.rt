@@ -7,7 +7,8 @@ use anyhow::bail;
 use ss_bso::{Kept, Row, Times};
 use ss_keeper::{KeepFault, Keeper};
 use ss_links::{MemLink, MemPort};
-use ss_outside::SureSink;
+use ss_outside::{SureSink, SureSource};
+use ss_run_audit::run_audit;
 use ss_run_serve::run_serve;
 use ss_serve::LinkReport;
 use ss_site::{KeptTerm, MemSite, Site};
@@ -73,7 +74,8 @@ fn site(alloc: Global, case: Case) -> anyhow::Result<Terms> {
     } = case;
     let ports = ports(alloc, links, failing.port, rests)?;
     let kept = kept_of(alloc, damaged)?;
-    Ok(failing_site(alloc, ports, kept, failing)?)
+    let site = failing_site(alloc, ports, kept, failing)?;
+    Ok(site.with_failing_logs(alloc, vec![in alloc; failing.log]?))
 }
 
 /// Words, with one blank between two of them.
@@ -109,6 +111,49 @@ pub fn status<R: Threads + Wait + Sync>(
     let count = site.terms().len();
     drop(site);
     Ok(format!(in alloc; "status {status}, {count} terms")?)
+}
+
+/// The logs of an account from a term on, in the order of their numbers, up to the first number that has none.
+fn logs_of(alloc: Global, site: &Terms, uid: u32, from: u64) -> anyhow::Result<Vec<Vec<u8>>> {
+    let mut logs = Vec::new(alloc);
+    for number in from..=from.saturating_add(9) {
+        match site.log_of(format!(in alloc; "{uid}-{number}")?.as_str()) {
+            Some(log) => logs.push(Vec::from_slice(alloc, log)?)?,
+            None => break,
+        }
+    }
+    Ok(logs)
+}
+
+/// What `audit` writes of logs.
+fn verdict(alloc: Global, logs: Vec<Vec<u8>>) -> anyhow::Result<String> {
+    let words = words(alloc, "audit")?;
+    let mut input = SureSource::new(logs);
+    let mut output = SureSink::new(alloc, 4096)?;
+    let mut err = SureSink::new(alloc, 4096)?;
+    let status = run_audit(alloc, words.as_slice(), &mut input, &mut output, &mut err);
+    let Some(written) = output.written() else {
+        bail!("the output has no room");
+    };
+    match str::from_utf8(written) {
+        Ok(line) => Ok(format!(in alloc; "{}, {status}", line.trim_end())?),
+        Err(_) => bail!("no text"),
+    }
+}
+
+/// What is told of the logs that a server kept from the term 3 on: its status, and of the accounts 7 and 8 how many logs
+/// there are, and what `audit` says of them and its status.
+pub fn logs<R: Threads + Wait + Sync>(rt: &R, alloc: Global, case: Case) -> anyhow::Result<String> {
+    let (site, status) = served(rt, alloc, case)?;
+    let mut text = format!(in alloc; "status {status}")?;
+    for uid in [7, 8] {
+        let logs = logs_of(alloc, &site, uid, 3)?;
+        let count = logs.len();
+        let verdict = verdict(alloc, logs)?;
+        text.push_str(format!(in alloc; "\n {uid}: {count} logs, {verdict}")?.as_str())?;
+    }
+    drop(site);
+    Ok(text)
 }
 
 /// A line on a term, and one on each of its links: each journal's account, and how many entries it has.

@@ -39,6 +39,9 @@ returns-in-Err-clause-counted g c =
 pub returns-in-Err-clause-terms : goal.returns-in-Err-clause-terms
 returns-in-Err-clause-terms g c = c.retire_all.ensures.terms ∙ c.open_account.ensures.terms ∙ c.loop-uid.invariant.terms
 
+pub returns-in-Err-clause-logs : goal.returns-in-Err-clause-logs
+returns-in-Err-clause-logs g c = c.retire_all.ensures.logs ∙ c.open_account.ensures.logs ∙ c.loop-uid.invariant.logs
+
 pub loop-uid-preserved : goal.loop-uid-preserved
 loop-uid-preserved g c =
     let uid : ℕ = get_or c.args.uids.now c.loop-uid.uid-index 0 in
@@ -59,6 +62,7 @@ loop-uid-preserved g c =
       lent = out_then c.loop-uid.uid-index 1 (g.X.Site.lent c.args.site.now) (g.X.Site.lent c.loop-uid.site) (g.X.Site.lent c.open_account.new.site) invariant.lent c.in-Ok-open_account.ensures.lent;
       terms = c.open_account.ensures.terms ∙ invariant.terms;
       kept = c.in-Ok-open_account.ensures.unchanged.1 ∙ invariant.kept;
+      logs = c.open_account.ensures.logs ∙ invariant.logs;
     }
 
 pub returns-clause-uids : goal.returns-clause-uids
@@ -75,6 +79,9 @@ returns-clause-counted g c = counts_unchanged (g.X.Site.counts c.args.site.now) 
 
 pub returns-clause-terms : goal.returns-clause-terms
 returns-clause-terms g c = c.loop-uid.invariant.terms
+
+pub returns-clause-logs : goal.returns-clause-logs
+returns-clause-logs g c = c.loop-uid.invariant.logs
 
 pub returns-clause-lent : goal.returns-clause-lent
 returns-clause-lent g c = out_as c.loop-uid.uid-index (length c.loop-uid.accounts.items) (g.X.Site.lent c.args.site.now) (g.X.Site.lent c.loop-uid.site) (omega (arith, c.loop-uid.invariant.long)) c.loop-uid.invariant.lent

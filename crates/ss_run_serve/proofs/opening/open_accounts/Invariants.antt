@@ -17,4 +17,5 @@ invariant-loop-uid g l = record {
   lent : AreOut l.uid-index (g.X.Site.lent l.initial.site) (g.X.Site.lent l.site);
   terms : g.X.Site.terms l.site ≡ g.X.Site.terms l.initial.site;
   kept : g.X.Site.kept l.site ≡ g.X.Site.kept l.initial.site;
+  logs : g.X.Site.logs l.site ≡ g.X.Site.logs l.initial.site;
 }

@@ -20,6 +20,7 @@ loop-uid-init g c = record {
   stand = All-nil (λ (account : ℕ × Hosted). Stands account.1);
   returned = none_back (g.X.Site.lent c.args.site.now);
   terms = refl;
+  logs = refl;
 }
 
 pub loop-uid-preserved : goal.loop-uid-preserved
@@ -37,6 +38,7 @@ loop-uid-preserved g c =
       returned = subst (λ (n : ℕ). HaveComeBack n (g.X.Site.lent c.args.site.now) (g.X.Site.lent c.retire.new.site)) (sym (length-append c.loop-uid.yielded ((c.in-Some.uid, c.in-Some.booked) ∷ [])))
           (back_more (length c.loop-uid.yielded) (g.X.Site.lent c.args.site.now) (g.X.Site.lent c.loop-uid.site) (g.X.Site.lent c.retire.new.site) c.loop-uid.invariant.returned c.retire.ensures.returned);
       terms = c.retire.ensures.terms ∙ c.loop-uid.invariant.terms;
+      logs = c.retire.ensures.logs ∙ c.loop-uid.invariant.logs;
     }
 
 pub returns-clause-entries : goal.returns-clause-entries

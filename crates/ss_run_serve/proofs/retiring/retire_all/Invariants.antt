@@ -12,4 +12,5 @@ invariant-loop-uid g l = record {
   stand : All (λ (account : ℕ × Hosted). Stands account.1) (map (hosted_at g.X.Keeper.Keeper.told g.X.Keeper.Keeper.keep_faults) l.yielded);
   returned : HaveComeBack (length l.yielded) (g.X.Site.lent l.initial.site) (g.X.Site.lent l.site);
   terms : g.X.Site.terms l.site ≡ g.X.Site.terms l.initial.site;
+  logs : g.X.Site.logs l.site ≡ g.X.Site.logs l.initial.site;
 }

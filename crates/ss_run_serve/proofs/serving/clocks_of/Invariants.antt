@@ -10,4 +10,5 @@ invariant-loop-worker g l = record {
   terms : g.X.Site.terms l.site ≡ g.X.Site.terms l.initial.site;
   lent : g.X.Site.lent l.site ≡ g.X.Site.lent l.initial.site;
   kept : g.X.Site.kept l.site ≡ g.X.Site.kept l.initial.site;
+  logs : g.X.Site.logs l.site ≡ g.X.Site.logs l.initial.site;
 }

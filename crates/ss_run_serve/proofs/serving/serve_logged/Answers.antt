@@ -1,11 +1,11 @@
-use Rattle.std.specs.Prelude.{◌≡◌, ℕ, [], Bool, false, map, refl}
-use Rattle.std.proofs.Common.{sym, ap, subst, ◌∙◌, inl}
+use Rattle.std.specs.Prelude.{◌≡◌, ◌≤◌, map, refl}
+use Rattle.std.proofs.Common.{ap, subst, inl}
 use Rattle.ss_site.specs.Sites.{Lent}
 use Rattle.ss_run_serve.specs.Hosted.{hosted_at}
 use Rattle.ss_run_serve.specs.Logs.{AreLoggedAt}
 use Rattle.ss_run_serve.specs.Logbooks.{number_in, is_kept, files_in, failures_in}
 use Rattle.ss_run_serve.proofs.Lent.{none_out}
-use Rattle.ss_run_serve.proofs.Saving.{none_logged_at}
+use Rattle.ss_run_serve.proofs.Saving.{none_logged_still}
 use Rattle.ss_run_serve.proofs.Shutting.{came_to_unserved}
 use Rattle.ss_run_serve.proofs.Closing.{all_returned, came_logged, closed_failed, still_listens, unkept_none, untold_failed}
 use Rattle.ss_run_serve.proofs.serving.serve_logged.Goals as goal
@@ -15,7 +15,7 @@ returns-in-Err-clause-came g c =
     came_to_unserved c.args.command.now.manner g.X.Port.Link.Told.told g.X.Port.Link.Closable.closed (g.G.Gate.says c.args.gate.now) (map (hosted_at g.X.Keeper.Keeper.told g.X.Keeper.Keeper.keep_faults) c.args.accounts.items) c.args.command.now.workers c.args.command.now.connections c.args.command.now.terms
     (g.X.Site.terms c.args.site.now) (g.X.Site.terms c.open_book.new.site) (g.X.Site.counts c.args.site.now) (g.X.Site.counts c.args.site.now) (g.X.Site.counts c.open_book.new.site) c.in-Err.stop
     (λ told. AreLoggedAt c.args.command.now.logs c.in-Err.stop told (g.X.Site.logs c.args.site.now) (g.X.Site.logs c.open_book.new.site))
-    (subst (λ (l : _). AreLoggedAt c.args.command.now.logs c.in-Err.stop [] (g.X.Site.logs c.args.site.now) l) (sym c.in-Err.ensures.unlogged) (none_logged_at c.args.command.now.logs c.in-Err.stop (g.X.Site.logs c.args.site.now)))
+    (none_logged_still _ c.args.command.now.logs c.in-Err.stop (g.X.Site.logs c.args.site.now) (g.X.Site.logs c.open_book.new.site) c.in-Err.ensures.unlogged)
     c.open_book.ensures.terms refl c.in-Err.ensures.refused
 
 pub returns-clause-came : goal.returns-clause-came

@@ -1,7 +1,8 @@
 use Rattle.std.specs.Prelude.{◌≡◌, ◌++◌, ◌-◌, map, take, drop, length, refl}
 use Rattle.std.proofs.Common.{arith, ◌∙◌}
 use Rattle.std.proofs.lemmas.List.{length-map}
-use Rattle.ss_run_serve.specs.Logbooks.{number_in, files_in}
+use Rattle.ss_run_serve.specs.Logs.{HasCut}
+use Rattle.ss_run_serve.specs.Logbooks.{number_in, failures_in, files_in}
 use Rattle.ss_run_serve.specs.Watched.{port_in}
 use Rattle.ss_run_serve.specs.Hosted.{hosted_at}
 use Rattle.ss_run_serve.specs.Terms.{BeginsAnew}
@@ -88,4 +89,4 @@ terms-preserved g c =
     }
 
 pub returns-in-Some-last-clause-cut : goal.returns-in-Some-last-clause-cut
-returns-in-Some-last-clause-cut g c = some_holds c.serve_once-after.result.1 c.in-Some-last.stop c.in-Some-last.is c.serve_once-after.ensures.cut
+returns-in-Some-last-clause-cut g c = some_holds (HasCut (failures_in g.X.Log.Store.store_faults c.serve_once-after.new.book)) c.serve_once-after.result.1 c.in-Some-last.stop c.in-Some-last.is c.serve_once-after.ensures.cut

@@ -54,14 +54,11 @@ fn try_memory(system: &HostRuntime, command: &ServeCommand) -> Result<(), u8> {
     Ok(())
 }
 
-/// Waits for threads, and tells how many there were.
-fn join_all(rt: &(impl Threads + Wait), threads: Vec<JoinHandle<u8>>) -> u64 {
-    let mut count = 0;
+/// Waits for threads.
+fn join_all(rt: &(impl Threads + Wait), threads: Vec<JoinHandle<u8>>) {
     for thread in threads {
         let _ = thread.join(rt);
-        count += 1;
     }
-    count
 }
 
 /// Whether so many threads can be there at once. They do nothing.
@@ -75,7 +72,9 @@ fn can_start(rt: &(impl Threads + Wait), alloc: Global, count: u64) -> bool {
             Err(_) => break,
         }
     }
-    join_all(rt, threads) == count
+    let are_all = threads.len() as u64 == count;
+    join_all(rt, threads);
+    are_all
 }
 
 /// Whether a thread can be started for each worker of a server; else the status. Where none can, a server accepts all

@@ -8,8 +8,6 @@ use ss_site::{Site, SiteFault};
 use ss_words::{Command, ServeCommand, read_command};
 use std::alloc::{AllocError, Global};
 use std::fs;
-use std::sync::Wait;
-use std::thread::{Builder, JoinHandle, Threads};
 
 /// Whether the address of a server can be listened at; else the status. The folder isn't made before that is known.
 fn try_address(
@@ -54,46 +52,6 @@ fn try_memory(system: &HostRuntime, command: &ServeCommand) -> Result<(), u8> {
     Ok(())
 }
 
-/// Waits for threads.
-fn join_all(rt: &(impl Threads + Wait), threads: Vec<JoinHandle<u8>>) {
-    for thread in threads {
-        let _ = thread.join(rt);
-    }
-}
-
-/// Whether so many threads can be there at once. They do nothing.
-fn can_start(rt: &(impl Threads + Wait), alloc: Global, count: u64) -> bool {
-    let Ok(mut threads) = Vec::with_capacity(alloc, count as usize) else {
-        return false;
-    };
-    for _ in 0..count {
-        match Builder::new().spawn(rt, || 0u8) {
-            Ok(thread) => threads.push_reserved(thread),
-            Err(_) => break,
-        }
-    }
-    let are_all = threads.len() as u64 == count;
-    join_all(rt, threads);
-    are_all
-}
-
-/// Whether a thread can be started for each worker of a server; else the status. Where none can, a server accepts all
-/// connections of a term before it serves the first of them.
-fn try_threads(
-    system: &HostRuntime,
-    rt: &(impl Threads + Wait),
-    command: &ServeCommand,
-) -> Result<(), u8> {
-    if can_start(rt, system.alloc(), command.workers) {
-        return Ok(());
-    }
-    let _ = eprintln!(system;
-        "syncstore: no thread can be started for each of {} workers",
-        command.workers
-    );
-    Err(8)
-}
-
 /// Whether the word for a server's folder names one; else the status.
 fn try_folder(system: &HostRuntime, command: &ServeCommand) -> Result<(), u8> {
     if command.folder.as_str().is_empty() {
@@ -129,7 +87,6 @@ fn try_logs(system: &HostRuntime, command: &ServeCommand) -> Result<(), u8> {
 /// status. Of words that ask for no server nothing is said.
 pub fn prepare(
     system: &HostRuntime,
-    rt: &(impl Threads + Wait),
     site: &mut RealSite<'_, HostRuntime>,
     words: &[String],
 ) -> Result<(), u8> {
@@ -138,7 +95,6 @@ pub fn prepare(
             try_folder(system, &command)?;
             try_logs(system, &command)?;
             try_memory(system, &command)?;
-            try_threads(system, rt, &command)?;
             try_address(system, site, &command)?;
             tell_limits(system, command.uids.as_slice().len() as u64);
             Ok(())

@@ -134,7 +134,7 @@ fn main(rt: HostRuntime) -> ExitCode {
             // Here alone may the runtime start threads.
             let traffic = Traffic::new();
             let mut site = RealSite::new(&rt, &rt, &traffic, Folders::Made);
-            if let Err(status) = beginning::prepare(&rt, &rt, &mut site, words.as_slice()) {
+            if let Err(status) = beginning::prepare(&rt, &mut site, words.as_slice()) {
                 return ExitCode::from(status);
             }
             let mut err = StdSink::new(rt.stderr());

@@ -9,7 +9,7 @@ use crate::hashing::{digest_of, is_same};
 use crate::reading::read_told;
 use ss_account::{Account, OpenFault};
 use ss_bso::{Changes, Kept};
-use ss_keeper::{KeepFault, Keeper};
+use ss_keeper::{KeepFault, Keeper, KeeperCalls};
 use ss_lines::Digest;
 use ss_text::Word;
 use std::alloc::{AllocError, Global};
@@ -19,6 +19,7 @@ use std::alloc::{AllocError, Global};
 #[derive(Drop)]
 struct Lent<'a> {
     kept: &'a Kept,
+    calls: KeeperCalls,
 }
 
 impl Keeper for Lent<'_> {
@@ -26,11 +27,15 @@ impl Keeper for Lent<'_> {
 
     ghost keep_faults = { λ _. 0 };
 
+    ghost calls = { λ k. k.calls };
+
     fn load(&mut self, alloc: Global) -> Result<Kept, KeepFault> {
+        self.calls.note_load();
         Ok(self.kept.copy(alloc)?)
     }
 
     fn commit(&mut self, _alloc: Global, _changes: &Changes) -> Result<(), KeepFault> {
+        self.calls.note_commit();
         Err(KeepFault::Memory)
     }
 }
@@ -40,7 +45,11 @@ fn check(alloc: Global, kept: &Kept) -> Result<(), DumpFault>
     ensures good { OnOk result (IsGood kept.now) }
     ensures unfit { IfErr result (λ fault. IsUnfit kept.now fault) }
 {
-    match Account::open(alloc, Lent { kept }) {
+    let lent = Lent {
+        kept,
+        calls: KeeperCalls::new(),
+    };
+    match Account::open(alloc, lent) {
         Ok(_) => Ok(()),
         Err((_, OpenFault::BadCollection { n })) => Err(DumpFault::BadCollection { n }),
         Err((_, OpenFault::BadRow { n })) => Err(DumpFault::BadRow { n }),

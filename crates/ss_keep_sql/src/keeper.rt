@@ -2,6 +2,7 @@
 
 ghost use Rattle.std.specs.Prelude.{◌≡◌, ◌≢◌, ◌≤◌, IfOk, IfErr, None};
 ghost use Rattle.ss_outside.specs.Causes.{Rose};
+ghost use Rattle.ss_keeper.specs.Calls.{uncalled};
 ghost use Rattle.ss_keeper.specs.Keeping.{HasCause};
 ghost use Rattle.ss_keep_sql.specs.Opening.{HasVersion};
 
@@ -13,7 +14,7 @@ use crate::reading::read;
 use crate::tables::ready;
 use sqlite::{Alter, Connection, File, FileStore};
 use ss_bso::{Changes, Kept};
-use ss_keeper::{KeepFault, Keeper};
+use ss_keeper::{KeepFault, Keeper, KeeperCalls};
 use std::alloc::Global;
 use std::marker::Model;
 
@@ -21,7 +22,7 @@ use std::marker::Model;
 /// commit at most before it is made to the tables itself (16 MiB).
 const MOST_WEIGHT: u64 = 16_777_216;
 
-/// An account in a database of its own. It tells no rows, and counts each refused statement.
+/// An account in a database of its own. It tells no rows, and counts each refused statement and each call.
 #[derive(Drop)]
 pub struct SqlKeeper<S: Alter + Drop = FileStore<File>> {
     connection: Connection<S>,
@@ -29,21 +30,22 @@ pub struct SqlKeeper<S: Alter + Drop = FileStore<File>> {
     /// How many bytes the texts of the commits have that weren't made to the tables.
     weight: u64,
     faults: u64,
+    calls: KeeperCalls,
 }
 
 impl<S: Alter + Drop> Model for SqlKeeper<S> {
-    ghost use Rattle.std.specs.Prelude.{ℕ};
+    ghost use Rattle.ss_keep_sql.specs.Counts.{Counts};
 
-    ghost Value = { ℕ };
+    ghost Value = { Counts };
 
-    ghost view = { λ keeper. keeper.faults };
+    ghost view = { λ keeper. record { faults = keeper.faults; calls = keeper.calls } };
 }
 
 impl SqlKeeper {
     /// Opens the database at a path, or makes it where there is no file or an empty one. One keeper at a time has a
     /// file.
     pub fn open(rt: &HostRuntime, path: &str) -> Result<SqlKeeper, SqlFault>
-        ensures count { IfOk result (λ keeper. keeper ≡ 0) }
+        ensures count { IfOk result (λ keeper. keeper ≡ record { faults = 0; calls = uncalled }) }
         ensures cause { IfErr result HasVersion }
     {
         match open_file(rt, path) {
@@ -67,7 +69,7 @@ impl<S: Alter + Drop> SqlKeeper<S> {
         alloc: Global,
         mut connection: Connection<S>,
     ) -> Result<SqlKeeper<S>, (Connection<S>, SqlFault)>
-        ensures count { IfOk result (λ keeper. keeper ≡ 0) }
+        ensures count { IfOk result (λ keeper. keeper ≡ record { faults = 0; calls = uncalled }) }
         ensures cause { IfErr result (λ refused. HasVersion refused.1) }
     {
         if let Err(fault) = taken(ready(&mut connection)) {
@@ -80,13 +82,15 @@ impl<S: Alter + Drop> SqlKeeper<S> {
             connection,
             weight: 0,
             faults: 0,
+            calls: KeeperCalls::new(),
         })
     }
 
     /// Makes the commits to the tables, where there are any. What is held stays as it is, and so do the commits where a
     /// statement is refused.
     pub fn fold(&mut self, alloc: Global) -> Result<(), KeepFault>
-        ensures { HasCause self.old self.new result }
+        ensures cause { HasCause self.old.faults self.new.faults result }
+        ensures calls { self.new.calls ≡ self.old.calls }
     {
         match fold(alloc, &mut self.connection) {
             Ok(()) => {
@@ -99,7 +103,8 @@ impl<S: Alter + Drop> SqlKeeper<S> {
 
     /// Makes the commits to the tables, where they weigh much or the next one does.
     fn fold_many(&mut self, alloc: Global, is_large: bool) -> Result<(), KeepFault>
-        ensures { HasCause self.old self.new result }
+        ensures cause { HasCause self.old.faults self.new.faults result }
+        ensures calls { self.new.calls ≡ self.old.calls }
     {
         if !is_large && self.weight <= MOST_WEIGHT {
             return Ok(());
@@ -109,7 +114,8 @@ impl<S: Alter + Drop> SqlKeeper<S> {
 
     /// Makes a commit to the tables, beside which no other one stands.
     fn write(&mut self, alloc: Global, changes: &Changes) -> Result<(), KeepFault>
-        ensures { HasCause self.old self.new result }
+        ensures cause { HasCause self.old.faults self.new.faults result }
+        ensures calls { self.new.calls ≡ self.old.calls }
     {
         match write_commit(alloc, &mut self.connection, changes) {
             Ok(()) => Ok(()),
@@ -119,7 +125,8 @@ impl<S: Alter + Drop> SqlKeeper<S> {
 
     /// Adds a commit beside the tables.
     fn add(&mut self, alloc: Global, changes: &Changes) -> Result<(), KeepFault>
-        ensures { HasCause self.old self.new result }
+        ensures cause { HasCause self.old.faults self.new.faults result }
+        ensures calls { self.new.calls ≡ self.old.calls }
     {
         match add_commit(alloc, &mut self.connection, changes) {
             Ok(bytes) => {
@@ -136,15 +143,17 @@ impl<S: Alter + Drop> SqlKeeper<S> {
             connection,
             weight: _,
             faults: _,
+            calls: _,
         } = self;
         connection
     }
 
     /// Why what is held wasn't read or written; it is counted, unless memory was wanting.
     fn refused(&mut self, refusal: Refusal) -> KeepFault
-        ensures later { self.old ≤ self.new }
-        ensures fault { result ≡ KeepFault.Fault → Rose self.old self.new }
-        ensures quiet { result ≢ KeepFault.Fault → self.new ≡ self.old }
+        ensures later { self.old.faults ≤ self.new.faults }
+        ensures fault { result ≡ KeepFault.Fault → Rose self.old.faults self.new.faults }
+        ensures quiet { result ≢ KeepFault.Fault → self.new.faults ≡ self.old.faults }
+        ensures calls { self.new.calls ≡ self.old.calls }
     {
         if refusal.is_memory() {
             return KeepFault::Memory;
@@ -157,9 +166,12 @@ impl<S: Alter + Drop> SqlKeeper<S> {
 impl<S: Alter + Drop> Keeper for SqlKeeper<S> {
     ghost told = { λ keeper. None };
 
-    ghost keep_faults = { λ keeper. keeper };
+    ghost keep_faults = { λ keeper. keeper.faults };
+
+    ghost calls = { λ keeper. keeper.calls };
 
     fn load(&mut self, alloc: Global) -> Result<Kept, KeepFault> {
+        self.calls.note_load();
         match read(alloc, &mut self.connection) {
             Ok(kept) => Ok(kept),
             Err(refusal) => Err(self.refused(refusal)),
@@ -167,6 +179,7 @@ impl<S: Alter + Drop> Keeper for SqlKeeper<S> {
     }
 
     fn commit(&mut self, alloc: Global, changes: &Changes) -> Result<(), KeepFault> {
+        self.calls.note_commit();
         let is_large = payload_bytes(changes) > MOST_WEIGHT;
         match self.fold_many(alloc, is_large) {
             Ok(()) if is_large => self.write(alloc, changes),

@@ -1,4 +1,5 @@
 pub mod Batches
+pub mod Calls
 pub mod Keeping
 pub mod Memory
 pub mod Together

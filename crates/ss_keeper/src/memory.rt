@@ -3,8 +3,10 @@
 ghost use Rattle.std.specs.Prelude.{◌≡◌, ◌↔◌, ℕ, None, Some, IsTrue, IfOk, OnOk, OnErr};
 ghost use Rattle.ss_outside.specs.Plans.{after_call, fault_count, fresh_plan, is_failing};
 ghost use Rattle.ss_bso.specs.Changes.{changed};
+ghost use Rattle.ss_keeper.specs.Calls.{uncalled, with_commit, with_load};
 ghost use Rattle.ss_keeper.specs.Keeping.{HasCause};
 
+use crate::calls::KeeperCalls;
 use crate::faults::KeepFault;
 use crate::history::History;
 use crate::keeper::Keeper;
@@ -19,6 +21,7 @@ use std::marker::Model;
 pub struct KeeperUnder<F: Faults + Drop> {
     history: History,
     plan: F,
+    calls: KeeperCalls,
 }
 
 impl<F: Faults + Drop> Model for KeeperUnder<F> {
@@ -26,7 +29,7 @@ impl<F: Faults + Drop> Model for KeeperUnder<F> {
 
     ghost Value = { Holding };
 
-    ghost view = { λ k. record { kept = k.history; plan = F.Faults.plan k.plan } };
+    ghost view = { λ k. record { kept = k.history; plan = F.Faults.plan k.plan; calls = k.calls } };
 }
 
 /// A keeper in memory, some of whose calls fail.
@@ -41,10 +44,12 @@ impl KeeperUnder<Numbered> {
     pub fn new(kept: Kept, failing: Vec<u64>) -> MemKeeper
         ensures kept { result.kept ≡ kept }
         ensures plan { result.plan ≡ Some (fresh_plan failing.items) }
+        ensures calls { result.calls ≡ uncalled }
     {
         KeeperUnder {
             history: History::new(kept),
             plan: Numbered::new(failing),
+            calls: KeeperCalls::new(),
         }
     }
 }
@@ -54,10 +59,12 @@ impl KeeperUnder<Never> {
     pub fn new(kept: Kept) -> SureKeeper
         ensures kept { result.kept ≡ kept }
         ensures plan { result.plan ≡ None }
+        ensures calls { result.calls ≡ uncalled }
     {
         KeeperUnder {
             history: History::new(kept),
             plan: Never,
+            calls: KeeperCalls::new(),
         }
     }
 
@@ -74,13 +81,17 @@ impl<F: Faults + Drop> Keeper for KeeperUnder<F> {
 
     ghost keep_faults = { λ k. fault_count k.plan };
 
+    ghost calls = { λ k. k.calls };
+
     fn load(&mut self, alloc: Global) -> Result<Kept, KeepFault>
         ensures kept { IfOk result (λ kept. kept ≡ self.old.kept) }
         ensures left { self.new.kept ≡ self.old.kept }
         ensures fails { (result ≡ Err KeepFault.Fault) ↔ IsTrue (is_failing self.old.plan) }
         ensures counted { self.new.plan ≡ after_call self.old.plan }
         ensures cause { HasCause (fault_count self.old.plan) (fault_count self.new.plan) result }
+        ensures called { self.new.calls ≡ with_load self.old.calls }
     {
+        self.calls.note_load();
         if self.plan.fails() {
             return Err(KeepFault::Fault);
         }
@@ -93,7 +104,9 @@ impl<F: Faults + Drop> Keeper for KeeperUnder<F> {
         ensures fails { (result ≡ Err KeepFault.Fault) ↔ IsTrue (is_failing self.old.plan) }
         ensures counted { self.new.plan ≡ after_call self.old.plan }
         ensures cause { HasCause (fault_count self.old.plan) (fault_count self.new.plan) result }
+        ensures called { self.new.calls ≡ with_commit self.old.calls }
     {
+        self.calls.note_commit();
         if self.plan.fails() {
             return Err(KeepFault::Fault);
         }

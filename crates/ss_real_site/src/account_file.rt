@@ -1,7 +1,7 @@
 //! The file of an account.
 
 ghost use Rattle.std.specs.Prelude.{◌≡◌, ◌≢◌, ◌↔◌, IsTrue, None};
-ghost use Rattle.ss_site.specs.Counted.{faults_of};
+ghost use Rattle.ss_site.specs.Counted.{faults_of, keeper_in};
 ghost use Rattle.ss_real_site.specs.Files.{counted_in};
 
 use ss_bso::{Changes, Kept};
@@ -46,6 +46,8 @@ impl Keeper for AccountFile {
     ghost told = { λ file. None };
 
     ghost keep_faults = { λ file. faults_of (counted_in file) };
+
+    ghost calls = { λ file. (keeper_in (counted_in file)).calls };
 
     fn load(&mut self, alloc: Global) -> Result<Kept, KeepFault> {
         self.keeper.load(alloc)

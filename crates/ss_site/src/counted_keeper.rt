@@ -59,6 +59,8 @@ impl<K: Keeper> Keeper for CountedKeeper<K> {
 
     ghost keep_faults = { λ k. faults_of k };
 
+    ghost calls = { λ k. K.calls (keeper_in k) };
+
     fn load(&mut self, alloc: Global) -> Result<Kept, KeepFault> {
         let loaded = self.keeper.load(alloc);
         self.count(loaded)

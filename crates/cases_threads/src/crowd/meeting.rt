@@ -57,6 +57,8 @@ impl<'a> Keeper for Guest<'a> {
 
     ghost keep_faults = { λ guest. ⟦<SureKeeper as Keeper>⟧.keep_faults guest.keeper };
 
+    ghost calls = { λ guest. ⟦<SureKeeper as Keeper>⟧.calls guest.keeper };
+
     fn load(&mut self, alloc: Global) -> Result<Kept, KeepFault> {
         self.keeper.load(alloc)
     }

@@ -11,8 +11,22 @@ use ss_outside::{ReadFault, Sink, Source, Told, WriteFault};
 use std::io;
 use std::io::{ErrorKind, Read, Write};
 use std::marker::Model;
+use std::mem::replace;
 use std::net::{Net, OpenStream, Shutdown};
 use std::time::{Clock, Duration, Instant};
+
+// How far a link has come with the workers.
+#[derive(Clone, Copy, Debug)]
+enum Phase {
+    /// No worker has read it yet.
+    Waiting,
+
+    /// A worker has read it.
+    Served,
+
+    /// No worker has it any more, nor is to have it.
+    Closed,
+}
 
 // What a link's client is to send.
 #[derive(Clone, Copy, Debug)]
@@ -42,7 +56,7 @@ pub struct ServedLink<'a, R: Net + Clock> {
     traffic: &'a Traffic,
     // None once it was closed.
     stream: Option<R::Stream>,
-    is_taken: bool,
+    phase: Phase,
     is_dismissed: bool,
     awaited: Awaited,
     // The response of which a part waits to be taken.
@@ -82,12 +96,12 @@ impl<'a, R: Net + Clock> ServedLink<'a, R> {
     ) -> ServedLink<'a, R>
         ensures { result ≡ idle_link }
     {
-        traffic.give();
+        traffic.give(system);
         ServedLink {
             system,
             traffic,
             stream: Some(stream),
-            is_taken: false,
+            phase: Phase::Waiting,
             is_dismissed: false,
             awaited: Awaited::Message { since: now },
             response: None,
@@ -100,7 +114,8 @@ impl<'a, R: Net + Clock> ServedLink<'a, R> {
     fn begin(&mut self) -> io::Result<()>
         ensures { self.new ≡ self.old }
     {
-        self.leave_queue();
+        self.phase = Phase::Served;
+        self.traffic.serve();
         self.awaited = Awaited::Message {
             since: Instant::now(self.system)?,
         };
@@ -113,12 +128,14 @@ impl<'a, R: Net + Clock> ServedLink<'a, R> {
         stream.set_nodelay(true)
     }
 
-    fn leave_queue(&mut self)
+    // No worker has it any more, nor is it to have one.
+    fn end(&mut self)
         ensures { self.new ≡ self.old }
     {
-        if !self.is_taken {
-            self.is_taken = true;
-            self.traffic.take();
+        match replace(&mut self.phase, Phase::Closed) {
+            Phase::Waiting => self.traffic.turn_away(self.system),
+            Phase::Served => self.traffic.let_go(self.system),
+            Phase::Closed => {}
         }
     }
 
@@ -128,7 +145,7 @@ impl<'a, R: Net + Clock> ServedLink<'a, R> {
         ensures bound { IfOk result (λ count. count ≤ length into.new) }
         ensures same { self.new ≡ self.old }
     {
-        if !self.is_taken {
+        if matches!(self.phase, Phase::Waiting) {
             self.begin()?;
         }
         for _slice in 0..u64::MAX {
@@ -286,7 +303,7 @@ impl<'a, R: Net + Clock> Closable for ServedLink<'a, R> {
     ghost closed = { λ link. link.is_closed };
 
     fn close(&mut self) {
-        self.leave_queue();
+        self.end();
         if let Some(stream) = &self.stream {
             let _ = stream.shutdown(Shutdown::Both);
         }

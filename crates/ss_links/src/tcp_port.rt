@@ -49,7 +49,8 @@ struct Held<S> {
 }
 
 /// A port over TCP. It never ends by itself. It holds a connection until bytes of it are there, at most 30 seconds, and
-/// it rests where its traffic wants it. No wait of its own is longer than a tenth of a second.
+/// it rests where its traffic wants it, or where nobody serves the links that it gave. No wait of its own is longer
+/// than a tenth of a second.
 #[derive(Drop)]
 pub struct TcpPort<'a, R: Net + Clock> {
     system: &'a R,
@@ -278,13 +279,25 @@ impl<'a, R: Net + Clock> TcpPort<'a, R> {
         }
     }
 
-    // Waits for the next link of which bytes are there; None where a rest is wanted.
+    // Whether the port is to rest: that is wanted, or nobody serves the links that it gave.
+    fn is_to_rest(&self) -> bool {
+        if self.traffic.is_rest_wanted() {
+            return true;
+        }
+        let is_unserved = self.traffic.is_unserved(self.system);
+        if is_unserved {
+            self.traffic.tell_no_worker(self.system);
+        }
+        is_unserved
+    }
+
+    // Waits for the next link of which bytes are there; None where the port is to rest.
     fn next_link(&mut self) -> io::Result<Option<ServedLink<'a, R>>>
         ensures link { IfOk result (λ given. IfSome given (λ link. link ≡ idle_link)) }
         ensures same { self.new ≡ self.old }
     {
         for _ in 0..u64::MAX {
-            if self.traffic.is_rest_wanted() {
+            if self.is_to_rest() {
                 return Ok(None);
             }
             if let Some(link) = self.wait_once()? {

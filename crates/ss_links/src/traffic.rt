@@ -8,6 +8,10 @@ use std::time::Clock;
 // had its number of links, and is to end.
 const AWAY_MILLIS: u64 = 75;
 
+// Where links wait for so many milliseconds and no worker has one, the term is to end: no thread of a worker lives
+// then, and the one that accepts is to serve them.
+const UNSERVED_MILLIS: u64 = 250;
+
 // In the place of a moment: the port is asked for a link right now, or wasn't asked yet.
 const PRESENT: u64 = u64::MAX;
 
@@ -17,11 +21,16 @@ const PRESENT: u64 = u64::MAX;
 pub struct Traffic {
     // Links that the port gave, and that no worker has read from yet.
     unread: AtomicU64,
+    // Links that a worker has read from, and that aren't closed yet.
+    served: AtomicU64,
+    // When a link was last closed, or given as the only unread one, in milliseconds of the system's clock.
+    moved_at: AtomicU64,
     is_rest_wanted: AtomicBool,
     // When the port was last left by who asked it for a link, in milliseconds of the system's clock.
     left_at: AtomicU64,
     no_descriptors: Notice,
     no_memory: Notice,
+    no_worker: Notice,
 }
 
 // Milliseconds of the system's clock; 0 where it can't be read.
@@ -37,6 +46,8 @@ impl Traffic {
     pub fn new() -> Traffic {
         Traffic {
             unread: AtomicU64::new(0),
+            served: AtomicU64::new(0),
+            moved_at: AtomicU64::new(0),
             is_rest_wanted: AtomicBool::new(false),
             left_at: AtomicU64::new(PRESENT),
             no_descriptors: Notice::new(
@@ -44,6 +55,9 @@ impl Traffic {
             ),
             no_memory: Notice::new(
                 b"syncstore: no memory was left for a connection, so it was closed unanswered\n",
+            ),
+            no_worker: Notice::new(
+                b"syncstore: no worker takes connections, so they are answered one by one: can threads be started?\n",
             ),
         }
     }
@@ -85,13 +99,40 @@ impl Traffic {
     }
 
     /// A link was given.
-    pub(crate) fn give(&self) {
-        self.unread.fetch_add(1, Ordering::SeqCst);
+    pub(crate) fn give(&self, clock: &impl Clock) {
+        if self.unread.fetch_add(1, Ordering::SeqCst) == 0 {
+            self.note_move(clock);
+        }
     }
 
-    /// A link that was given is read for the first time, or is closed unread.
-    pub(crate) fn take(&self) {
+    /// A link that was given is read for the first time.
+    pub(crate) fn serve(&self) {
+        self.served.fetch_add(1, Ordering::SeqCst);
         self.unread.fetch_sub(1, Ordering::SeqCst);
+    }
+
+    /// A link that was read is closed.
+    pub(crate) fn let_go(&self, clock: &impl Clock) {
+        self.note_move(clock);
+        self.served.fetch_sub(1, Ordering::SeqCst);
+    }
+
+    /// A link that was given is closed unread.
+    pub(crate) fn turn_away(&self, clock: &impl Clock) {
+        self.note_move(clock);
+        self.unread.fetch_sub(1, Ordering::SeqCst);
+    }
+
+    fn note_move(&self, clock: &impl Clock) {
+        self.moved_at.store(millis(clock), Ordering::SeqCst);
+    }
+
+    /// Whether links wait that nobody serves: for a quarter of a second no worker has had a link. Where workers live
+    /// they take what waits at once, and one that is busy has a link.
+    pub(crate) fn is_unserved(&self, clock: &impl Clock) -> bool {
+        self.unread.load(Ordering::SeqCst) != 0
+            && self.served.load(Ordering::SeqCst) == 0
+            && millis(clock).saturating_sub(self.moved_at.load(Ordering::SeqCst)) >= UNSERVED_MILLIS
     }
 
     /// Says that descriptors are wanting, or memory for a socket.
@@ -102,5 +143,10 @@ impl Traffic {
     /// Says that memory is wanting at links.
     pub(crate) fn tell_no_memory(&self, clock: &impl Clock) {
         self.no_memory.say(clock);
+    }
+
+    /// Says that no worker takes links.
+    pub(crate) fn tell_no_worker(&self, clock: &impl Clock) {
+        self.no_worker.say(clock);
     }
 }

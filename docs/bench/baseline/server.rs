@@ -1,7 +1,7 @@
 //! A lean storage server over SQLite in C, which `run` beside it measures `syncstore serve` against.
 //!
 //!     rustc -O server.rs
-//!     ./server serve ADDRESS FOLDER UID .. [--workers N]
+//!     ./server serve ADDRESS FOLDER UID .. [--workers N] [--batches-in-memory]
 //!
 //! It needs libsqlite3-dev and nothing else. It answers what the loads of `run` ask, byte for byte as `syncstore` does
 //! but for the times: GET of `info/collections`, GET and PUT of a record, POST to a collection, batches and their commits
@@ -10,9 +10,11 @@
 //! parameters, faults of single records, encoded paths, the bodies of refusals.
 //!
 //! A write is one transaction, synced before it is answered (`synchronous=FULL` in the write-ahead log), as that of
-//! `syncstore` is. Batches are kept in memory, and lost with the process; those of `syncstore` aren't. Each account is a
-//! file, which this process has alone (`locking_mode=EXCLUSIVE`), behind a mutex. Each worker serves one connection to its
-//! end, and then the next.
+//! `syncstore` is. So is a begin and an append: the body of each POST to a batch is a row, which the batch's commit
+//! deletes in the transaction that puts the records; beside that they are kept in memory, so that a commit reads none.
+//! With `--batches-in-memory` they are in no file, and lost with the process; those of `syncstore` never are. Each account
+//! is a file, which this process has alone (`locking_mode=EXCLUSIVE`), behind a mutex. Each worker serves one connection to
+//! its end, and then the next.
 
 use std::borrow::Cow;
 use std::collections::HashMap;
@@ -36,6 +38,10 @@ const TABLES: &str = "
     CREATE TABLE IF NOT EXISTS rows (collection INTEGER NOT NULL, id TEXT NOT NULL, modified INTEGER NOT NULL,
         sortindex INTEGER, expires INTEGER, payload TEXT NOT NULL, PRIMARY KEY (collection, id)) STRICT;
     CREATE INDEX IF NOT EXISTS rows_by_time ON rows (collection, modified DESC, id);
+    CREATE TABLE IF NOT EXISTS batches (number INTEGER PRIMARY KEY, collection TEXT NOT NULL, begun INTEGER NOT NULL)
+        STRICT;
+    CREATE TABLE IF NOT EXISTS posts (batch INTEGER NOT NULL, place INTEGER NOT NULL, body TEXT NOT NULL,
+        PRIMARY KEY (batch, place)) STRICT;
 ";
 
 const GET: &str = "SELECT modified, sortindex, payload FROM rows
@@ -60,6 +66,14 @@ const PUT: &str = "INSERT INTO rows (collection, id, modified, payload, sortinde
         expires = iif(?7, ?8, iif(expires <= ?3, NULL, expires))";
 
 const ENTER: &str = "INSERT INTO collections VALUES (?1, ?2, ?3) ON CONFLICT (number) DO UPDATE SET time = ?3";
+
+const BEGIN_BATCH: &str = "INSERT INTO batches VALUES (?1, ?2, ?3)";
+
+const ADD_POST: &str = "INSERT INTO posts VALUES (?1, ?2, ?3)";
+
+const END_BATCH: &str = "DELETE FROM batches WHERE number = ?1";
+
+const END_POSTS: &str = "DELETE FROM posts WHERE batch = ?1";
 
 /// How long a batch lives, in hundredths of a second.
 const BATCH_LIFE: u64 = 720_000;
@@ -673,9 +687,26 @@ struct Collection {
 
 /// Records that wait for their commit.
 struct Batch {
+    number: i64,
     collection: String,
     begun: u64,
+    posts: i64,
     records: Vec<Record<'static>>,
+}
+
+impl Batch {
+    fn new(number: i64, collection: &str, begun: u64) -> Batch {
+        Batch { number, collection: collection.to_owned(), begun, posts: 0, records: Vec::new() }
+    }
+
+    /// Takes the records of a POST, and tells them.
+    fn take(&mut self, records: Vec<Record>, token: &str, body: &mut Vec<u8>) {
+        body.extend_from_slice(b"{\"batch\":");
+        push_string(body, token);
+        push_records_told(body, &records);
+        self.posts += 1;
+        self.records.extend(records.into_iter().map(Record::into_owned));
+    }
 }
 
 /// The statements of a connection.
@@ -688,6 +719,10 @@ struct Statements {
     by_index: Statement,
     put: Statement,
     enter: Statement,
+    begin_batch: Statement,
+    add_post: Statement,
+    end_batch: Statement,
+    end_posts: Statement,
 }
 
 struct Account {
@@ -695,13 +730,15 @@ struct Account {
     statements: Statements,
     collections: HashMap<String, Collection>,
     batches: HashMap<String, Batch>,
-    begun: u64,
+    /// Whether batches are in the file.
+    keeps_batches: bool,
+    begun: i64,
     moment: u64,
     last_write: u64,
 }
 
 impl Account {
-    fn open(path: &Path) -> Result<Account, SqlFault> {
+    fn open(path: &Path, keeps_batches: bool) -> Result<Account, SqlFault> {
         let db = Database::open(path)?;
         db.execute(TABLES)?;
         let statements = Statements {
@@ -713,13 +750,31 @@ impl Account {
             by_index: db.prepare(BY_INDEX)?,
             put: db.prepare(PUT)?,
             enter: db.prepare(ENTER)?,
+            begin_batch: db.prepare(BEGIN_BATCH)?,
+            add_post: db.prepare(ADD_POST)?,
+            end_batch: db.prepare(END_BATCH)?,
+            end_posts: db.prepare(END_POSTS)?,
         };
         let mut collections = HashMap::new();
         db.each(&db.prepare("SELECT number, name, time FROM collections")?, &[], |row| {
             collections.insert(row.text(1).to_owned(), Collection { number: row.whole(0), time: row.whole(2) as u64 });
         })?;
         let last_write = collections.values().map(|it| it.time).max().unwrap_or(0);
-        Ok(Account { db, statements, collections, batches: HashMap::new(), begun: 0, moment: last_write, last_write })
+        let mut batches: HashMap<i64, Batch> = HashMap::new();
+        db.each(&db.prepare("SELECT number, collection, begun FROM batches")?, &[], |row| {
+            batches.insert(row.whole(0), Batch::new(row.whole(0), row.text(1), row.whole(2) as u64));
+        })?;
+        db.each(&db.prepare("SELECT batch, body FROM posts ORDER BY batch, place")?, &[], |row| {
+            if let (Some(batch), Some(records)) =
+                (batches.get_mut(&row.whole(0)), (Json { text: row.text(1), at: 0 }).records())
+            {
+                batch.posts += 1;
+                batch.records.extend(records.into_iter().map(Record::into_owned));
+            }
+        })?;
+        let begun = batches.keys().copied().max().unwrap_or(0);
+        let batches = batches.into_iter().map(|(number, batch)| (token_of(number as u64), batch)).collect();
+        Ok(Account { db, statements, collections, batches, keeps_batches, begun, moment: last_write, last_write })
     }
 
     /// Answers a request for what stands behind the account's number in the path, and writes the body.
@@ -817,7 +872,7 @@ impl Account {
         if request.if_unmodified_since.is_some() {
             request.check(self.find(collection, id, |_| ())?.unwrap_or(0))?;
         }
-        let stamp = self.write(collection, &[], &[record])?;
+        let stamp = self.write(collection, None, &[record])?;
         push_time(body, stamp);
         Ok(Reply::of(200, stamp))
     }
@@ -826,28 +881,52 @@ impl Account {
         let asked = Posting::read(request.query).ok_or(Refusal::of(400))?;
         let records = Json { text: request.text()?, at: 0 }.records().ok_or(Refusal::of(400))?;
         request.check(self.time_of(collection))?;
-        let moment = self.moment;
-        self.batches.retain(|_, it| it.begun + BATCH_LIFE > moment);
+        self.end_late()?;
         match asked {
             Posting { batch: None, commits: false } | Posting { batch: Some("true"), commits: true } => {
-                self.write_and_tell(collection, &[], &records, body)
+                self.write_and_tell(collection, None, &records, body)
             }
-            Posting { batch: Some("true"), .. } => {
-                let token = self.begin(collection);
-                self.append(collection, &token, records, body)
-            }
-            Posting { batch: Some(token), commits: false } => self.append(collection, token, records, body),
+            Posting { batch: Some("true"), .. } => self.begin(collection, records, request, body),
+            Posting { batch: Some(token), commits: false } => self.append(collection, token, records, request, body),
             Posting { batch: Some(token), commits: true } => self.commit(collection, token, &records, body),
             Posting { batch: None, commits: true } => Err(Refusal::of(400)),
         }
     }
 
-    fn begin(&mut self, collection: &str) -> String {
-        self.begun += 1;
-        let token = token_of(self.begun);
-        let batch = Batch { collection: collection.to_owned(), begun: self.moment, records: Vec::new() };
-        self.batches.insert(token.clone(), batch);
-        token
+    /// Ends the batches whose time is up.
+    fn end_late(&mut self) -> Result<(), SqlFault> {
+        let moment = self.moment;
+        let is_late = |it: &Batch| it.begun + BATCH_LIFE <= moment;
+        if !self.batches.values().any(is_late) {
+            return Ok(());
+        }
+        let numbers: Vec<_> = self.batches.values().filter(|it| is_late(it)).map(|it| it.number).collect();
+        self.transact(|account| numbers.iter().try_for_each(|&number| account.drop_posts(number)))?;
+        self.batches.retain(|_, it| !is_late(it));
+        Ok(())
+    }
+
+    fn begin(
+        &mut self,
+        collection: &str,
+        records: Vec<Record>,
+        request: &Request,
+        body: &mut Vec<u8>,
+    ) -> Result<Reply, Refusal> {
+        let number = self.begun + 1;
+        let mut batch = Batch::new(number, collection, self.moment);
+        let keys = [Value::Whole(number), Value::Text(collection), Value::Whole(self.moment as i64)];
+        let text = request.text()?;
+        self.transact(|account| {
+            if account.keeps_batches {
+                account.db.run(&account.statements.begin_batch, &keys)?;
+            }
+            account.add_post(&batch, text)
+        })?;
+        self.begun = number;
+        batch.take(records, &token_of(number as u64), body);
+        self.batches.insert(token_of(number as u64), batch);
+        Ok(Reply::of(202, self.time_of(collection)))
     }
 
     fn append(
@@ -855,14 +934,34 @@ impl Account {
         collection: &str,
         token: &str,
         records: Vec<Record>,
+        request: &Request,
         body: &mut Vec<u8>,
     ) -> Result<Reply, Refusal> {
-        let batch = self.batches.get_mut(token).filter(|it| it.collection == collection).ok_or(Refusal::of(400))?;
-        body.extend_from_slice(b"{\"batch\":");
-        push_string(body, token);
-        push_records_told(body, &records);
-        batch.records.extend(records.into_iter().map(Record::into_owned));
+        let text = request.text()?;
+        let batch = self.batches.get(token).filter(|it| it.collection == collection).ok_or(Refusal::of(400))?;
+        // (one statement is a transaction by itself)
+        self.add_post(batch, text)?;
+        if let Some(batch) = self.batches.get_mut(token) {
+            batch.take(records, token, body);
+        }
         Ok(Reply::of(202, self.time_of(collection)))
+    }
+
+    /// Puts the body of a POST to a batch into the file, behind those that were put.
+    fn add_post(&self, batch: &Batch, text: &str) -> Result<(), SqlFault> {
+        if !self.keeps_batches {
+            return Ok(());
+        }
+        let values = [Value::Whole(batch.number), Value::Whole(batch.posts), Value::Text(text)];
+        self.db.run(&self.statements.add_post, &values)
+    }
+
+    fn drop_posts(&self, number: i64) -> Result<(), SqlFault> {
+        if !self.keeps_batches {
+            return Ok(());
+        }
+        self.db.run(&self.statements.end_posts, &[Value::Whole(number)])?;
+        self.db.run(&self.statements.end_batch, &[Value::Whole(number)])
     }
 
     /// A batch whose commit fails goes on.
@@ -875,7 +974,7 @@ impl Account {
     ) -> Result<Reply, Refusal> {
         let (token, batch) = self.batches.remove_entry(token).ok_or(Refusal::of(400))?;
         let told = if batch.collection == collection {
-            self.write_and_tell(collection, &batch.records, records, body)
+            self.write_and_tell(collection, Some(&batch), records, body)
         } else {
             Err(Refusal::of(400))
         };
@@ -888,13 +987,15 @@ impl Account {
     fn write_and_tell(
         &mut self,
         collection: &str,
-        staged: &[Record],
+        batch: Option<&Batch>,
         records: &[Record],
         body: &mut Vec<u8>,
     ) -> Result<Reply, Refusal> {
         let mut time = self.time_of(collection);
-        if !(staged.is_empty() && records.is_empty()) {
-            time = self.write(collection, staged, records)?;
+        if batch.is_some_and(|it| !it.records.is_empty()) || !records.is_empty() {
+            time = self.write(collection, batch, records)?;
+        } else if let Some(batch) = batch {
+            self.transact(|account| account.drop_posts(batch.number))?;
         }
         body.extend_from_slice(b"{\"modified\":");
         push_time(body, time);
@@ -902,17 +1003,26 @@ impl Account {
         Ok(Reply::of(200, time))
     }
 
-    /// Puts records with one stamp, which it tells, in one transaction.
-    fn write(&mut self, name: &str, staged: &[Record], records: &[Record]) -> Result<u64, SqlFault> {
-        let stamp = self.moment.max(self.last_write + 1);
-        let number = self.collections.get(name).map_or(self.collections.len() as i64 + 1, |it| it.number);
+    /// Makes one transaction of what `write` does.
+    fn transact(&self, write: impl FnOnce(&Account) -> Result<(), SqlFault>) -> Result<(), SqlFault> {
         self.db.run(&self.statements.begin, &[])?;
-        let written = self.write_rows(name, number, stamp, staged.iter().chain(records));
-        if let Err(fault) = written.and_then(|()| self.db.run(&self.statements.commit, &[])) {
+        if let Err(fault) = write(self).and_then(|()| self.db.run(&self.statements.commit, &[])) {
             // (where the commit failed there may be nothing to roll back)
             let _ = self.db.run(&self.statements.rollback, &[]);
             return Err(fault);
         }
+        Ok(())
+    }
+
+    /// Puts the records of a batch, which ends, and these with one stamp, which it tells, in one transaction.
+    fn write(&mut self, name: &str, batch: Option<&Batch>, records: &[Record]) -> Result<u64, SqlFault> {
+        let stamp = self.moment.max(self.last_write + 1);
+        let number = self.collections.get(name).map_or(self.collections.len() as i64 + 1, |it| it.number);
+        let staged = batch.map_or(&[][..], |it| &it.records);
+        self.transact(|account| {
+            account.write_rows(name, number, stamp, staged.iter().chain(records))?;
+            batch.map_or(Ok(()), |it| account.drop_posts(it.number))
+        })?;
         self.collections.entry(name.to_owned()).or_insert(Collection { number, time: stamp }).time = stamp;
         (self.moment, self.last_write) = (stamp, stamp);
         Ok(stamp)
@@ -1138,28 +1248,30 @@ struct Words {
     folder: String,
     uids: Vec<u32>,
     workers: usize,
+    keeps_batches: bool,
 }
 
 impl Words {
     fn read(mut words: impl Iterator<Item = String>) -> Option<Words> {
         words.next().filter(|word| word == "serve")?;
         let (address, folder) = (words.next()?, words.next()?);
-        let (mut uids, mut workers) = (Vec::new(), 4);
+        let (mut uids, mut workers, mut keeps_batches) = (Vec::new(), 4, true);
         while let Some(word) = words.next() {
             match word.as_str() {
                 "--workers" => workers = words.next()?.parse().ok()?,
+                "--batches-in-memory" => keeps_batches = false,
                 // (terms are syncstore's)
                 "--connections" => drop(words.next()?),
                 uid => uids.push(uid.parse().ok()?),
             }
         }
-        Some(Words { address, folder, uids, workers })
+        Some(Words { address, folder, uids, workers, keeps_batches })
     }
 }
 
 fn main() {
     let Some(words) = Words::read(env::args().skip(1)) else {
-        eprintln!("usage: server serve ADDRESS FOLDER UID .. [--workers N]");
+        eprintln!("usage: server serve ADDRESS FOLDER UID .. [--workers N] [--batches-in-memory]");
         process::exit(1);
     };
     let stop = |why: &dyn std::fmt::Display| -> ! {
@@ -1169,7 +1281,7 @@ fn main() {
     fs::create_dir_all(&words.folder).unwrap_or_else(|error| stop(&error));
     let open = |&uid: &u32| {
         let path = Path::new(&words.folder).join(format!("{uid}.db"));
-        (uid, Mutex::new(Account::open(&path).unwrap_or_else(|fault| stop(&fault.0))))
+        (uid, Mutex::new(Account::open(&path, words.keeps_batches).unwrap_or_else(|fault| stop(&fault.0))))
     };
     unsafe { c::sqlite3_config(c::MEMORY_COUNTED, 0 as c_int) };
     let accounts: Accounts = words.uids.iter().map(open).collect();

@@ -1,6 +1,10 @@
 pub mod Changes
 pub mod Delivering
+pub mod Editing
 pub mod Fit
 pub mod Fresh
+pub mod Merging
+pub mod Orders
 pub mod Playing
 pub mod Steps
+pub mod Told

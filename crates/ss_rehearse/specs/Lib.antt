@@ -1,3 +1,4 @@
+pub mod Alike
 pub mod Bookmarks
 pub mod Draws
 pub mod Endings

@@ -11,6 +11,7 @@ mod counting;
 mod draws;
 mod endings;
 mod events;
+mod laws;
 mod lines;
 mod opening;
 mod rehearsing;
@@ -19,5 +20,8 @@ mod summaries;
 mod syncing;
 
 pub use endings::Ending;
+pub use laws::{
+    devices_are_edited_alike, devices_are_merged_alike, trees_have_one_plan, trees_have_one_summary,
+};
 pub use rehearsing::rehearse;
 pub use running::run_rehearsal;

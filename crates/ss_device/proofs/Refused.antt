@@ -18,8 +18,8 @@ use Rattle.ss_tree.proofs.Changed.{has_parent}
 use Rattle.ss_tree.proofs.Ids.{has_node, node_found}
 use Rattle.ss_tree.proofs.Valid.{valid_tree, under_from}
 use Rattle.ss_device.specs.declared.faults.EditFault.{EditFault}
-use Rattle.ss_device.specs.declared.faults.EditFault.TheVariants.{NoItem, Root, NotFolder, Under, Twice}
-use Rattle.ss_device.specs.Edits.{add_fault, change_fault, item_of, is_fixed, is_met, is_within, takes_items}
+use Rattle.ss_device.specs.declared.faults.EditFault.TheVariants.{NoItem, Root, NotFolder, Under, Twice, Memory}
+use Rattle.ss_device.specs.Edits.{add_fault, change_fault, item_of, is_fixed, is_met, is_within, lacks_item, takes_items}
 use Rattle.ss_device.specs.Edits as edits
 use Rattle.ss_device.specs.Refusals.{edit_of_move, edit_of_tree}
 use Rattle.ss_device.proofs.ByIds.{at_entry, idof, idof_some, placed_is, same_node}
@@ -328,3 +328,13 @@ module _ (es : List Entry) (t : IsTree es) (x : List ℕ) (k : ℕ) (at : node_o
               let under_top : stands_under 0 e.0 ≡ true = ap (λ o. unwrap_or (option_map (λ n. 0 == n) o) false) parent ∙ (number_turned 0 p ∙ w) in
               let yes : is_fixed x ≡ true = fixed_is es t x k at ∙ (ap (λ b. (k == 0) || b) (ap (λ o. unwrap_or (option_map (stands_under 0) o) false) e.1 ∙ under_top) ∙ or_true (k == 0)) in
               absurd (false≢true (sym loose ∙ yes))
+
+-- the rules by which a renaming and a deletion are refused know no want of memory
+pub change_not_memory : (t : List Placed) (x : List ℕ) (e : EditFault) → change_fault t x ≡ Some e → e ≡ Memory → ⊥
+unfolding change_fault
+change_not_memory t x e q m = go (lacks_item t x) (is_fixed x) q
+  where
+    go : (a b : Bool) → cond a (Some NoItem) (cond b (Some Root) None) ≡ Some e → ⊥
+    go true b r = cc
+    go false true r = cc
+    go false false r = cc

@@ -1,6 +1,6 @@
 //! What a deletion takes out of a device.
 
-ghost use Rattle.std.specs.Prelude.{◌≡◌, ◌⊎◌, ℕ, List, Some, None, IfOk, MatchResult, if◌then◌else◌};
+ghost use Rattle.std.specs.Prelude.{◌≡◌, ◌⊎◌, ℕ, List, Some, None, IfErr, IfOk, MatchResult, if◌then◌else◌};
 ghost use Rattle.std.specs.BTreeMap.{IsOrdered, get};
 ghost use Rattle.ss_text.specs.Texts.{text_cmp};
 ghost use Rattle.ss_tree.specs.Trees.{IsSame};
@@ -31,6 +31,7 @@ pub(crate) struct Doomed {
 pub(crate) fn sentence(alloc: Global, tree: &Tree, id: &Id) -> Result<Doomed, EditFault>
     ensures refused { MatchResult result (λ _. change_fault (tree_of tree.now) id.now ≡ None) (λ e. (e ≡ Memory)
         ⊎ (change_fault (tree_of tree.now) id.now ≡ Some e)) }
+    ensures wanting { IfErr result (λ e. e ≡ Memory → change_fault (tree_of tree.now) id.now ≡ None) }
     ensures doomed { IfOk result (λ d. IsDoomed tree.now id.now d.nodes.items d.from d.content) }
 {
     if let Some(fault) = change_fault(tree, id) {

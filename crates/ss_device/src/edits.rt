@@ -1,6 +1,6 @@
 //! Edits of a device.
 
-ghost use Rattle.std.specs.Prelude.{◌≡◌, ◌⊎◌, Some, None, OnOk, OnErr, MatchResult};
+ghost use Rattle.std.specs.Prelude.{◌≡◌, ◌⊎◌, Some, None, IfErr, OnOk, OnErr, MatchResult};
 ghost use Rattle.ss_tree.specs.Entries.{tree as tree_of};
 ghost use Rattle.ss_device.specs.Edits.{IsAdded, IsDeleted, IsMoved, IsRenamed, add_fault, change_fault, move_fault};
 ghost use Rattle.ss_device.specs.declared.faults.EditFault.TheVariants.{Memory};
@@ -28,10 +28,12 @@ impl Device {
         Ok(())
     }
 
-    /// Gives an item another title, and the time of this reading of the clock.
+    /// Gives an item another title, and the time of this reading of the clock. That the item isn't there, or is a root,
+    /// is told before any memory is taken.
     pub fn rename(&mut self, alloc: Global, now: u64, id: &Id, title: &str) -> Result<(), EditFault>
         ensures refused { MatchResult result (λ _. change_fault (tree_of self.old.tree) id.now
             ≡ None) (λ e. (e ≡ Memory) ⊎ (change_fault (tree_of self.old.tree) id.now ≡ Some e)) }
+        ensures wanting { IfErr result (λ e. e ≡ Memory → change_fault (tree_of self.old.tree) id.now ≡ None) }
         ensures renamed { OnOk result (IsRenamed now id.now title.now self.old self.new) }
         ensures unchanged { OnErr result (self.new ≡ self.old) }
     {
@@ -40,6 +42,7 @@ impl Device {
     }
 
     /// Moves an item, with all below it, to the end of a folder. It and both folders have the time of this reading.
+    /// That the item isn't there, or is a root, is told before any memory is taken.
     pub fn move_to(
         &mut self,
         alloc: Global,
@@ -49,6 +52,7 @@ impl Device {
     ) -> Result<(), EditFault>
         ensures refused { MatchResult result (λ _. move_fault (tree_of self.old.tree) id.now parent.now
             ≡ None) (λ e. (e ≡ Memory) ⊎ (move_fault (tree_of self.old.tree) id.now parent.now ≡ Some e)) }
+        ensures wanting { IfErr result (λ e. e ≡ Memory → change_fault (tree_of self.old.tree) id.now ≡ None) }
         ensures moved { OnOk result (IsMoved now id.now parent.now self.old self.new) }
         ensures unchanged { OnErr result (self.new ≡ self.old) }
     {
@@ -57,10 +61,11 @@ impl Device {
     }
 
     /// Deletes an item with all below it: each id is then among the deleted, with the time of this reading, which its
-    /// folder has too.
+    /// folder has too. That the item isn't there, or is a root, is told before any memory is taken.
     pub fn delete(&mut self, alloc: Global, now: u64, id: &Id) -> Result<(), EditFault>
         ensures refused { MatchResult result (λ _. change_fault (tree_of self.old.tree) id.now
             ≡ None) (λ e. (e ≡ Memory) ⊎ (change_fault (tree_of self.old.tree) id.now ≡ Some e)) }
+        ensures wanting { IfErr result (λ e. e ≡ Memory → change_fault (tree_of self.old.tree) id.now ≡ None) }
         ensures deleted { OnOk result (IsDeleted now id.now self.old self.new) }
         ensures unchanged { OnErr result (self.new ≡ self.old) }
     {

@@ -1,6 +1,6 @@
 //! Edits of a tree: what a device's edits make of it.
 
-ghost use Rattle.std.specs.Prelude.{◌≡◌, ◌⊎◌, ℕ, List, Some, None, true, false, is_some, IfOk, OnOk, OnErr, MatchResult, bytes_eq};
+ghost use Rattle.std.specs.Prelude.{◌≡◌, ◌⊎◌, ℕ, List, Some, None, true, false, is_some, IfErr, IfOk, OnOk, OnErr, MatchResult, bytes_eq};
 ghost use Rattle.ss_record.specs.Ids.{places};
 ghost use Rattle.ss_record.specs.Items.{is_fit};
 ghost use Rattle.ss_tree.specs.Trees.{IsSame, IsValidTree, Placed, node, parent_in};
@@ -63,6 +63,7 @@ pub(crate) fn rename_in(
 ) -> Result<(), EditFault>
     ensures refused { MatchResult result (λ _. change_fault (tree_of tree.old) id.now ≡ None) (λ e. (e ≡ Memory)
         ⊎ (change_fault (tree_of tree.old) id.now ≡ Some e)) }
+    ensures wanting { IfErr result (λ e. e ≡ Memory → change_fault (tree_of tree.old) id.now ≡ None) }
     ensures same { OnOk result (IsSame (tree_of tree.new) (renamed time id.now title.now (tree_of tree.old))) }
     ensures unchanged { OnErr result (tree.new ≡ tree.old) }
 {
@@ -103,6 +104,7 @@ pub(crate) fn move_in(
 ) -> Result<(), EditFault>
     ensures refused { MatchResult result (λ _. move_fault (tree_of tree.old) id.now parent.now
         ≡ None) (λ e. (e ≡ Memory) ⊎ (move_fault (tree_of tree.old) id.now parent.now ≡ Some e)) }
+    ensures wanting { IfErr result (λ e. e ≡ Memory → change_fault (tree_of tree.old) id.now ≡ None) }
     ensures same { OnOk result (IsSame (tree_of tree.new) (moved time id.now parent.now (tree_of tree.old))) }
     ensures unchanged { OnErr result (tree.new ≡ tree.old) }
 {

@@ -4,7 +4,7 @@ use Rattle.ss_tree.specs.Trees.{node}
 use Rattle.ss_tree.specs.Entries.{tree}
 use Rattle.ss_device.specs.Edits.{is_within}
 use Rattle.ss_device.proofs.Known.{has_is_node}
-use Rattle.ss_device.proofs.Refused.{change_loose}
+use Rattle.ss_device.proofs.Refused.{change_loose, change_not_memory}
 use Rattle.ss_device.proofs.deletions.sentence.Goals as goal
 
 pub within-requires-clause-there : goal.within-requires-clause-there
@@ -37,3 +37,6 @@ returns-clause-doomed c =
       content_is = c.in_ok-content.ensures.content;
       content_fit = c.in_ok-content.ensures.fit;
     }
+
+pub returns-in-Some-clause-wanting : goal.returns-in-Some-clause-wanting
+returns-in-Some-clause-wanting c = λ m. absurd (change_not_memory (tree c.args.tree.now) c.args.id.now c.in-Some.fault (sym c.change_fault.ensures ∙ c.in-Some.is) m)

@@ -6,7 +6,7 @@ use Rattle.ss_tree.specs.Entries.{tree}
 use Rattle.ss_device.specs.Edits.{item_of, moved_only, stamped}
 use Rattle.ss_device.proofs.Composed.{move_same, still, through}
 use Rattle.ss_device.proofs.Known.{has_is_node}
-use Rattle.ss_device.proofs.Refused.{change_loose, fixed_inner, move_from_change, move_no_parent, move_takes, node_there, takes_inner}
+use Rattle.ss_device.proofs.Refused.{change_loose, change_not_memory, fixed_inner, move_from_change, move_no_parent, move_takes, node_there, takes_inner}
 use Rattle.ss_device.proofs.tree_edits.move_in.Goals as goal
 use Rattle.ss_tree.proofs.Looked.{in_tree}
 use Rattle.ss_text.proofs.Basics.{is_none}
@@ -98,3 +98,6 @@ pub returns-clause-same : goal.returns-clause-same
 returns-clause-same c =
     move_same (tree c.args.tree.now) (tree c.relocate.new.tree) (tree c.touch.new.tree) (tree c.touch-2.new.tree) (tree c.touch-3.new.tree) c.args.time c.args.id.now c.in_ok-from.from c.args.parent.now
     c.in_ok-from.ensures.id c.in_ok-relocate.ensures.nodes c.touch.ensures.nodes c.touch-2.ensures.nodes c.touch-3.ensures.nodes
+
+pub returns-in-Some-clause-wanting : goal.returns-in-Some-clause-wanting
+returns-in-Some-clause-wanting c = λ m. absurd (change_not_memory (tree c.args.tree.now) c.args.id.now c.in-Some.fault (sym c.change_fault.ensures ∙ c.in-Some.is) m)

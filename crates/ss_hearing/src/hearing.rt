@@ -1,8 +1,8 @@
 //! From a response to the answer that it is.
 
-ghost use Rattle.std.specs.Prelude.{◌≡◌, IfOk, Some, None, option_map};
+ghost use Rattle.std.specs.Prelude.{◌≡◌, IfOk, OnErr, Some, None, option_map};
 ghost use Rattle.json.specs.Value.{value_view};
-ghost use Rattle.ss_hearing.specs.Hearing.{time_of, unawaited, page_of, told, held_of, written_of, understood, answer_of};
+ghost use Rattle.ss_hearing.specs.Hearing.{status_of, time_of, unawaited, page_of, told, held_of, written_of, understood, answer_of};
 
 use crate::answer::{Answer, Awaited};
 use crate::bodies::{read, stamp_in};
@@ -110,10 +110,12 @@ fn understood(
 }
 
 /// The answer that a response is to what was asked (SyncStorage API 1.5): the status is looked at first, then the body
-/// and the fields. One with the awaited status that isn't in the form of such a reply is `Unread` (this project).
+/// and the fields. One with the awaited status that isn't in the form of such a reply is `Unread` (this project). Only
+/// such a one takes memory.
 #[tactic(auto, unfolding(crate::specs::Hearing::answer_of))]
 pub fn hear(alloc: Global, awaited: Awaited, heard: &Heard) -> Result<Answer, AllocError>
-    ensures { IfOk result (λ answer. answer ≡ answer_of awaited heard.now) }
+    ensures answer { IfOk result (λ answer. answer ≡ answer_of awaited heard.now) }
+    ensures wanting { OnErr result (heard.now.status ≡ status_of awaited) }
 {
     if heard.status != awaited.status() {
         return Ok(unawaited(awaited, heard));

@@ -1,5 +1,5 @@
 -- What a keeper tells of an account, and when a step asks it.
-use Rattle.std.specs.Prelude.{◌≡◌, ℕ, ◌+◌, ◌≤◌, Bool, true, false, not, ◌&&◌, ◌||◌, ◌==◌, List, length, filter, Option, IfSome, is_none, All}
+use Rattle.std.specs.Prelude.{◌≡◌, ◌≢◌, ℕ, ◌+◌, ◌≤◌, Bool, true, false, not, ◌&&◌, ◌||◌, ◌==◌, List, length, filter, Option, IfSome, is_none, All}
 use Rattle.std.specs.List.{list_any}
 use Rattle.ss_text.specs.Texts.{Reordered}
 use Rattle.ss_bso.specs.declared.account.Plain.{Plain}
@@ -9,7 +9,11 @@ use Rattle.ss_bso.specs.Account.{is_alive, is_open}
 use Rattle.ss_bso.specs.Changes.{kept_of, opened}
 use Rattle.ss_bso.specs.Limits.{most_live_batches}
 use Rattle.ss_bso.specs.Validity.{IsValid, SameAccount}
+use Rattle.ss_keeper.specs.declared.calls.KeeperCalls.{KeeperCalls}
+use Rattle.ss_keeper.specs.Calls.{with_commit}
 use Rattle.ss_query.specs.declared.requests.Request.{Request}
+use Rattle.ss_query.specs.declared.replies.Mark.{Mark}
+use Rattle.ss_query.specs.declared.replies.Mark.TheVariants.{Keeper, Memory}
 use Rattle.ss_query.specs.Effect.{is_write}
 use Rattle.ss_query.specs.Api.{refusal}
 use Rattle.ss_laws.specs.Laws.{is_of_batch}
@@ -82,3 +86,12 @@ pub record IsOpened (told : Option Kept) (account : Plain) (ended : List ℕ) : 
 -- whether a step asks the keeper: for a write, a begin, an append and a commit, where no rule refuses it
 abbrev pub is_for_keeper : Plain → Request → Bool
 is_for_keeper account request = (is_write account request || is_of_batch request) && is_none (refusal account request)
+
+-- how often a keeper was called before and after a step: never for a request that isn't for it; else once, to make changes,
+-- whether that was done or the keeper failed. Memory may be wanting before that call or in it, and 503 "keeper" comes for no
+-- other request
+pub record AsksOnce (account : Plain) (request : Request) (mark : Mark) (before now : KeeperCalls) : Type 0 where
+  pub never : is_for_keeper account request ≡ false → now ≡ before
+  pub once : is_for_keeper account request ≡ true → mark ≢ Memory → now ≡ with_commit before
+  pub most : now ≢ before → now ≡ with_commit before
+  pub failed : mark ≡ Keeper → is_for_keeper account request ≡ true

@@ -1,5 +1,5 @@
 -- The parts of a step: what is counted, and what a write comes to.
-use Rattle.std.specs.Prelude.{ℕ, min, Bool, ◌&&◌, nat_le, List, [], ◌∷◌, ◌++◌, length, Option, Some, None}
+use Rattle.std.specs.Prelude.{◌≡◌, ◌≢◌, ℕ, min, Bool, ◌&&◌, nat_le, List, [], ◌∷◌, ◌++◌, length, Option, Some, None, Result, Err}
 use Rattle.ss_text.specs.Time.{last_stamp}
 use Rattle.ss_bso.specs.declared.rows.Row.{Row}
 use Rattle.ss_bso.specs.declared.account.Plain.{Plain}
@@ -8,6 +8,10 @@ use Rattle.ss_bso.specs.declared.parts.Fields.{Fields}
 use Rattle.ss_query.specs.declared.replies.Picked.{Picked}
 use Rattle.ss_bso.specs.Batches.{batches_without}
 use Rattle.ss_bso.specs.Write.{ids_of, write}
+use Rattle.ss_keeper.specs.declared.calls.KeeperCalls.{KeeperCalls}
+use Rattle.ss_keeper.specs.declared.faults.KeepFault.{KeepFault}
+use Rattle.ss_keeper.specs.declared.faults.KeepFault.TheVariants.{Memory}
+use Rattle.ss_keeper.specs.Calls.{with_commit}
 use Rattle.ss_query.specs.declared.requests.Request.{Request}
 use Rattle.ss_bso.specs.declared.parts.Records.{Records}
 use Rattle.ss_batch.specs.Stage.{StageView, most_counted}
@@ -84,3 +88,8 @@ one_part id fields = record { id = id; fields = fields } ∷ []
 -- the reply to a list
 abbrev pub list_reply : ℕ → ℕ → Picked → Bool → Reply
 list_reply moment time picked full = record { status = 200; moment = moment; modified = Some time; count = Some (length picked.rows); next = picked.next; body = rows_body full picked.rows }
+
+-- a keeper was called once, to make changes; where memory is wanting, once at most
+pub record HasAsked {T : Type 0} (before now : KeeperCalls) (result : Result T KeepFault) : Type 0 where
+  pub once : result ≢ Err Memory → now ≡ with_commit before
+  pub most : now ≢ before → now ≡ with_commit before

@@ -11,8 +11,9 @@ ghost use Rattle.ss_query.specs.Marks.{mark_of};
 ghost use Rattle.ss_query.specs.Fit.{IsFitRequest};
 ghost use Rattle.ss_account.specs.declared.faults.OpenFault.TheVariants.{Keeper as OpenKeeper};
 ghost use Rattle.ss_laws.specs.Journals.{marked};
-ghost use Rattle.ss_account.specs.Keeping.{IsHeldBy, IsKeptBy, is_for_keeper};
+ghost use Rattle.ss_account.specs.Keeping.{AsksOnce, IsHeldBy, IsKeptBy, is_for_keeper};
 ghost use Rattle.ss_account.specs.Opening.{IsFaultOf, IsGood};
+ghost use Rattle.ss_keeper.specs.Calls.{with_load};
 ghost use Rattle.ss_keeper.specs.Keeping.{HasCause, IsTold};
 
 use crate::faults::OpenFault;
@@ -65,6 +66,8 @@ impl<K: Keeper> Account<K> {
         ensures left_refused { IfErr result (λ refusal. K.told refusal.0 ≡ K.told keeper) }
         ensures faults { IfOk result (λ account. K.keep_faults account.keeper ≡ K.keep_faults keeper) }
         ensures faults_refused { IfErr result (λ refusal. K.keep_faults keeper ≤ K.keep_faults refusal.0) }
+        ensures called { IfOk result (λ account. K.calls account.keeper ≡ with_load (K.calls keeper)) }
+        ensures called_refused { IfErr result (λ refusal. K.calls refusal.0 ≡ with_load (K.calls keeper)) }
     {
         let mut keeper = keeper;
         match prepare(alloc, &mut keeper) {
@@ -109,6 +112,8 @@ impl<K: Keeper> Account<K> {
         ensures quiet { (mark_of result ≡ KeeperMark → ⊥) → K.keep_faults self.new.keeper
             ≡ K.keep_faults self.old.keeper }
         ensures faults { K.keep_faults self.old.keeper ≤ K.keep_faults self.new.keeper }
+        ensures called { AsksOnce (tick self.old.plain now) request.now (mark_of result) (K.calls self.old.keeper)
+            (K.calls self.new.keeper) }
     {
         self.state.tick(now, &mut self.ledger.ended);
         match self.state.answer(alloc, &mut self.ledger, request) {
@@ -124,6 +129,7 @@ impl<K: Keeper> Account<K> {
         ensures account { self.new.plain ≡ self.old.plain }
         ensures left { K.told self.new.keeper ≡ K.told self.old.keeper }
         ensures cause { HasCause (K.keep_faults self.old.keeper) (K.keep_faults self.new.keeper) result }
+        ensures called { K.calls self.new.keeper ≡ with_load (K.calls self.old.keeper) }
     {
         self.ledger.keeper.load(alloc)
     }

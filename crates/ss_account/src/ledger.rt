@@ -1,6 +1,7 @@
 //! A keeper, and the batches of which it has yet to be told that they ended.
 
 ghost use Rattle.std.specs.Prelude.{◌≡◌, [], OnOk, OnErr};
+ghost use Rattle.ss_keeper.specs.Calls.{with_commit};
 ghost use Rattle.ss_keeper.specs.Keeping.{HasCause, changed_by};
 
 use ss_bso::Changes;
@@ -23,6 +24,7 @@ impl<K: Keeper> Ledger<K> {
         ensures refused { OnErr result (K.told self.new.keeper ≡ K.told self.old.keeper) }
         ensures left { OnErr result (self.new.ended ≡ self.old.ended) }
         ensures cause { HasCause (K.keep_faults self.old.keeper) (K.keep_faults self.new.keeper) result }
+        ensures called { K.calls self.new.keeper ≡ with_commit (K.calls self.old.keeper) }
     {
         self.keeper.commit(alloc, changes)?;
         self.ended.clear();

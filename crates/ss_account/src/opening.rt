@@ -10,6 +10,7 @@ ghost use Rattle.ss_bso.specs.declared.rows.Row.{Row as RowValue};
 ghost use Rattle.ss_bso.specs.Account.{time_of};
 ghost use Rattle.ss_bso.specs.Changes.{latest};
 ghost use Rattle.ss_bso.specs.Limits.{is_too_much, most_live_batches, most_rows_and_collections};
+ghost use Rattle.ss_keeper.specs.Calls.{with_load};
 ghost use Rattle.ss_keeper.specs.Keeping.{IsTold};
 ghost use Rattle.ss_account.specs.declared.faults.OpenFault.TheVariants.{Keeper as OpenKeeper};
 ghost use Rattle.ss_account.specs.Opening.{IsBatchesFault, IsFaultOf, IsGood, IsRowsFault, IsTimesFault, first_bad, is_bad_batch, is_bad_collection, is_bad_row};
@@ -234,6 +235,7 @@ pub(crate) fn load<K: Keeper>(alloc: Global, keeper: &mut K) -> Result<Kept, Ope
     ensures cause { result ≡ Err OpenKeeper → Rose (K.keep_faults keeper.old) (K.keep_faults keeper.new) }
     ensures quiet { (result ≡ Err OpenKeeper → ⊥) → K.keep_faults keeper.new ≡ K.keep_faults keeper.old }
     ensures faults { K.keep_faults keeper.old ≤ K.keep_faults keeper.new }
+    ensures called { K.calls keeper.new ≡ with_load (K.calls keeper.old) }
 {
     let kept = match keeper.load(alloc) {
         Ok(kept) => kept,

@@ -1,6 +1,6 @@
 //! An account over a shelf and a stage, and what each request makes of it.
 
-ghost use Rattle.std.specs.Prelude.{◌≡◌, ◌≤◌, ◌<◌, ◌+◌, ◌-◌, ℕ, None, Some, Err, IfOk, OnOk, OnErr, IfErr, IfSome, IsSome, IsSomeAnd, true, false, [], ◌++◌, is_none, not, option_map, map, filter, length, if◌then◌else◌};
+ghost use Rattle.std.specs.Prelude.{◌≡◌, ◌≢◌, ◌≤◌, ◌<◌, ◌+◌, ◌-◌, ℕ, None, Some, Err, IfOk, OnOk, OnErr, IfErr, IfSome, IsSome, IsSomeAnd, true, false, [], ◌++◌, is_none, not, option_map, map, filter, length, if◌then◌else◌};
 ghost use Rattle.ss_bso.specs.Account.{is_open, tick, row_at};
 ghost use Rattle.ss_bso.specs.declared.changes.BatchChange.TheVariants.{End as EndChange};
 ghost use Rattle.ss_bso.specs.Batches.{batches_without};
@@ -10,6 +10,7 @@ ghost use Rattle.ss_bso.specs.Lists.{Pairs};
 ghost use Rattle.ss_bso.specs.Validity.{IsValid, IsWithinLimits, SameAccount};
 ghost use Rattle.ss_bso.specs.Write.{ids_of, rows_without, rows_written, stamped, write};
 ghost use Rattle.ss_batch.specs.Stage.{append_fault, appended, begin_fault, begun, numbered, shortened};
+ghost use Rattle.ss_keeper.specs.Calls.{with_load};
 ghost use Rattle.ss_keeper.specs.Keeping.{HasCause};
 ghost use Rattle.ss_query.specs.declared.replies.Body.TheVariants.{Posted, Said as Word};
 ghost use Rattle.ss_query.specs.declared.replies.Said.TheVariants.{Keeper as KeeperWord, Memory};
@@ -25,7 +26,7 @@ ghost use Rattle.ss_account.specs.Opening.{IsFaultOf, IsGood};
 ghost use Rattle.ss_account.specs.declared.faults.OpenFault.TheVariants.{Keeper as OpenKeeper};
 ghost use Rattle.ss_outside.specs.Causes.{Rose};
 ghost use Rattle.ss_writes.specs.Pending.{IsReady, Settles, Tells, applied, append_changes, batch_changes, begin_changes, changes_to, numbers_of, without_batch};
-ghost use Rattle.ss_account.specs.Steps.{batch_cause, committed, fault_body, late_refusal, list_reply, number_of, one_part, plain_reply, stage_of, staged_reply, with_stage};
+ghost use Rattle.ss_account.specs.Steps.{HasAsked, batch_cause, committed, fault_body, late_refusal, list_reply, number_of, one_part, plain_reply, stage_of, staged_reply, with_stage};
 ghost use Rattle.ss_writes.specs.Parts.{OtherText};
 
 use crate::faults::OpenFault;
@@ -88,6 +89,7 @@ pub(crate) fn prepare<K: Keeper>(alloc: Global, keeper: &mut K) -> Result<(State
     ensures cause { result ≡ Err OpenKeeper → Rose (K.keep_faults keeper.old) (K.keep_faults keeper.new) }
     ensures quiet { (result ≡ Err OpenKeeper → ⊥) → K.keep_faults keeper.new ≡ K.keep_faults keeper.old }
     ensures faults { K.keep_faults keeper.old ≤ K.keep_faults keeper.new }
+    ensures called { K.calls keeper.new ≡ with_load (K.calls keeper.old) }
 {
     let kept = load(alloc, keeper)?;
     let mut ended = Ended::new(alloc)?;
@@ -339,6 +341,9 @@ impl State {
         ensures refused { OnErr result (K.told ledger.new.keeper ≡ K.told ledger.old.keeper) }
         ensures left { OnErr result (ledger.new.ended ≡ ledger.old.ended) }
         ensures cause { HasCause (K.keep_faults ledger.old.keeper) (K.keep_faults ledger.new.keeper) result }
+        ensures called { is_for_keeper self.old request.now ≡ true
+            → HasAsked (K.calls ledger.old.keeper) (K.calls ledger.new.keeper) result }
+        ensures own { is_for_keeper self.old request.now ≡ false → result ≢ Err KeepFault.Fault }
         ensures unasked { is_for_keeper self.old request.now ≡ false → ledger.new ≡ ledger.old }
         ensures quiet { is_for_keeper self.old request.now ≡ false → self.new ≡ self.old }
         ensures held { is_for_keeper self.old request.now ≡ true → OnOk result
@@ -380,6 +385,9 @@ impl State {
         ensures refused { OnErr result (K.told ledger.new.keeper ≡ K.told ledger.old.keeper) }
         ensures left { OnErr result (ledger.new.ended ≡ ledger.old.ended) }
         ensures cause { HasCause (K.keep_faults ledger.old.keeper) (K.keep_faults ledger.new.keeper) result }
+        ensures called { is_none (late_refusal self.old request.now) ≡ true
+            → HasAsked (K.calls ledger.old.keeper) (K.calls ledger.new.keeper) result }
+        ensures own { is_none (late_refusal self.old request.now) ≡ false → result ≢ Err KeepFault.Fault }
         ensures unasked { is_none (late_refusal self.old request.now) ≡ false → ledger.new ≡ ledger.old }
         ensures quiet { is_none (late_refusal self.old request.now) ≡ false → self.new ≡ self.old }
         ensures held { is_none (late_refusal self.old request.now) ≡ true
@@ -636,6 +644,7 @@ impl State {
         ensures refused { OnErr result (K.told ledger.new.keeper ≡ K.told ledger.old.keeper) }
         ensures left { OnErr result (ledger.new.ended ≡ ledger.old.ended) }
         ensures cause { HasCause (K.keep_faults ledger.old.keeper) (K.keep_faults ledger.new.keeper) result }
+        ensures called { HasAsked (K.calls ledger.old.keeper) (K.calls ledger.new.keeper) result }
     {
         let changes = self.changes(alloc, &ledger.ended, &pending, stamp)?;
         self.collections.reserve(1)?;
@@ -679,6 +688,7 @@ impl State {
         ensures refused { OnErr result (K.told ledger.new.keeper ≡ K.told ledger.old.keeper) }
         ensures left { OnErr result (ledger.new.ended ≡ ledger.old.ended) }
         ensures cause { HasCause (K.keep_faults ledger.old.keeper) (K.keep_faults ledger.new.keeper) result }
+        ensures called { HasAsked (K.calls ledger.old.keeper) (K.calls ledger.new.keeper) result }
         ensures held { OnOk result (IsHeldBy (K.told ledger.new.keeper) self.new) }
     {
         match request {
@@ -790,6 +800,7 @@ impl State {
         ensures refused { OnErr result (K.told ledger.new.keeper ≡ K.told ledger.old.keeper) }
         ensures left { OnErr result (ledger.new.ended ≡ ledger.old.ended) }
         ensures cause { HasCause (K.keep_faults ledger.old.keeper) (K.keep_faults ledger.new.keeper) result }
+        ensures called { HasAsked (K.calls ledger.old.keeper) (K.calls ledger.new.keeper) result }
     {
         let told = told_of(alloc, records)?;
         let parts = copy_parts(alloc, records.parts.as_slice())?;
@@ -860,6 +871,7 @@ impl State {
         ensures refused { OnErr result (K.told ledger.new.keeper ≡ K.told ledger.old.keeper) }
         ensures left { OnErr result (ledger.new.ended ≡ ledger.old.ended) }
         ensures cause { HasCause (K.keep_faults ledger.old.keeper) (K.keep_faults ledger.new.keeper) result }
+        ensures called { HasAsked (K.calls ledger.old.keeper) (K.calls ledger.new.keeper) result }
     {
         let told = told_of(alloc, records)?;
         let parts = records.parts.as_slice();
@@ -926,6 +938,7 @@ impl State {
         ensures refused { OnErr result (K.told ledger.new.keeper ≡ K.told ledger.old.keeper) }
         ensures left { OnErr result (ledger.new.ended ≡ ledger.old.ended) }
         ensures cause { HasCause (K.keep_faults ledger.old.keeper) (K.keep_faults ledger.new.keeper) result }
+        ensures called { HasAsked (K.calls ledger.old.keeper) (K.calls ledger.new.keeper) result }
     {
         let told = told_of(alloc, records)?;
         let ending = self.end_changes(alloc, &ledger.ended, batch)?;

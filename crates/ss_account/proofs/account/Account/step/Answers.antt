@@ -9,12 +9,15 @@ use Rattle.ss_query.specs.declared.replies.Mark.TheVariants.{Done, Keeper as Kee
 use Rattle.ss_query.specs.Marks.{mark_of}
 use Rattle.ss_query.specs.Api.{outcome, refusal}
 use Rattle.ss_laws.specs.Journals.{marked}
+use Rattle.ss_keeper.specs.declared.calls.KeeperCalls.{KeeperCalls}
+use Rattle.ss_keeper.specs.declared.faults.KeepFault.TheVariants.{Fault, Memory}
 use Rattle.ss_account.specs.declared.ledger.Ledger.{Ledger}
 use Rattle.ss_account.specs.Held.{Held}
-use Rattle.ss_account.specs.Keeping.{IsHeldBy, IsSound, is_for_keeper}
+use Rattle.ss_account.specs.Keeping.{AsksOnce, IsHeldBy, IsSound, is_for_keeper}
 use Rattle.ss_account.proofs.Keeping.{kept_by-beside, swept-tick}
 use Rattle.ss_account.proofs.Sound.{sound-held, sound-same, sound-tick}
 use Rattle.ss_account.proofs.Stepped.{Sides, Stepped, stepped-done, stepped-keeper, stepped-memory}
+use Rattle.ss_account.proofs.Stepping.{api-mark}
 use Rattle.ss_account.proofs.account.Account.step.Goals.{in-Ok, in-Err-Fault, in-Err-Memory}
 use Rattle.ss_account.proofs.account.Account.step.Goals as goal
 use Rattle.ss_account.proofs.account.Account.step.Given.{Over}
@@ -157,3 +160,52 @@ quiet g c other =
 
 pub returns-clause-quiet : goal.returns-clause-quiet
 returns-clause-quiet g c = λ other. quiet g c other ∙ ap (λ (a : Held _). g.K.Keeper.keep_faults a.keeper) c.self.view_is
+
+-- memory was wanting in the answer, so the reply says so
+marks_memory : (g : Over) (c : goal.Joined-answer g) → c.answer.result ≡ Err Memory → mark_of c.match-answer.result ≡ MemoryMark
+marks_memory g c e =
+    elim c.match-answer.branch [
+      | in-Ok w ↦ absurd (let no = sym w.in-Ok.is ∙ e in cc)
+      | in-Err-Memory w ↦ ap mark_of (w.result-is ∙ w.out_of_memory.ensures)
+      | in-Err-Fault w ↦ absurd (let no = sym w.in-Err-Fault.is ∙ e in cc)
+    ]
+
+-- the reply says that the keeper failed, so it did
+failed_at : (g : Over) (c : goal.Joined-answer g) → mark_of c.match-answer.result ≡ KeeperMark → c.answer.result ≡ Err Fault
+failed_at g c m =
+    let request = c.args.request.now in
+    let ticked = c.tick.new.self in
+    elim c.match-answer.branch [
+      | in-Ok w ↦ absurd (
+          let told = w.result-is ∙ subst (λ o. IfOk o (λ reply. reply ≡ (outcome ticked request (refusal ticked request)).reply)) w.in-Ok.is c.answer.ensures.reply in
+          let no : KeeperMark ≡ Done = sym m ∙ ap mark_of told ∙ api-mark ticked request (refusal ticked request) in
+          cc)
+      | in-Err-Memory w ↦ absurd (let no : MemoryMark ≡ KeeperMark = sym (ap mark_of (w.result-is ∙ w.out_of_memory.ensures)) ∙ m in cc)
+      | in-Err-Fault w ↦ cc
+    ]
+
+called : (g : Over) (c : goal.Joined-answer g)
+    → AsksOnce c.tick.new.self c.args.request.now (mark_of c.match-answer.result) (g.K.Keeper.calls c.self.inside.ledger.keeper) (g.K.Keeper.calls c.answer.new.ledger.keeper)
+called g c =
+    let asks = is_for_keeper c.tick.new.self c.args.request.now in
+    let before : KeeperCalls = g.K.Keeper.calls c.self.inside.ledger.keeper in
+    let after : KeeperCalls = g.K.Keeper.calls c.answer.new.ledger.keeper in
+    let never : asks ≡ false → after ≡ before = λ e. ap (λ (l : Ledger _). g.K.Keeper.calls l.keeper) (c.answer.ensures.unasked e) in
+    record {
+      never = never;
+      once = λ e no. (c.answer.ensures.called e).once (λ m. no (marks_memory g c m));
+      most = λ rose. decide asks (λ e. (c.answer.ensures.called e).most rose) (λ e. absurd (rose (never e)));
+      failed = λ m. decide asks (λ e. e) (λ e. absurd (c.answer.ensures.own e (failed_at g c m)));
+    }
+  where
+    decide : {X : Type 0} (b : Bool) → (b ≡ true → X) → (b ≡ false → X) → X
+    decide true f h = f refl
+    decide false f h = h refl
+
+pub returns-clause-called : goal.returns-clause-called
+returns-clause-called g c =
+    let request = c.args.request.now in
+    let mark = mark_of c.match-answer.result in
+    let after : KeeperCalls = g.K.Keeper.calls c.answer.new.ledger.keeper in
+    subst (λ (a : Held _). AsksOnce (tick a.plain c.args.now) request mark (g.K.Keeper.calls a.keeper) after) c.self.view_is
+    (subst (λ (t : Plain). AsksOnce t request mark (g.K.Keeper.calls c.self.inside.ledger.keeper) after) c.tick.ensures.account (called g c))

@@ -2,11 +2,13 @@ use Rattle.std.proofs.Common.{rules, ◌≡◌, true, false, nat_le, subst, sym,
 use Rattle.ss_bso.specs.declared.account.Plain.{Plain}
 use Rattle.ss_bso.specs.Validity.{SameAccount}
 use Rattle.std.proofs.lemmas.Bool.Decides.{nat_tests}
+use Rattle.std.proofs.lemmas.Result.{err_from_is_err_and}
 use Rattle.ss_text.specs.Time.{last_stamp}
 use Rattle.ss_query.specs.Effect.{effect, is_over, stamp_in}
 use Rattle.ss_account.specs.Steps.{late_refusal}
 use Rattle.ss_query.specs.Told.{body_of}
 use Rattle.ss_writes.specs.Pending.{Tells}
+use Rattle.ss_account.proofs.Asking.{asked-as, cause-as}
 use Rattle.ss_account.proofs.Stepping.{late-clock, late-full, refused-account, written-account, written-reply}
 use Rattle.ss_account.proofs.state.State.write.Goals as goal
 
@@ -43,3 +45,13 @@ returns-in_default-clause-account g c =
     let clock : nat_le last_stamp account.store ≡ false = grind (arith, nat_tests) in
     let over : is_over (effect account request) ≡ true = search rules in
     refused-account account request (late_refusal account request) (late-full account request c.requires.write clock over)
+
+pub returns-in_err-keep-clause-cause : goal.returns-in_err-keep-clause-cause
+returns-in_err-keep-clause-cause g c =
+    let p = err_from_is_err_and c.from_residual-in_err-keep.result c.from_residual-in_err-keep.ensures.1 in
+    rw (p.1, p.2) (cause-as c.in_err-keep.ensures.cause)
+
+pub returns-in_err-keep-clause-called : goal.returns-in_err-keep-clause-called
+returns-in_err-keep-clause-called g c =
+    let p = err_from_is_err_and c.from_residual-in_err-keep.result c.from_residual-in_err-keep.ensures.1 in
+    rw (p.1, p.2) (λ e. asked-as c.in_err-keep.ensures.called)

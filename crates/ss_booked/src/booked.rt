@@ -2,12 +2,13 @@
 
 ghost use Rattle.std.specs.Prelude.{◌≡◌, ◌≤◌, ◌<◌, ℕ, length, OnOk, OnErr, IfOk, IfErr, IfSome, None, Some, All};
 ghost use Rattle.ss_outside.specs.Causes.{Rose};
+ghost use Rattle.ss_bso.specs.Account.{tick};
 ghost use Rattle.ss_bso.specs.Validity.{IsValid, SameAccount};
 ghost use Rattle.ss_query.specs.declared.replies.Mark.TheVariants.{Keeper as KeeperMark};
 ghost use Rattle.ss_query.specs.Fit.{IsFitRequest};
 ghost use Rattle.ss_query.specs.Marks.{mark_of};
 ghost use Rattle.ss_laws.specs.Journals.{account_after, begun, with_entry, reply_at, IsLegal};
-ghost use Rattle.ss_account.specs.Keeping.{IsKeptBy};
+ghost use Rattle.ss_account.specs.Keeping.{AsksOnce, IsKeptBy};
 ghost use Rattle.ss_account.specs.Opening.{IsGood};
 ghost use Rattle.ss_booked.specs.Sizes.{full_of, most_entries, HadRoom};
 ghost use Rattle.ss_booked.specs.Sound.{RoseBy, keeper_marks};
@@ -104,6 +105,8 @@ impl<K: Keeper> Booked<K> {
             → Rose (K.keep_faults (account_of self.old).keeper) (K.keep_faults (account_of self.new).keeper)) }
         ensures quiet { IfOk result (λ reply. (mark_of reply ≡ KeeperMark → ⊥)
             → K.keep_faults (account_of self.new).keeper ≡ K.keep_faults (account_of self.old).keeper) }
+        ensures called { IfOk result (λ reply. AsksOnce (tick (account_of self.old).plain now) request (mark_of reply)
+            (K.calls (account_of self.old).keeper) (K.calls (account_of self.new).keeper)) }
     {
         self.bound.call(ticket, pass, now, request)
     }

@@ -2,12 +2,13 @@
 
 ghost use Rattle.std.specs.Prelude.{◌≡◌, ◌≤◌, ◌<◌, length, OnOk, OnErr, IfOk, IfErr, IfSome, None, Some, All};
 ghost use Rattle.ss_outside.specs.Causes.{Rose};
+ghost use Rattle.ss_bso.specs.Account.{tick};
 ghost use Rattle.ss_bso.specs.Validity.{IsValid, SameAccount};
 ghost use Rattle.ss_query.specs.declared.replies.Mark.TheVariants.{Keeper as KeeperMark};
 ghost use Rattle.ss_query.specs.Fit.{IsFitRequest};
 ghost use Rattle.ss_query.specs.Marks.{mark_of};
 ghost use Rattle.ss_laws.specs.Journals.{account_after, begun, with_entry, reply_at, IsLegal};
-ghost use Rattle.ss_account.specs.Keeping.{IsKeptBy};
+ghost use Rattle.ss_account.specs.Keeping.{AsksOnce, IsKeptBy};
 ghost use Rattle.ss_account.specs.Opening.{IsGood};
 ghost use Rattle.ss_booked.specs.Sizes.{full_of, is_half_full, most_entries, HadRoom};
 ghost use Rattle.ss_booked.specs.Sound.{RoseBy, keeper_marks};
@@ -110,6 +111,8 @@ impl<K: Keeper> Bound<K> {
             → Rose (K.keep_faults self.old.account.keeper) (K.keep_faults self.new.account.keeper)) }
         ensures quiet { IfOk result (λ reply. (mark_of reply ≡ KeeperMark → ⊥)
             → K.keep_faults self.new.account.keeper ≡ K.keep_faults self.old.account.keeper) }
+        ensures called { IfOk result (λ reply. AsksOnce (tick self.old.account.plain now) request (mark_of reply)
+            (K.calls self.old.account.keeper) (K.calls self.new.account.keeper)) }
         ensures legal { IsLegal self.new.journal }
         ensures roomy { HadRoom self.new.journal }
         ensures rose { RoseBy (keeper_marks self.new.journal.entries) (K.keep_faults self.new.before)

@@ -1,6 +1,7 @@
 //! The table of commits.
 
 use crate::faults::{NO_MEMORY, Refusal, is_memory};
+use crate::places::{Place, Table};
 use crate::tables::IN_TRANSACTION;
 use sqlite::types::ValueRef;
 use sqlite::{Alter, Connection, Error, Row as Values};
@@ -96,7 +97,12 @@ pub(crate) fn read_commits<S: Alter>(
         };
         let number: i64 = values.get(0)?;
         let Some(changes) = changes_in(alloc, &values)? else {
-            return Err(Refusal::Commit { number });
+            return Err(Refusal::Damaged {
+                place: Place {
+                    table: Table::Commits,
+                    row: number,
+                },
+            });
         };
         commits.push(changes).map_err(|_| NO_MEMORY)?;
     }

@@ -3,6 +3,7 @@
 ghost use Rattle.std.specs.Prelude.{◌≡◌, ◌≢◌, ◌↔◌, ℤ, IsOkAnd, IsTrue, IfOk, OnOk, Ok, Err};
 ghost use Rattle.ss_keep_sql.specs.Opening.{HasVersion, IsOther, IsTaken};
 
+use crate::places::Place;
 use crate::tables::{VERSION, VERSION_WITHOUT_BATCHES, VERSION_WITHOUT_COMMITS};
 use sqlite::{Error, ErrorCode};
 use std::alloc::AllocError;
@@ -22,9 +23,10 @@ pub enum SqlFault {
     #[error("the database has version {found}")]
     Version { found: i64 },
 
-    /// The row of this number in the table `commits` isn't the text of a commit.
-    #[error("row {number} of the table commits isn't the text of a commit")]
-    Commit { number: i64 },
+    /// What a row holds is out of form: a name, an id or a payload that is no UTF-8, a value of another type or beyond its
+    /// range, the text of no commit, or a further row of `about`.
+    #[error("{place} is out of form")]
+    Damaged { place: Place },
 
     #[error("out of memory")]
     Memory,
@@ -36,8 +38,8 @@ pub(crate) enum Refusal {
     /// A statement was refused, or memory was wanting.
     Statement(Error),
 
-    /// The row of this number in the table `commits` isn't the text of a commit.
-    Commit { number: i64 },
+    /// What a row holds is out of form.
+    Damaged { place: Place },
 }
 
 impl Refusal {
@@ -45,7 +47,7 @@ impl Refusal {
     pub(crate) fn is_memory(self) -> bool {
         match self {
             Refusal::Statement(error) => is_memory(error),
-            Refusal::Commit { .. } => false,
+            Refusal::Damaged { .. } => false,
         }
     }
 }
@@ -87,7 +89,7 @@ pub(crate) fn fault_of_fold(refusal: Refusal) -> SqlFault
 {
     match refusal {
         Refusal::Statement(error) => fault_of(error),
-        Refusal::Commit { number } => SqlFault::Commit { number },
+        Refusal::Damaged { place } => SqlFault::Damaged { place },
     }
 }
 

@@ -18,11 +18,15 @@ pub enum Step {
 
     /// The commits that stand beside the tables are made to them.
     Fold,
+
+    /// What is held is asked for.
+    Load,
 }
 
 fn step_of(word: &str) -> anyhow::Result<Step> {
     match word {
         "fold" => Ok(Step::Fold),
+        "load" => Ok(Step::Load),
         _ => Ok(Step::Commit(number(word)?)),
     }
 }
@@ -47,7 +51,7 @@ pub fn steps(alloc: Global, text: &str) -> anyhow::Result<Vec<Step>> {
 }
 
 /// Whether a keeper over a database answers a step Ok.
-fn is_done<S: Alter + Drop>(
+pub fn is_done<S: Alter + Drop>(
     alloc: Global,
     commits: &Commits,
     keeper: &mut SqlKeeper<S>,
@@ -59,6 +63,7 @@ fn is_done<S: Alter + Drop>(
             Ok(keeper.commit(alloc, &changes).is_ok())
         }
         Step::Fold => Ok(keeper.fold(alloc).is_ok()),
+        Step::Load => Ok(keeper.load(alloc).is_ok()),
     }
 }
 

@@ -1,10 +1,12 @@
 //! Keepers over databases in memory.
 
 use crate::commits::Commits;
-use crate::comparing::{Step, compared, done, loaded};
+use crate::comparing::{Step, compared, done, is_done, loaded};
+use anyhow::Context;
 use sqlite::{Connection, MemStore};
-use ss_keep_sql::SqlKeeper;
+use ss_keep_sql::{SqlFault, SqlKeeper};
 use std::alloc::Global;
+use std::slice;
 
 /// A database in memory on which statements were run.
 fn database(alloc: Global, sql: &str) -> anyhow::Result<Connection<MemStore>> {
@@ -55,5 +57,54 @@ pub fn refused(alloc: Global, sql: &str) -> anyhow::Result<String> {
                 .get(0)?;
             Ok(format!(in alloc; "{fault:?}, {tables} tables")?)
         }
+    }
+}
+
+/// What a keeper gives at each step that asks for what is held.
+fn told_loads(
+    alloc: Global,
+    commits: &Commits,
+    mut keeper: SqlKeeper<MemStore>,
+    steps: &[Step],
+) -> anyhow::Result<String> {
+    let mut told = String::new(alloc);
+    for at in 1..steps.len() {
+        let (front, _) = steps.split_at(at + 1);
+        let step = front.last().context("a step")?;
+        if let Step::Load = step {
+            let found = loaded(alloc, &mut keeper)?;
+            let compared = compared(alloc, commits, front, found.as_slice())?;
+            told.push_str(format!(in alloc; "{compared}; ")?.as_str())?;
+        } else if !is_done(alloc, commits, &mut keeper, *step)? {
+            told.push_str("REFUSED; ")?;
+        }
+    }
+    told.push_str("no more")?;
+    Ok(told)
+}
+
+/// What a keeper gives that takes the database in which another one took the first step, each time that it is asked.
+pub fn loads(alloc: Global, commits: &Commits, steps: &[Step]) -> anyhow::Result<String> {
+    let (first, _) = steps.split_first().context("a step")?;
+    let (sql, rest) = begun(commits, slice::from_ref(first));
+    let mut keeper = keeper(alloc, sql)?;
+    let _count = done(alloc, commits, &mut keeper, rest)?;
+    match SqlKeeper::adopt(alloc, keeper.into_connection()) {
+        Ok(keeper) => told_loads(alloc, commits, keeper, steps),
+        Err((connection, fault)) => {
+            drop(connection);
+            Err(fault.into())
+        }
+    }
+}
+
+/// Where an account's database is out of form on which statements were run.
+pub fn damaged(alloc: Global, sql: &str) -> anyhow::Result<String> {
+    let mut connection = keeper(alloc, "")?.into_connection();
+    connection.execute_batch(sql)?;
+    match SqlKeeper::adopt(alloc, connection) {
+        Ok(_) => Ok(String::from_str(alloc, "taken")?),
+        Err((_, SqlFault::Damaged { place })) => Ok(format!(in alloc; "{place}")?),
+        Err((_, fault)) => Ok(format!(in alloc; "{fault:?}")?),
     }
 }

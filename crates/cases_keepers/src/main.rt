@@ -9,6 +9,10 @@
 //!   parts.
 //! - `refused SQL` tells why the database that statements make isn't taken; so do `file-twice`, of a file that a keeper
 //!   has, `text-file`, `folder`, and `no-folder`, a path into a folder that isn't there.
+//! - `damaged SQL` tells where an account's database is out of form on which statements were run, and `loads STEPS` what a
+//!   keeper gives at each step `load`, to which another one left the database behind the first step.
+//! - `foreign SQL` tells why the file isn't taken that statements make, and what is then changed in its folder, once
+//!   with a write-ahead log in its header and once with a rollback journal.
 //! - `page-size` tells how large the pages of a new file are, and `page-size NUMBER` those of an older one.
 //! - `new` makes a database in memory for the lines behind it: `sql STATEMENTS` runs statements there, `text NUMBER LINES`
 //!   adds the text of a commit, whose lines `¦` ends, `keep STEPS` has a keeper go through steps, and `ask SQL` tells the
@@ -21,6 +25,7 @@ mod commits;
 mod comparing;
 mod databases;
 mod files;
+mod folders;
 mod held;
 mod stops;
 mod tables;
@@ -43,6 +48,9 @@ fn told(rt: &HostRuntime, bench: &mut Bench, kind: &str, text: &str) -> anyhow::
     let alloc = rt.alloc();
     match kind {
         "refused" => databases::refused(alloc, text),
+        "damaged" => databases::damaged(alloc, text),
+        "foreign" => folders::told(rt, text),
+        "loads" => databases::loads(alloc, &bench.commits, steps(alloc, text)?.as_slice()),
         "ask" => bench.tables.ask(alloc, text),
         "keep" => bench
             .tables

@@ -1,7 +1,8 @@
 //! The table of commits.
 
-use crate::faults::{NO_MEMORY, Refusal, is_memory};
-use crate::places::{Place, Table};
+use crate::faults::NO_MEMORY;
+use crate::places::Table;
+use crate::stored::{Stored, Unread, text_at};
 use crate::tables::IN_TRANSACTION;
 use sqlite::types::ValueRef;
 use sqlite::{Alter, Connection, Error, Row as Values};
@@ -11,8 +12,6 @@ use ss_text::Word;
 use std::alloc::Global;
 
 const ADD_COMMIT: &str = "INSERT INTO commits (changes) VALUES (?1)";
-
-const READ_COMMITS: &str = "SELECT number, changes FROM commits ORDER BY number";
 
 fn payload_of(field: &Field<Word>) -> u64 {
     match field {
@@ -67,44 +66,16 @@ pub(crate) fn add_commit<S: Alter>(
     Ok(text.len() as u64)
 }
 
-/// The text of a commit, unless what stands there is no text at all.
-fn text_in(values: &Values) -> Result<Option<String>, Error> {
-    match values.get(1) {
-        Ok(text) => Ok(Some(text)),
-        Err(error) if is_memory(error) => Err(error),
-        Err(_) => Ok(None),
-    }
-}
+/// The changes of a commit, from their text.
+impl Stored for Changes {
+    const TABLE: Table = Table::Commits;
 
-/// The changes of a commit, unless what stands there isn't the text of one.
-fn changes_in(alloc: Global, values: &Values) -> Result<Option<Changes>, Error> {
-    let Some(text) = text_in(values)? else {
-        return Ok(None);
-    };
-    read_changes(alloc, text.as_bytes()).map_err(|_| NO_MEMORY)
-}
+    const SELECT: &'static str = "SELECT number, changes FROM commits ORDER BY number";
 
-/// The commits, in the order in which they were made.
-pub(crate) fn read_commits<S: Alter>(
-    alloc: Global,
-    connection: &mut Connection<S>,
-) -> Result<Vec<Changes>, Refusal> {
-    let mut commits = Vec::new(alloc);
-    let mut answer = connection.query(READ_COMMITS, &[])?;
-    for _ in 0..u64::MAX {
-        let Some(values) = answer.next()? else {
-            break;
-        };
-        let number: i64 = values.get(0)?;
-        let Some(changes) = changes_in(alloc, &values)? else {
-            return Err(Refusal::Damaged {
-                place: Place {
-                    table: Table::Commits,
-                    row: number,
-                },
-            });
-        };
-        commits.push(changes).map_err(|_| NO_MEMORY)?;
+    fn read(alloc: Global, values: &Values) -> Result<Changes, Unread> {
+        match read_changes(alloc, text_at(values, 1)?)? {
+            Some(changes) => Ok(changes),
+            None => Err(Unread::OutOfForm),
+        }
     }
-    Ok(commits)
 }

@@ -1,7 +1,7 @@
 //! Why a database isn't taken as an account's, and why what it holds isn't read or written.
 
 ghost use Rattle.std.specs.Prelude.{◌≡◌, ◌≢◌, ◌↔◌, ℤ, IsOkAnd, IsTrue, IfOk, OnOk, Ok, Err};
-ghost use Rattle.ss_keep_sql.specs.Opening.{HasVersion, IsOther, IsTaken};
+ghost use Rattle.ss_keep_sql.specs.Opening.{HasVersion, IsOther, IsTaken, TellsVersion};
 
 use crate::places::Place;
 use crate::tables::{VERSION, VERSION_WITHOUT_BATCHES, VERSION_WITHOUT_COMMITS};
@@ -30,6 +30,18 @@ pub enum SqlFault {
 
     #[error("out of memory")]
     Memory,
+}
+
+/// Why a file isn't opened as an account's.
+#[derive(Clone, Copy, Debug, PartialEq, Eq, Error)]
+pub enum FileFault {
+    /// It isn't there, can't be read or written, is open elsewhere, or is no database.
+    #[error("{error}")]
+    Unopened { error: Error },
+
+    /// Its database isn't taken.
+    #[error("{fault}")]
+    Refused { fault: SqlFault },
 }
 
 /// Why what is held wasn't read or written.
@@ -83,13 +95,23 @@ pub(crate) fn fault_of(error: Error) -> SqlFault
     }
 }
 
-/// Why a database isn't taken whose commits weren't made to its tables: never for its version.
-pub(crate) fn fault_of_fold(refusal: Refusal) -> SqlFault
+/// Why a database isn't taken that wasn't read, or whose commits weren't made to its tables: never for its version.
+pub(crate) fn fault_of_refusal(refusal: Refusal) -> SqlFault
     ensures { HasVersion result }
 {
     match refusal {
         Refusal::Statement(error) => fault_of(error),
         Refusal::Damaged { place } => SqlFault::Damaged { place },
+    }
+}
+
+/// Why a database isn't taken whose file isn't opened: for its version only where the file was.
+pub(crate) fn fault_of_file(fault: FileFault) -> SqlFault
+    ensures { TellsVersion fault → HasVersion result }
+{
+    match fault {
+        FileFault::Unopened { error } => fault_of(error),
+        FileFault::Refused { fault } => fault,
     }
 }
 

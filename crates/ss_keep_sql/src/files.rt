@@ -6,6 +6,7 @@ ghost use Rattle.sqlite_std_file.specs.File.{file_is_usable};
 ghost use Rattle.sqlite_store.specs.Unopened.{files_of};
 
 use crate::faults::NO_MEMORY;
+use crate::logs::NewLog;
 use sqlite::{
     Connection, Error, ErrorCode, File, FileFrom, FileStore, Files, Options, Start, Unknown,
 };
@@ -186,19 +187,30 @@ fn files_at<S: Start>(rt: &HostRuntime, path: &str, start: S) -> Result<Files<Fi
     }
 }
 
-/// Opens the database at a path, and makes it where there is no file or an empty one, with pages of 1,024 bytes. One
-/// connection at a time has a file.
-pub fn open_file(rt: &HostRuntime, path: &str) -> Result<Connection<FileStore<File>>, Error> {
-    let files = files_at(rt, path, Unknown)?;
+/// Opens the database at a path as `open_file` does. Where it can't be opened, the log that this made is removed.
+pub(crate) fn open_beside(
+    rt: &HostRuntime,
+    path: &str,
+    log: &NewLog,
+) -> Result<Connection<FileStore<File>>, Error> {
     let seed = match RandomState::new(rt) {
         Ok(state) => state.hash_one(&0u8),
         Err(_) => return Err(CANNOT_OPEN),
     };
+    let files = files_at(rt, path, Unknown)?;
     match open_files(rt.alloc(), files, seed) {
         Ok(connection) => Ok(connection),
         Err((error, files)) => {
+            log.remove(rt);
             drop(files);
             Err(error)
         }
     }
+}
+
+/// Opens the database at a path, and makes it where there is no file or an empty one, with pages of 1,024 bytes. One
+/// connection at a time has a file. One that can't be opened has no log beside it that wasn't there, unless the log has
+/// pages.
+pub fn open_file(rt: &HostRuntime, path: &str) -> Result<Connection<FileStore<File>>, Error> {
+    open_beside(rt, path, &NewLog::beside(rt, path))
 }

@@ -4,14 +4,15 @@ ghost use Rattle.std.specs.Prelude.{◌≡◌, ◌≢◌, ◌≤◌, IfOk, IfErr
 ghost use Rattle.ss_outside.specs.Causes.{Rose};
 ghost use Rattle.ss_keeper.specs.Calls.{uncalled};
 ghost use Rattle.ss_keeper.specs.Keeping.{HasCause};
-ghost use Rattle.ss_keep_sql.specs.Opening.{HasVersion};
+ghost use Rattle.ss_keep_sql.specs.Opening.{HasVersion, TellsVersion};
 
 use crate::commits::{add_commit, payload_bytes};
-use crate::faults::{Refusal, SqlFault, fault_of, fault_of_fold, taken};
-use crate::files::open_file;
+use crate::faults::{FileFault, Refusal, SqlFault, fault_of_file};
+use crate::files::open_beside;
 use crate::folding::{fold, write_commit};
+use crate::logs::NewLog;
+use crate::opening::take;
 use crate::reading::read;
-use crate::tables::ready;
 use sqlite::{Alter, Connection, File, FileStore};
 use ss_bso::{Changes, Kept};
 use ss_keeper::{KeepFault, Keeper, KeeperCalls};
@@ -29,6 +30,9 @@ pub struct SqlKeeper<S: Alter + Drop = FileStore<File>> {
 
     /// How many bytes the texts of the commits have that weren't made to the tables.
     weight: u64,
+
+    /// What was read as the database was taken, until it is handed out or a commit is asked for.
+    kept: Option<Kept>,
     faults: u64,
     calls: KeeperCalls,
 }
@@ -43,28 +47,43 @@ impl<S: Alter + Drop> Model for SqlKeeper<S> {
 
 impl SqlKeeper {
     /// Opens the database at a path, or makes it where there is no file or an empty one. One keeper at a time has a
-    /// file.
+    /// file. One that isn't taken has no log beside it that wasn't there, unless the log has pages.
+    pub fn open_file(rt: &HostRuntime, path: &str) -> Result<SqlKeeper, FileFault>
+        ensures count { IfOk result (λ keeper. keeper ≡ record { faults = 0; calls = uncalled }) }
+        ensures cause { IfErr result TellsVersion }
+    {
+        let log = NewLog::beside(rt, path);
+        let connection = match open_beside(rt, path, &log) {
+            Ok(connection) => connection,
+            Err(error) => return Err(FileFault::Unopened { error }),
+        };
+        match SqlKeeper::adopt(rt.alloc(), connection) {
+            Ok(keeper) => Ok(keeper),
+            Err((connection, fault)) => {
+                log.remove(rt);
+                drop(connection);
+                Err(FileFault::Refused { fault })
+            }
+        }
+    }
+
+    /// As `open_file`, without the reason where the file can't be opened.
     pub fn open(rt: &HostRuntime, path: &str) -> Result<SqlKeeper, SqlFault>
         ensures count { IfOk result (λ keeper. keeper ≡ record { faults = 0; calls = uncalled }) }
         ensures cause { IfErr result HasVersion }
     {
-        match open_file(rt, path) {
-            Ok(connection) => match SqlKeeper::adopt(rt.alloc(), connection) {
-                Ok(keeper) => Ok(keeper),
-                Err((connection, fault)) => {
-                    drop(connection);
-                    Err(fault)
-                }
-            },
-            Err(error) => Err(fault_of(error)),
+        match SqlKeeper::open_file(rt, path) {
+            Ok(keeper) => Ok(keeper),
+            Err(fault) => Err(fault_of_file(fault)),
         }
     }
 }
 
 impl<S: Alter + Drop> SqlKeeper<S> {
-    /// Takes the database of a connection. One without tables gets them; one with tables of version 1 or 2 gets those of
-    /// version 3, and one with tables of another version is refused. Commits that stand beside the tables are made to
-    /// them. The connection comes back where it isn't taken.
+    /// Takes the database of a connection, and reads it whole. One without tables gets them; one with tables of version 1
+    /// or 2 gets those of version 3, and one with tables of another version is refused, as is one that holds something
+    /// out of form. Commits that stand beside the tables are made to them. The connection comes back where it isn't
+    /// taken, its database as it was.
     pub fn adopt(
         alloc: Global,
         mut connection: Connection<S>,
@@ -72,18 +91,16 @@ impl<S: Alter + Drop> SqlKeeper<S> {
         ensures count { IfOk result (λ keeper. keeper ≡ record { faults = 0; calls = uncalled }) }
         ensures cause { IfErr result (λ refused. HasVersion refused.1) }
     {
-        if let Err(fault) = taken(ready(&mut connection)) {
-            return Err((connection, fault));
+        match take(alloc, &mut connection) {
+            Ok(kept) => Ok(SqlKeeper {
+                connection,
+                weight: 0,
+                kept: Some(kept),
+                faults: 0,
+                calls: KeeperCalls::new(),
+            }),
+            Err(fault) => Err((connection, fault)),
         }
-        if let Err(refusal) = fold(alloc, &mut connection) {
-            return Err((connection, fault_of_fold(refusal)));
-        }
-        Ok(SqlKeeper {
-            connection,
-            weight: 0,
-            faults: 0,
-            calls: KeeperCalls::new(),
-        })
     }
 
     /// Makes the commits to the tables, where there are any. What is held stays as it is, and so do the commits where a
@@ -142,6 +159,7 @@ impl<S: Alter + Drop> SqlKeeper<S> {
         let SqlKeeper {
             connection,
             weight: _,
+            kept: _,
             faults: _,
             calls: _,
         } = self;
@@ -172,6 +190,9 @@ impl<S: Alter + Drop> Keeper for SqlKeeper<S> {
 
     fn load(&mut self, alloc: Global) -> Result<Kept, KeepFault> {
         self.calls.note_load();
+        if let Some(kept) = self.kept.take() {
+            return Ok(kept);
+        }
         match read(alloc, &mut self.connection) {
             Ok(kept) => Ok(kept),
             Err(refusal) => Err(self.refused(refusal)),
@@ -180,6 +201,7 @@ impl<S: Alter + Drop> Keeper for SqlKeeper<S> {
 
     fn commit(&mut self, alloc: Global, changes: &Changes) -> Result<(), KeepFault> {
         self.calls.note_commit();
+        self.kept = None;
         let is_large = payload_bytes(changes) > MOST_WEIGHT;
         match self.fold_many(alloc, is_large) {
             Ok(()) if is_large => self.write(alloc, changes),

@@ -1,188 +1,195 @@
-//! What an account's database holds. A value out of form is a failure like any other.
+//! What an account's tables hold.
 
-use crate::commits::read_commits;
 use crate::faults::{NO_MEMORY, Refusal};
 use crate::numbers::{integer, number};
-use sqlite::{Alter, Connection, Error, Row as Values, params};
-use ss_bso::{Batches, Field, Fields, Kept, Part, Parts, Row, Rows, Staged, Times};
+use crate::places::{Place, Table};
+use crate::stored::{Stored, Unread, flag_at, id_at, name_at, read_all, stamp_at};
+use crate::tables::IN_TRANSACTION;
+use sqlite::{Alter, Connection, Error, Row as Values, Transaction, params};
+use ss_bso::{Batches, Changes, Field, Fields, Kept, Part, Parts, Row, Rows, Staged, Times};
 use ss_keeper::make;
-use ss_text::{Id, Name, Stamp, Word};
+use ss_text::{Name, Stamp, Word};
 use std::alloc::Global;
 
-const READ_ABOUT: &str = "SELECT store, last_delete, counter FROM about";
+/// A part whose batch isn't there.
+const STRAY_PART: &str =
+    "SELECT rowid FROM parts WHERE number NOT IN (SELECT number FROM batches) LIMIT 1";
 
-const READ_COLLECTIONS: &str = "SELECT name, time FROM collections";
-
-const READ_ROWS: &str = "SELECT collection, id, modified, sortindex, payload, expires FROM rows";
-
-const READ_BATCHES: &str = "SELECT number, collection, begun FROM batches ORDER BY number";
-
-const READ_PARTS: &str =
-    "SELECT id, has_payload, payload, has_sortindex, sortindex, has_ttl, ttl FROM parts WHERE number = ?1 ORDER BY place";
-
-fn read_stamp(values: &Values, at: usize) -> Result<Stamp, Error> {
-    let hundredths: i64 = values.get(at)?;
-    Stamp::new(number(hundredths)).ok_or(Error::IntegralValueOutOfRange(at))
+/// What `about` says besides the version.
+#[derive(Clone, Copy, Debug)]
+struct About {
+    row: i64,
+    store: Stamp,
+    last_delete: Stamp,
+    counter: u64,
 }
 
-fn read_name(alloc: Global, values: &Values, at: usize) -> Result<Name, Error> {
-    let text: String = values.get(at)?;
-    match Name::new(alloc, text.as_bytes()) {
-        Ok(Some(name)) => Ok(name),
-        Ok(None) => Err(Error::Utf8Error(at)),
-        Err(_) => Err(NO_MEMORY),
+impl Stored for About {
+    const TABLE: Table = Table::About;
+
+    const SELECT: &'static str = "SELECT rowid, store, last_delete, counter FROM about";
+
+    fn read(_alloc: Global, values: &Values) -> Result<About, Unread> {
+        let counter: i64 = values.get(3)?;
+        Ok(About {
+            row: values.get(0)?,
+            store: stamp_at(values, 1)?,
+            last_delete: stamp_at(values, 2)?,
+            counter: number(counter),
+        })
     }
 }
 
-fn read_id(alloc: Global, values: &Values, at: usize) -> Result<Id, Error> {
-    let text: String = values.get(at)?;
-    match Id::new(alloc, text.as_bytes()) {
-        Ok(Some(id)) => Ok(id),
-        Ok(None) => Err(Error::Utf8Error(at)),
-        Err(_) => Err(NO_MEMORY),
+impl Stored for (Name, Stamp) {
+    const TABLE: Table = Table::Collections;
+
+    const SELECT: &'static str = "SELECT rowid, name, time FROM collections";
+
+    fn read(alloc: Global, values: &Values) -> Result<(Name, Stamp), Unread> {
+        Ok((name_at(alloc, values, 1)?, stamp_at(values, 2)?))
     }
 }
 
-fn read_row(alloc: Global, values: &Values) -> Result<Row, Error> {
-    let expires: Option<i64> = values.get(5)?;
-    Ok(Row {
-        collection: read_name(alloc, values, 0)?,
-        id: read_id(alloc, values, 1)?,
-        modified: read_stamp(values, 2)?,
-        sortindex: values.get(3)?,
-        payload: Word::new(values.get(4)?),
-        expires: expires.map(number),
-    })
-}
+impl Stored for Row {
+    const TABLE: Table = Table::Rows;
 
-fn read_time(alloc: Global, values: &Values) -> Result<(Name, Stamp), Error> {
-    Ok((read_name(alloc, values, 0)?, read_stamp(values, 1)?))
-}
+    const SELECT: &'static str =
+        "SELECT rowid, collection, id, modified, sortindex, payload, expires FROM rows";
 
-fn read_rows<S: Alter>(alloc: Global, connection: &mut Connection<S>) -> Result<Vec<Row>, Error> {
-    let mut rows = Vec::new(alloc);
-    let mut answer = connection.query(READ_ROWS, &[])?;
-    for _ in 0..u64::MAX {
-        let Some(values) = answer.next()? else {
-            break;
-        };
-        rows.push(read_row(alloc, &values)?).map_err(|_| NO_MEMORY)?;
+    fn read(alloc: Global, values: &Values) -> Result<Row, Unread> {
+        let expires: Option<i64> = values.get(6)?;
+        Ok(Row {
+            collection: name_at(alloc, values, 1)?,
+            id: id_at(alloc, values, 2)?,
+            modified: stamp_at(values, 3)?,
+            sortindex: values.get(4)?,
+            payload: Word::new(values.get(5)?),
+            expires: expires.map(number),
+        })
     }
-    Ok(rows)
-}
-
-fn read_times<S: Alter>(
-    alloc: Global,
-    connection: &mut Connection<S>,
-) -> Result<Vec<(Name, Stamp)>, Error> {
-    let mut times = Vec::new(alloc);
-    let mut answer = connection.query(READ_COLLECTIONS, &[])?;
-    for _ in 0..u64::MAX {
-        let Some(values) = answer.next()? else {
-            break;
-        };
-        times
-            .push(read_time(alloc, &values)?)
-            .map_err(|_| NO_MEMORY)?;
-    }
-    Ok(times)
-}
-
-/// A field of a part: whether it is given, and then its value, where it isn't cleared.
-fn field<T: Drop>(is_given: bool, value: Option<T>) -> Field<T> {
-    match (is_given, value) {
-        (false, _) => Field::Keep,
-        (true, None) => Field::Clear,
-        (true, Some(value)) => Field::Set(value),
-    }
-}
-
-fn read_fields(values: &Values) -> Result<Fields, Error> {
-    let payload: Option<String> = values.get(2)?;
-    Ok(Fields {
-        payload: field(values.get(1)?, payload.map(Word::new)),
-        sortindex: field(values.get(3)?, values.get(4)?),
-        ttl: field(values.get(5)?, values.get(6)?),
-    })
-}
-
-fn read_part(alloc: Global, values: &Values) -> Result<Part, Error> {
-    Ok(Part {
-        id: read_id(alloc, values, 0)?,
-        fields: read_fields(values)?,
-    })
-}
-
-fn read_parts<S: Alter>(
-    alloc: Global,
-    connection: &mut Connection<S>,
-    batch: u64,
-) -> Result<Parts, Error> {
-    let mut parts = Vec::new(alloc);
-    let mut answer = connection.query(READ_PARTS, params![integer(batch)])?;
-    for _ in 0..u64::MAX {
-        let Some(values) = answer.next()? else {
-            break;
-        };
-        parts
-            .push(read_part(alloc, &values)?)
-            .map_err(|_| NO_MEMORY)?;
-    }
-    Ok(Parts::new(parts))
 }
 
 /// A batch, without its parts.
-fn read_batch(alloc: Global, values: &Values) -> Result<Staged, Error> {
-    let held: i64 = values.get(0)?;
-    Ok(Staged {
-        number: number(held),
-        collection: read_name(alloc, values, 1)?,
-        begun: read_stamp(values, 2)?,
-        parts: Parts::new(Vec::new(alloc)),
+impl Stored for Staged {
+    const TABLE: Table = Table::Batches;
+
+    const SELECT: &'static str = "SELECT number, collection, begun FROM batches ORDER BY number";
+
+    fn read(alloc: Global, values: &Values) -> Result<Staged, Unread> {
+        let held: i64 = values.get(0)?;
+        Ok(Staged {
+            number: number(held),
+            collection: name_at(alloc, values, 1)?,
+            begun: stamp_at(values, 2)?,
+            parts: Parts::new(Vec::new(alloc)),
+        })
+    }
+}
+
+/// A field of a part: whether it is given, and then its value, where it isn't cleared.
+fn field<T: Drop>(is_given: bool, value: Option<T>) -> Result<Field<T>, Unread> {
+    match (is_given, value) {
+        (false, None) => Ok(Field::Keep),
+        (false, Some(_)) => Err(Unread::OutOfForm),
+        (true, None) => Ok(Field::Clear),
+        (true, Some(value)) => Ok(Field::Set(value)),
+    }
+}
+
+fn read_fields(values: &Values) -> Result<Fields, Unread> {
+    let payload: Option<String> = values.get(4)?;
+    Ok(Fields {
+        payload: field(flag_at(values, 3)?, payload.map(Word::new))?,
+        sortindex: field(flag_at(values, 5)?, values.get(6)?)?,
+        ttl: field(flag_at(values, 7)?, values.get(8)?)?,
     })
+}
+
+impl Stored for Part {
+    const TABLE: Table = Table::Parts;
+
+    const SELECT: &'static str =
+        "SELECT rowid, place, id, has_payload, payload, has_sortindex, sortindex, has_ttl, ttl FROM parts WHERE number = ?1 ORDER BY place";
+
+    fn read(alloc: Global, values: &Values) -> Result<Part, Unread> {
+        let place: i64 = values.get(1)?;
+        if place < 1 {
+            return Err(Unread::OutOfForm);
+        }
+        Ok(Part {
+            id: id_at(alloc, values, 2)?,
+            fields: read_fields(values)?,
+        })
+    }
+}
+
+/// The row of `about`, which has no other one.
+fn read_about<S: Alter>(
+    alloc: Global,
+    transaction: &mut Transaction<'_, S>,
+) -> Result<About, Refusal> {
+    let all: Vec<About> = read_all(alloc, transaction, &[])?;
+    match all.as_slice() {
+        [] => Err(Refusal::Statement(Error::QueryReturnedNoRows)),
+        [about] => Ok(*about),
+        [_, further, ..] => Err(Refusal::Damaged {
+            place: Place {
+                table: Table::About,
+                row: further.row,
+            },
+        }),
+    }
+}
+
+/// Refuses a part that stands there for a batch that doesn't.
+fn refuse_stray_part<S: Alter>(transaction: &mut Transaction<'_, S>) -> Result<(), Refusal> {
+    let mut answer = transaction.query(STRAY_PART, &[])?;
+    match answer.next()? {
+        None => Ok(()),
+        Some(values) => Err(Refusal::Damaged {
+            place: Place {
+                table: Table::Parts,
+                row: values.get(0)?,
+            },
+        }),
+    }
 }
 
 /// The batches of the table, without their parts.
 pub(crate) fn read_begun<S: Alter>(
     alloc: Global,
-    connection: &mut Connection<S>,
-) -> Result<Vec<Staged>, Error> {
-    let mut batches = Vec::new(alloc);
-    let mut answer = connection.query(READ_BATCHES, &[])?;
-    for _ in 0..u64::MAX {
-        let Some(values) = answer.next()? else {
-            break;
-        };
-        batches
-            .push(read_batch(alloc, &values)?)
-            .map_err(|_| NO_MEMORY)?;
-    }
-    Ok(batches)
+    transaction: &mut Transaction<'_, S>,
+) -> Result<Vec<Staged>, Refusal> {
+    read_all(alloc, transaction, &[])
 }
 
 fn read_batches<S: Alter>(
     alloc: Global,
-    connection: &mut Connection<S>,
-) -> Result<Vec<Staged>, Error> {
+    transaction: &mut Transaction<'_, S>,
+) -> Result<Vec<Staged>, Refusal> {
+    refuse_stray_part(transaction)?;
     let mut batches = Vec::new(alloc);
-    for mut batch in read_begun(alloc, connection)? {
-        batch.parts = read_parts(alloc, connection, batch.number)?;
+    for mut batch in read_begun(alloc, transaction)? {
+        let parts = read_all(alloc, transaction, params![integer(batch.number)])?;
+        batch.parts = Parts::new(parts);
         batches.push(batch).map_err(|_| NO_MEMORY)?;
     }
     Ok(batches)
 }
 
 /// What the tables have.
-fn read_tables<S: Alter>(alloc: Global, connection: &mut Connection<S>) -> Result<Kept, Error> {
-    let about = connection.query_row(READ_ABOUT, &[])?;
-    let counter: i64 = about.get(2)?;
+pub(crate) fn read_tables<S: Alter>(
+    alloc: Global,
+    transaction: &mut Transaction<'_, S>,
+) -> Result<Kept, Refusal> {
+    let about = read_about(alloc, transaction)?;
     Ok(Kept {
-        rows: Rows::new(read_rows(alloc, connection)?),
-        collections: Times::new(read_times(alloc, connection)?),
-        store: read_stamp(&about, 0)?,
-        last_delete: read_stamp(&about, 1)?,
-        counter: number(counter),
-        batches: Batches::new(read_batches(alloc, connection)?),
+        rows: Rows::new(read_all(alloc, transaction, &[])?),
+        collections: Times::new(read_all(alloc, transaction, &[])?),
+        store: about.store,
+        last_delete: about.last_delete,
+        counter: about.counter,
+        batches: Batches::new(read_batches(alloc, transaction)?),
     })
 }
 
@@ -191,8 +198,12 @@ pub(crate) fn read<S: Alter>(
     alloc: Global,
     connection: &mut Connection<S>,
 ) -> Result<Kept, Refusal> {
-    let mut kept = read_tables(alloc, connection)?;
-    let commits = read_commits(alloc, connection)?;
+    if !connection.is_autocommit() {
+        return Err(Refusal::Statement(IN_TRANSACTION));
+    }
+    let mut transaction = connection.transaction();
+    let mut kept = read_tables(alloc, &mut transaction)?;
+    let commits: Vec<Changes> = read_all(alloc, &mut transaction, &[])?;
     make(alloc, &mut kept, commits.as_slice())?;
     Ok(kept)
 }

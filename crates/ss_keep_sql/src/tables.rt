@@ -14,7 +14,7 @@
 //! Version 2 has no commits: each was made to the tables at once, and `rows` had an index by expiry for that. Version 1
 //! has no batches either: its tables are those of version 2 without `batches` and `parts`.
 
-use sqlite::{Alter, Connection, Error, ErrorCode, Transaction};
+use sqlite::{Alter, Error, ErrorCode, Transaction};
 
 /// The version of the tables that this crate reads and writes.
 pub(crate) const VERSION: i64 = 3;
@@ -79,18 +79,12 @@ fn found<S: Alter>(transaction: &mut Transaction<'_, S>) -> Result<i64, Error> {
 }
 
 /// The version of the tables that was found. A database without tables gets them first, and one of an older version is
-/// then made one of version 3: all of it or nothing.
-pub(crate) fn ready<S: Alter>(connection: &mut Connection<S>) -> Result<i64, Error> {
-    if !connection.is_autocommit() {
-        return Err(IN_TRANSACTION);
-    }
-    let mut transaction = connection.transaction();
-    if is_blank(&mut transaction)? {
+/// then made one of version 3.
+pub(crate) fn ready<S: Alter>(transaction: &mut Transaction<'_, S>) -> Result<i64, Error> {
+    if is_blank(transaction)? {
         transaction.execute_batch(MAKE)?;
     }
-    let found = found(&mut transaction)?;
-    transaction.commit()?;
-    Ok(found)
+    found(transaction)
 }
 
 /// Empties the table of commits.

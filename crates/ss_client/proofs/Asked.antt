@@ -1,17 +1,13 @@
 -- What a sound machine asks is written by a client.
-use Rattle.std.proofs.Common.{◌≡◌, ℕ, ◌≤◌, List, [], ◌∷◌, Option, Some, None, length, take, drop, refl, inl, inr, arith}
-use Rattle.std.specs.List.{All}
+use Rattle.std.proofs.Common.{◌≡◌, ℕ, ◌≤◌, List, Some, None, length, drop, refl, inl, inr, arith}
 use Rattle.std.proofs.lemmas.List.Elements.{All-take, All-drop}
-use Rattle.ss_bso.specs.declared.parts.Part.{Part}
 use Rattle.ss_query.specs.Fit.{IsFitRequest}
 use Rattle.ss_route.specs.Sending.{IsSent, IsUpload}
-use Rattle.ss_device.specs.Device.{DeviceView}
-use Rattle.ss_client.specs.declared.runs.Run.{Run}
 use Rattle.ss_client.specs.declared.runs.Stage.{Stage}
 use Rattle.ss_client.specs.declared.runs.Stage.TheVariants.{Asks, Opens, Pages, Lists, Uploads}
-use Rattle.ss_client.specs.Runs.{MachineView, post_of}
+use Rattle.ss_client.specs.Runs.{MachineView}
 use Rattle.ss_client.specs.Asking.{asked}
-use Rattle.ss_client.specs.Sound.{CanGo, IsSound}
+use Rattle.ss_client.specs.Sound.{CanGo}
 
 no_ids : (x : List (List ℕ)) → None ≡ Some x → length x ≤ 100
 no_ids x e = cc

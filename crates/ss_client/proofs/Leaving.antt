@@ -1,10 +1,10 @@
 -- Each item that a sync leaves to know is in the merged tree.
-use Rattle.std.proofs.Common.{◌≡◌, ◌||◌, ℕ, List, [], Bool, true, refl, sym, ap, ◌∙◌, Option, Some, None, option_map, inl}
+use Rattle.std.proofs.Common.{◌≡◌, ◌||◌, ℕ, List, [], refl, sym, ap, ◌∙◌, Option, Some, None, option_map, inl}
 use Rattle.ss_record.specs.declared.readings.Reading.{Reading}
 use Rattle.ss_record.specs.declared.readings.Sheet.{Sheet}
-use Rattle.ss_record.specs.Ids.{has, Apart}
+use Rattle.ss_record.specs.Ids.{has}
 use Rattle.ss_tree.specs.declared.entries.Entry.{Entry}
-use Rattle.ss_tree.specs.Trees.{Placed, IsValidTree, node, node_ids}
+use Rattle.ss_tree.specs.Trees.{Placed, IsValidTree, node}
 use Rattle.ss_tree.specs.Entries.{tree}
 use Rattle.ss_build.specs.Rows.{readings, rows_of}
 use Rattle.ss_build.specs.Built.{built}

@@ -5,3 +5,4 @@ pub mod Sound
 pub mod Told
 pub mod Nearing
 pub mod Asked
+pub mod Leading

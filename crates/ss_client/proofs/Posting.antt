@@ -1,5 +1,5 @@
 -- The parts of an upload.
-use Rattle.std.proofs.Common.{◌≡◌, ℕ, ◌+◌, ◌<◌, ◌≤◌, List, [], ◌∷◌, length, drop, Option, Some, None, MatchOption, length-drop, sym, ap, ◌∙◌, subst, arith}
+use Rattle.std.proofs.Common.{◌≡◌, ℕ, ◌+◌, ◌<◌, ◌≤◌, List, [], ◌∷◌, length, drop, true, Option, Some, None, MatchOption, length-drop, refl, sym, ap, ◌∙◌, subst, arith}
 use Rattle.std.proofs.lemmas.List.{drop-drop, drop_all}
 use Rattle.ss_record.specs.declared.readings.Sheet.{Sheet}
 use Rattle.ss_tree.specs.declared.entries.Entry.{Entry}
@@ -18,6 +18,10 @@ use Rattle.ss_client.specs.declared.summaries.SyncFault.TheVariants as fault
 use Rattle.ss_client.specs.declared.runs.Run.{Run}
 use Rattle.ss_client.specs.Leaves.{UploadView}
 use Rattle.ss_client.specs.Runs.{rest_of}
+use Rattle.ss_client.specs.Asking.{awaited_of}
+use Rattle.ss_client.specs.Told.{is_of}
+use Rattle.ss_hearing.specs.declared.answer.Answer.TheVariants.{Held, Written}
+use Rattle.ss_hearing.specs.declared.answer.Awaited.TheVariants as awaited
 use Rattle.ss_client.specs.Machine.{Next, Stop, Finishes, unread, Begins, Holds, Writes, Ends, uploads, posting}
 use Rattle.ss_sync.specs.Posts.{IsNext}
 
@@ -52,6 +56,17 @@ writes_some run u stamp (p ∷ rest) next some e = e
 
 pub writes_early : (run : Run) (u : UploadView) (stamp : ℕ) (next : Next) → u.sent + u.count < length u.parts → next ≡ unread run → Writes run u stamp (rest_of u) next
 writes_early run u stamp next h e = writes_some run u stamp (rest_of u) next (subst (λ r. 0 < length r) (sym (rest-is u)) (omega (arith, length-drop (u.sent + u.count) u.parts))) e
+
+staging : (rest : List Part) → 0 < length rest → awaited_of rest ≡ awaited.Staging
+staging [] some = absurd (omega arith)
+staging (p ∷ rest) some = refl
+
+-- a POST behind which parts are left is to be in the batch, and the last one is to be written
+pub held_awaited : (u : UploadView) (batch : ℕ) → u.sent + u.count < length u.parts → is_of (awaited_of (rest_of u)) (Held batch) ≡ true
+held_awaited u batch h = ap (λ kind. is_of kind (Held batch)) (staging (rest_of u) (subst (λ r. 0 < length r) (sym (rest-is u)) (omega (arith, length-drop (u.sent + u.count) u.parts))))
+
+pub written_awaited : (u : UploadView) (stamp : ℕ) → length u.parts ≤ u.sent + u.count → is_of (awaited_of (rest_of u)) (Written stamp) ≡ true
+written_awaited u stamp h = ap (λ rest. is_of (awaited_of rest) (Written stamp)) (rest-none u h)
 
 -- a plan that has parts
 pub begins_some : (run : Run) (time : ℕ) (rows : List Sheet) (merged : List Entry) (parts : List Part) (n : ℕ) (next : Next) → 0 < length parts → IsNext run.limits parts n

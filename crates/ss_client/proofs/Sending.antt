@@ -1,9 +1,7 @@
 -- The requests of a machine can be sent.
-use Rattle.std.proofs.Common.{◌≡◌, ◌⊎◌, ℕ, zero, suc, ◌+◌, ◌<◌, ◌≤◌, List, [], ◌∷◌, ◌++◌, length, take, drop, min, sum_by, Bool, true, false, cond, ◌&&◌, nat_lt, nat_le, Option, Some, None, option_map, option_and_then, find, filter_map, refl, sym, ap, ap₂, ◌∙◌, subst, inl, inr, arith}
+use Rattle.std.proofs.Common.{◌≡◌, ◌⊎◌, ℕ, ◌≤◌, List, [], ◌∷◌, length, take, sum_by, Bool, true, false, cond, ◌&&◌, nat_lt, nat_le, Option, Some, None, option_map, find, filter_map, refl, sym, ap, subst, inl, inr, arith}
 use Rattle.std.specs.List.{All, cons_option}
-use Rattle.std.proofs.lemmas.List.Elements.{All-take, All-drop, All-cons, All-append}
-use Rattle.std.proofs.lemmas.List.{length-take-le}
-use Rattle.ss_http.specs.declared.heard.Heard.{Heard}
+use Rattle.std.proofs.lemmas.List.Elements.{All-cons, All-append}
 use Rattle.ss_tree.specs.declared.entries.Entry.{Entry}
 use Rattle.ss_bso.specs.declared.limits.TheConstants.{MOST_RECORD_PAYLOAD_BYTES, MOST_POST_RECORDS, MOST_POST_BYTES}
 use Rattle.ss_bso.specs.declared.parts.Part.{Part}

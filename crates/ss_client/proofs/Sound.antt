@@ -1,10 +1,8 @@
 -- A machine's run is sound from its first request on.
-use Rattle.std.proofs.Common.{◌≡◌, ◌⊎◌, ℕ, ◌+◌, ◌<◌, ◌≤◌, List, [], ◌∷◌, ◌++◌, length, take, drop, min, Bool, true, false, cond, not, ◌||◌, ◌&&◌, nat_lt, nat_le, is_some, Option, Some, None, option_map, option_and_then, MatchOption, unwrap_or, slice_index, refl, sym, ap, ◌∙◌, subst, inl, inr, arith}
+use Rattle.std.proofs.Common.{◌≡◌, ℕ, ◌+◌, ◌≤◌, List, [], ◌∷◌, ◌++◌, length, take, drop, Bool, true, false, cond, ◌&&◌, nat_lt, Option, Some, None, MatchOption, unwrap_or, slice_index, refl, sym, ◌∙◌, subst}
 use Rattle.std.specs.Bool.{MatchBool}
 use Rattle.std.specs.List.{All}
-use Rattle.std.proofs.lemmas.List.Elements.{All-drop, All-take}
-use Rattle.json.specs.Json.{Json}
-use Rattle.ss_http.specs.declared.heard.Heard.{Heard}
+use Rattle.std.proofs.lemmas.List.Elements.{All-drop}
 use Rattle.ss_record.specs.declared.readings.Sheet.{Sheet}
 use Rattle.ss_tree.specs.declared.entries.Entry.{Entry}
 use Rattle.ss_build.specs.Rows.{readings, rows_of}
@@ -17,7 +15,6 @@ use Rattle.ss_plan.specs.Plan.{plan}
 use Rattle.ss_plan.specs.Refusals.{payload_bytes, refusal}
 use Rattle.ss_route.specs.Sending.{IsUpload}
 use Rattle.ss_device.specs.Device.{DeviceView}
-use Rattle.ss_sync.specs.Posts.{IsNext}
 use Rattle.ss_sync.specs.Fetched.{are_known, kept}
 use Rattle.ss_hearing.specs.declared.answer.Answer.{Answer}
 use Rattle.ss_hearing.specs.declared.answer.Answer.TheVariants.{Configured, Paged, Listed, Held, Written, Failed, Changed, Refused, Unread}
@@ -26,8 +23,8 @@ use Rattle.ss_client.specs.declared.runs.Run.{Run}
 use Rattle.ss_client.specs.declared.runs.Stage.{Stage}
 use Rattle.ss_client.specs.declared.runs.Stage.TheVariants.{Asks, Opens, Pages, Lists, Uploads}
 use Rattle.ss_client.specs.Leaves.{UploadView}
-use Rattle.ss_client.specs.Runs.{post_of, rest_of}
-use Rattle.ss_client.specs.Machine.{Next, Send, Done, Stop, onward, posting, fetching, unread, again, falls_back, uploads, is_bad, Ends, Begins, Plans, Finishes, Holds, Writes, LastPage, PageIn, PageOn, OpensWith, ListsAll, limits_at, page_at, ids_at, held_at, written_at, Follows}
+use Rattle.ss_client.specs.Runs.{rest_of}
+use Rattle.ss_client.specs.Machine.{Next, Stop, onward, posting, fetching, unread, again, falls_back, uploads, is_bad, Ends, Begins, Finishes, Holds, Writes, LastPage, PageIn, PageOn, OpensWith, ListsAll, limits_at, page_at, ids_at, held_at, written_at, Follows}
 use Rattle.ss_client.specs.Sound.{AreOurs, TellsOurs, CanUpload, CanGo, IsSound, IsSoundNext}
 use Rattle.ss_client.proofs.Posting.{rest-is}
 use Rattle.ss_client.proofs.Sending.{plan_uploads, not_refused, next_within}

@@ -1,5 +1,5 @@
 -- What a machine asks at each stage (SyncStorage API 1.5), and the reply that it awaits.
-use Rattle.std.specs.Prelude.{ℕ, Bool, List, [], ◌∷◌, Option, Some, None, if◌then◌else◌, codes}
+use Rattle.std.specs.Prelude.{ℕ, List, [], ◌∷◌, Option, Some, None, if◌then◌else◌, codes}
 use Rattle.ss_text.specs.declared.stamps.Cond.TheVariants.{Free, IfUnmodified}
 use Rattle.ss_bso.specs.declared.parts.Part.{Part}
 use Rattle.ss_query.specs.declared.requests.Info.TheVariants.{Configuration}
@@ -10,10 +10,8 @@ use Rattle.ss_query.specs.declared.requests.Request.TheVariants.{Info, List as L
 use Rattle.ss_route.specs.Sending.{page, all_ids}
 use Rattle.ss_hearing.specs.declared.answer.Awaited.{Awaited}
 use Rattle.ss_hearing.specs.declared.answer.Awaited.TheVariants as awaited
-use Rattle.ss_client.specs.declared.runs.Run.{Run}
 use Rattle.ss_client.specs.declared.runs.Stage.{Stage}
 use Rattle.ss_client.specs.declared.runs.Stage.TheVariants.{Asks, Opens, Pages, Lists, Uploads}
-use Rattle.ss_client.specs.Leaves.{UploadView}
 use Rattle.ss_client.specs.Runs.{MachineView, post_of, rest_of}
 
 -- the time above which rows are fetched

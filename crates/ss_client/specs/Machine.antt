@@ -1,6 +1,6 @@
 -- What a sync machine does with an answer (the protocol is SyncStorage API 1.5's, the machine this project's).
 -- It is a relation, since a merged tree is told by its look-ups and not by the order in which its entries lie.
-use Rattle.std.specs.Prelude.{◌≡◌, ◌⊎◌, ℕ, min, ◌+◌, ◌-◌, List, [], ◌∷◌, ◌++◌, length, slice_index, take, Bool, true, false, not, ◌&&◌, ◌||◌, nat_lt, nat_le, if◌then◌else◌, Option, Some, None, is_some, unwrap_or, MatchOption}
+use Rattle.std.specs.Prelude.{◌≡◌, ℕ, min, ◌+◌, ◌-◌, List, [], ◌∷◌, ◌++◌, length, slice_index, Bool, false, not, ◌&&◌, ◌||◌, nat_lt, nat_le, if◌then◌else◌, Option, Some, None, is_some, unwrap_or, MatchOption}
 use Rattle.std.specs.Bool.{MatchBool}
 use Rattle.ss_record.specs.declared.readings.Sheet.{Sheet}
 use Rattle.ss_tree.specs.declared.entries.Entry.{Entry}
@@ -25,7 +25,7 @@ use Rattle.ss_client.specs.declared.runs.Run.{Run}
 use Rattle.ss_client.specs.declared.runs.Stage.{Stage}
 use Rattle.ss_client.specs.declared.runs.Stage.TheVariants.{Asks, Opens, Pages, Lists, Uploads}
 use Rattle.ss_client.specs.Leaves.{UploadView, LeavesStanding}
-use Rattle.ss_client.specs.Runs.{sent_of, post_of, rest_of}
+use Rattle.ss_client.specs.Runs.{rest_of}
 
 -- what comes next: a request, the end with the device after the sync, or a stop
 pub data Next : Type 0 where

@@ -1,5 +1,5 @@
 -- What a machine is, as plain data, and the parts of an upload.
-use Rattle.std.specs.Prelude.{ℕ, ◌==◌, Bool, false, not, List, [], take, drop}
+use Rattle.std.specs.Prelude.{◌==◌, Bool, false, not, List, [], take, drop}
 use Rattle.ss_bso.specs.declared.parts.Part.{Part}
 use Rattle.ss_device.specs.Device.{DeviceView}
 use Rattle.ss_client.specs.declared.summaries.Fetch.{Fetch}

@@ -1,12 +1,13 @@
 //! The machine, and what it does with a response.
 
-ghost use Rattle.std.specs.Prelude.{◌≡◌, false, not, ◌&&◌, ◌==◌, IfOk};
+ghost use Rattle.std.specs.Prelude.{◌≡◌, true, false, not, ◌&&◌, ◌==◌, IfOk, OnErr};
+ghost use Rattle.ss_hearing.specs.declared.answer.Answer.TheVariants.{Paged, Listed, Held, Written};
 ghost use Rattle.ss_hearing.specs.Hearing.{answer_of};
 ghost use Rattle.ss_client.specs.Runs.{first_run, is_newer};
 ghost use Rattle.ss_client.specs.Asking.{ask, awaits};
 ghost use Rattle.ss_client.specs.Machine.{Follows, limits_at, page_at, ids_at, held_at, written_at};
 ghost use Rattle.ss_client.specs.Sound.{TellsOurs};
-ghost use Rattle.ss_client.specs.Told.{told, Says, CanSend, OnSend, ComesNearer};
+ghost use Rattle.ss_client.specs.Told.{told, leads_on, Says, CanSend, OnSend, OnWant, ComesNearer, TakesMemory};
 ghost use Rattle.ss_client.specs.declared.runs.Stage.TheVariants.{Asks};
 
 use crate::asking::asked;
@@ -63,6 +64,7 @@ fn configured(run: Run, stage: Stage, limits: Limits) -> Step
 }
 
 /// A page comes.
+#[tactic(auto, unfolding(crate::specs::Asking::awaits))]
 fn paged(
     alloc: Global,
     device: &Device,
@@ -72,7 +74,8 @@ fn paged(
     offset: Option<u32>,
     time: Stamp,
 ) -> Result<Step, AllocError>
-    ensures { IfOk result (λ step. page_at device.now run stage rows offset time (told step)) }
+    ensures follows { IfOk result (λ step. page_at device.now run stage rows offset time (told step)) }
+    ensures wanting { OnErr result (leads_on run stage (Paged rows offset time) ≡ true) }
 {
     match stage {
         Stage::Opens => open_with(alloc, device, run, rows, offset, time),
@@ -89,6 +92,7 @@ fn paged(
 }
 
 /// The ids come.
+#[tactic(auto, unfolding(crate::specs::Asking::awaits))]
 fn listed(
     alloc: Global,
     device: &Device,
@@ -96,7 +100,8 @@ fn listed(
     stage: Stage,
     ids: &Ids,
 ) -> Result<Step, AllocError>
-    ensures { IfOk result (λ step. ids_at device.now run stage ids.now (told step)) }
+    ensures follows { IfOk result (λ step. ids_at device.now run stage ids.now (told step)) }
+    ensures wanting { OnErr result (leads_on run stage (Listed ids.now) ≡ true) }
 {
     match stage {
         Stage::Lists(listing) => list_all(alloc, device, run, listing, ids),
@@ -105,8 +110,10 @@ fn listed(
 }
 
 /// A POST is in a batch.
+#[tactic(auto, unfolding(crate::specs::Asking::awaits))]
 fn held(alloc: Global, run: Run, stage: Stage, batch: u64) -> Result<Step, AllocError>
-    ensures { IfOk result (λ step. held_at run stage batch (told step)) }
+    ensures follows { IfOk result (λ step. held_at run stage batch (told step)) }
+    ensures wanting { OnErr result (leads_on run stage (Held batch) ≡ true) }
 {
     match stage {
         Stage::Uploads(upload) => hold(alloc, run, upload, batch),
@@ -115,8 +122,10 @@ fn held(alloc: Global, run: Run, stage: Stage, batch: u64) -> Result<Step, Alloc
 }
 
 /// A POST is written.
+#[tactic(auto, unfolding(crate::specs::Asking::awaits))]
 fn written(alloc: Global, run: Run, stage: Stage, stamp: Stamp) -> Result<Step, AllocError>
-    ensures { IfOk result (λ step. written_at run stage stamp (told step)) }
+    ensures follows { IfOk result (λ step. written_at run stage stamp (told step)) }
+    ensures wanting { OnErr result (leads_on run stage (Written stamp) ≡ true) }
 {
     match stage {
         Stage::Uploads(upload) => write(alloc, run, upload, stamp),
@@ -133,7 +142,8 @@ fn step(
     stage: Stage,
     answer: Answer,
 ) -> Result<Step, AllocError>
-    ensures { IfOk result (λ step. Follows device.now run stage answer (told step)) }
+    ensures follows { IfOk result (λ step. Follows device.now run stage answer (told step)) }
+    ensures wanting { OnErr result (leads_on run stage answer ≡ true) }
 {
     match answer {
         Answer::Configured(limits) => Ok(configured(run, stage, limits)),
@@ -187,11 +197,13 @@ impl Machine {
     }
 
     /// What the machine does with an answer to its request: exactly what the definition has it do. A request that is
-    /// sent can be written, and fewer may follow it than before, so a run ends. A stop for want of memory may always
-    /// come.
+    /// sent can be written, and fewer may follow it than before, so a run ends. A stop for want of memory comes only
+    /// where the run might go on or be done: never in place of a refusal, of a fourth change or of a bad reply that the
+    /// answer itself is.
     pub fn hear(self, alloc: Global, answer: Answer) -> Do
         requires { TellsOurs answer }
         ensures says { Says self.device (Follows self.device self.run self.stage answer) result }
+        ensures wanting { OnWant result (leads_on self.run self.stage answer ≡ true) }
         ensures sent { OnSend result CanSend }
         ensures nearer { ComesNearer self result }
     {
@@ -212,10 +224,12 @@ impl Machine {
 
     /// What the machine does with the response to its request: exactly what the definition has it do with the answer
     /// that the response is. A request that is sent can be written, and fewer may follow it than before, so a run ends.
-    /// A stop for want of memory may always come.
+    /// A stop for want of memory comes only where the response's body is read or the run might go on: never in place of
+    /// another status than the awaited one, or of a fourth change.
     pub fn next(self, alloc: Global, heard: &Heard) -> Do
         ensures says { Says self.device (Follows self.device self.run self.stage
             (answer_of (awaits self.stage) heard.now)) result }
+        ensures wanting { OnWant result (TakesMemory self heard.now.status (answer_of (awaits self.stage) heard.now)) }
         ensures sent { OnSend result CanSend }
         ensures nearer { ComesNearer self result }
     {

@@ -1,6 +1,6 @@
 //! What comes next in a run.
 
-ghost use Rattle.std.specs.Prelude.{◌≡◌, IfOk};
+ghost use Rattle.std.specs.Prelude.{◌≡◌, true, length, nat_lt, IfOk, OnErr};
 ghost use Rattle.ss_client.specs.Machine.{counted, onward, posting, fetching, unread, again, falls_back};
 ghost use Rattle.ss_client.specs.Told.{told};
 
@@ -106,7 +106,8 @@ impl Run {
 
     /// Begins the fetch again, since something has changed; the fourth time it stops.
     pub(crate) fn again(self, time: Stamp) -> Result<Step, AllocError>
-        ensures { IfOk result (λ step. told step ≡ again self time) }
+        ensures follows { IfOk result (λ step. told step ≡ again self time) }
+        ensures wanting { OnErr result (nat_lt (length self.changes) 3 ≡ true) }
     {
         if let [first, second, third, ..] = self.changes.as_slice() {
             return Ok(Step::Stop(SyncFault::Changing {

@@ -1,11 +1,13 @@
 //! From the fetched rows to the end: the merge, the plan, and its POSTs.
 
-ghost use Rattle.std.specs.Prelude.{◌≡◌, ◌<◌, ◌≤◌, length, unwrap_or, IfOk};
+ghost use Rattle.std.specs.Prelude.{◌≡◌, ◌<◌, ◌≤◌, true, length, unwrap_or, IfOk, OnErr};
+ghost use Rattle.ss_hearing.specs.declared.answer.Answer.TheVariants.{Held, Written};
 ghost use Rattle.ss_sync.specs.Posts.{IsNext};
 ghost use Rattle.ss_client.specs.Leaves.{LeavesKnown};
 ghost use Rattle.ss_client.specs.Runs.{rest_of};
+ghost use Rattle.ss_client.specs.Asking.{awaited_of};
 ghost use Rattle.ss_client.specs.Machine.{items, Ends, Begins, Finishes, Holds, Writes};
-ghost use Rattle.ss_client.specs.Told.{told};
+ghost use Rattle.ss_client.specs.Told.{is_of, told};
 
 use crate::runs::{Run, Upload};
 use crate::steps::Step;
@@ -110,8 +112,10 @@ pub(crate) fn finish(
 }
 
 /// The POST is in the batch, and the next one takes what it can.
+#[tactic(auto, using(crate::proofs::Posting::held_awaited))]
 pub(crate) fn hold(alloc: Global, run: Run, upload: Upload, batch: u64) -> Result<Step, AllocError>
-    ensures { IfOk result (λ step. Holds run upload (unwrap_or upload.batch batch) (rest_of upload) (told step)) }
+    ensures holds { IfOk result (λ step. Holds run upload (unwrap_or upload.batch batch) (rest_of upload) (told step)) }
+    ensures wanting { OnErr result (is_of (awaited_of (rest_of upload)) (Held batch) ≡ true) }
 {
     let sent = upload.sent + upload.count;
     if sent == upload.parts.as_slice().len() {
@@ -131,13 +135,15 @@ pub(crate) fn hold(alloc: Global, run: Run, upload: Upload, batch: u64) -> Resul
 }
 
 /// The last POST is written.
+#[tactic(auto, using(crate::proofs::Posting::written_awaited))]
 pub(crate) fn write(
     alloc: Global,
     run: Run,
     upload: Upload,
     stamp: Stamp,
 ) -> Result<Step, AllocError>
-    ensures { IfOk result (λ step. Writes run upload stamp (rest_of upload) (told step)) }
+    ensures writes { IfOk result (λ step. Writes run upload stamp (rest_of upload) (told step)) }
+    ensures wanting { OnErr result (is_of (awaited_of (rest_of upload)) (Written stamp) ≡ true) }
 {
     if upload.sent + upload.count < upload.parts.as_slice().len() {
         return Ok(run.unread());

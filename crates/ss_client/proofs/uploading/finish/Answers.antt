@@ -5,7 +5,7 @@ use Rattle.ss_plan.specs.Written.{IsWritten}
 use Rattle.ss_sync.specs.Rows.{ids_of}
 use Rattle.ss_sync.specs.Fetched.{are_apart}
 use Rattle.ss_sync.proofs.Fetching.{apart-true}
-use Rattle.ss_client.specs.Machine.{Begins, Finishes}
+use Rattle.ss_client.specs.Machine.{Finishes}
 use Rattle.ss_client.specs.Told.{told}
 use Rattle.ss_client.proofs.Leaving.{leaves_known}
 use Rattle.ss_client.proofs.Posting.{finishes}

@@ -24,8 +24,12 @@ use std::io::ErrorKind;
 /// The bytes of a page in a file that is made.
 const PAGE_BYTES: usize = 1024;
 
-/// How many bytes of pages are held in memory: of those that were read, and of those that a transaction writes.
+/// How many bytes of pages are held in memory at most: of those that were read, and of those that a transaction writes.
 const HELD_BYTES: usize = 8_388_608;
+
+/// How many bytes of pages that were read are held in memory at least. All of them are filled as a file is opened, so a
+/// small file has fewer.
+const LEAST_HELD_BYTES: usize = 1_048_576;
 
 /// How many bytes of pages the log has before it is copied into the file.
 const LOG_BYTES: usize = 4_194_304;
@@ -34,11 +38,11 @@ const CANNOT_OPEN: Error = Error::SqliteFailure(ErrorCode::CannotOpen);
 
 const FAILED: Error = Error::SqliteFailure(ErrorCode::SystemIoFailure);
 
-/// The choices for a file whose pages have so many bytes.
-fn options(seed: u64, page_bytes: usize) -> Options {
+/// The choices for a file whose pages have so many bytes, and of which so many bytes of pages are held in memory.
+fn options(seed: u64, page_bytes: usize, held_bytes: usize) -> Options {
     let chosen = Options::new(seed);
     Options {
-        cache_pages: HELD_BYTES
+        cache_pages: held_bytes
             .checked_div(page_bytes)
             .unwrap_or(chosen.cache_pages),
         spill_pages: HELD_BYTES
@@ -90,7 +94,7 @@ fn unopened<D: Disk>(
 ) -> Result<Unopened<D>, Files<D>>
     ensures { IfOk result (λ fresh. files_of fresh ≡ (files.log, files.db)) }
 {
-    let pager = match Pager::new(alloc, files, size, options(seed, size.bytes())) {
+    let pager = match Pager::new(alloc, files, size, options(seed, size.bytes(), HELD_BYTES)) {
         Ok(pager) => pager,
         Err(AllocFailed { value }) => return Err(value),
     };
@@ -124,6 +128,12 @@ fn make<D: Disk + Drop>(
     }
 }
 
+/// How many bytes of pages are held in memory of those that are read from files of so many bytes: room for twice as many,
+/// within bounds.
+fn held_bytes(bytes: usize) -> usize {
+    bytes.saturating_mul(2).clamp(LEAST_HELD_BYTES, HELD_BYTES)
+}
+
 /// Opens the database in files.
 fn open_made<D: Disk + Drop>(
     alloc: Global,
@@ -133,10 +143,13 @@ fn open_made<D: Disk + Drop>(
     requires log { IsTrue (D.Disk.is_usable files.log) }
     requires db { IsTrue (D.Disk.is_usable files.db) }
 {
-    let chosen = match probe_page_size(&mut files) {
-        Ok(Some(size)) => options(seed, size.bytes()),
-        Ok(None) => Options::new(seed),
-        Err(_) => return Err((FAILED, files)),
+    let found = probe_page_size(&mut files);
+    let (Ok(found), Ok(db), Ok(log)) = (found, files.db.len(), files.log.len()) else {
+        return Err((FAILED, files));
+    };
+    let chosen = match found {
+        Some(size) => options(seed, size.bytes(), held_bytes(db.saturating_add(log))),
+        None => Options::new(seed),
     };
     match Connection::open_files(alloc, files, chosen) {
         Ok(connection) => Ok(connection),

@@ -3,5 +3,6 @@ pub mod Choices
 pub mod Steps
 pub mod Heard
 pub mod Written
+mod Addresses
 pub mod Asked
 pub mod Counted

@@ -1,6 +1,7 @@
 -- What words ask (this project's).
 use Rattle.std.specs.Prelude.{◌≡◌, ℕ, ◌≤◌, ⊤, true, IfSome, List, [], ◌∷◌, Option, Some, None, is_some, unwrap_or, option_map, option_and_then}
-use Rattle.std.specs.Net.Grammar.{IsSocketV4Text}
+use Rattle.std.specs.Net.Socket.{IsSocketAddrV4}
+use Rattle.std.specs.Net.Text.{socket_v4_text}
 use Rattle.std.specs.declared.net.socket_addr.SocketAddrV4.{SocketAddrV4}
 use Rattle.ss_route.specs.Targets.{uid_of}
 use Rattle.ss_route.specs.declared.manner.Manner.{Manner}
@@ -102,9 +103,13 @@ command_in Rehearse line = rehearse_words line.positionals
 command_in Sync line = sync_in line
 command_in Serve line = serve_in line
 
--- the address of a server is an IPv4 address, a colon and a port
+-- an IPv4 address, a colon and a port, as they are written: none of the five numbers has a leading zero
+abbrev pub IsAddress : List ℕ → Type 0
+IsAddress text = (address : SocketAddrV4) × IsSocketAddrV4 address × (text ≡ socket_v4_text address)
+
+-- the address of a server is one
 abbrev pub HasAddress : Command → Type 0
-HasAddress (asked.Serve command) = (address : SocketAddrV4) × IsSocketV4Text command.address address
+HasAddress (asked.Serve command) = IsAddress command.address
 HasAddress _ = ⊤
 
 -- the range of the number of the first term whose logs are kept

@@ -1,12 +1,10 @@
 //! The commands, and the words that ask them.
 
 ghost use Rattle.std.specs.Prelude.{◌≡◌, ◌≤◌, Some, None, map, string_bytes, IfOk, IfErr, IfSome, IsTrue, IsFalse};
-ghost use Rattle.std.specs.Net.Grammar.{IsSocketV4Text};
 ghost use Rattle.std.specs.Option.{option_copied};
-ghost use Rattle.std.specs.declared.net.socket_addr.SocketAddrV4.{SocketAddrV4};
 ghost use Rattle.ss_town.specs.Limits.{most_connections, most_workers};
 ghost use Rattle.ss_words.specs.Refused.{IsRefused};
-ghost use Rattle.ss_words.specs.Commands.{answer_in, answer_words, edit_in, merge_words, rehearse_words, sync_in, sync_words, manner_of, most_from, logs_of, logs_in, serve_in, serve_words, command_in, HasAddress, HasNumber, HasRange, AsksOf, Asks};
+ghost use Rattle.ss_words.specs.Commands.{answer_in, answer_words, edit_in, merge_words, rehearse_words, sync_in, sync_words, manner_of, most_from, logs_of, logs_in, serve_in, serve_words, command_in, IsAddress, HasAddress, HasNumber, HasRange, AsksOf, Asks};
 
 use crate::actions::{Action, action_in, wrong_count};
 use crate::lines::{Line, read_line};
@@ -17,7 +15,7 @@ use crate::values::{Uids, accounts_in, copied, given, number_given, number_in, u
 use ss_route::Manner;
 use ss_text::Word;
 use ss_town::limits::{MOST_CONNECTIONS, MOST_WORKERS};
-use std::alloc::Global;
+use std::alloc::{AllocError, Global};
 use std::net::SocketAddrV4;
 
 /// The greatest number of 12 digits.
@@ -81,7 +79,7 @@ pub struct LogFolder {
 /// `serve ADDRESS FOLDER UID .. [--workers N] [--connections N] [--terms N] [--firefox] [--journal FOLDER [--from N]]`
 #[derive(Drop, Debug)]
 pub struct ServeCommand {
-    /// An IPv4 address, a colon and a port.
+    /// An IPv4 address, a colon and a port, whose numbers have no leading zero.
     pub address: Word,
 
     /// The folder that holds `<uid>.db` for each account.
@@ -305,29 +303,30 @@ fn command_in<'a>(alloc: Global, name: Name, line: &Line<'a>) -> Result<Command,
     }
 }
 
-/// Whether a text is an IPv4 address, a colon and a port.
-fn is_address(text: &str) -> bool
-    ensures yes { IsTrue result → (address : SocketAddrV4) × IsSocketV4Text text.now address }
-    ensures no { IsFalse result → (address : SocketAddrV4) → IsSocketV4Text text.now address → ⊥ }
+/// Whether a text is an IPv4 address, a colon and a port, as they are written: a port that is read may have zeros at its
+/// front.
+fn is_address(alloc: Global, text: &str) -> Result<bool, AllocError>
+    ensures yes { IfOk result (λ is. IsTrue is → IsAddress text.now) }
+    ensures no { IfOk result (λ is. IsFalse is → IsAddress text.now → ⊥) }
 {
     match SocketAddrV4::parse_ascii(text.as_bytes()) {
-        Ok(_) => true,
-        Err(_) => false,
+        Ok(address) => Ok(address.to_string(alloc)?.as_str() == text),
+        Err(_) => Ok(false),
     }
 }
 
 /// Whether the address of a server is one.
-fn has_address(command: &Command) -> bool
-    ensures yes { IsTrue result → HasAddress command.now }
-    ensures no { IsFalse result → HasAddress command.now → ⊥ }
+fn has_address(alloc: Global, command: &Command) -> Result<bool, AllocError>
+    ensures yes { IfOk result (λ has. IsTrue has → HasAddress command.now) }
+    ensures no { IfOk result (λ has. IsFalse has → HasAddress command.now → ⊥) }
 {
     match command {
-        Command::Serve(serve) => is_address(serve.address.as_str()),
+        Command::Serve(serve) => is_address(alloc, serve.address.as_str()),
         Command::Answer(_)
         | Command::Edit(_)
         | Command::Merge
         | Command::Rehearse(_)
-        | Command::Sync(_) => true,
+        | Command::Sync(_) => Ok(true),
     }
 }
 
@@ -346,7 +345,7 @@ fn read_named<'a>(alloc: Global, name: Name, words: &'a [String]) -> Result<Comm
         Ok(command) => command,
         Err(fault) => return Err(fault),
     };
-    if has_address(&command) {
+    if has_address(alloc, &command)? {
         Ok(command)
     } else {
         match line.positionals().first() {

@@ -48,7 +48,7 @@ pub enum Cause {
     /// The word is no URL of an account.
     Url,
 
-    /// The word is no IPv4 address with a port.
+    /// The word is no IPv4 address with a port, in numbers without a leading zero.
     Address,
 
     /// The number of the first logs stands there, and no folder that keeps them.
@@ -123,7 +123,9 @@ impl Display for Cause {
             Cause::Action => "no such action of edit",
             Cause::Id => "not an id, of 1 to 64 printable characters of ASCII",
             Cause::Url => "not the URL of an account, as http://host:port/1.5/UID",
-            Cause::Address => "not an IPv4 address, a colon and a port, as 127.0.0.1:8000",
+            Cause::Address => {
+                "not an IPv4 address, a colon and a port without leading zeros, as 127.0.0.1:8000"
+            }
             Cause::NoJournal => "it stands only beside --journal",
         })
     }

@@ -11,8 +11,8 @@ returns-in-Err-command_in-clause-refused c = λ refused.
 
 pub returns-in-Some-clause-refused : goal.returns-in-Some-clause-refused
 returns-in-Some-clause-refused c = λ refused.
-    no_address_there c.args.name (map (λ word. string_bytes word) c.args.words.now) c.in-Ok.line c.in-Ok-command_in.command c.in-Ok.ensures.ok c.in-Ok-command_in.ensures.ok (c.has_address.ensures.no c.if-has_address.false)
+    no_address_there c.args.name (map (λ word. string_bytes word) c.args.words.now) c.in-Ok.line c.in-Ok-command_in.command c.in-Ok.ensures.ok c.in-Ok-command_in.ensures.ok (c.in_ok-has_address.ensures.no c.if-branch.false)
 
 pub returns-clause-refused : goal.returns-clause-refused
 returns-clause-refused c = λ refused.
-    no_address_there c.args.name (map (λ word. string_bytes word) c.args.words.now) c.in-Ok.line c.in-Ok-command_in.command c.in-Ok.ensures.ok c.in-Ok-command_in.ensures.ok (c.has_address.ensures.no c.if-has_address.false)
+    no_address_there c.args.name (map (λ word. string_bytes word) c.args.words.now) c.in-Ok.line c.in-Ok-command_in.command c.in-Ok.ensures.ok c.in-Ok-command_in.ensures.ok (c.in_ok-has_address.ensures.no c.if-branch.false)

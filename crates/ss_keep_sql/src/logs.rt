@@ -3,8 +3,8 @@
 use std::fs;
 use std::io::ErrorKind;
 
-/// The bytes of a log's header, before any page.
-const HEADER_BYTES: u64 = 32;
+/// The bytes of a log's header and of the one before a page: a shorter log has no page (SQLite, "The WAL File Format").
+const HEADER_BYTES: u64 = 56;
 
 /// The path of the log that is to be made beside a file, where there is none.
 #[derive(Drop)]
@@ -36,7 +36,7 @@ impl NewLog {
             return;
         };
         match fs::symlink_metadata(rt, path.as_str()) {
-            Ok(found) if found.len() <= HEADER_BYTES => {
+            Ok(found) if found.len() < HEADER_BYTES => {
                 let _removed = fs::remove_file(rt, path.as_str()).is_ok();
             }
             _ => {}

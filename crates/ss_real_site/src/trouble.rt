@@ -1,6 +1,7 @@
 //! What failed at the site of the system, for people.
 
 use sqlite::{Error, ErrorCode};
+use ss_keep_sql::Place;
 use std::fmt::{self, Display, Formatter, Write};
 use std::io::ErrorKind;
 
@@ -28,8 +29,8 @@ pub enum Trouble {
     /// The database of an account has tables of a version that isn't known.
     Version { uid: u32, found: i64 },
 
-    /// The row of this number in the table `commits` of an account's database isn't the text of a commit.
-    Commit { uid: u32, number: i64 },
+    /// What a row of an account's database holds is out of form.
+    Damaged { uid: u32, place: Place },
 
     /// The database of an account failed while it was open.
     Keeper { uid: u32 },
@@ -91,10 +92,9 @@ impl Display for Trouble {
                     "the file {uid}.db has version {found}, which this program doesn't know"
                 )
             }
-            Trouble::Commit { uid, number } => write!(
-                f,
-                "the file {uid}.db is damaged: row {number} of its table commits isn't the text of a commit"
-            ),
+            Trouble::Damaged { uid, place } => {
+                write!(f, "the file {uid}.db is damaged: {place} is out of form")
+            }
             Trouble::Keeper { uid } => write!(f, "the file {uid}.db failed while it was open"),
             Trouble::Port => f.write_str("the port failed while it listened"),
             Trouble::LogFolder(ErrorKind::PermissionDenied) => f.write_str(

@@ -322,14 +322,14 @@ impl<'a, N: Net + Clock> Site for RealSite<'a, N> {
         let Ok(path) = path_of(alloc, folder, uid) else {
             return Err(NoKeeper::Memory);
         };
-        if self.keepers.reserve(1).is_err() {
-            return Err(NoKeeper::Memory);
-        }
         if let Err(fault) = self.find_folder(folder) {
             return Err(NoKeeper::from(fault));
         }
         match self.open(uid, path.as_str()) {
             Ok(file) => {
+                if self.keepers.reserve(1).is_err() {
+                    return Err(NoKeeper::Memory);
+                }
                 self.keepers.push_reserved((name, uid));
                 self.lend();
                 Ok(file)

@@ -11,9 +11,9 @@ returns-in-Ok-open_kept-clause-opened g c =
     c.keeper.ensures.kept c.in-Ok-open_kept.ensures.opened c.in-Ok-open_kept.ensures.entry c.in-Ok-open_kept.ensures.fresh c.begin.ensures.uid c.begin.ensures.account c.begin.ensures.opening c.begin.ensures.begun c.begin.ensures.most
 
 pub open_kept-requires-clause-given : goal.open_kept-requires-clause-given
-open_kept-requires-clause-given g c κs within = was_given (g.X.Site.lent c.args.site.now).keepers (g.X.Site.lent c.keeper.new.self).keepers c.args.folder.now c.args.uid c.in-Ok.ensures.lent.3.0
+open_kept-requires-clause-given g c = was_given (g.X.Site.lent c.args.site.now).keepers (g.X.Site.lent c.keeper.new.self).keepers c.args.folder.now c.args.uid c.in-Ok.ensures.lent.3
 
 pub begin-requires-clause-given : goal.begin-requires-clause-given
-begin-requires-clause-given g c κs within =
+begin-requires-clause-given g c =
     subst (λ (l : Lent). Contains l.keepers (c.args.folder.now, c.args.uid)) (sym c.in-Ok-open_kept.ensures.lent)
-    (was_given (g.X.Site.lent c.args.site.now).keepers (g.X.Site.lent c.keeper.new.self).keepers c.args.folder.now c.args.uid c.in-Ok.ensures.lent.3.0)
+    (was_given (g.X.Site.lent c.args.site.now).keepers (g.X.Site.lent c.keeper.new.self).keepers c.args.folder.now c.args.uid c.in-Ok.ensures.lent.3)

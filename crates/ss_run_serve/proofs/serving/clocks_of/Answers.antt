@@ -1,4 +1,4 @@
-use Rattle.std.specs.Prelude.{◌≡◌, ◌∷◌, [], ◌++◌, ℕ, List, Option, map, replicate}
+use Rattle.std.specs.Prelude.{◌≡◌, ◌+◌, ◌∷◌, [], ◌++◌, ℕ, List, Option, map, replicate}
 use Rattle.std.proofs.Common.{sym, ap, ◌∙◌, arith}
 use Rattle.std.proofs.lemmas.List.{map-append, replicate_more}
 use Rattle.ss_site.specs.Sites.{Lent}
@@ -16,7 +16,7 @@ loop-worker-preserved g c =
     let invariant = c.loop-worker.invariant in
     record {
       count = omega (arith, invariant.count, c.push_reserved.ensures.len);
-      unread = one_more g.X.Clock.Clock.coming c.loop-worker.clocks.items c.push_reserved.new.clocks.items c.clock.result c.loop-worker._worker (g.X.Site.lent c.args.site.now).readings c.push_reserved.ensures.items invariant.unread
+      unread = one_more g.X.Clock.Clock.coming c.loop-worker.clocks.items c.push_reserved.new.self.items c.clock.result c.loop-worker._worker (g.X.Site.lent c.args.site.now).readings c.push_reserved.ensures.items invariant.unread
           (c.clock.ensures.unread ∙ ap (λ (l : Lent). l.readings) invariant.lent);
       room = omega (arith, invariant.room, c.push_reserved.ensures.capacity);
       counts = c.clock.ensures.counts ∙ invariant.counts;

@@ -65,13 +65,13 @@ returns-in-Err-Memory-clause-listens g c = inl (ap (λ (l : Lent). l.addresses) 
 -- the port was given at the address of the command, and the later calls gave none
 pub returns-clause-listens : goal.returns-clause-listens
 returns-clause-listens g c =
-    inr (c.shut.ensures.back.addresses ∙ ap (λ (l : Lent). l.addresses) c.serve_terms-accounts.ensures.lent ∙ c.in-Ok-listen.ensures.lent.2.0
+    inr (c.shut.ensures.back.addresses ∙ ap (λ (l : Lent). l.addresses) c.serve_terms-accounts.ensures.lent ∙ c.in-Ok-listen.ensures.lent.2
     ∙ ap (λ (l : Lent). l.addresses ++ c.as_str.result.now ∷ []) c.clocks_of.ensures.lent
     ∙ ap (λ (address : List ℕ). (g.X.Site.lent c.args.site.now).addresses ++ address ∷ []) c.as_str.ensures)
 
 pub returns-clause-keepers : goal.returns-clause-keepers
 returns-clause-keepers g c =
-    c.shut.ensures.back.keepers ∙ ap (λ (l : Lent). l.keepers) c.serve_terms-accounts.ensures.lent ∙ c.in-Ok-listen.ensures.lent.3.0 ∙ ap (λ (l : Lent). l.keepers) c.clocks_of.ensures.lent
+    c.shut.ensures.back.keepers ∙ ap (λ (l : Lent). l.keepers) c.serve_terms-accounts.ensures.lent ∙ c.in-Ok-listen.ensures.lent.3 ∙ ap (λ (l : Lent). l.keepers) c.clocks_of.ensures.lent
 
 pub returns-in_default-clause-keepers : goal.returns-in_default-clause-keepers
 returns-in_default-clause-keepers g c = ap (λ (l : Lent). l.keepers) c.clocks_of.ensures.lent

@@ -3,7 +3,6 @@
 //! to the next one. The program has no contract: its stored run is the test.
 #![tactic(auto)]
 
-mod accounts;
 mod syncs;
 mod worlds;
 

@@ -1,49 +1,21 @@
-//! Devices that sync with one account: worked plays, a long upload over a server that is started anew after each request,
-//! and lists of drawn events with a plain check after each. All are played in a world, and again with each request and
-//! response in bytes: the device's through the server's reader and routing, and the server's through the device's reader.
+//! Worlds of devices that sync with one account: worked ones, a long upload over a server that is started anew after
+//! each request, and lists of drawn events with a plain check after each.
 
 mod checks;
-mod comparing;
 mod drawn;
 mod draws;
 mod items;
 mod playing;
-mod plays;
-mod strangers;
 mod uploads;
 mod watching;
-mod wired;
 mod worked;
 
-use comparing::count_same;
-use plays::Way;
-use ss_route::Manner;
-use std::alloc::Global;
-
-/// What the worked plays and the long upload come to.
-fn worked_lines(alloc: Global, way: Way) -> anyhow::Result<Vec<String>> {
-    let mut lines = worked::told(alloc, way)?;
-    lines.push(uploads::told(alloc, way)?)?;
-    Ok(lines)
-}
-
-/// How many of the lines are the same over bytes.
-fn same_over(alloc: Global, manner: Manner, lines: &[String]) -> anyhow::Result<usize> {
-    let others = worked_lines(alloc, Way::Bytes(manner))?;
-    Ok(count_same(lines, others.as_slice()))
-}
-
-/// Tells what became of each play.
+/// Tells what became of each world.
 pub fn tell_cases(rt: &HostRuntime) -> anyhow::Result<()> {
-    let lines = worked_lines(rt.alloc(), Way::World)?;
-    for line in lines.iter() {
+    for line in worked::told(rt.alloc())?.iter() {
         println!(rt; "{line}")?;
     }
-    let by_letter = same_over(rt.alloc(), Manner::Profile, lines.as_slice())?;
-    let as_browsers = same_over(rt.alloc(), Manner::Browser, lines.as_slice())?;
-    println!(rt;
-        "over bytes these lines are the same: {by_letter} by the letter, {as_browsers} as browsers ask"
-    )?;
+    println!(rt; "{}", uploads::told(rt.alloc())?)?;
     for line in drawn::told(rt.alloc())?.iter() {
         println!(rt; "{line}")?;
     }

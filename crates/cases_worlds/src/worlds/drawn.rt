@@ -2,19 +2,16 @@
 //! requests.
 
 use crate::worlds::checks::is_of_device;
-use crate::worlds::comparing::are_same;
 use crate::worlds::draws::Draw;
 use crate::worlds::items::{id, item, word};
 use crate::worlds::playing::{add, bookmarks, fresh, is_idle};
-use crate::worlds::plays::{Play, Way};
 use crate::worlds::watching::Watch;
-use crate::worlds::worked::{list, post, put, tell};
+use crate::worlds::worked::{list, post, put};
 use anyhow::bail;
 use ss_client::Fetch;
 use ss_query::Request;
-use ss_route::Manner;
 use ss_text::Cond;
-use ss_world::{Edit, Event};
+use ss_world::{Edit, Event, World};
 use std::alloc::Global;
 
 const LISTS: u64 = 2000;
@@ -129,23 +126,24 @@ fn event(alloc: Global, draw: &mut Draw, clock: &mut u64) -> anyhow::Result<Even
 }
 
 /// A device begins a sync, and what it had under way is given up.
-fn begin(alloc: Global, watch: &mut Watch, play: &mut Play, device: u32) -> anyhow::Result<()> {
-    watch.step(alloc, play, &Event::Anew { device })?;
+fn begin(alloc: Global, watch: &mut Watch, world: &mut World, device: u32) -> anyhow::Result<()> {
+    watch.step(alloc, world, &Event::Anew { device })?;
     let fetch = Fetch::Newer;
-    watch.step(alloc, play, &Event::Start { device, fetch })
+    watch.step(alloc, world, &Event::Start { device, fetch })?;
+    Ok(())
 }
 
 /// A device's requests come to the account, at most so many, until it has none under way.
 fn deliver_all(
     alloc: Global,
     watch: &mut Watch,
-    play: &mut Play,
+    world: &mut World,
     device: u32,
     now: u64,
 ) -> anyhow::Result<()> {
     for _ in 0..20 {
-        if !is_idle(play, device) {
-            watch.step(alloc, play, &Event::Deliver { device, now })?;
+        if !is_idle(world, device) {
+            watch.step(alloc, world, &Event::Deliver { device, now })?;
         }
     }
     Ok(())
@@ -155,23 +153,23 @@ fn deliver_all(
 fn sync(
     alloc: Global,
     watch: &mut Watch,
-    play: &mut Play,
+    world: &mut World,
     device: u32,
     now: u64,
 ) -> anyhow::Result<()> {
-    begin(alloc, watch, play, device)?;
-    deliver_all(alloc, watch, play, device, now)?;
-    if !is_idle(play, device) {
+    begin(alloc, watch, world, device)?;
+    deliver_all(alloc, watch, world, device, now)?;
+    if !is_idle(world, device) {
         bail!("a sync that doesn't end");
     }
     Ok(())
 }
 
 /// Whether the rows stand for the tree of each device.
-fn do_agree(alloc: Global, play: &Play) -> anyhow::Result<bool> {
-    let rows = bookmarks(alloc, play)?;
+fn do_agree(alloc: Global, world: &World) -> anyhow::Result<bool> {
+    let rows = bookmarks(alloc, world)?;
     for n in 0..DEVICES {
-        let Some(device) = play.device(n) else {
+        let Some(device) = world.device(n) else {
             bail!("no device");
         };
         if !is_of_device(alloc, &rows, device)? {
@@ -182,25 +180,20 @@ fn do_agree(alloc: Global, play: &Play) -> anyhow::Result<bool> {
 }
 
 /// Plays a list of events; whether the devices agree after a sync of each.
-fn play_list(
-    alloc: Global,
-    watch: &mut Watch,
-    play: &mut Play,
-    number: u64,
-) -> anyhow::Result<bool> {
+fn play(alloc: Global, watch: &mut Watch, world: &mut World, number: u64) -> anyhow::Result<bool> {
     if number.checked_rem(LARGE) == Some(0) {
-        add_many(alloc, play)?;
+        add_many(alloc, world)?;
     }
-    let clock = play_events(alloc, watch, play, number)?;
-    sync_all(alloc, watch, play, clock.saturating_add(800_000))?;
-    do_agree(alloc, play)
+    let clock = play_events(alloc, watch, world, number)?;
+    sync_all(alloc, watch, world, clock.saturating_add(800_000))?;
+    do_agree(alloc, world)
 }
 
 /// Device 0 gets as many bookmarks as an upload of several POSTs has.
-fn add_many(alloc: Global, play: &mut Play) -> anyhow::Result<()> {
+fn add_many(alloc: Global, world: &mut World) -> anyhow::Result<()> {
     for k in 0..MANY {
         let text = format!(in alloc; "x{k}")?;
-        add(alloc, play, 0, text.as_str())?;
+        add(alloc, world, 0, text.as_str())?;
     }
     Ok(())
 }
@@ -209,59 +202,29 @@ fn add_many(alloc: Global, play: &mut Play) -> anyhow::Result<()> {
 fn play_events(
     alloc: Global,
     watch: &mut Watch,
-    play: &mut Play,
+    world: &mut World,
     number: u64,
 ) -> anyhow::Result<u64> {
     let mut draw = Draw::new(number);
     let mut clock: u64 = 1000;
     for _ in 0..EVENTS {
         let event = event(alloc, &mut draw, &mut clock)?;
-        watch.step(alloc, play, &event)?;
+        watch.step(alloc, world, &event)?;
     }
     Ok(clock)
 }
 
 /// Both devices sync, and the first one again.
-fn sync_all(alloc: Global, watch: &mut Watch, play: &mut Play, now: u64) -> anyhow::Result<()> {
+fn sync_all(alloc: Global, watch: &mut Watch, world: &mut World, now: u64) -> anyhow::Result<()> {
     for device in [0, 1, 0] {
-        sync(alloc, watch, play, device, now)?;
+        sync(alloc, watch, world, device, now)?;
     }
     Ok(())
 }
 
-/// Tells what each device is in the end.
-fn tell_all(alloc: Global, watch: &mut Watch, play: &Play) -> anyhow::Result<()> {
-    for n in 0..DEVICES {
-        watch.lines.push(tell(alloc, play, n)?)?;
-    }
-    Ok(())
-}
-
-/// What came of a list.
-#[derive(Drop)]
-struct Played {
-    watch: Watch,
-    /// Whether the devices agree in the end.
-    agree: bool,
-}
-
-fn played(alloc: Global, way: Way, number: u64) -> anyhow::Result<Played> {
-    let mut watch = Watch::new(alloc, DEVICES as usize)?;
-    let mut play = fresh(alloc, way, DEVICES)?;
-    let agree = play_list(alloc, &mut watch, &mut play, number)?;
-    tell_all(alloc, &mut watch, &play)?;
-    Ok(Played { watch, agree })
-}
-
-/// Whether over bytes each event of a list is answered as in the world, and leaves the same.
-fn is_same_over(
-    alloc: Global,
-    manner: Manner,
-    number: u64,
-    lines: &[String],
-) -> anyhow::Result<bool> {
-    let played = played(alloc, Way::Bytes(manner), number)?;
-    Ok(are_same(lines, played.watch.lines.as_slice()))
+fn played(alloc: Global, watch: &mut Watch, number: u64) -> anyhow::Result<bool> {
+    let mut world = fresh(alloc, DEVICES)?;
+    play(alloc, watch, &mut world, number)
 }
 
 /// What all lists come to.
@@ -272,43 +235,15 @@ struct Total {
     unheard: u64,
     refused: u64,
     violations: u64,
-    /// Of how many each line is the same over bytes, by the letter and as browsers ask.
-    by_letter: u64,
-    as_browsers: u64,
 }
 
 impl Total {
-    fn new() -> Total {
-        Total {
-            agree: 0,
-            commits: 0,
-            unheard: 0,
-            refused: 0,
-            violations: 0,
-            by_letter: 0,
-            as_browsers: 0,
-        }
-    }
-
-    fn add(&mut self, played: &Played) {
-        let watch = &played.watch;
-        self.agree = self.agree.saturating_add(u64::from(played.agree));
+    fn add(&mut self, watch: &Watch, agree: bool) {
+        self.agree = self.agree.saturating_add(u64::from(agree));
         self.commits = self.commits.saturating_add(watch.commits);
         self.unheard = self.unheard.saturating_add(watch.unheard);
         self.refused = self.refused.saturating_add(watch.refused);
         self.violations = self.violations.saturating_add(watch.violations);
-    }
-
-    /// Plays a list in a world, and over bytes in both manners.
-    fn play(&mut self, alloc: Global, number: u64) -> anyhow::Result<()> {
-        let played = played(alloc, Way::World, number)?;
-        self.add(&played);
-        let lines = played.watch.lines.as_slice();
-        let by_letter = is_same_over(alloc, Manner::Profile, number, lines)?;
-        self.by_letter = self.by_letter.saturating_add(u64::from(by_letter));
-        let as_browsers = is_same_over(alloc, Manner::Browser, number, lines)?;
-        self.as_browsers = self.as_browsers.saturating_add(u64::from(as_browsers));
-        Ok(())
     }
 }
 
@@ -318,9 +253,17 @@ fn often(count: u64) -> &'static str {
 }
 
 pub fn told(alloc: Global) -> anyhow::Result<Vec<String>> {
-    let mut total = Total::new();
+    let mut total = Total {
+        agree: 0,
+        commits: 0,
+        unheard: 0,
+        refused: 0,
+        violations: 0,
+    };
     for number in 0..LISTS {
-        total.play(alloc, number)?;
+        let mut watch = Watch::new(alloc, DEVICES as usize)?;
+        let agree = played(alloc, &mut watch, number)?;
+        total.add(&watch, agree);
     }
     Ok(vec![in alloc;
         format!(in alloc;
@@ -332,10 +275,6 @@ pub fn told(alloc: Global) -> anyhow::Result<Vec<String>> {
             often(total.commits),
             often(total.unheard),
             often(total.refused)
-        )?,
-        format!(in alloc;
-            "over bytes each line is the same: in {} lists by the letter, in {} as browsers ask",
-            total.by_letter, total.as_browsers
         )?,
     ]?)
 }

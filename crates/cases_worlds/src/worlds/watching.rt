@@ -1,16 +1,15 @@
-//! A plain check of a play after each event.
+//! A plain check of a world after each event.
 
 use crate::worlds::checks::is_one_tree;
-use crate::worlds::playing::{ById, bookmarks, request};
-use crate::worlds::plays::Play;
+use crate::worlds::playing::{ById, bookmarks, request, step};
 use ss_bso::Row;
 use ss_query::{Mode, Request};
 use ss_text::Id;
-use ss_world::{Event, Seat, WorldFault};
+use ss_world::{Event, World, WorldFault};
 use std::alloc::{AllocError, Global};
 use std::collections::BTreeMap;
 
-/// What was seen of a play up to its last event.
+/// What was seen of a world after its last event.
 #[derive(Drop)]
 pub struct Watch {
     rows: ById,
@@ -24,8 +23,6 @@ pub struct Watch {
     pub refused: u64,
     /// How often rows changed that may not, or in part, or to no tree.
     pub violations: u64,
-    /// What came of each event.
-    pub lines: Vec<String>,
 }
 
 /// The device whose request comes to the account.
@@ -91,34 +88,6 @@ fn is_whole(before: &ById, after: &ById, ids: &[Id]) -> bool {
     newest(before) < stamp && written == ids.len()
 }
 
-/// What an event is answered, and what rows and devices are after it.
-fn line(
-    alloc: Global,
-    play: &Play,
-    rows: &ById,
-    answer: &Option<WorldFault>,
-) -> anyhow::Result<String> {
-    let mut line = match answer {
-        None => String::from_str(alloc, "done")?,
-        Some(fault) => format!(in alloc; "{fault:?}")?,
-    };
-    line.push_str(format!(in alloc; ", {} rows at {}", rows.len(), newest(rows))?.as_str())?;
-    for seat in play.seats() {
-        let state = match seat {
-            Seat::Idle(_) => "idle",
-            Seat::Syncs(_) => "syncing",
-        };
-        let device = seat.device();
-        let more = format!(in alloc;
-            "; {state} at {} with {} rows",
-            device.stamp().get(),
-            device.mirror().len()
-        )?;
-        line.push_str(more.as_str())?;
-    }
-    Ok(line)
-}
-
 impl Watch {
     pub fn new(alloc: Global, devices: usize) -> Result<Watch, AllocError> {
         let mut posted = Vec::new(alloc);
@@ -132,7 +101,6 @@ impl Watch {
             unheard: 0,
             refused: 0,
             violations: 0,
-            lines: Vec::new(alloc),
         })
     }
 
@@ -158,11 +126,16 @@ impl Watch {
     }
 
     /// The device that may change rows by an event.
-    fn writer(&mut self, alloc: Global, play: &Play, event: &Event) -> anyhow::Result<Option<u32>> {
+    fn writer(
+        &mut self,
+        alloc: Global,
+        world: &World,
+        event: &Event,
+    ) -> anyhow::Result<Option<u32>> {
         let Some(n) = delivered(event) else {
             return Ok(None);
         };
-        match request(alloc, play, n)? {
+        match request(alloc, world, n)? {
             Some(request) if self.note(alloc, n, &request)? => Ok(Some(n)),
             _ => Ok(None),
         }
@@ -185,10 +158,15 @@ impl Watch {
     }
 
     /// Does an event, and checks what it leaves.
-    pub fn step(&mut self, alloc: Global, play: &mut Play, event: &Event) -> anyhow::Result<()> {
-        let writer = self.writer(alloc, play, event)?;
-        let answer = play.step(alloc, event)?;
-        let rows = bookmarks(alloc, play)?;
+    pub fn step(
+        &mut self,
+        alloc: Global,
+        world: &mut World,
+        event: &Event,
+    ) -> anyhow::Result<Option<WorldFault>> {
+        let writer = self.writer(alloc, world, event)?;
+        let answer = step(alloc, world, event)?;
+        let rows = bookmarks(alloc, world)?;
         if !self.is_fine(alloc, &rows, writer)? {
             self.violations = self.violations.saturating_add(1);
         }
@@ -201,8 +179,7 @@ impl Watch {
         if answer.is_some() {
             self.refused = self.refused.saturating_add(1);
         }
-        self.lines.push(line(alloc, play, &rows, &answer)?)?;
         self.rows = rows;
-        Ok(())
+        Ok(answer)
     }
 }

@@ -9,7 +9,6 @@ use Rattle.ss_query.specs.Api.{api}
 use Rattle.ss_client.specs.declared.summaries.Fetch.{Fetch}
 use Rattle.ss_client.specs.Runs.{MachineView}
 use Rattle.ss_client.specs.Asking.{ask, awaits}
-use Rattle.ss_client.specs.Told.{TakesMemory}
 use Rattle.ss_serving.specs.Bookmarks.{Server}
 use Rattle.ss_serving.specs.Asking.{told_by, touches}
 use Rattle.ss_serving.specs.Steps.{Answers, Reopens, Ticks}
@@ -20,7 +19,7 @@ use Rattle.ss_world.specs.declared.faults.WorldFault.TheVariants as fault
 use Rattle.ss_world.specs.Seats.{started}
 use Rattle.ss_world.specs.Worlds.{Seat, Idle, Syncs, WorldView}
 use Rattle.ss_world.specs.Happening.{At, Asked, Delivers, Edits, IsDelivered, IsEdited, IsGivenUp, IsLost, Reopened, Starts, Ticked}
-use Rattle.ss_world.specs.Stepping.{Begins, Changes, Fails, GivesUp, Hears, IsEditedSeat, IsHeard, IsUnheard, at_device, change_fault, request_fault, start_fault}
+use Rattle.ss_world.specs.Stepping.{Begins, Changes, Fails, GivesUp, Hears, IsEditedSeat, IsHeard, at_device, change_fault, start_fault}
 
 -- a world of a server and seats
 abbrev pub world : Server → List Seat → WorldView
@@ -54,24 +53,9 @@ lost w server after seats new n now m is there a gives =
     (subst (λ (o : Option Seat). MatchOption o (world after new ≡ world server seats) (IsLost (world server seats) n now (world after new))) (sym there)
     (record { server = after; answers = a; is = ap (world after) (gives (Syncs m) there) }))
 
--- a device that is there has a request under way
-pub requesting : (seats : List Seat) (n : ℕ) (m : MachineView) → slice_get seats n ≡ Some (Syncs m) → at_device seats n (request_fault n) ≡ None
-requesting seats n m there = ap (λ o. option_map_or (request_fault n) o (Some (fault.NoDevice n))) there
-
 -- the reply couldn't be handed on
-pub undelivered : (w : WorldView) (server after : Server) (seats new : List Seat) (n now : ℕ) (m : MachineView) → world server seats ≡ w → slice_get seats n ≡ Some (Syncs m) → Answers server now (ask m) after → GivesUp seats n new
-    → TakesMemory m (api server.account now (ask m)).reply.status (told_by (awaits m.stage) (api server.account now (ask m)).reply) → Fails w (Deliver n now) (world after new) fault.Memory
-undelivered w server after seats new n now m is there a gives takes =
-    subst (λ x. Fails x (Deliver n now) (world after new) fault.Memory) is (inl (
-      refl,
-      record {
-        tested = requesting seats n m there;
-        left = inr (inr (
-            subst (λ (o : Option Seat). MatchOption o (world after new ≡ world server seats) (IsUnheard (world server seats) n now (world after new))) (sym there)
-            (record { server = after; answers = a; is = ap (world after) (gives (Syncs m) there) }, takes)
-            ));
-      },
-    ))
+pub undelivered : (w v : WorldView) (n now : ℕ) → At w n v (IsLost w n now v) → Fails w (Deliver n now) v fault.Memory
+undelivered w v n now h = inl (refl, inr (inr h))
 
 -- ---- a delivery
 

@@ -10,7 +10,6 @@ mod connections;
 mod ending;
 mod filling;
 mod fronts;
-mod giving;
 mod held;
 mod ports;
 mod servers;
@@ -59,7 +58,6 @@ fn told<R: Threads + Wait + Files + Sync>(
     let (kind, rest) = line.split_once(' ').unwrap_or((line, ""));
     match kind {
         "site" => sites::told(alloc, rest),
-        "gives" => giving::told(alloc, rest),
         "store" => stores::told(rt, alloc, rest),
         "port" => ports::told(alloc, rest),
         _ => served(rt, alloc, kind, case::read(alloc, texts, rest)?),

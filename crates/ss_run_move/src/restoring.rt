@@ -39,7 +39,7 @@ fn fill<X: Site>(alloc: Global, site: &mut X, folder: &str, uid: u32, told: &Kep
 {
     let mut keeper = match site.keeper(alloc, folder, uid) {
         Ok(keeper) => keeper,
-        Err(missing) => return Ending::from(missing),
+        Err(fault) => return Ending::from(fault),
     };
     let refilled = refill(alloc, &mut keeper, told);
     site.retire(folder, uid, keeper);

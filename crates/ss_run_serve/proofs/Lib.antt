@@ -1,5 +1,4 @@
 pub mod Rising
-pub mod Given
 pub mod Lent
 pub mod Retired
 pub mod Opened

@@ -1,5 +1,4 @@
 pub mod Statuses
-pub mod Refusals
 pub mod Watched
 pub mod Hosted
 pub mod Opening

@@ -1,4 +1,3 @@
-pub mod Missing
 pub mod Sites
 pub mod Counted
 pub mod Tables

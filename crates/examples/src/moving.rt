@@ -36,11 +36,10 @@ fn restored(alloc: Global, text: &[u8]) -> anyhow::Result<Account<SureKeeper>> {
 
 /// Writes an account as a dump, and asks the account that is made of the dump for a record.
 pub fn moved(alloc: Global) -> anyhow::Result<Vec<String>> {
-    let dump = dumped(alloc)?;
-    let mut account = restored(alloc, dump.as_slice())?;
-    let text = String::from_utf8_lossy(alloc, dump.as_slice())?;
+    let text = dumped(alloc)?;
+    let mut account = restored(alloc, &text)?;
     let mut lines = Vec::new(alloc);
-    for line in text.as_str().lines() {
+    for line in String::from_utf8_lossy(alloc, &text)?.as_str().lines() {
         lines.push(String::from_str(alloc, line)?)?;
     }
     let get = Request::Get {

@@ -53,7 +53,7 @@ pub fn id(alloc: Global, text: &str) -> anyhow::Result<Id> {
 }
 
 /// A reply as a line: its status, the account's time, and the record that it has.
-pub fn told(alloc: Global, reply: &Reply) -> anyhow::Result<String> {
+fn told(alloc: Global, reply: &Reply) -> anyhow::Result<String> {
     let payload = match &reply.body {
         Body::One(row) => row.payload.as_str(),
         _ => "no record",

@@ -1,5 +1,7 @@
 -- The batches of an account as a stage: which refusals come of it, and what is reached.
-use Rattle.std.specs.Prelude.{◌≡◌, ◌≢◌, ℕ, ◌+◌, ◌≤◌, Bool, true, false, not, cond, ◌&&◌, ◌||◌, ◌==◌, nat_le, nat_lt, List, [], ◌∷◌, ◌++◌, length, min, bytes_eq, Option, Some, None, option_map, is_none, IsSome, Result, Ok, Err, refl}
+use Rattle.std.specs.Prelude.{◌≡◌, ◌≢◌, ℕ, ◌+◌, ◌≤◌, Bool, true, false, not, cond, ◌&&◌, ◌||◌, ◌==◌, nat_le, nat_lt}
+use Rattle.std.specs.Prelude.{List, [], ◌∷◌, ◌++◌, length, min, bytes_eq, Option, Some, None, option_map, is_none}
+use Rattle.std.specs.Prelude.{IsSome, Result, Ok, Err, refl}
 use Rattle.std.specs.Option.{option_map_or}
 use Rattle.std.proofs.Common.{sym, ap, subst, ◌∙◌, arith}
 use Rattle.std.proofs.lemmas.Bool.Decides.{nat_tests}
@@ -14,17 +16,21 @@ use Rattle.ss_bso.specs.Write.{write}
 use Rattle.ss_bso.specs.Limits.{most_batch_records, most_batch_bytes, most_live_batches, part_bytes}
 use Rattle.ss_bso.specs.Validity.{IsValid}
 use Rattle.ss_batch.specs.declared.faults.StageFault.{StageFault}
-use Rattle.ss_batch.specs.declared.faults.StageFault.TheVariants.{NotLive, OtherCollection, TooManyRecords, TooManyBytes, TooManyBatches, Memory}
-use Rattle.ss_batch.specs.Stage.{append_fault, begin_fault, has_room, more, most_counted, numbered, reach, reached, size_fault}
+use Rattle.ss_batch.specs.declared.faults.StageFault.TheVariants.{NotLive, OtherCollection, TooManyRecords}
+use Rattle.ss_batch.specs.declared.faults.StageFault.TheVariants.{TooManyBytes, TooManyBatches, Memory}
+use Rattle.ss_batch.specs.Stage.{append_fault, begin_fault, has_room, more, most_counted, live_batch, reach, live_parts}
+use Rattle.ss_batch.specs.Stage.{size_fault}
 use Rattle.ss_query.specs.declared.requests.Request.{Request}
 use Rattle.ss_query.specs.declared.requests.Request.TheVariants.{Post}
 use Rattle.ss_query.specs.declared.requests.Mode.TheVariants.{Begin, Append, Commit}
 use Rattle.ss_query.specs.declared.replies.Body.{Body}
 use Rattle.ss_query.specs.Fit.{IsFitRequest}
-use Rattle.ss_query.specs.Refused.{Refusal, NoItem, NoMoreBatches, NoBatch, BatchFull, ClockEnded, AccountFull, batch_of, condition_of, said_by, staged_parts, is_there, target_time, IsLive}
+use Rattle.ss_query.specs.Refused.{Refusal, NoItem, NoMoreBatches, NoBatch, BatchFull, ClockEnded, AccountFull}
+use Rattle.ss_query.specs.Refused.{batch_of, condition_of, said_by, staged_parts, is_there, target_time, IsLive}
 use Rattle.ss_query.specs.Effect.{effect, is_empty, is_over, is_write, stamp_in}
-use Rattle.ss_query.specs.Api.{condition_cause, first_some, lacks_room, misses_batch, misses_item, outcome, overfills_batch, refusal, where_so, why_stopped}
-use Rattle.ss_account.specs.Steps.{batch_cause, committed, fault_body, late_refusal, plain_reply, stage_of}
+use Rattle.ss_query.specs.Api.{condition_cause, first_some, lacks_room, misses_batch, misses_item, outcome}
+use Rattle.ss_query.specs.Api.{overfills_batch, refusal, where_so, why_stopped}
+use Rattle.ss_account.specs.Steps.{batch_cause, account_after_commit, fault_body, late_refusal, plain_reply, stage_of}
 use Rattle.ss_bso.proofs.Lists.{Pairs-from_AllPairs}
 use Rattle.ss_bso.specs.Lists.{Each, Pairs}
 
@@ -44,11 +50,11 @@ none-other number collection first (batch ∷ batches) same others =
     same_number : (m n : ℕ) → (m == n) ≡ true → m ≡ n
     same_number m n = grind (arith, nat_tests)
 
-chosen-in : (number : ℕ) (collection : List ℕ) (batches : List Staged) → Pairs (λ (batch other : Staged). batch.number ≢ other.number) batches → batch_in collection number batches ≡ chosen collection (numbered number batches)
+chosen-in : (number : ℕ) (collection : List ℕ) (batches : List Staged) → Pairs (λ (batch other : Staged). batch.number ≢ other.number) batches → batch_in collection number batches ≡ chosen collection (live_batch number batches)
 chosen-in number collection [] distinct = refl
 chosen-in number collection (batch ∷ batches) distinct =
     elim (batch.number == number) as (λ v. (batch.number == number) ≡ v
-    → cond (v && bytes_eq batch.collection collection) (Some batch) (batch_in collection number batches) ≡ chosen collection (cond v (Some batch) (numbered number batches))) [
+    → cond (v && bytes_eq batch.collection collection) (Some batch) (batch_in collection number batches) ≡ chosen collection (cond v (Some batch) (live_batch number batches))) [
       | true ↦ (λ t. elim (bytes_eq batch.collection collection) as (λ w. cond w (Some batch) (batch_in collection number batches) ≡ cond w (Some batch) None)
           [ true ↦ refl | false ↦ none-other number collection batch batches (same_number batch.number number t) distinct.0 ])
       | false ↦ (λ t. chosen-in number collection batches distinct.1)
@@ -57,7 +63,7 @@ chosen-in number collection (batch ∷ batches) distinct =
     same_number : (m n : ℕ) → (m == n) ≡ true → m ≡ n
     same_number m n = grind (arith, nat_tests)
 
-batch_of-chosen : (account : Plain) (collection : List ℕ) (number : ℕ) → IsValid account → batch_of account collection number ≡ chosen collection (numbered number account.batches)
+batch_of-chosen : (account : Plain) (collection : List ℕ) (number : ℕ) → IsValid account → batch_of account collection number ≡ chosen collection (live_batch number account.batches)
 batch_of-chosen account collection number valid =
     chosen-in number collection account.batches (Pairs-from_AllPairs (λ (batch other : Staged). batch.number ≢ other.number) account.batches valid.numbers)
 
@@ -66,9 +72,9 @@ abbrev pub parts_or_none : Result (List Part) StageFault → List Part
 parts_or_none (Ok parts) = parts
 parts_or_none (Err fault) = []
 
-pub staged-reached : (account : Plain) (collection : List ℕ) (number : ℕ) → IsValid account → staged_parts account collection number ≡ parts_or_none (reached (stage_of account) number collection)
+pub staged-reached : (account : Plain) (collection : List ℕ) (number : ℕ) → IsValid account → staged_parts account collection number ≡ parts_or_none (live_parts (stage_of account) number collection)
 staged-reached account collection number valid =
-    ap (λ o. option_map_or (λ (batch : Staged). batch.parts) o []) (batch_of-chosen account collection number valid) ∙ by (numbered number account.batches)
+    ap (λ o. option_map_or (λ (batch : Staged). batch.parts) o []) (batch_of-chosen account collection number valid) ∙ by (live_batch number account.batches)
   where
     by : (o : Option Staged) → option_map_or (λ (batch : Staged). batch.parts) (chosen collection o) [] ≡ parts_or_none (reach collection o)
     by None = refl
@@ -77,8 +83,8 @@ staged-reached account collection number valid =
         [ true ↦ refl | false ↦ refl ]
 
 -- a live batch has its number
-pub live-numbered : (account : Plain) (collection : List ℕ) (number : ℕ) → IsValid account → IsLive account collection number → IsSome (numbered number account.batches)
-live-numbered account collection number valid live = by (numbered number account.batches) (subst (λ o. IsSome o) (batch_of-chosen account collection number valid) live)
+pub live-numbered : (account : Plain) (collection : List ℕ) (number : ℕ) → IsValid account → IsLive account collection number → IsSome (live_batch number account.batches)
+live-numbered account collection number valid live = by (live_batch number account.batches) (subst (λ o. IsSome o) (batch_of-chosen account collection number valid) live)
   where
     by : (o : Option Staged) → IsSome (chosen collection o) → IsSome o
     by None h = h
@@ -122,7 +128,7 @@ continuing-verdict : (account : Plain) (collection : List ℕ) (number : ℕ) (p
 continuing-verdict account collection number parts valid =
     (λ i. first_some (None ∷ where_so (is_none (batch_of-chosen account collection number valid i)) NoBatch
     ∷ where_so (not (fit (option_map_or (λ (batch : Staged). batch.parts) (batch_of-chosen account collection number valid i) [] ++ parts))) BatchFull ∷ []))
-    ∙ by (numbered number account.batches)
+    ∙ by (live_batch number account.batches)
   where
     last : (o : Option Refusal) → first_some (None ∷ None ∷ o ∷ []) ≡ o
     last None = refl
@@ -216,11 +222,11 @@ begin-free account collection records condition fits e =
 
 -- a commit that is a write does it
 pub committed-effect : (account : Plain) (collection : List ℕ) (records : Records) (number : ℕ) (condition : Cond) → is_write account (Post collection records (Commit number) condition) ≡ true
-    → committed account collection records.parts number (stamp_in account) ≡ effect account (Post collection records (Commit number) condition)
+    → account_after_commit account collection records.parts number (stamp_in account) ≡ effect account (Post collection records (Commit number) condition)
 committed-effect account collection records number condition e = by (is_empty (staged_parts account collection number ++ records.parts)) refl e
   where
     by : (empty : Bool) → is_empty (staged_parts account collection number ++ records.parts) ≡ empty → not empty ≡ true
-        → committed account collection records.parts number (stamp_in account) ≡ effect account (Post collection records (Commit number) condition)
+        → account_after_commit account collection records.parts number (stamp_in account) ≡ effect account (Post collection records (Commit number) condition)
     by true is h = cc
     by false is h = sym (ap (λ b. record (cond b account (write account collection (staged_parts account collection number ++ records.parts) (stamp_in account))) { batches = batches_without number account.batches; counter = account.counter }) is)
 

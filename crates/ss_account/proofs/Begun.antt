@@ -1,5 +1,6 @@
 -- A begin, and what takes it back.
-use Rattle.std.specs.Prelude.{◌≡◌, ℕ, ◌+◌, ◌-◌, ◌≤◌, Bool, true, false, not, cond, ◌==◌, List, [], ◌∷◌, ◌++◌, filter, find, length, map, take, is_some, IsSome, IsSomeAnd, Option, Some, None, refl}
+use Rattle.std.specs.Prelude.{◌≡◌, ℕ, ◌+◌, ◌-◌, ◌≤◌, Bool, true, false, not, cond, ◌==◌, List, [], ◌∷◌, ◌++◌, filter}
+use Rattle.std.specs.Prelude.{find, length, map, take, is_some, IsSome, IsSomeAnd, Option, Some, None, refl}
 use Rattle.std.proofs.Common.{subst, sym, ap, ◌∙◌, arith}
 use Rattle.std.proofs.lemmas.Bool.Decides.{nat_tests}
 use Rattle.std.proofs.Math.Seq.{take-append_seam}
@@ -10,7 +11,8 @@ use Rattle.ss_bso.specs.declared.account.Plain.{Plain}
 use Rattle.ss_bso.specs.declared.account.Staged.{Staged}
 use Rattle.ss_bso.specs.Batches.{batches_without, grown}
 use Rattle.ss_bso.specs.Validity.{IsValid, IsValidBatch}
-use Rattle.ss_batch.specs.Stage.{append_fault, appended, begun, has_number, more, numbered, reach, shortened}
+use Rattle.ss_batch.specs.Stage.{append_fault, stage_after_append, begun, has_number, more, live_batch, reach}
+use Rattle.ss_batch.specs.Stage.{stage_after_cut}
 use Rattle.ss_account.specs.Steps.{stage_of, with_stage}
 use Rattle.ss_bso.proofs.Lists.{Each-imp, Each-from_All}
 use Rattle.ss_text.proofs.Basics.{own_number}
@@ -28,10 +30,10 @@ find-last {X} p (x ∷ xs) y e = elim (p x) as (λ v. is_some (cond v (Some x) (
 abbrev pub with_begun : Plain → List ℕ → List Part → Plain
 with_begun account collection parts = with_stage account (begun (stage_of account) account.moment collection parts)
 
-pub begun-live : (account left : Plain) (collection : List ℕ) (parts : List Part) → left ≡ with_begun account collection parts → IsSome (numbered left.counter left.batches)
+pub begun-live : (account left : Plain) (collection : List ℕ) (parts : List Part) → left ≡ with_begun account collection parts → IsSome (live_batch left.counter left.batches)
 begun-live account left collection parts e =
     let new : Staged = record { number = account.counter + 1; collection = collection; begun = account.moment; parts = parts } in
-    subst (λ (a : Plain). IsSome (numbered a.counter a.batches)) (sym e) (find-last (has_number (account.counter + 1)) account.batches new (own_number (account.counter + 1)))
+    subst (λ (a : Plain). IsSome (live_batch a.counter a.batches)) (sym e) (find-last (has_number (account.counter + 1)) account.batches new (own_number (account.counter + 1)))
 
 -- the last begin taken back leaves the account as it was
 pub begun-back : (account left back : Plain) (collection : List ℕ) (parts : List Part) → IsValid account → left ≡ with_begun account collection parts
@@ -57,33 +59,33 @@ long-grown number parts batch e =
     subst (λ v. length parts ≤ length (cond v (record batch { parts = batch.parts ++ parts }) batch).parts) (sym e) le
 
 -- the batch holds at least those parts
-long-appended : (number : ℕ) (parts : List Part) (batches : List Staged) → IsSome (numbered number batches) → IsSomeAnd (numbered number (map (grown number parts) batches)) (λ staged. length parts ≤ length staged.parts)
+long-appended : (number : ℕ) (parts : List Part) (batches : List Staged) → IsSome (live_batch number batches) → IsSomeAnd (live_batch number (map (grown number parts) batches)) (λ staged. length parts ≤ length staged.parts)
 long-appended number parts [] h = cc
 long-appended number parts (batch ∷ batches) h = by (batch.number == number) refl (λ rest. long-appended number parts batches rest)
   where
     test : (grown number parts batch).number == number ≡ (batch.number == number)
     test = ap (λ n. n == number) (number-grown number parts batch)
 
-    by : (v : Bool) → (batch.number == number) ≡ v → (IsSome (numbered number batches) → IsSomeAnd (numbered number (map (grown number parts) batches)) (λ staged. length parts ≤ length staged.parts))
-        → IsSomeAnd (numbered number (map (grown number parts) (batch ∷ batches))) (λ staged. length parts ≤ length staged.parts)
+    by : (v : Bool) → (batch.number == number) ≡ v → (IsSome (live_batch number batches) → IsSomeAnd (live_batch number (map (grown number parts) batches)) (λ staged. length parts ≤ length staged.parts))
+        → IsSomeAnd (live_batch number (map (grown number parts) (batch ∷ batches))) (λ staged. length parts ≤ length staged.parts)
     by true e others =
-        subst (λ v. IsSomeAnd (cond v (Some (grown number parts batch)) (numbered number (map (grown number parts) batches))) (λ (staged : Staged). length parts ≤ length staged.parts)) (sym (test ∙ e))
+        subst (λ v. IsSomeAnd (cond v (Some (grown number parts batch)) (live_batch number (map (grown number parts) batches))) (λ (staged : Staged). length parts ≤ length staged.parts)) (sym (test ∙ e))
         (long-grown number parts batch e)
     by false e others =
-        subst (λ v. IsSomeAnd (cond v (Some (grown number parts batch)) (numbered number (map (grown number parts) batches))) (λ (staged : Staged). length parts ≤ length staged.parts)) (sym (test ∙ e))
-        (others (subst (λ v. IsSome (cond v (Some batch) (numbered number batches))) e h))
+        subst (λ v. IsSomeAnd (cond v (Some (grown number parts batch)) (live_batch number (map (grown number parts) batches))) (λ (staged : Staged). length parts ≤ length staged.parts)) (sym (test ∙ e))
+        (others (subst (λ v. IsSome (cond v (Some batch) (live_batch number batches))) e h))
 
-fault-live : (account : Plain) (number : ℕ) (collection : List ℕ) (parts : List Part) → append_fault (stage_of account) number collection parts ≡ None → IsSome (numbered number account.batches)
-fault-live account number collection parts e = by (numbered number account.batches) e
+fault-live : (account : Plain) (number : ℕ) (collection : List ℕ) (parts : List Part) → append_fault (stage_of account) number collection parts ≡ None → IsSome (live_batch number account.batches)
+fault-live account number collection parts e = by (live_batch number account.batches) e
   where
     by : (o : Option Staged) → more parts (reach collection o) ≡ None → IsSome o
     by None h = cc
     by (Some batch) h = refl
 
-pub appended-long : (account left : Plain) (number : ℕ) (collection : List ℕ) (parts : List Part) → append_fault (stage_of account) number collection parts ≡ None → left ≡ with_stage account (appended (stage_of account) number parts)
-    → IsSomeAnd (numbered number left.batches) (λ staged. length parts ≤ length staged.parts)
+pub appended-long : (account left : Plain) (number : ℕ) (collection : List ℕ) (parts : List Part) → append_fault (stage_of account) number collection parts ≡ None → left ≡ with_stage account (stage_after_append (stage_of account) number parts)
+    → IsSomeAnd (live_batch number left.batches) (λ staged. length parts ≤ length staged.parts)
 appended-long account left number collection parts fits e =
-    subst (λ (a : Plain). IsSomeAnd (numbered number a.batches) (λ (staged : Staged). length parts ≤ length staged.parts)) (sym e) (long-appended number parts account.batches (fault-live account number collection parts fits))
+    subst (λ (a : Plain). IsSomeAnd (live_batch number a.batches) (λ (staged : Staged). length parts ≤ length staged.parts)) (sym e) (long-appended number parts account.batches (fault-live account number collection parts fits))
 
 -- the parts before the last ones
 before-last : (xs ys : List Part) → take (length (xs ++ ys) - length ys) (xs ++ ys) ≡ xs
@@ -110,7 +112,7 @@ all-back number parts [] = refl
 all-back number parts (batch ∷ batches) = λ i. one-back number parts batch i ∷ all-back number parts batches i
 
 -- the last append taken back leaves the account as it was
-pub appended-back : (account left back : Plain) (number : ℕ) (parts : List Part) → left ≡ with_stage account (appended (stage_of account) number parts)
-    → back ≡ with_stage left (shortened (stage_of left) number (length parts)) → back ≡ account
+pub appended-back : (account left back : Plain) (number : ℕ) (parts : List Part) → left ≡ with_stage account (stage_after_append (stage_of account) number parts)
+    → back ≡ with_stage left (stage_after_cut (stage_of left) number (length parts)) → back ≡ account
 appended-back account left back number parts e b =
-    b ∙ ap (λ (a : Plain). with_stage a (shortened (stage_of a) number (length parts))) e ∙ (λ i. record account { batches = all-back number parts account.batches i })
+    b ∙ ap (λ (a : Plain). with_stage a (stage_after_cut (stage_of a) number (length parts))) e ∙ (λ i. record account { batches = all-back number parts account.batches i })

@@ -1,5 +1,6 @@
 -- What is kept of an account after its clock was read, and what is held of it after a write, a begin, an append and a commit.
-use Rattle.std.specs.Prelude.{◌≡◌, ℕ, ◌≤◌, ◌+◌, nat_lt, ◌==◌, Bool, true, false, not, ◌&&◌, ◌||◌, cond, List, [], ◌∷◌, ◌++◌, filter, find, fold, map, bytes_eq, Option, Some, None, IsSomeAnd, option_map, refl}
+use Rattle.std.specs.Prelude.{◌≡◌, ℕ, ◌≤◌, ◌+◌, nat_lt, ◌==◌, Bool, true, false, not, ◌&&◌, ◌||◌, cond, List, [], ◌∷◌}
+use Rattle.std.specs.Prelude.{◌++◌, filter, find, fold, map, bytes_eq, Option, Some, None, IsSomeAnd, option_map, refl}
 use Rattle.std.specs.Option.{option_map_or}
 use Rattle.std.specs.List.{list_any}
 use Rattle.std.proofs.Common.{subst, sym, ap, ◌∙◌, arith}
@@ -15,7 +16,8 @@ use Rattle.ss_bso.specs.declared.changes.Kept.{Kept}
 use Rattle.ss_bso.specs.declared.changes.Changes.{Changes}
 use Rattle.ss_bso.specs.declared.parts.Part.{Part}
 use Rattle.ss_bso.specs.declared.changes.BatchChange.{BatchChange}
-use Rattle.ss_bso.specs.declared.changes.BatchChange.TheVariants.{End as EndBatch, Begin as BeginBatch, Append as AppendParts}
+use Rattle.ss_bso.specs.declared.changes.BatchChange.TheVariants.{End as EndBatch, Begin as BeginBatch}
+use Rattle.ss_bso.specs.declared.changes.BatchChange.TheVariants.{Append as AppendParts}
 use Rattle.ss_bso.specs.declared.changes.RowChange.TheVariants.{Put as PutRow}
 use Rattle.ss_bso.specs.declared.changes.CollectionChange.TheVariants.{Drop as DropName}
 use Rattle.ss_bso.specs.Account.{is_alive, is_open, tick, time_of}
@@ -23,18 +25,22 @@ use Rattle.ss_bso.specs.Batches.{batches_without, grown}
 use Rattle.ss_bso.specs.Changes.{batches_changed, changed, drops, kept_of, row_changed}
 use Rattle.ss_bso.specs.Validity.{IsValid, SameAccount}
 use Rattle.ss_bso.specs.Write.{is_among, rows_without}
-use Rattle.ss_batch.specs.Stage.{appended, begun}
+use Rattle.ss_batch.specs.Stage.{stage_after_append, begun}
 use Rattle.ss_keeper.specs.Keeping.{changed_by}
-use Rattle.ss_account.specs.Keeping.{IsHeldBy, IsKept, IsKeptBeside, IsKeptBesideBy, IsKeptBy, IsSwept, IsWhole, has_ended}
+use Rattle.ss_account.specs.Keeping.{IsHeldBy, IsKeptAccount, IsKeptBeside, IsKeptBesideBy, IsKeptBy, IsSwept, IsWhole}
+use Rattle.ss_account.specs.Keeping.{has_ended}
 use Rattle.ss_account.specs.Steps.{stage_of, with_stage}
 use Rattle.ss_writes.specs.declared.pending.Pending.{Pending}
 use Rattle.ss_writes.specs.declared.pending.Pending.TheVariants.{Put, Cut, DropCollection, DropAll}
-use Rattle.ss_writes.specs.Pending.{IsReady, IsPutReady, append_changes, applied, batch_changes, batches_left, begin_changes, changes_to, ended_by, numbers_of}
+use Rattle.ss_writes.specs.Pending.{IsReady, IsPutReady, append_changes, account_after_pending, batch_changes}
+use Rattle.ss_writes.specs.Pending.{batches_left, begin_changes, changes_to, ended_by, numbers_of}
 use Rattle.ss_bso.proofs.Lists.{Each-imp, Each-from_All, Pairs-from_AllPairs}
-use Rattle.ss_bso.proofs.Reordering.{reordered-filter, reordered-append_right, reordered-map, reordered-refl, reordered-sym}
+use Rattle.ss_bso.proofs.Reordering.{reordered-filter, reordered-append_right, reordered-map, reordered-refl}
+use Rattle.ss_bso.proofs.Reordering.{reordered-sym}
 use Rattle.ss_bso.specs.Lists.{Each, Apart}
 use Rattle.ss_laws.proofs.Written.{IsItem}
-use Rattle.ss_account.proofs.Ending.{Noted, OtherNumber, batches-ended, batches-one, filter-all_gone, filter-ended, filter-named, noted-later, noted-none, noted-open}
+use Rattle.ss_account.proofs.Ending.{Noted, OtherNumber, batches-ended, batches-one, filter-all_gone, filter-ended}
+use Rattle.ss_account.proofs.Ending.{filter-named, noted-later, noted-none, noted-open}
 use Rattle.ss_writes.proofs.Changing.{filter-true, filter-absorb, is_covered, puts_are, covered_is, drops_are, no_times}
 use Rattle.ss_text.proofs.Basics.{or_false, or_true, bytes_eq-sym, bytes_eq-same, number_turned}
 use Rattle.ss_index.proofs.Shelves.{filter-none}
@@ -69,7 +75,7 @@ beside-tick ended kept account now valid h =
     }
 
 -- what is kept beside what has ended is kept
-kept-beside : (ended : List ℕ) (kept : Kept) (account : Plain) → IsKeptBeside ended kept account → IsKept kept account
+kept-beside : (ended : List ℕ) (kept : Kept) (account : Plain) → IsKeptBeside ended kept account → IsKeptAccount kept account
 kept-beside ended kept account h = record {
   rows = h.rows;
   batches = λ moment le. noted-open ended kept.batches account.batches account.moment moment le (noted h);
@@ -161,7 +167,7 @@ batches-applied ended kept account pending valid h =
 
 -- after a write
 pub whole-applied : (ended : List ℕ) (kept : Kept) (account : Plain) (time : ℕ) (pending : Pending) → IsValid account → IsReady account time pending → IsSwept account → IsKeptBeside ended kept account
-    → IsWhole (changed kept (changes_to account ended time pending)) (applied account time pending)
+    → IsWhole (changed kept (changes_to account ended time pending)) (account_after_pending account time pending)
 whole-applied ended kept account time (Put collection targets made batch) valid ready swept h =
     let alive : List Row = filter (is_alive account.moment) kept.rows in
     let keep : Row → Bool = λ row. not (bytes_eq row.collection collection && is_among targets row.id) in
@@ -263,10 +269,10 @@ beside-told ended None account kept h e = cc
 beside-told ended (Some x) account kept h e = let same : x ≡ kept = cc in subst (λ (k : Kept). IsKeptBeside ended k account) same h
 
 pub held_by-applied : (ended : List ℕ) (told now : Option Kept) (account left : Plain) (time : ℕ) (pending : Pending) (changes : Changes) → IsValid account → IsReady account time pending → IsSwept account
-    → changes ≡ changes_to account ended time pending → now ≡ changed_by changes told → SameAccount (applied account time pending) left → IsKeptBesideBy ended told account → IsHeldBy now left
+    → changes ≡ changes_to account ended time pending → now ≡ changed_by changes told → SameAccount (account_after_pending account time pending) left → IsKeptBesideBy ended told account → IsHeldBy now left
 held_by-applied ended told now account left time pending changes valid ready swept c e l h =
-    held_by-same now (applied account time pending) left l
-    (held-after told now changes (changes_to account ended time pending) (applied account time pending)
+    held_by-same now (account_after_pending account time pending) left l
+    (held-after told now changes (changes_to account ended time pending) (account_after_pending account time pending)
     (λ kept is. whole-applied ended kept account time pending valid ready swept (beside-told ended told account kept h is)) c e)
 
 -- after a begin, an append and the end of a batch, which leave the rest as it is
@@ -321,7 +327,7 @@ held_by-begin ended told now account left collection parts changes swept c e l h
 
 pub held_by-append : (ended : List ℕ) (told now : Option Kept) (account left : Plain) (number : ℕ) (parts : List Part) (changes : Changes) → IsSwept account
     → changes ≡ append_changes account ended number parts → now ≡ changed_by changes told
-    → left ≡ with_stage account (appended (stage_of account) number parts) → IsKeptBesideBy ended told account → IsHeldBy now left
+    → left ≡ with_stage account (stage_after_append (stage_of account) number parts) → IsKeptBesideBy ended told account → IsHeldBy now left
 held_by-append ended told now account left number parts changes swept c e l h =
     subst (λ (a : Plain). IsHeldBy now a) (sym l)
     (held-after told now changes (append_changes account ended number parts) (record account { counter = account.counter; batches = map (grown number parts) account.batches })

@@ -1,5 +1,7 @@
 -- What is known where no collection and no row is bad, and where the first one is.
-use Rattle.std.specs.Prelude.{◌≡◌, ℕ, ◌+◌, ◌≤◌, ◌<◌, ◌==◌, max, filter, Bool, true, false, not, ◌&&◌, ◌||◌, cond, nat_le, nat_lt, List, [], ◌∷◌, ◌++◌, length, take, drop, get_or, find, bytes_eq, is_none, Option, Some, None, IfSome, IsSomeAnd, All, AllPairs, option_map, refl}
+use Rattle.std.specs.Prelude.{◌≡◌, ℕ, ◌+◌, ◌≤◌, ◌<◌, ◌==◌, max, filter, Bool, true, false, not, ◌&&◌, ◌||◌, cond}
+use Rattle.std.specs.Prelude.{nat_le, nat_lt, List, [], ◌∷◌, ◌++◌, length, take, drop, get_or, find, bytes_eq, is_none}
+use Rattle.std.specs.Prelude.{Option, Some, None, IfSome, IsSomeAnd, All, AllPairs, option_map, refl}
 use Rattle.std.specs.List.{list_any}
 use Rattle.std.specs.Option.{option_map_or}
 use Rattle.std.proofs.Common.{sym, ap, subst, ◌∙◌, arith, add-one, drop-cons}
@@ -15,19 +17,22 @@ use Rattle.ss_bso.specs.declared.account.Staged.{Staged}
 use Rattle.ss_bso.specs.Batches.{fit}
 use Rattle.ss_bso.specs.Changes.{kept_of, latest, opened, plain_of}
 use Rattle.ss_bso.proofs.Full.{within-both, within-bytes, within-number}
-use Rattle.ss_bso.specs.Limits.{is_too_much, most_batch_bytes, most_batch_records, most_live_batches, most_account_payload_bytes, most_rows_and_collections, part_bytes, row_bytes}
+use Rattle.ss_bso.specs.Limits.{is_too_much, most_batch_bytes, most_batch_records, most_live_batches}
+use Rattle.ss_bso.specs.Limits.{most_account_payload_bytes, most_rows_and_collections, part_bytes, row_bytes}
 use Rattle.ss_bso.specs.Validity.{IsValid, IsValidBatch, SameAccount}
 use Rattle.ss_account.specs.Keeping.{IsHeldBy}
 use Rattle.ss_account.specs.Opening.{IsGood, first_bad, is_astray, is_bad_batch, is_bad_collection, is_bad_row}
 use Rattle.ss_writes.specs.Parts.{or_else}
-use Rattle.ss_bso.proofs.Lists.{Each-and, Each-imp, Each-from_All, Pairs-from_AllPairs, All-from_Each, AllPairs-from_Pairs}
+use Rattle.ss_bso.proofs.Lists.{Each-and, Each-imp, Each-from_All, Pairs-from_AllPairs, All-from_Each}
+use Rattle.ss_bso.proofs.Lists.{AllPairs-from_Pairs}
 use Rattle.ss_bso.specs.Lists.{Each, Pairs, Apart}
 use Rattle.ss_laws.proofs.Written.{IsItem}
 use Rattle.ss_query.proofs.Orders.{NamedApart}
 use Rattle.ss_account.proofs.Ending.{OtherNumber, open_now}
 use Rattle.ss_writes.proofs.Changing.{filter-absorb}
 use Rattle.ss_laws.proofs.SameValid.{valid-same}
-use Rattle.ss_text.proofs.Basics.{both_left, both_right, neither_left, neither_right, bytes_eq-sym, bytes_eq-flip, take_push}
+use Rattle.ss_text.proofs.Basics.{both_left, both_right, neither_left, neither_right, bytes_eq-sym, bytes_eq-flip}
+use Rattle.ss_text.proofs.Basics.{take_push}
 use Rattle.std.proofs.lemmas.Bool.{not-false, eqb-false, ltb-false, ne_eqb, le-ltb}
 use Rattle.ss_bso.proofs.Places.{apart_flip}
 

@@ -1,5 +1,6 @@
 -- What a write of parts makes ready.
-use Rattle.std.specs.Prelude.{◌≡◌, ℕ, ◌+◌, ◌≤◌, length, true, false, ◌&&◌, ◌||◌, cond, List, [], ◌∷◌, filter_map, map, bytes_eq, IsFalse, IsSome, IsSomeAnd, IfSome, Option, Some, None, refl}
+use Rattle.std.specs.Prelude.{◌≡◌, ℕ, ◌+◌, ◌≤◌, length, true, false, ◌&&◌, ◌||◌, cond, List, [], ◌∷◌, filter_map, map}
+use Rattle.std.specs.Prelude.{bytes_eq, IsFalse, IsSome, IsSomeAnd, IfSome, Option, Some, None, refl}
 use Rattle.std.specs.List.{cons_option}
 use Rattle.std.proofs.Common.{sym, ap, subst, ◌∙◌, arith}
 use Rattle.std.proofs.lemmas.List.{length-append}
@@ -10,11 +11,12 @@ use Rattle.ss_bso.specs.Account.{row_at}
 use Rattle.ss_bso.specs.Put.{put}
 use Rattle.ss_bso.specs.Limits.{most_rows_and_collections}
 use Rattle.ss_bso.specs.Write.{ids_of, is_among, parts_of, put_all, rows_without, rows_written, stamped}
-use Rattle.ss_batch.specs.Stage.{numbered}
+use Rattle.ss_batch.specs.Stage.{live_batch}
 use Rattle.ss_query.specs.Effect.{is_over}
 use Rattle.ss_writes.specs.Pending.{IsPutReady}
 use Rattle.ss_bso.proofs.Full.{within-number}
-use Rattle.ss_bso.proofs.Lists.{Each-imp, Each-filter_map, Pairs-filter_map, All-from_Each, AllPairs-from_Pairs, Each-any}
+use Rattle.ss_bso.proofs.Lists.{Each-imp, Each-filter_map, Pairs-filter_map, All-from_Each, AllPairs-from_Pairs}
+use Rattle.ss_bso.proofs.Lists.{Each-any}
 use Rattle.ss_bso.specs.Lists.{Each, Apart}
 use Rattle.ss_laws.proofs.Times.{once_by-distinct}
 use Rattle.ss_laws.proofs.Written.{made, made_named}
@@ -64,7 +66,7 @@ ids_made make (id ∷ ids) e h =
       | Some row ↦ (λ is _. (λ i. h id row is i ∷ ids_made make ids e.1 h i))
     ] refl e.0
 
-pub put_ready : (account : Plain) (collection : List ℕ) (parts : List Part) (time : ℕ) (batch : Option ℕ) → IfSome batch (λ number. IsSome (numbered number account.batches))
+pub put_ready : (account : Plain) (collection : List ℕ) (parts : List Part) (time : ℕ) (batch : Option ℕ) → IfSome batch (λ number. IsSome (live_batch number account.batches))
     → length (filter_map (made collection parts time account.rows) (ids_of parts)) ≤ most_rows_and_collections
     → IsPutReady account time collection (ids_of parts) (filter_map (made collection parts time account.rows) (ids_of parts)) batch
 put_ready account collection parts time batch live few =

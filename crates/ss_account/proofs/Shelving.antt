@@ -1,5 +1,6 @@
 -- What a shelf is asked for by a write, and what it then has.
-use Rattle.std.specs.Prelude.{◌≡◌, ℕ, ◌+◌, ◌≤◌, ◌<◌, ◌^◌, ◌-◌, List, [], ◌∷◌, length, filter, map, not, bytes_eq, IsSomeAnd}
+use Rattle.std.specs.Prelude.{◌≡◌, ℕ, ◌+◌, ◌≤◌, ◌<◌, ◌^◌, ◌-◌, List, [], ◌∷◌, length, filter, map, not, bytes_eq}
+use Rattle.std.specs.Prelude.{IsSomeAnd}
 use Rattle.std.proofs.Common.{sym, ap, subst, ◌∙◌, arith}
 use Rattle.std.proofs.lemmas.List.{length-map}
 use Rattle.ss_text.specs.Texts.{Reordered, chain}
@@ -23,7 +24,7 @@ use Rattle.ss_laws.proofs.Times.{item_below}
 use Rattle.ss_account.specs.Keeping.{IsSwept}
 use Rattle.ss_writes.specs.declared.pending.Pending.{Pending}
 use Rattle.ss_writes.specs.declared.pending.Pending.TheVariants.{Put, Cut, DropCollection, DropAll}
-use Rattle.ss_writes.specs.Pending.{IsReady, applied, batches_left, changes_to, row_changes, times_left}
+use Rattle.ss_writes.specs.Pending.{IsReady, account_after_pending, batches_left, changes_to, row_changes, times_left}
 use Rattle.ss_account.proofs.Keeping.{beside-whole, whole-applied, whole-own}
 
 -- a change puts a row of this time, or none
@@ -103,7 +104,7 @@ shelf-times account ended time pending changes valid ready later e =
 
 -- and then has the rows after the write
 pub shelf-applied : (account : Plain) (ended : List ℕ) (time : ℕ) (pending : Pending) (changes : Changes) (rows : List Row) → IsValid account → IsReady account time pending → IsSwept account → changes ≡ changes_to account ended time pending
-    → Reordered rows (changed (kept_of account) changes).rows → Reordered (applied account time pending).rows rows
+    → Reordered rows (changed (kept_of account) changes).rows → Reordered (account_after_pending account time pending).rows rows
 shelf-applied account ended time pending changes rows valid ready swept e h =
     let whole = whole-applied [] (kept_of account) account time pending valid ready swept (beside-whole (kept_of account) account (whole-own account)) in
     chain whole.rows (reordered-sym (subst (λ (c : Changes). Reordered rows (changed (kept_of account) c).rows) e h))
@@ -111,7 +112,7 @@ shelf-applied account ended time pending changes rows valid ready swept e h =
 -- and the account is the one after the write
 pub kept-applied : (account : Plain) (ended : List ℕ) (time : ℕ) (pending : Pending) (changes : Changes) (left : Plain) → IsValid account → IsReady account time pending → IsSwept account → changes ≡ changes_to account ended time pending
     → Reordered left.rows (changed (kept_of account) changes).rows → left.collections ≡ times_left time pending account.collections → left.batches ≡ batches_left pending account.batches
-    → left.store ≡ time → left.last_delete ≡ changes.last_delete → left.moment ≡ time → left.counter ≡ account.counter → SameAccount (applied account time pending) left
+    → left.store ≡ time → left.last_delete ≡ changes.last_delete → left.moment ≡ time → left.counter ≡ account.counter → SameAccount (account_after_pending account time pending) left
 kept-applied account ended time pending changes left valid ready swept e rows collections batches store last_delete moment counter = record {
   rows = shelf-applied account ended time pending changes left.rows valid ready swept e rows;
   collections = subst (λ (times : List (List ℕ × ℕ)). Reordered (times_left time pending account.collections) times) (sym collections) (reordered-refl (times_left time pending account.collections));

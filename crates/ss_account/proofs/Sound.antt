@@ -1,5 +1,6 @@
 -- An account stays sound: when it is opened, when its clock is read, and when its keeper was asked.
-use Rattle.std.specs.Prelude.{◌≡◌, ℕ, ◌+◌, ◌≤◌, Bool, not, List, [], ◌++◌, length, filter, Option, Some, None, IfSome, refl}
+use Rattle.std.specs.Prelude.{◌≡◌, ℕ, ◌+◌, ◌≤◌, Bool, not, List, [], ◌++◌, length, filter, Option, Some, None, IfSome}
+use Rattle.std.specs.Prelude.{refl}
 use Rattle.std.proofs.Common.{subst, sym, ap, ◌∙◌, arith}
 use Rattle.std.proofs.lemmas.List.{length-append, length-map}
 use Rattle.ss_text.specs.Time.{after, last_stamp}
@@ -11,11 +12,11 @@ use Rattle.ss_bso.specs.Changes.{kept_of, opened, plain_of}
 use Rattle.ss_bso.specs.Limits.{most_live_batches}
 use Rattle.ss_bso.specs.Validity.{IsValid, SameAccount}
 use Rattle.ss_bso.proofs.Reordering.{reordered-sym}
-use Rattle.ss_keeper.specs.Keeping.{IsTold}
+use Rattle.ss_keeper.specs.Keeping.{TellsKept}
 use Rattle.ss_laws.proofs.SameApi.{tick-same}
 use Rattle.ss_laws.proofs.SameValid.{valid-same}
 use Rattle.ss_laws.proofs.Valid.{valid-tick}
-use Rattle.ss_account.specs.Keeping.{IsHeldBy, IsKeptBeside, IsKeptBesideBy, IsOpened, IsSound, IsWhole}
+use Rattle.ss_account.specs.Keeping.{IsHeldBy, IsKeptBeside, IsKeptBesideBy, IsOpenedAccount, IsSound, IsWhole}
 use Rattle.ss_account.specs.Opening.{IsGood}
 use Rattle.ss_writes.specs.Pending.{numbers_of}
 use Rattle.ss_account.proofs.Ending.{length-parted}
@@ -34,7 +35,7 @@ whole-plain_of kept account s = record {
 }
 
 -- what is told where this was given
-told-as : (told : Option Kept) (kept : Kept) (P : Kept → Type 0) → IsTold kept told → P kept → IfSome told P
+told-as : (told : Option Kept) (kept : Kept) (P : Kept → Type 0) → TellsKept kept told → P kept → IfSome told P
 told-as None kept P is p = tt
 told-as (Some x) kept P is p = subst P (is x refl) p
 
@@ -77,8 +78,8 @@ sound-tick told account left ended more now l e h =
     by (Some kept) k = beside-tick ended kept account now h.valid k
 
 -- an account that was opened
-pub opened-sound : (told : Option Kept) (kept : Kept) (account left : Plain) (ended more : List ℕ) → IsTold kept told → IsGood kept → account.moment ≤ last_stamp → SameAccount (plain_of kept) account → account ≡ plain_of (kept_of account) → ended ≡ []
-    → left ≡ tick account 0 → more ≡ ended ++ numbers_of (filter (λ batch. not (is_open left.moment batch)) account.batches) → IsOpened told left more
+pub opened-sound : (told : Option Kept) (kept : Kept) (account left : Plain) (ended more : List ℕ) → TellsKept kept told → IsGood kept → account.moment ≤ last_stamp → SameAccount (plain_of kept) account → account ≡ plain_of (kept_of account) → ended ≡ []
+    → left ≡ tick account 0 → more ≡ ended ++ numbers_of (filter (λ batch. not (is_open left.moment batch)) account.batches) → IsOpenedAccount told left more
 opened-sound told kept account left ended more is good last a own e l m =
     let valid : IsValid account = valid-same (plain_of kept) account (valid-plain_of kept (subst (λ (moment : ℕ). moment ≤ last_stamp) (sym a.moment) last) good) a in
     let few : length account.batches ≤ most_live_batches = valid.few in

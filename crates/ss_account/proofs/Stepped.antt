@@ -14,7 +14,7 @@ use Rattle.ss_query.specs.Marks.{mark_of}
 use Rattle.ss_bso.specs.Validity.{IsValid, SameAccount}
 use Rattle.ss_query.specs.Fit.{IsFitRequest}
 use Rattle.ss_query.specs.Api.{api, outcome, refusal}
-use Rattle.ss_laws.specs.Journals.{marked}
+use Rattle.ss_laws.specs.Journals.{marked_outcome}
 use Rattle.ss_account.specs.Steps.{plain_reply}
 use Rattle.ss_bso.proofs.Reordering.{same-self}
 use Rattle.ss_account.proofs.Stepping.{api-mark}
@@ -29,8 +29,8 @@ pub record Sides : Type 0 where
   pub faults_after : ℕ
 
 pub record Stepped (account : Plain) (now : ℕ) (request : Request) (reply : Reply) (left : Plain) (s : Sides) : Type 0 where
-  pub same : SameAccount (marked account now request (mark_of reply)).account left
-  pub told : reply ≡ (marked account now request (mark_of reply)).reply
+  pub same : SameAccount (marked_outcome account now request (mark_of reply)).account left
+  pub told : reply ≡ (marked_outcome account now request (mark_of reply)).reply
   pub valid : IsValid left
   pub refused : (mark_of reply ≡ Done → ⊥) → s.told_after ≡ s.told
   pub cause : mark_of reply ≡ Keeper → Rose s.faults s.faults_after
@@ -42,8 +42,8 @@ stepped-done account ticked now request reply left s e valid fit_request r l =
     let same : SameAccount (api account now request).account left = subst (λ (t : Plain). SameAccount (outcome t request (refusal t request)).account left) e l in
     let mark : mark_of reply ≡ Done = ap mark_of told ∙ api-mark (tick account now) request (refusal (tick account now) request) in
     record {
-      same = subst (λ m. SameAccount (marked account now request m).account left) (sym mark) same;
-      told = subst (λ m. reply ≡ (marked account now request m).reply) (sym mark) told;
+      same = subst (λ m. SameAccount (marked_outcome account now request m).account left) (sym mark) same;
+      told = subst (λ m. reply ≡ (marked_outcome account now request m).reply) (sym mark) told;
       valid = valid-same (api account now request).account left (valid-api account now request valid fit_request) same;
       refused = λ no. absurd (no mark);
       cause = λ k. absurd (let no : Done ≡ Keeper = sym mark ∙ k in cc);
@@ -56,8 +56,8 @@ stepped-memory account ticked now request reply left s e valid r l t =
     let told : reply ≡ plain_reply (tick account now).moment 507 None (Said MemoryWord) = r ∙ ap (λ (a : Plain). plain_reply a.moment 507 None (Said MemoryWord)) same in
     let mark : mark_of reply ≡ Memory = ap mark_of told in
     record {
-      same = subst (λ m. SameAccount (marked account now request m).account left) (sym mark) (subst (λ (a : Plain). SameAccount (tick account now) a) (sym same) (same-self (tick account now)));
-      told = subst (λ m. reply ≡ (marked account now request m).reply) (sym mark) told;
+      same = subst (λ m. SameAccount (marked_outcome account now request m).account left) (sym mark) (subst (λ (a : Plain). SameAccount (tick account now) a) (sym same) (same-self (tick account now)));
+      told = subst (λ m. reply ≡ (marked_outcome account now request m).reply) (sym mark) told;
       valid = subst IsValid (sym same) (valid-tick account now valid);
       refused = λ no. t;
       cause = λ k. absurd (let no : Memory ≡ Keeper = sym mark ∙ k in cc);
@@ -70,8 +70,8 @@ stepped-keeper account ticked now request reply left s e valid r l t rose =
     let told : reply ≡ plain_reply (tick account now).moment 503 None (Said KeeperWord) = r ∙ ap (λ (a : Plain). plain_reply a.moment 503 None (Said KeeperWord)) same in
     let mark : mark_of reply ≡ Keeper = ap mark_of told in
     record {
-      same = subst (λ m. SameAccount (marked account now request m).account left) (sym mark) (subst (λ (a : Plain). SameAccount (tick account now) a) (sym same) (same-self (tick account now)));
-      told = subst (λ m. reply ≡ (marked account now request m).reply) (sym mark) told;
+      same = subst (λ m. SameAccount (marked_outcome account now request m).account left) (sym mark) (subst (λ (a : Plain). SameAccount (tick account now) a) (sym same) (same-self (tick account now)));
+      told = subst (λ m. reply ≡ (marked_outcome account now request m).reply) (sym mark) told;
       valid = subst IsValid (sym same) (valid-tick account now valid);
       refused = λ no. t;
       cause = λ k. rose;

@@ -1,12 +1,14 @@
 -- What the parts of a step come to.
-use Rattle.std.specs.Prelude.{◌≡◌, ℕ, ◌≤◌, ◌+◌, Bool, true, false, cond, List, [], ◌∷◌, ◌&&◌, nat_le, length, filter, map, not, bytes_eq, is_none, Option, Some, None, option_map, Result, IfOk, refl}
+use Rattle.std.specs.Prelude.{◌≡◌, ℕ, ◌≤◌, ◌+◌, Bool, true, false, cond, List, [], ◌∷◌, ◌&&◌, nat_le, length, filter}
+use Rattle.std.specs.Prelude.{map, not, bytes_eq, is_none, Option, Some, None, option_map, Result, IfOk, refl}
 use Rattle.std.proofs.Common.{sym, ap, subst, ◌∙◌, arith}
 use Rattle.ss_text.specs.Time.{last_stamp}
 use Rattle.ss_text.specs.declared.stamps.Cond.TheVariants.{Free}
 use Rattle.ss_bso.specs.declared.rows.Row.{Row}
 use Rattle.ss_bso.specs.declared.account.Plain.{Plain}
 use Rattle.ss_query.specs.declared.requests.Request.{Request}
-use Rattle.ss_query.specs.declared.requests.Request.TheVariants.{Info, DeleteAll, List as ListOf, Post, DeleteCollection, DeleteIds, Get, Put, Delete}
+use Rattle.ss_query.specs.declared.requests.Request.TheVariants.{Info, DeleteAll, List as ListOf, Post}
+use Rattle.ss_query.specs.declared.requests.Request.TheVariants.{DeleteCollection, DeleteIds, Get, Put, Delete}
 use Rattle.ss_query.specs.declared.requests.Mode.TheVariants.{Plain as PlainPost, Begin, Append, Commit}
 use Rattle.ss_query.specs.declared.replies.Mark.TheVariants.{Done}
 use Rattle.ss_query.specs.Marks.{mark_of}
@@ -15,7 +17,8 @@ use Rattle.ss_bso.specs.Limits.{most_account_payload_bytes, most_rows_and_collec
 use Rattle.ss_bso.proofs.Full.{within-both, within-bytes, within-number}
 use Rattle.ss_bso.specs.Validity.{IsWithinLimits, SameAccount}
 use Rattle.ss_bso.proofs.Reordering.{same-self}
-use Rattle.ss_query.specs.Refused.{Refusal, NoItem, NotModified, WasModified, NoMoreBatches, NoBatch, BatchFull, ClockEnded, AccountFull, target_time}
+use Rattle.ss_query.specs.Refused.{Refusal, NoItem, NotModified, WasModified, NoMoreBatches, NoBatch, BatchFull}
+use Rattle.ss_query.specs.Refused.{ClockEnded, AccountFull, target_time}
 use Rattle.ss_query.specs.Effect.{effect, is_over, is_write, stamp_in}
 use Rattle.ss_query.specs.Told.{body_of, by_name, count_of, next_of, ok_status, per_collection}
 use Rattle.ss_query.specs.declared.replies.Body.{Body}
@@ -23,9 +26,9 @@ use Rattle.ss_query.specs.Api.{first_some, outcome, time_told, where_so}
 use Rattle.ss_account.specs.declared.infos.Measure.{Measure}
 use Rattle.ss_account.specs.declared.infos.Measure.TheVariants.{Records, Bytes}
 use Rattle.ss_writes.specs.declared.pending.Pending.{Pending}
-use Rattle.ss_writes.specs.Pending.{Settles, Tells, applied}
+use Rattle.ss_writes.specs.Pending.{Settles, Tells, account_after_pending}
 use Rattle.ss_index.specs.Numbers.{capped}
-use Rattle.ss_account.specs.Steps.{counted, late_refusal, number_of, plain_reply}
+use Rattle.ss_account.specs.Steps.{counted_rows, late_refusal, number_of, plain_reply}
 use Rattle.ss_bso.proofs.Lists.{sum_by-filter_le}
 use Rattle.ss_laws.proofs.CommitLaw.{over_test}
 use Rattle.ss_text.proofs.Basics.{length-filter_le}
@@ -76,7 +79,7 @@ written-reply account request time pending body writes clock is t =
 -- and the account that it leaves
 pub written-account : (account : Plain) (request : Request) (time : ℕ) (pending : Pending) (body : Body) → is_write account request ≡ true → nat_le last_stamp account.store ≡ false
     → Tells account time (effect account request) (body_of account request (stamp_in account)) (Some (pending, body))
-    → (outcome account request (late_refusal account request)).account ≡ applied account time pending
+    → (outcome account request (late_refusal account request)).account ≡ account_after_pending account time pending
 written-account account request time pending body writes clock t =
     let none : late_refusal account request ≡ None = λ i. first_some (where_so (writes i && clock i) ClockEnded ∷ where_so (writes i && t.0 i) AccountFull ∷ []) in
     ap (λ why. (outcome account request why).account) none ∙ sym t.1
@@ -116,7 +119,7 @@ over-deleted account collection within =
     over_test true left (λ e. record { within = within-both left.rows (length left.collections) (omega (arith, bytes, light)) (omega (arith, rows, names, few)) })
 
 -- a count within the limits is exact
-pub counted-exact : (measure : Measure) (account : Plain) (name : List ℕ) → IsWithinLimits account → counted measure (rows_of name account.rows) ≡ number_of measure (rows_of name account.rows)
+pub counted-exact : (measure : Measure) (account : Plain) (name : List ℕ) → IsWithinLimits account → counted_rows measure (rows_of name account.rows) ≡ number_of measure (rows_of name account.rows)
 counted-exact Records account name within = refl
 counted-exact Bytes account name within =
     let bytes : row_bytes (rows_of name account.rows) ≤ row_bytes account.rows = sum_by-filter_le (λ (row : Row). bytes_eq row.collection name) (λ (row : Row). length row.payload) account.rows in
@@ -124,7 +127,7 @@ counted-exact Bytes account name within =
     omega (arith, bytes, all)
 
 pub numbers-exact : (measure : Measure) (account : Plain) → IsWithinLimits account
-    → map (λ (entry : List ℕ × ℕ). (entry.0, counted measure (rows_of entry.0 account.rows))) (by_name account.collections) ≡ per_collection (number_of measure) account
+    → map (λ (entry : List ℕ × ℕ). (entry.0, counted_rows measure (rows_of entry.0 account.rows))) (by_name account.collections) ≡ per_collection (number_of measure) account
 numbers-exact measure account within = λ i. map (λ (entry : List ℕ × ℕ). (entry.0, counted-exact measure account entry.0 within i)) (by_name account.collections)
 
 pub used-exact : (account : Plain) (total : ℕ) → IsWithinLimits account → total ≡ capped (row_bytes account.rows) → total ≡ row_bytes account.rows

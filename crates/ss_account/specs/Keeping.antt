@@ -1,5 +1,6 @@
 -- What a keeper tells of an account, and when a step asks it.
-use Rattle.std.specs.Prelude.{◌≡◌, ◌≢◌, ℕ, ◌+◌, ◌≤◌, Bool, true, false, not, ◌&&◌, ◌||◌, ◌==◌, List, length, filter, Option, IfSome, is_none, All}
+use Rattle.std.specs.Prelude.{◌≡◌, ◌≢◌, ℕ, ◌+◌, ◌≤◌, Bool, true, false, not, ◌&&◌, ◌||◌, ◌==◌, List, length, filter}
+use Rattle.std.specs.Prelude.{Option, IfSome, is_none, All}
 use Rattle.std.specs.List.{list_any}
 use Rattle.ss_text.specs.Texts.{Reordered}
 use Rattle.ss_bso.specs.declared.account.Plain.{Plain}
@@ -21,7 +22,7 @@ use Rattle.ss_account.specs.Opening.{IsGood}
 
 -- an account's collections, times and counter are the kept ones, and so are its rows and its batches at each moment from its
 -- own on: what has ended by then may still be kept
-pub record IsKept (kept : Kept) (account : Plain) : Type 0 where
+pub record IsKeptAccount (kept : Kept) (account : Plain) : Type 0 where
   pub rows : (moment : ℕ) → account.moment ≤ moment → Reordered (filter (is_alive moment) account.rows) (filter (is_alive moment) kept.rows)
   pub batches : (moment : ℕ) → account.moment ≤ moment → Reordered (filter (is_open moment) account.batches) (filter (is_open moment) kept.batches)
   pub collections : Reordered account.collections kept.collections
@@ -31,7 +32,7 @@ pub record IsKept (kept : Kept) (account : Plain) : Type 0 where
 
 -- kept rows: where a keeper tells what it holds, it holds the account
 abbrev pub IsKeptBy : Option Kept → Plain → Type 0
-IsKeptBy told account = IfSome told (λ kept. IsKept kept account)
+IsKeptBy told account = IfSome told (λ kept. IsKeptAccount kept account)
 
 -- what is kept is the account and nothing else, whatever the order of rows, collections and batches
 pub record IsWhole (kept : Kept) (account : Plain) : Type 0 where
@@ -77,7 +78,7 @@ pub record IsSound (told : Option Kept) (account : Plain) (ended : List ℕ) : T
 
 -- an account that is opened: it is sound, it is what is told when the clock reads 0, whatever the order of the rows, and opened
 -- once more it is the same
-pub record IsOpened (told : Option Kept) (account : Plain) (ended : List ℕ) : Type 0 where
+pub record IsOpenedAccount (told : Option Kept) (account : Plain) (ended : List ℕ) : Type 0 where
   pub sound : IsSound told account ended
   pub kept : IsKeptBy told account
   pub stands : IfSome told (λ kept. SameAccount (opened kept) account)

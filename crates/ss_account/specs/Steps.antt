@@ -1,5 +1,6 @@
 -- The parts of a step: what is counted, and what a write comes to.
-use Rattle.std.specs.Prelude.{◌≡◌, ◌≢◌, ℕ, min, Bool, ◌&&◌, nat_le, List, [], ◌∷◌, ◌++◌, length, Option, Some, None, Result, Err}
+use Rattle.std.specs.Prelude.{◌≡◌, ◌≢◌, ℕ, min, Bool, ◌&&◌, nat_le, List, [], ◌∷◌, ◌++◌, length, Option, Some, None}
+use Rattle.std.specs.Prelude.{Result, Err}
 use Rattle.ss_text.specs.Time.{last_stamp}
 use Rattle.ss_bso.specs.declared.rows.Row.{Row}
 use Rattle.ss_bso.specs.declared.account.Plain.{Plain}
@@ -30,9 +31,9 @@ use Rattle.ss_account.specs.declared.infos.Measure.{Measure}
 use Rattle.ss_account.specs.declared.infos.Measure.TheVariants as measure
 
 -- what is counted of rows, as far as it can be counted
-abbrev pub counted : Measure → List Row → ℕ
-counted measure.Records rows = length rows
-counted measure.Bytes rows = min (row_bytes rows) most_counted
+abbrev pub counted_rows : Measure → List Row → ℕ
+counted_rows measure.Records rows = length rows
+counted_rows measure.Bytes rows = min (row_bytes rows) most_counted
 
 -- what is counted of rows
 abbrev pub number_of : Measure → List Row → ℕ
@@ -68,8 +69,8 @@ fault_body (TooManyBytes n) = Code 17
 fault_body _ = Said Batch
 
 -- the account after the commit of a batch with further parts
-abbrev pub committed : Plain → List ℕ → List Part → ℕ → ℕ → Plain
-committed account collection parts number time =
+abbrev pub account_after_commit : Plain → List ℕ → List Part → ℕ → ℕ → Plain
+account_after_commit account collection parts number time =
     record (write account collection (staged_parts account collection number ++ parts) time) { batches = batches_without number account.batches }
 
 -- a reply that tells no list

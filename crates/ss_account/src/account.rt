@@ -10,11 +10,11 @@ ghost use Rattle.ss_query.specs.declared.replies.Mark.TheVariants.{Done, Keeper 
 ghost use Rattle.ss_query.specs.Marks.{mark_of};
 ghost use Rattle.ss_query.specs.Fit.{IsFitRequest};
 ghost use Rattle.ss_account.specs.declared.faults.OpenFault.TheVariants.{Keeper as OpenKeeper};
-ghost use Rattle.ss_laws.specs.Journals.{marked};
+ghost use Rattle.ss_laws.specs.Journals.{marked_outcome};
 ghost use Rattle.ss_account.specs.Keeping.{AsksOnce, IsHeldBy, IsKeptBy, is_for_keeper};
 ghost use Rattle.ss_account.specs.Opening.{IsFaultOf, IsGood};
 ghost use Rattle.ss_keeper.specs.Calls.{with_load};
-ghost use Rattle.ss_keeper.specs.Keeping.{HasCause, IsTold};
+ghost use Rattle.ss_keeper.specs.Keeping.{HasCause, TellsKept};
 
 use crate::faults::OpenFault;
 use crate::ledger::Ledger;
@@ -97,8 +97,8 @@ impl<K: Keeper> Account<K> {
     /// clock alone has moved.
     pub fn step(&mut self, alloc: Global, now: u64, request: &Request) -> Reply
         requires { IsFitRequest request.now }
-        ensures account { SameAccount (marked self.old.plain now request.now (mark_of result)).account self.new.plain }
-        ensures reply { result ≡ (marked self.old.plain now request.now (mark_of result)).reply }
+        ensures account { SameAccount (marked_outcome self.old.plain now request.now (mark_of result)).account self.new.plain }
+        ensures reply { result ≡ (marked_outcome self.old.plain now request.now (mark_of result)).reply }
         ensures valid { IsValid self.new.plain }
         ensures kept { IsKeptBy (K.told self.new.keeper) self.new.plain }
         ensures held { mark_of result ≡ Done → is_for_keeper (tick self.old.plain now) request.now ≡ true
@@ -125,7 +125,7 @@ impl<K: Keeper> Account<K> {
 
     /// What the keeper holds. The account is left as it was.
     pub fn told(&mut self, alloc: Global) -> Result<Kept, KeepFault>
-        ensures told { IfOk result (λ kept. IsTold kept (K.told self.old.keeper)) }
+        ensures told { IfOk result (λ kept. TellsKept kept (K.told self.old.keeper)) }
         ensures account { self.new.plain ≡ self.old.plain }
         ensures left { K.told self.new.keeper ≡ K.told self.old.keeper }
         ensures cause { HasCause (K.keep_faults self.old.keeper) (K.keep_faults self.new.keeper) result }

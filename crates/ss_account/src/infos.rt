@@ -4,7 +4,7 @@ ghost use Rattle.std.specs.Prelude.{◌≡◌, map, IfOk};
 ghost use Rattle.ss_query.specs.Told.{by_name};
 ghost use Rattle.ss_bso.specs.Limits.{rows_of};
 ghost use Rattle.ss_index.specs.Shelved.{rows_in};
-ghost use Rattle.ss_account.specs.Steps.{counted};
+ghost use Rattle.ss_account.specs.Steps.{counted_rows};
 
 use ss_index::Shelf;
 use ss_text::{Name, Stamp};
@@ -19,7 +19,7 @@ pub(crate) enum Measure {
 
 impl Measure {
     fn of(self, shelf: &Shelf, collection: &Name) -> u64
-        ensures { result ≡ counted self (rows_of collection.now (rows_in shelf.now)) }
+        ensures { result ≡ counted_rows self (rows_of collection.now (rows_in shelf.now)) }
     {
         match self {
             Measure::Records => shelf.count_of(collection),
@@ -62,7 +62,7 @@ pub(crate) fn per_collection(
 ) -> Result<Vec<(Name, u64)>, AllocError>
     ensures { IfOk result (λ numbers. numbers.items ≡ map (λ entry. (
       entry.0,
-      counted measure
+      counted_rows measure
           (rows_of entry.0 (rows_in shelf.now)),
     )) (by_name times.now)) }
 {

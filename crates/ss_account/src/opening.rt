@@ -1,6 +1,7 @@
 //! Whether an account can be opened from what a keeper holds.
 
-ghost use Rattle.std.specs.Prelude.{◌≡◌, ◌≤◌, ◌&&◌, ◌||◌, ◌==◌, ℕ, List, not, is_none, None, Some, Err, IfOk, OnOk, IfErr, IfSome, bytes_eq, length, take, nat_le, nat_lt, false, if◌then◌else◌};
+ghost use Rattle.std.specs.Prelude.{◌≡◌, ◌≤◌, ◌&&◌, ◌||◌, ◌==◌, ℕ, List, not, is_none, None, Some, Err, IfOk, OnOk};
+ghost use Rattle.std.specs.Prelude.{IfErr, IfSome, bytes_eq, length, take, nat_le, nat_lt, false, if◌then◌else◌};
 ghost use Rattle.std.specs.HashMap.{get};
 ghost use Rattle.std.specs.List.{list_any};
 ghost use Rattle.std.specs.Option.{option_map_or};
@@ -11,9 +12,10 @@ ghost use Rattle.ss_bso.specs.Account.{time_of};
 ghost use Rattle.ss_bso.specs.Changes.{latest};
 ghost use Rattle.ss_bso.specs.Limits.{is_too_much, most_live_batches, most_rows_and_collections};
 ghost use Rattle.ss_keeper.specs.Calls.{with_load};
-ghost use Rattle.ss_keeper.specs.Keeping.{IsTold};
+ghost use Rattle.ss_keeper.specs.Keeping.{TellsKept};
 ghost use Rattle.ss_account.specs.declared.faults.OpenFault.TheVariants.{Keeper as OpenKeeper};
-ghost use Rattle.ss_account.specs.Opening.{IsBatchesFault, IsFaultOf, IsGood, IsRowsFault, IsTimesFault, first_bad, is_bad_batch, is_bad_collection, is_bad_row};
+ghost use Rattle.ss_account.specs.Opening.{IsBatchesFault, IsFaultOf, IsGood, IsRowsFault, IsTimesFault, first_bad};
+ghost use Rattle.ss_account.specs.Opening.{is_bad_batch, is_bad_collection, is_bad_row};
 ghost use Rattle.ss_account.specs.Places.{is_placed};
 ghost use Rattle.ss_writes.specs.Parts.{IsSize, or_else};
 
@@ -227,7 +229,7 @@ fn check(alloc: Global, kept: &Kept) -> Result<(), OpenFault>
 
 /// What a keeper holds, where an account can be opened from it.
 pub(crate) fn load<K: Keeper>(alloc: Global, keeper: &mut K) -> Result<Kept, OpenFault>
-    ensures told { IfOk result (λ kept. IsTold kept (K.told keeper.old)) }
+    ensures told { IfOk result (λ kept. TellsKept kept (K.told keeper.old)) }
     ensures good { IfOk result (λ kept. IsGood kept) }
     ensures store { IfOk result (λ kept. kept.store ≤ 999999999999) }
     ensures bad { IfErr result (λ fault. IfSome (K.told keeper.old) (λ kept. IsFaultOf kept fault)) }

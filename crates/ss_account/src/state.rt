@@ -1,6 +1,8 @@
 //! An account over a shelf and a stage, and what each request makes of it.
 
-ghost use Rattle.std.specs.Prelude.{◌≡◌, ◌≢◌, ◌≤◌, ◌<◌, ◌+◌, ◌-◌, ℕ, None, Some, Err, IfOk, OnOk, OnErr, IfErr, IfSome, IsSome, IsSomeAnd, true, false, [], ◌++◌, is_none, not, option_map, map, filter, length, if◌then◌else◌};
+ghost use Rattle.std.specs.Prelude.{◌≡◌, ◌≢◌, ◌≤◌, ◌<◌, ◌+◌, ◌-◌, ℕ, None, Some, Err, IfOk, OnOk, OnErr, IfErr, IfSome};
+ghost use Rattle.std.specs.Prelude.{IsSome, IsSomeAnd, true, false, [], ◌++◌, is_none, not, option_map, map, filter};
+ghost use Rattle.std.specs.Prelude.{length, if◌then◌else◌};
 ghost use Rattle.ss_bso.specs.Account.{is_open, tick, row_at};
 ghost use Rattle.ss_bso.specs.declared.changes.BatchChange.TheVariants.{End as EndChange};
 ghost use Rattle.ss_bso.specs.Batches.{batches_without};
@@ -9,24 +11,29 @@ ghost use Rattle.ss_bso.specs.Limits.{most_live_batches, most_rows_and_collectio
 ghost use Rattle.ss_bso.specs.Lists.{Pairs};
 ghost use Rattle.ss_bso.specs.Validity.{IsValid, IsWithinLimits, SameAccount};
 ghost use Rattle.ss_bso.specs.Write.{ids_of, rows_without, rows_written, stamped, write};
-ghost use Rattle.ss_batch.specs.Stage.{append_fault, appended, begin_fault, begun, numbered, shortened};
+ghost use Rattle.ss_batch.specs.Stage.{append_fault, stage_after_append, begin_fault, begun, live_batch};
+ghost use Rattle.ss_batch.specs.Stage.{stage_after_cut};
 ghost use Rattle.ss_keeper.specs.Calls.{with_load};
 ghost use Rattle.ss_keeper.specs.Keeping.{HasCause};
 ghost use Rattle.ss_query.specs.declared.replies.Body.TheVariants.{Posted, Said as Word};
 ghost use Rattle.ss_query.specs.declared.replies.Said.TheVariants.{Keeper as KeeperWord, Memory};
 ghost use Rattle.ss_query.specs.Fit.{IsFitRequest};
-ghost use Rattle.ss_query.specs.Refused.{condition_of, is_there, is_listed, target_time, collection_time, said_by, staged_parts, IsLive};
+ghost use Rattle.ss_query.specs.Refused.{condition_of, is_there, is_listed, target_time, collection_time, said_by};
+ghost use Rattle.ss_query.specs.Refused.{staged_parts, IsLive};
 ghost use Rattle.ss_text.specs.Time.{stops};
 ghost use Rattle.ss_query.specs.Effect.{effect, is_over, is_write, stamp_in};
-ghost use Rattle.ss_query.specs.Told.{body_of, first_failures, info_body, per_collection, picked};
-ghost use Rattle.ss_query.specs.Api.{refusal, outcome, done, misses_item};
+ghost use Rattle.ss_query.specs.Told.{body_of, first_failures, info_body, per_collection, picked_rows};
+ghost use Rattle.ss_query.specs.Api.{refusal, outcome, done_outcome, misses_item};
 ghost use Rattle.ss_laws.specs.Laws.{is_of_batch};
-ghost use Rattle.ss_account.specs.Keeping.{IsHeldBy, IsKeptBesideBy, IsOpened, IsSwept, is_for_keeper};
+ghost use Rattle.ss_account.specs.Keeping.{IsHeldBy, IsKeptBesideBy, IsOpenedAccount, IsSwept, is_for_keeper};
 ghost use Rattle.ss_account.specs.Opening.{IsFaultOf, IsGood};
 ghost use Rattle.ss_account.specs.declared.faults.OpenFault.TheVariants.{Keeper as OpenKeeper};
 ghost use Rattle.ss_outside.specs.Causes.{Rose};
-ghost use Rattle.ss_writes.specs.Pending.{IsReady, Settles, Tells, applied, append_changes, batch_changes, begin_changes, changes_to, numbers_of, without_batch};
-ghost use Rattle.ss_account.specs.Steps.{HasAsked, batch_cause, committed, fault_body, late_refusal, list_reply, number_of, one_part, plain_reply, stage_of, staged_reply, with_stage};
+ghost use Rattle.ss_writes.specs.Pending.{IsReady, Settles, Tells, account_after_pending, append_changes};
+ghost use Rattle.ss_writes.specs.Pending.{batch_changes, begin_changes, changes_to, numbers_of, without_batch};
+ghost use Rattle.ss_account.specs.Steps.{HasAsked, batch_cause, account_after_commit, fault_body, late_refusal};
+ghost use Rattle.ss_account.specs.Steps.{list_reply, number_of, one_part, plain_reply, stage_of, staged_reply};
+ghost use Rattle.ss_account.specs.Steps.{with_stage};
 ghost use Rattle.ss_writes.specs.Parts.{OtherText};
 
 use crate::faults::OpenFault;
@@ -83,7 +90,7 @@ impl Model for State {
 
 /// The account that a keeper holds, and those of its batches that have ended.
 pub(crate) fn prepare<K: Keeper>(alloc: Global, keeper: &mut K) -> Result<(State, Ended), OpenFault>
-    ensures opened { IfOk result (λ made. IsOpened (K.told keeper.old) made.0 made.1) }
+    ensures opened { IfOk result (λ made. IsOpenedAccount (K.told keeper.old) made.0 made.1) }
     ensures bad { IfErr result (λ fault. IfSome (K.told keeper.old) (λ kept. IsFaultOf kept fault)) }
     ensures left { K.told keeper.new ≡ K.told keeper.old }
     ensures cause { result ≡ Err OpenKeeper → Rose (K.keep_faults keeper.old) (K.keep_faults keeper.new) }
@@ -548,7 +555,7 @@ impl State {
     ) -> Result<Option<(Pending, Body)>, AllocError>
         requires live { IsLive self.now collection.now batch }
         requires valid { IsValid self.now }
-        ensures { IfOk result (λ found. Tells self.now stamp (committed self.now collection.now records.now.parts batch
+        ensures { IfOk result (λ found. Tells self.now stamp (account_after_commit self.now collection.now records.now.parts batch
             stamp) (Posted stamp (ids_of records.now.parts) (first_failures records.now.failed)) found) }
     {
         let told = told_of(alloc, records)?;
@@ -568,7 +575,7 @@ impl State {
         batch: Option<u64>,
         stamp: Stamp,
     ) -> Result<Option<Pending>, AllocError>
-        requires live { IfSome batch (λ number. IsSome (numbered number self.now.batches)) }
+        requires live { IfSome batch (λ number. IsSome (live_batch number self.now.batches)) }
         requires valid { IsValid self.now }
         ensures { IfOk result (λ found. Settles self.now stamp (without_batch batch
             (write self.now collection.now (first.now ++ more.now) stamp)) found) }
@@ -637,7 +644,7 @@ impl State {
         requires told { IsKeptBesideBy ledger.old.ended (K.told ledger.old.keeper) self.old }
         requires ready { IsReady self.old stamp pending }
         requires stamp { self.old.store < stamp }
-        ensures ok { OnOk result (SameAccount (applied self.old stamp pending) self.new) }
+        ensures ok { OnOk result (SameAccount (account_after_pending self.old stamp pending) self.new) }
         ensures err { OnErr result (self.new ≡ self.old) }
         ensures held { OnOk result (IsHeldBy (K.told ledger.new.keeper) self.new) }
         ensures cleared { OnOk result (ledger.new.ended ≡ []) }
@@ -681,8 +688,8 @@ impl State {
         requires swept { IsSwept self.old }
         requires told { IsKeptBesideBy ledger.old.ended (K.told ledger.old.keeper) self.old }
         requires fits { IsFitRequest request.now }
-        ensures reply { IfOk result (λ reply. reply ≡ (done self.old request.now).reply) }
-        ensures account { OnOk result (self.new ≡ (done self.old request.now).account) }
+        ensures reply { IfOk result (λ reply. reply ≡ (done_outcome self.old request.now).reply) }
+        ensures account { OnOk result (self.new ≡ (done_outcome self.old request.now).account) }
         ensures err { OnErr result (self.new ≡ self.old) }
         ensures cleared { OnOk result (ledger.new.ended ≡ []) }
         ensures refused { OnErr result (K.told ledger.new.keeper ≡ K.told ledger.old.keeper) }
@@ -837,7 +844,7 @@ impl State {
 
     /// Takes back the last begin.
     fn unbegin(&mut self)
-        requires { IsSome (numbered self.old.counter self.old.batches) }
+        requires { IsSome (live_batch self.old.counter self.old.batches) }
         ensures { self.new ≡ with_stage self.old (record {
           counter = self.old.counter - 1;
           batches = batches_without
@@ -863,7 +870,7 @@ impl State {
         requires swept { IsSwept self.old }
         requires told { IsKeptBesideBy ledger.old.ended (K.told ledger.old.keeper) self.old }
         ensures reply { IfOk result (λ reply. reply ≡ staged_reply self.old.moment time batch records.now) }
-        ensures account { OnOk result (self.new ≡ with_stage self.old (appended (stage_of self.old) batch
+        ensures account { OnOk result (self.new ≡ with_stage self.old (stage_after_append (stage_of self.old) batch
             records.now.parts)) }
         ensures err { OnErr result (self.new ≡ self.old) }
         ensures held { OnOk result (IsHeldBy (K.told ledger.new.keeper) self.new) }
@@ -895,7 +902,7 @@ impl State {
         parts: Vec<Part>,
     ) -> Result<(), AllocError>
         requires { append_fault (stage_of self.old) batch collection.now parts.items ≡ None }
-        ensures ok { OnOk result (self.new ≡ with_stage self.old (appended (stage_of self.old) batch parts.items)) }
+        ensures ok { OnOk result (self.new ≡ with_stage self.old (stage_after_append (stage_of self.old) batch parts.items)) }
         ensures err { OnErr result (self.new ≡ self.old) }
     {
         match self.stage.append(batch, collection, parts) {
@@ -907,8 +914,8 @@ impl State {
 
     /// Takes back the last append, of so many parts.
     fn shorten(&mut self, batch: u64, parts: &[Part])
-        requires { IsSomeAnd (numbered batch self.old.batches) (λ staged. length parts.now ≤ length staged.parts) }
-        ensures { self.new ≡ with_stage self.old (shortened (stage_of self.old) batch (length parts.now)) }
+        requires { IsSomeAnd (live_batch batch self.old.batches) (λ staged. length parts.now ≤ length staged.parts) }
+        ensures { self.new ≡ with_stage self.old (stage_after_cut (stage_of self.old) batch (length parts.now)) }
     {
         self.stage.shorten(batch, parts.len());
     }
@@ -922,7 +929,7 @@ impl State {
         batch: u64,
         time: Stamp,
     ) -> Result<Reply, KeepFault>
-        requires live { IsSome (numbered batch self.old.batches) }
+        requires live { IsSome (live_batch batch self.old.batches) }
         requires valid { IsValid self.old }
         requires swept { IsSwept self.old }
         requires told { IsKeptBesideBy ledger.old.ended (K.told ledger.old.keeper) self.old }
@@ -949,7 +956,7 @@ impl State {
 
     /// Takes a live batch out.
     fn finish(&mut self, batch: u64)
-        requires { IsSome (numbered batch self.old.batches) }
+        requires { IsSome (live_batch batch self.old.batches) }
         ensures { self.new ≡ record self.old { batches = batches_without batch self.old.batches } }
     {
         drop(self.stage.take(batch));
@@ -968,7 +975,7 @@ impl State {
         requires quiet { is_write self.now request.now ≡ false }
         requires outside { is_of_batch request.now ≡ false }
         requires limits { IsWithinLimits self.now }
-        ensures { IfOk result (λ reply. reply ≡ (done self.now request.now).reply) }
+        ensures { IfOk result (λ reply. reply ≡ (done_outcome self.now request.now).reply) }
     {
         let body = match request {
             Request::List {
@@ -1038,7 +1045,7 @@ impl State {
         time: Stamp,
     ) -> Result<Reply, AllocError>
         ensures { IfOk result (λ reply. reply ≡ list_reply self.now.moment time
-            (picked self.now collection.now query.now) query.now.full) }
+            (picked_rows self.now collection.now query.now) query.now.full) }
     {
         let Page { body, count, next } = page_of(alloc, &self.shelf, collection, query)?;
         Ok(Reply {

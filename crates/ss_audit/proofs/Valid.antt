@@ -1,5 +1,6 @@
 -- An account is valid where each part of its validity holds, and its lists are told apart by their keys.
-use Rattle.std.specs.Prelude.{◌≡◌, ◌≤◌, ◌<◌, ◌+◌, ◌==◌, ℕ, Bool, true, false, not, ◌&&◌, is_none, List, length, take, get_or, bytes_eq, IsSome, IsTrue, ◌↔◌, is_some, Option, Some, None, refl}
+use Rattle.std.specs.Prelude.{◌≡◌, ◌≤◌, ◌<◌, ◌+◌, ◌==◌, ℕ, Bool, true, false, not, ◌&&◌, is_none, List, length, take}
+use Rattle.std.specs.Prelude.{get_or, bytes_eq, IsSome, IsTrue, ◌↔◌, is_some, Option, Some, None, refl}
 use Rattle.std.specs.List.{list_any}
 use Rattle.std.proofs.Common.{subst, sym, ap, ◌∙◌}
 use Rattle.std.proofs.lemmas.Bool.{eqb-false, eqb-true}

@@ -1,9 +1,11 @@
 -- Logs, as far as an audit of them has come: those before are sound; and where the first fault is they aren't.
-use Rattle.std.specs.Prelude.{◌≡◌, ◌≤◌, ◌<◌, ◌+◌, ◌-◌, ◌^◌, ℕ, zero, min, List, [], ◌∷◌, ◌++◌, length, take, drop, get_or, slice_get, sum_by, Option, Some, None, option_map, IfSome, All}
+use Rattle.std.specs.Prelude.{◌≡◌, ◌≤◌, ◌<◌, ◌+◌, ◌-◌, ◌^◌, ℕ, zero, min, List, [], ◌∷◌, ◌++◌, length, take, drop}
+use Rattle.std.specs.Prelude.{get_or, slice_get, sum_by, Option, Some, None, option_map, IfSome, All}
 use Rattle.std.specs.List.{AllAdjacentBelow}
 use Rattle.std.specs.List.Sorted.{IsStrictlyIncreasing}
 use Rattle.std.proofs.Common.{subst, sym, ap, ◌∙◌, arith, drop-cons, add-one}
-use Rattle.std.proofs.lemmas.List.{length-append, length-take-le, map-append, take_all, take-append-drop, take-append-le, get_or_append_left}
+use Rattle.std.proofs.lemmas.List.{length-append, length-take-le, map-append, take_all, take-append-drop}
+use Rattle.std.proofs.lemmas.List.{take-append-le, get_or_append_left}
 use Rattle.std.proofs.lemmas.List.Elements.{All-append}
 use Rattle.std.proofs.lemmas.List.Sums.{sum_by-append}
 use Rattle.std.proofs.lemmas.Option.{slice_get-get_or}

@@ -1,5 +1,6 @@
 -- The verdict on logs: that they are sound, or the first place where they aren't.
-use Rattle.std.specs.Prelude.{◌≡◌, ◌≤◌, ◌+◌, ◌-◌, ◌^◌, ◌++◌, ◌∷◌, ℕ, List, Bool, true, false, length, take, min, sum_by, Option, option_map, IfSome}
+use Rattle.std.specs.Prelude.{◌≡◌, ◌≤◌, ◌+◌, ◌-◌, ◌^◌, ◌++◌, ◌∷◌, ℕ, List, Bool, true, false, length, take, min, sum_by}
+use Rattle.std.specs.Prelude.{Option, option_map, IfSome}
 use Rattle.std.specs.Option.{option_map_or}
 use Rattle.std.specs.List.Sorted.{IsStrictlyIncreasing}
 use Rattle.ss_bso.specs.declared.account.Plain.{Plain}

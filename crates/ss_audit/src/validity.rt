@@ -1,13 +1,15 @@
 //! Whether an account is valid.
 
-ghost use Rattle.std.specs.Prelude.{◌≡◌, ◌↔◌, ◌&&◌, ◌||◌, ◌==◌, ℕ, List, not, is_none, Some, IfOk, OnOk, IfSome, IsSome, IsTrue, bytes_eq, if◌then◌else◌};
+ghost use Rattle.std.specs.Prelude.{◌≡◌, ◌↔◌, ◌&&◌, ◌||◌, ◌==◌, ℕ, List, not, is_none, Some, IfOk, OnOk, IfSome};
+ghost use Rattle.std.specs.Prelude.{IsSome, IsTrue, bytes_eq, if◌then◌else◌};
 ghost use Rattle.std.specs.HashMap.{get};
 ghost use Rattle.std.specs.List.{list_any};
 ghost use Rattle.ss_bso.specs.Account.{time_of};
 ghost use Rattle.ss_bso.specs.Lists.{Apart, Each, Pairs};
 ghost use Rattle.ss_bso.specs.Validity.{IsValid, IsValidBatch, IsWithinLimits};
 ghost use Rattle.ss_writes.specs.Parts.{or_else};
-ghost use Rattle.ss_audit.specs.Validity.{HasValidBatches, HasValidParts, HasValidTimes, IsItem, NamedApart, NumberedApart, is_placed};
+ghost use Rattle.ss_audit.specs.Validity.{HasValidBatches, HasValidParts, HasValidTimes, IsItem, NamedApart};
+ghost use Rattle.ss_audit.specs.Validity.{NumberedApart, is_placed};
 
 use ss_bso::limits::MOST_LIVE_BATCHES;
 use ss_bso::{Plain, Row, Staged};

@@ -1,5 +1,7 @@
 -- What contracts see of a stage, what its calls make of it, and why they are refused.
-use Rattle.std.specs.Prelude.{ℕ, ◌+◌, ◌-◌, ◌^◌, ◌≤◌, ◌≡◌, ◌≢◌, min, Bool, not, ◌||◌, ◌==◌, nat_le, nat_lt, List, [], ◌∷◌, ◌++◌, length, take, map, find, bytes_eq, Option, Some, None, Result, Ok, Err, IfErr, if◌then◌else◌}
+use Rattle.std.specs.Prelude.{ℕ, ◌+◌, ◌-◌, ◌^◌, ◌≤◌, ◌≡◌, ◌≢◌, min, Bool, not, ◌||◌, ◌==◌, nat_le, nat_lt, List, []}
+use Rattle.std.specs.Prelude.{◌∷◌, ◌++◌, length, take, map, find, bytes_eq, Option, Some, None, Result, Ok, Err, IfErr}
+use Rattle.std.specs.Prelude.{if◌then◌else◌}
 use Rattle.ss_text.specs.Time.{last_stamp}
 use Rattle.ss_bso.specs.declared.parts.Part.{Part}
 use Rattle.ss_bso.specs.declared.account.Staged.{Staged}
@@ -7,7 +9,8 @@ use Rattle.ss_bso.specs.Limits.{most_batch_bytes, most_batch_records, most_live_
 use Rattle.ss_bso.specs.Batches.{grown}
 use Rattle.ss_bso.specs.Lists.{Each, Pairs}
 use Rattle.ss_batch.specs.declared.faults.StageFault.{StageFault}
-use Rattle.ss_batch.specs.declared.faults.StageFault.TheVariants.{NotLive, OtherCollection, TooManyRecords, TooManyBytes, TooManyBatches, Memory}
+use Rattle.ss_batch.specs.declared.faults.StageFault.TheVariants.{NotLive, OtherCollection, TooManyRecords}
+use Rattle.ss_batch.specs.declared.faults.StageFault.TheVariants.{TooManyBytes, TooManyBatches, Memory}
 
 -- the live batches, in the order in which they began, and how many were begun
 pub record StageView : Type 0 where
@@ -15,16 +18,16 @@ pub record StageView : Type 0 where
   pub batches : List Staged
 
 -- a batch's number was given out: it is from 1 to the counter
-abbrev pub IsGiven : ℕ → Staged → Type 0
-IsGiven counter batch = (1 ≤ batch.number) × (batch.number ≤ counter)
+abbrev pub HasGivenNumber : ℕ → Staged → Type 0
+HasGivenNumber counter batch = (1 ≤ batch.number) × (batch.number ≤ counter)
 
 -- two batches have different numbers
 abbrev pub IsOther : Staged → Staged → Type 0
 IsOther batch other = batch.number ≢ other.number
 
 -- the numbers of batches were given out, and no two batches have one number
-pub record AreNumbered (counter : ℕ) (batches : List Staged) : Type 0 where
-  pub given : Each (IsGiven counter) batches
+pub record HaveOwnNumbers (counter : ℕ) (batches : List Staged) : Type 0 where
+  pub given : Each (HasGivenNumber counter) batches
   pub apart : Pairs IsOther batches
 
 -- whether a batch has this number
@@ -32,8 +35,8 @@ abbrev pub has_number : ℕ → Staged → Bool
 has_number number batch = batch.number == number
 
 -- the batch of this number, where it is live
-abbrev pub numbered : ℕ → List Staged → Option Staged
-numbered number batches = find (has_number number) batches
+abbrev pub live_batch : ℕ → List Staged → Option Staged
+live_batch number batches = find (has_number number) batches
 
 -- a stage with one more batch, whose number is the next
 abbrev pub begun : StageView → ℕ → List ℕ → List Part → StageView
@@ -43,24 +46,24 @@ begun stage now collection parts = record {
 }
 
 -- a stage with more parts at the end of a batch
-abbrev pub appended : StageView → ℕ → List Part → StageView
-appended stage number parts = record stage { batches = map (grown number parts) stage.batches }
+abbrev pub stage_after_append : StageView → ℕ → List Part → StageView
+stage_after_append stage number parts = record stage { batches = map (grown number parts) stage.batches }
 
 -- the batches with other parts in the one of this number
 abbrev pub with_parts : ℕ → (List Part → List Part) → List Staged → List Staged
 with_parts number change batches = map (λ batch. if has_number number batch then record batch { parts = change batch.parts } else batch) batches
 
 -- a stage without the last so many parts of a batch
-abbrev pub shortened : StageView → ℕ → ℕ → StageView
-shortened stage number parts = record stage { batches = with_parts number (λ old. take (length old - parts) old) stage.batches }
+abbrev pub stage_after_cut : StageView → ℕ → ℕ → StageView
+stage_after_cut stage number parts = record stage { batches = with_parts number (λ old. take (length old - parts) old) stage.batches }
 
 -- the parts of the live batch of this number, or why it isn't continued for a collection
 abbrev pub reach : List ℕ → Option Staged → Result (List Part) StageFault
 reach collection None = Err NotLive
 reach collection (Some batch) = if bytes_eq batch.collection collection then Ok batch.parts else Err OtherCollection
 
-abbrev pub reached : StageView → ℕ → List ℕ → Result (List Part) StageFault
-reached stage number collection = reach collection (numbered number stage.batches)
+abbrev pub live_parts : StageView → ℕ → List ℕ → Result (List Part) StageFault
+live_parts stage number collection = reach collection (live_batch number stage.batches)
 
 -- the greatest number that a count holds
 abbrev pub most_counted : ℕ
@@ -78,7 +81,7 @@ more parts (Ok old) = size_fault (old ++ parts)
 more parts (Err fault) = Some fault
 
 abbrev pub append_fault : StageView → ℕ → List ℕ → List Part → Option StageFault
-append_fault stage number collection parts = more parts (reached stage number collection)
+append_fault stage number collection parts = more parts (live_parts stage number collection)
 
 -- whether a further batch may begin: fewer are live than may be, and a number is left
 abbrev pub has_room : StageView → Bool

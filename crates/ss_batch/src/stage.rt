@@ -1,10 +1,14 @@
 //! The batches of one account.
 
-ghost use Rattle.std.specs.Prelude.{All, AllPairs, option_copied, Ok, Err, ◌≡◌, ◌-◌, ◌+◌, ◌++◌, ◌≤◌, ◌==◌, ◌^◌, min, Some, None, IfOk, OnOk, IfErr, OnErr, is_some, IsSome, IfSome, IsSomeAnd, [], length, take, filter, position, bytes_eq, vec_len};
+ghost use Rattle.std.specs.Prelude.{All, AllPairs, option_copied, Ok, Err, ◌≡◌, ◌-◌, ◌+◌, ◌++◌, ◌≤◌, ◌==◌, ◌^◌, min};
+ghost use Rattle.std.specs.Prelude.{Some, None, IfOk, OnOk, IfErr, OnErr, is_some, IsSome, IfSome, IsSomeAnd, []};
+ghost use Rattle.std.specs.Prelude.{length, take, filter, position, bytes_eq, vec_len};
 ghost use Rattle.ss_bso.specs.Account.{is_open};
 ghost use Rattle.ss_bso.specs.Batches.{batches_elsewhere, batches_without};
 ghost use Rattle.ss_bso.specs.Limits.{part_bytes, payload_size};
-ghost use Rattle.ss_batch.specs.Stage.{FaultIs, IsGiven, IsOther, append_fault, appended, begin_fault, begun, has_number, has_room, most_counted, numbered, reached, shortened, size_fault};
+ghost use Rattle.ss_batch.specs.Stage.{FaultIs, HasGivenNumber, IsOther, append_fault, stage_after_append, begin_fault};
+ghost use Rattle.ss_batch.specs.Stage.{begun, has_number, has_room, most_counted, live_batch, live_parts};
+ghost use Rattle.ss_batch.specs.Stage.{stage_after_cut, size_fault};
 
 use crate::faults::StageFault;
 use ss_bso::limits::{BATCH_LIFE, MOST_BATCH_BYTES, MOST_BATCH_RECORDS, MOST_LIVE_BATCHES};
@@ -21,13 +25,13 @@ pub struct Stage {
 }
 
 impl Model for Stage {
-    ghost use Rattle.ss_batch.specs.Stage.{AreNumbered, StageView};
+    ghost use Rattle.ss_batch.specs.Stage.{HaveOwnNumbers, StageView};
 
     ghost Value = { StageView };
 
     ghost view = { λ s. record { counter = s.counter; batches = s.batches.items } };
 
-    ghost invariant = { λ s. AreNumbered s.counter s.batches.items };
+    ghost invariant = { λ s. HaveOwnNumbers s.counter s.batches.items };
 }
 
 fn has_number(staged: &Staged, batch: u64) -> bool
@@ -116,7 +120,7 @@ impl Stage {
     /// These batches, of so many that were begun. Each number was given out, and no two batches have one number. It
     /// takes no memory.
     pub fn from_staged(counter: u64, batches: Vec<Staged>) -> Stage
-        requires given { All (IsGiven counter) batches.items }
+        requires given { All (HasGivenNumber counter) batches.items }
         requires apart { AllPairs IsOther batches.items }
         ensures { result ≡ record { counter = counter; batches = batches.items } }
     {
@@ -153,22 +157,22 @@ impl Stage {
     }
 
     fn find(&self, batch: u64) -> Option<&Staged>
-        ensures { option_copied result ≡ numbered batch self.now.batches }
+        ensures { option_copied result ≡ live_batch batch self.now.batches }
     {
         self.batches.iter().find(|staged| has_number(staged, batch))
     }
 
     /// Whether a batch is live.
     pub fn is_live(&self, batch: u64) -> bool
-        ensures { result ≡ is_some (numbered batch self.now.batches) }
+        ensures { result ≡ is_some (live_batch batch self.now.batches) }
     {
         self.find(batch).is_some()
     }
 
     /// The parts of a live batch. It takes no memory.
     pub fn peek(&self, batch: u64, collection: &Name) -> Result<&[Part], StageFault>
-        ensures ok { IfOk result (λ parts. reached self.now batch collection.now ≡ Ok parts.now) }
-        ensures err { IfErr result (λ fault. reached self.now batch collection.now ≡ Err fault) }
+        ensures ok { IfOk result (λ parts. live_parts self.now batch collection.now ≡ Ok parts.now) }
+        ensures err { IfErr result (λ fault. live_parts self.now batch collection.now ≡ Err fault) }
     {
         let Some(staged) = self.find(batch) else {
             return Err(StageFault::NotLive);
@@ -224,7 +228,7 @@ impl Stage {
         collection: &Name,
         parts: Vec<Part>,
     ) -> Result<(), StageFault>
-        ensures ok { OnOk result (self.new ≡ appended self.old batch parts.items) }
+        ensures ok { OnOk result (self.new ≡ stage_after_append self.old batch parts.items) }
         ensures err { OnErr result (self.new ≡ self.old) }
         ensures cause { FaultIs (append_fault self.old batch collection.now parts.items) result }
     {
@@ -238,8 +242,8 @@ impl Stage {
 
     /// Takes a live batch out. It takes no memory.
     pub fn take(&mut self, batch: u64) -> Vec<Part>
-        requires { IsSome (numbered batch self.old.batches) }
-        ensures parts { IfSome (numbered batch self.old.batches) (λ staged. result.items ≡ staged.parts) }
+        requires { IsSome (live_batch batch self.old.batches) }
+        ensures parts { IfSome (live_batch batch self.old.batches) (λ staged. result.items ≡ staged.parts) }
         ensures rest { self.new ≡ record self.old { batches = batches_without batch self.old.batches } }
     {
         match self.place(batch) {
@@ -272,7 +276,7 @@ impl Stage {
     /// Takes back the last begin: the batch whose number is the counter goes, and the counter falls by 1. It takes no
     /// memory.
     pub fn unbegin(&mut self)
-        requires { IsSome (numbered self.old.counter self.old.batches) }
+        requires { IsSome (live_batch self.old.counter self.old.batches) }
         ensures { self.new ≡ record {
           counter = self.old.counter - 1;
           batches = batches_without self.old.counter
@@ -286,8 +290,8 @@ impl Stage {
 
     /// Takes back an append: the last parts of a batch go. It takes no memory.
     pub fn shorten(&mut self, batch: u64, parts: usize)
-        requires { IsSomeAnd (numbered batch self.old.batches) (λ staged. parts ≤ length staged.parts) }
-        ensures { self.new ≡ shortened self.old batch parts }
+        requires { IsSomeAnd (live_batch batch self.old.batches) (λ staged. parts ≤ length staged.parts) }
+        ensures { self.new ≡ stage_after_cut self.old batch parts }
     {
         match self.place(batch) {
             Some(place) => cut(&mut self.batches[place], parts),

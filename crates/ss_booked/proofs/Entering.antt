@@ -1,6 +1,8 @@
 -- A journal without entries, and one with one more entry: it is legal, its last reply is that of the entry, and it leaves the account
 -- that the entry leaves.
-use Rattle.std.specs.Prelude.{◌≡◌, true, false, IfSome, ℕ, zero, suc, ◌+◌, ◌-◌, ◌<◌, ◌≤◌, ◌==◌, Bool, if◌then◌else◌, List, [], ◌∷◌, ◌++◌, length, map, fold, take, slice_get, slice_index, cond, All, Option, Some, None, option_map, refl}
+use Rattle.std.specs.Prelude.{◌≡◌, true, false, IfSome, ℕ, zero, suc, ◌+◌, ◌-◌, ◌<◌, ◌≤◌, ◌==◌, Bool, if◌then◌else◌}
+use Rattle.std.specs.Prelude.{List, [], ◌∷◌, ◌++◌, length, map, fold, take, slice_get, slice_index, cond, All, Option}
+use Rattle.std.specs.Prelude.{Some, None, option_map, refl}
 use Rattle.std.specs.List.Sorted.{IsStrictlyIncreasing}
 use Rattle.std.proofs.Common.{subst, sym, ap, ◌∙◌, arith, get_or}
 use mathlib.Core.Logic.{dite}
@@ -19,7 +21,7 @@ use Rattle.ss_query.specs.declared.requests.Request.{Request}
 use Rattle.ss_query.specs.Fit.{IsFitRequest}
 use Rattle.ss_laws.specs.declared.journal.Entry.{Entry}
 use Rattle.ss_laws.specs.Journal.{Journal}
-use Rattle.ss_laws.specs.Journals.{marked, entered, account_after, begun, with_entry, reply_at, IsLegal}
+use Rattle.ss_laws.specs.Journals.{marked_outcome, entry_outcome, account_after, begun, with_entry, reply_at, IsLegal}
 use Rattle.ss_laws.proofs.Journals.{valid-account_after}
 use Rattle.ss_laws.proofs.JournalOrder.{marked-same}
 use Rattle.ss_laws.proofs.SameValid.{valid-same}
@@ -74,17 +76,17 @@ room-entered journal entry had none k lt =
     let last : k ≡ length entries = omega (arith, past, lt, len) in
     subst FullAt (sym (ap (λ n. take n (entries ++ entry ∷ [])) last ∙ take-last entries entry)) none)
 
-pub after-entered : (opening : Plain) (entries : List Entry) (entry : Entry) → account_after opening (entries ++ entry ∷ []) ≡ (entered (account_after opening entries) entry).account
-after-entered opening entries entry = fold-append (λ (account : Plain) (e : Entry). (entered account e).account) opening entries (entry ∷ [])
+pub after-entered : (opening : Plain) (entries : List Entry) (entry : Entry) → account_after opening (entries ++ entry ∷ []) ≡ (entry_outcome (account_after opening entries) entry).account
+after-entered opening entries entry = fold-append (λ (account : Plain) (e : Entry). (entry_outcome account e).account) opening entries (entry ∷ [])
 
 get-last : (entries : List Entry) (entry : Entry) → slice_get (entries ++ entry ∷ []) (length entries) ≡ Some entry
 get-last [] entry = refl
 get-last (e ∷ entries) entry = get-last entries entry
 
-pub reply-entered : (journal : Journal) (entry : Entry) → reply_at (with_entry journal entry) (length journal.entries) ≡ Some (entered (account_after journal.opening journal.entries) entry).reply
+pub reply-entered : (journal : Journal) (entry : Entry) → reply_at (with_entry journal entry) (length journal.entries) ≡ Some (entry_outcome (account_after journal.opening journal.entries) entry).reply
 reply-entered journal entry =
-    ap (λ (es : List Entry). option_map (λ (e : Entry). (entered (account_after journal.opening es) e).reply) (slice_get (journal.entries ++ entry ∷ []) (length journal.entries))) (take-last journal.entries entry)
-    ∙ ap (λ found. option_map (λ (e : Entry). (entered (account_after journal.opening journal.entries) e).reply) found) (get-last journal.entries entry)
+    ap (λ (es : List Entry). option_map (λ (e : Entry). (entry_outcome (account_after journal.opening es) e).reply) (slice_get (journal.entries ++ entry ∷ []) (length journal.entries))) (take-last journal.entries entry)
+    ∙ ap (λ found. option_map (λ (e : Entry). (entry_outcome (account_after journal.opening journal.entries) e).reply) found) (get-last journal.entries entry)
 
 -- what an account is told that is the one that the journal leaves, and what it then is
 pub record Told (journal : Journal) (entry : Entry) (reply : Reply) (after : Plain) : Type 0 where
@@ -99,13 +101,13 @@ left-valid journal legal = subst (λ (es : List Entry). IsValid (account_after j
     take-all (e ∷ entries) = ap (λ es. e ∷ es) (take-all entries)
 
 pub told-entered : (journal : Journal) (entry : Entry) (before after : Plain) (reply : Reply) → IsLegal journal → SameAccount (account_after journal.opening journal.entries) before
-    → SameAccount (marked before entry.now entry.request entry.mark).account after → reply ≡ (marked before entry.now entry.request entry.mark).reply → Told journal entry reply after
+    → SameAccount (marked_outcome before entry.now entry.request entry.mark).account after → reply ≡ (marked_outcome before entry.now entry.request entry.mark).reply → Told journal entry reply after
 told-entered journal entry before after reply legal leaves same is =
     let left = account_after journal.opening journal.entries in
     let out = marked-same left before entry.now entry.request entry.mark (left-valid journal legal) leaves in
     record {
       answered = reply-entered journal entry ∙ ap (λ (r : Reply). Some r) (out.reply ∙ sym is);
-      left = subst (λ (a : Plain). SameAccount a after) (sym (after-entered journal.opening journal.entries entry)) (same-through (entered left entry).account (marked before entry.now entry.request entry.mark).account after out.account same);
+      left = subst (λ (a : Plain). SameAccount a after) (sym (after-entered journal.opening journal.entries entry)) (same-through (entry_outcome left entry).account (marked_outcome before entry.now entry.request entry.mark).account after out.account same);
     }
 
 pub bytes-entered : (entries : List Entry) (entry : Entry) → journal_bytes (entries ++ entry ∷ []) ≡ journal_bytes entries + request_bytes entry.request

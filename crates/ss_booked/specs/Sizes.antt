@@ -1,5 +1,6 @@
 -- What a journal counts for its entries, and when it is full (limits of this project).
-use Rattle.std.specs.Prelude.{◌≡◌, ◌<◌, ℕ, ◌+◌, ◌*◌, ◌/◌, ◌==◌, Bool, ◌||◌, nat_le, nat_lt, List, length, take, sum_by, Option, Some, None, if◌then◌else◌}
+use Rattle.std.specs.Prelude.{◌≡◌, ◌<◌, ℕ, ◌+◌, ◌*◌, ◌/◌, ◌==◌, Bool, ◌||◌, nat_le, nat_lt, List, length, take, sum_by}
+use Rattle.std.specs.Prelude.{Option, Some, None, if◌then◌else◌}
 use Rattle.std.specs.Option.{option_map_or}
 use Rattle.ss_bso.specs.Limits.{part_bytes, payload_size}
 use Rattle.ss_query.specs.declared.requests.Request.{Request}

@@ -1,5 +1,7 @@
 -- A step over the elements of a body.
-use Rattle.std.proofs.Common.{◌≡◌, ℕ, ◌+◌, ◌<◌, ◌≤◌, List, [], ◌∷◌, ◌++◌, length, map, drop, get_or, Bool, false, cond, Option, Some, None, is_some, Result, Ok, Err, refl, sym, ap, ap₂, ◌∙◌, subst, append_assoc, append-nil}
+use Rattle.std.proofs.Common.{◌≡◌, ℕ, ◌+◌, ◌<◌, ◌≤◌, List, [], ◌∷◌, ◌++◌, length, map, drop, get_or, Bool, false, cond}
+use Rattle.std.proofs.Common.{Option, Some, None, is_some, Result, Ok, Err, refl, sym, ap, ap₂, ◌∙◌, subst}
+use Rattle.std.proofs.Common.{append_assoc, append-nil}
 use Rattle.std.proofs.lemmas.List.{drop_more, drop_all, get_or_default}
 use Rattle.std.specs.List.{filter_map, cons_option}
 use Rattle.serde_json.specs.Data.{Data}
@@ -11,8 +13,9 @@ use Rattle.ss_bso.specs.declared.bodies.BodyFault.TheVariants as fault
 use Rattle.serde_json.specs.declared.value.Value.{Value}
 use Rattle.serde_json.specs.View.{view, items_view}
 use Rattle.serde_json.specs.Find.{as_array}
-use Rattle.ss_bso.specs.Members.{parsed}
-use Rattle.ss_bso.specs.Bodies.{Grows, part_of, failed_of, first_fault, fault_at, or_fault, records_of, id_of, items_list, list_records, json_records}
+use Rattle.ss_bso.specs.Members.{parsed_body}
+use Rattle.ss_bso.specs.Bodies.{Grows, part_of, failed_of, first_fault, fault_at, or_fault, records_of, id_of}
+use Rattle.ss_bso.specs.Bodies.{items_list, list_records, json_records}
 
 one_more : {B : Type 0} (o : Option B) (old new rest all : List B) → Grows old new o → old ++ cons_option o rest ≡ all → new ++ rest ≡ all
 one_more None old new rest all grows e = ap (λ l. l ++ rest) grows ∙ e
@@ -91,8 +94,8 @@ map_map f g (x ∷ xs) = ap (λ l. f (g x) ∷ l) (map_map f g xs)
 pub not_json : (place : ℕ) (e : Option Data) → None ≡ e → fault_at place e ≡ Some fault.NotJson
 not_json place e is = ap (fault_at place) (sym is)
 
-pub json_list : (text : List ℕ) (d : Data) (vs : List Value) → Some d ≡ parsed text → Some (items_view vs) ≡ as_array d
-    → records_of (map (λ v. Some (view v)) vs) ≡ json_records (parsed text)
+pub json_list : (text : List ℕ) (d : Data) (vs : List Value) → Some d ≡ parsed_body text → Some (items_view vs) ≡ as_array d
+    → records_of (map (λ v. Some (view v)) vs) ≡ json_records (parsed_body text)
 json_list text d vs p a = ap records_of (sym (items_as_list vs)) ∙ ap list_records a ∙ ap json_records p
 
 pub loop_fault_at : {X : Type 0} (F : X → Option Data) (xs : List X) (i place : ℕ) (d : X) (parts : List Part) (failed : List (List ℕ × Reason)) (f : BodyFault) → i < length xs

@@ -1,5 +1,6 @@
 -- Facts on each element and each pair of a list, by recursion on the list.
-use Rattle.std.specs.Prelude.{◌≡◌, ℕ, suc, ◌≤◌, Bool, true, false, not, cond, List, [], ◌∷◌, ◌++◌, sum_by, Option, Some, None, find, filter, filter_map, map, refl, All, AllPairs}
+use Rattle.std.specs.Prelude.{◌≡◌, ℕ, suc, ◌≤◌, Bool, true, false, not, cond, List, [], ◌∷◌, ◌++◌, sum_by, Option, Some}
+use Rattle.std.specs.Prelude.{None, find, filter, filter_map, map, refl, All, AllPairs}
 use Rattle.std.specs.List.{cons_option}
 use Rattle.std.proofs.Common.{subst, sym, ap, ◌∙◌, arith}
 use Rattle.std.proofs.lemmas.List.Elements.{All-nil, All-cons}

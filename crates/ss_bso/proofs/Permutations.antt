@@ -1,8 +1,9 @@
 -- Between the library's permutations and `Reordered`, and what a sort gives.
-use Rattle.std.specs.Prelude.{◌≡◌, ℕ, zero, suc, ◌+◌, ◌<◌, Bool, true, false, cond, List, [], ◌∷◌, length, get_or, set, swap, IsPermutation, IsSortedBy, refl}
+use Rattle.std.specs.Prelude.{◌≡◌, ℕ, zero, suc, ◌+◌, ◌<◌, Bool, true, false, cond, List, [], ◌∷◌, length, get_or, set}
+use Rattle.std.specs.Prelude.{swap, IsPermutation, IsSortedBy, refl}
 use Rattle.std.proofs.Common.{subst, sym, ap, ◌∙◌, arith}
 use Rattle.std.proofs.lemmas.List.Sorted.{IsPermutation-keeps}
-use Rattle.ss_text.specs.Texts.{Reordered, head, swapped, chain, placed, sorted}
+use Rattle.ss_text.specs.Texts.{Reordered, head, swapped, chain, list_with, sorted}
 use Rattle.ss_bso.proofs.Lists.{Pairs}
 use Rattle.ss_bso.proofs.Reordering.{reordered-refl, Ranked, sorted-reordered}
 
@@ -32,10 +33,10 @@ sorted-in_order : {X : Type 0} (before : X → X → Bool) (xs : List X) → IsS
 sorted-in_order before [] h = refl
 sorted-in_order before (x ∷ []) h = refl
 sorted-in_order before (x ∷ y ∷ xs) h =
-    ap (λ rest. placed before x rest) (sorted-in_order before (y ∷ xs) (λ k d low lt.
+    ap (λ rest. list_with before x rest) (sorted-in_order before (y ∷ xs) (λ k d low lt.
     let next : suc k + 1 ≡ suc (k + 1) = omega arith in
     subst (λ n. before (get_or (x ∷ y ∷ xs) n d) (get_or (y ∷ xs) k d) ≡ false) next (h (suc k) d (omega arith) (omega arith))))
-    ∙ ap (λ v. cond v (y ∷ placed before x xs) (x ∷ y ∷ xs)) (h 0 x (omega arith) (omega arith))
+    ∙ ap (λ v. cond v (y ∷ list_with before x xs) (x ∷ y ∷ xs)) (h 0 x (omega arith) (omega arith))
 
 -- what a sort leaves is the sorted list, where the order is strict on the elements
 pub sorted_is : {X : Type 0} (before : X → X → Bool) → ((x y z : X) → before x y ≡ true → before y z ≡ true → before x z ≡ true) → (xs ys : List X)

@@ -1,8 +1,9 @@
 -- What does not depend on the order of a list.
-use Rattle.std.specs.Prelude.{◌≡◌, ℕ, ◌+◌, Bool, true, false, not, ◌&&◌, cond, List, [], ◌∷◌, ◌++◌, length, sum_by, Option, Some, find, filter, map, refl}
+use Rattle.std.specs.Prelude.{◌≡◌, ℕ, ◌+◌, Bool, true, false, not, ◌&&◌, cond, List, [], ◌∷◌, ◌++◌, length, sum_by}
+use Rattle.std.specs.Prelude.{Option, Some, find, filter, map, refl}
 use Rattle.std.proofs.Common.{sym, ap, ◌∙◌, arith}
 use Rattle.std.proofs.lemmas.List.Sums.{sum_by-cons}
-use Rattle.ss_text.specs.Texts.{Reordered, nothing, head, swapped, chain, placed, sorted}
+use Rattle.ss_text.specs.Texts.{Reordered, nothing, head, swapped, chain, list_with, sorted}
 use Rattle.ss_bso.specs.declared.account.Plain.{Plain}
 use Rattle.ss_bso.specs.Validity.{SameAccount}
 use Rattle.ss_bso.proofs.Lists.{Each, Pairs}
@@ -108,27 +109,27 @@ placed-first true b x y px py rest e f g = ap (λ v. cond v (y ∷ px) (x ∷ y 
 placed-first false b x y px py rest e f g = ap (λ v. cond v (y ∷ px) (x ∷ y ∷ rest)) e ∙ ap (λ more. y ∷ more) f
 
 module _ {X : Type 0} (before : X → X → Bool) (through : (x y z : X) → before x y ≡ true → before y z ≡ true → before x z ≡ true) where
-  placed-swapped : (x y : X) (zs : List X) → Ranked before x y → placed before x (placed before y zs) ≡ placed before y (placed before x zs)
+  placed-swapped : (x y : X) (zs : List X) → Ranked before x y → list_with before x (list_with before y zs) ≡ list_with before y (list_with before x zs)
   placed-swapped x y [] e = placed-first (before x y) (before y x) x y (x ∷ []) (y ∷ []) [] e refl refl
   placed-swapped x y (z ∷ zs) e =
-      elim (before z y) as (λ v. before z y ≡ v → placed before x (cond v (z ∷ placed before y zs) (y ∷ z ∷ zs)) ≡ placed before y (placed before x (z ∷ zs))) [
-        | false ↦ (λ zy. elim (before z x) as (λ v. before z x ≡ v → placed before x (y ∷ z ∷ zs) ≡ placed before y (cond v (z ∷ placed before x zs) (x ∷ z ∷ zs))) [
-          | false ↦ (λ zx. placed-first (before x y) (before y x) x y (placed before x (z ∷ zs)) (placed before y (z ∷ zs)) (z ∷ zs) e
-              (ap (λ v. cond v (z ∷ placed before x zs) (x ∷ z ∷ zs)) zx) (ap (λ v. cond v (z ∷ placed before y zs) (y ∷ z ∷ zs)) zy))
+      elim (before z y) as (λ v. before z y ≡ v → list_with before x (cond v (z ∷ list_with before y zs) (y ∷ z ∷ zs)) ≡ list_with before y (list_with before x (z ∷ zs))) [
+        | false ↦ (λ zy. elim (before z x) as (λ v. before z x ≡ v → list_with before x (y ∷ z ∷ zs) ≡ list_with before y (cond v (z ∷ list_with before x zs) (x ∷ z ∷ zs))) [
+          | false ↦ (λ zx. placed-first (before x y) (before y x) x y (list_with before x (z ∷ zs)) (list_with before y (z ∷ zs)) (z ∷ zs) e
+              (ap (λ v. cond v (z ∷ list_with before x zs) (x ∷ z ∷ zs)) zx) (ap (λ v. cond v (z ∷ list_with before y zs) (y ∷ z ∷ zs)) zy))
           | true ↦ (λ zx.
               let first : before y x ≡ true = e ∙ ap not (not_before (before x y) (λ xy. sym (through z x y zx xy) ∙ zy)) in
-              ap (λ v. cond v (y ∷ placed before x (z ∷ zs)) (x ∷ y ∷ z ∷ zs)) first
-              ∙ ap (λ more. y ∷ more) (ap (λ v. cond v (z ∷ placed before x zs) (x ∷ z ∷ zs)) zx)
-              ∙ sym (ap (λ v. cond v (z ∷ placed before y (placed before x zs)) (y ∷ z ∷ placed before x zs)) zy))
+              ap (λ v. cond v (y ∷ list_with before x (z ∷ zs)) (x ∷ y ∷ z ∷ zs)) first
+              ∙ ap (λ more. y ∷ more) (ap (λ v. cond v (z ∷ list_with before x zs) (x ∷ z ∷ zs)) zx)
+              ∙ sym (ap (λ v. cond v (z ∷ list_with before y (list_with before x zs)) (y ∷ z ∷ list_with before x zs)) zy))
         ] refl)
-        | true ↦ (λ zy. elim (before z x) as (λ v. before z x ≡ v → cond v (z ∷ placed before x (placed before y zs)) (x ∷ z ∷ placed before y zs) ≡ placed before y (cond v (z ∷ placed before x zs) (x ∷ z ∷ zs))) [
+        | true ↦ (λ zy. elim (before z x) as (λ v. before z x ≡ v → cond v (z ∷ list_with before x (list_with before y zs)) (x ∷ z ∷ list_with before y zs) ≡ list_with before y (cond v (z ∷ list_with before x zs) (x ∷ z ∷ zs))) [
           | false ↦ (λ zx.
               let first : before x y ≡ true = ranked_flip (before x y) (before y x) e ∙ ap not (not_before (before y x) (λ yx. sym (through z y x zy yx) ∙ zx)) in
-              sym (ap (λ v. cond v (x ∷ placed before y (z ∷ zs)) (y ∷ x ∷ z ∷ zs)) first
-              ∙ ap (λ more. x ∷ more) (ap (λ v. cond v (z ∷ placed before y zs) (y ∷ z ∷ zs)) zy)))
+              sym (ap (λ v. cond v (x ∷ list_with before y (z ∷ zs)) (y ∷ x ∷ z ∷ zs)) first
+              ∙ ap (λ more. x ∷ more) (ap (λ v. cond v (z ∷ list_with before y zs) (y ∷ z ∷ zs)) zy)))
           | true ↦ (λ zx.
               ap (λ more. z ∷ more) (placed-swapped x y zs e)
-              ∙ sym (ap (λ v. cond v (z ∷ placed before y (placed before x zs)) (y ∷ z ∷ placed before x zs)) zy))
+              ∙ sym (ap (λ v. cond v (z ∷ list_with before y (list_with before x zs)) (y ∷ z ∷ list_with before x zs)) zy))
         ] refl)
       ] refl
     where
@@ -138,7 +139,7 @@ module _ {X : Type 0} (before : X → X → Bool) (through : (x y z : X) → bef
 
   pub sorted-reordered : {xs ys : List X} → Reordered xs ys → Pairs (Ranked before) xs → sorted before xs ≡ sorted before ys
   sorted-reordered nothing e = refl
-  sorted-reordered (head x r) e = ap (λ rest. placed before x rest) (sorted-reordered r e.1)
+  sorted-reordered (head x r) e = ap (λ rest. list_with before x rest) (sorted-reordered r e.1)
   sorted-reordered (swapped x y xs) e = placed-swapped x y (sorted before xs) e.0.0
   sorted-reordered (chain r s) e = sorted-reordered r e ∙ sorted-reordered s (Pairs-reordered (Ranked before) (λ x y h. ranked_flip (before x y) (before y x) h) r e)
 

@@ -1,5 +1,6 @@
 -- Rows are the same, whatever their order, where each place has the same row; and what a write of a list leaves at each place.
-use Rattle.std.specs.Prelude.{◌≡◌, ℕ, Bool, true, false, not, ◌&&◌, cond, List, [], ◌∷◌, Some, None, find, filter, bytes_eq, refl}
+use Rattle.std.specs.Prelude.{◌≡◌, ℕ, Bool, true, false, not, ◌&&◌, cond, List, [], ◌∷◌, Some, None, find, filter}
+use Rattle.std.specs.Prelude.{bytes_eq, refl}
 use Rattle.std.proofs.Common.{subst, sym, ap, ◌∙◌}
 use Rattle.ss_text.specs.Texts.{Reordered, nothing, head, chain, swapped}
 use Rattle.ss_bso.specs.declared.rows.Row.{Row}

@@ -1,5 +1,6 @@
 -- Batches by their numbers: which is there, whether parts fit into one, and what becomes of a list of them.
-use Rattle.std.specs.Prelude.{ℕ, Bool, not, ◌&&◌, nat_le, ◌==◌, List, ◌++◌, length, filter, find, bytes_eq, Option, if◌then◌else◌}
+use Rattle.std.specs.Prelude.{ℕ, Bool, not, ◌&&◌, nat_le, ◌==◌, List, ◌++◌, length, filter, find, bytes_eq, Option}
+use Rattle.std.specs.Prelude.{if◌then◌else◌}
 use Rattle.ss_bso.specs.declared.parts.Part.{Part}
 use Rattle.ss_bso.specs.declared.account.Staged.{Staged}
 use Rattle.ss_bso.specs.Limits.{most_batch_records, most_batch_bytes, part_bytes}

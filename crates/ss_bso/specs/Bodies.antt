@@ -1,12 +1,13 @@
 -- What the body of a POST says: the records that can be put and those that failed, or the first element against it
 -- (SyncStorage API 1.5).
-use Rattle.std.specs.Prelude.{◌≡◌, ℕ, ◌+◌, List, [], ◌∷◌, ◌++◌, map, Bool, is_some, if◌then◌else◌, Option, Some, None, Result, Ok, Err, option_and_then, codes, ⊤}
+use Rattle.std.specs.Prelude.{◌≡◌, ℕ, ◌+◌, List, [], ◌∷◌, ◌++◌, map, Bool, is_some, if◌then◌else◌, Option, Some, None}
+use Rattle.std.specs.Prelude.{Result, Ok, Err, option_and_then, codes, ⊤}
 use Rattle.std.specs.List.{filter_map}
 use Rattle.serde_json.specs.Data.{Data, Items, no_items, item}
 use Rattle.serde_json.specs.Find.{get, as_str, as_array}
 use Rattle.ss_text.specs.Names.{is_id}
 use Rattle.ss_text.specs.Texts.{lines_of}
-use Rattle.ss_bso.specs.Members.{parsed, fields_of}
+use Rattle.ss_bso.specs.Members.{parsed_body, fields_of}
 use Rattle.ss_bso.specs.declared.parts.Fields.{Fields}
 use Rattle.ss_bso.specs.declared.parts.Reason.{Reason}
 use Rattle.ss_bso.specs.declared.parts.Part.{Part}
@@ -70,7 +71,7 @@ json_records (Some d) = list_records (as_array d)
 
 -- the records that the body of a POST gives, or what is wrong with it: one object a line, or one JSON list
 unfoldable pub records_of_text : Bool → List ℕ → Result Records BodyFault
-records_of_text lines text = if lines then records_of (map parsed (lines_of text)) else json_records (parsed text)
+records_of_text lines text = if lines then records_of (map parsed_body (lines_of text)) else json_records (parsed_body text)
 
 -- the answer is that one, unless memory ran out
 abbrev pub GivesRecords : Result Records BodyFault → Result Records BodyFault → Type 0

@@ -1,5 +1,6 @@
 -- What is kept of an account, and what changes make of it.
-use Rattle.std.specs.Prelude.{ℕ, Bool, not, ◌==◌, max, List, [], ◌∷◌, ◌++◌, map, filter, filter_map, fold, bytes_eq, Option, Some, None}
+use Rattle.std.specs.Prelude.{ℕ, Bool, not, ◌==◌, max, List, [], ◌∷◌, ◌++◌, map, filter, filter_map, fold, bytes_eq}
+use Rattle.std.specs.Prelude.{Option, Some, None}
 use Rattle.std.specs.List.{list_any}
 use Rattle.ss_bso.specs.declared.rows.Row.{Row}
 use Rattle.ss_bso.specs.declared.account.Plain.{Plain}

@@ -1,5 +1,6 @@
 -- What the members of a JSON object say of a record's fields (SyncStorage API 1.5).
-use Rattle.std.specs.Prelude.{◌≡◌, ℕ, ℤ, List, length, ◌&&◌, nat_lt, nat_le, is_some, if◌then◌else◌, Option, Some, None, Result, Ok, Err, option_and_then, codes, ⊤}
+use Rattle.std.specs.Prelude.{◌≡◌, ℕ, ℤ, List, length, ◌&&◌, nat_lt, nat_le, is_some, if◌then◌else◌, Option, Some, None}
+use Rattle.std.specs.Prelude.{Result, Ok, Err, option_and_then, codes, ⊤}
 use Rattle.std.specs.Str.{is_utf8}
 use Rattle.std.specs.Int.Signed.{le_z}
 use Rattle.serde_json.specs.Data.{Data}
@@ -20,8 +21,8 @@ abbrev pub json_of : List ℕ → Option Data
 json_of bytes = if is_utf8 bytes then read bytes else None
 
 -- the JSON value of a text once its decimals are wrapped
-unfoldable pub parsed : List ℕ → Option Data
-parsed text = json_of (wrapped text)
+unfoldable pub parsed_body : List ℕ → Option Data
+parsed_body text = json_of (wrapped text)
 
 -- an absent member keeps the field, null clears it, and another value is read
 abbrev pub member_field : {A : Type 0} → (Data → Result (Field A) Reason) → Option Data → Result (Field A) Reason
@@ -76,7 +77,7 @@ fields_of_json (Some d) = if is_some (as_object d) then bad (fields_of d) else E
 
 -- the fields that the body of a PUT gives, or what is wrong with it
 unfoldable pub fields_of_text : List ℕ → Result Fields FieldsFault
-fields_of_text text = fields_of_json (parsed text)
+fields_of_text text = fields_of_json (parsed_body text)
 
 -- the answer is that one, unless memory ran out
 abbrev pub GivesFields : Result Fields FieldsFault → Result Fields FieldsFault → Type 0

@@ -1,5 +1,6 @@
 -- Writes: what they leave, in each row and in the account.
-use Rattle.std.specs.Prelude.{ℕ, Bool, not, ◌&&◌, List, [], ◌∷◌, ◌++◌, map, filter, filter_map, fold, bytes_eq, Option, Some}
+use Rattle.std.specs.Prelude.{ℕ, Bool, not, ◌&&◌, List, [], ◌∷◌, ◌++◌, map, filter, filter_map, fold, bytes_eq, Option}
+use Rattle.std.specs.Prelude.{Some}
 use Rattle.std.specs.List.{list_any}
 use Rattle.ss_text.specs.Texts.{once_by}
 use Rattle.ss_bso.specs.declared.rows.Row.{Row}

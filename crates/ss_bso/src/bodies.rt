@@ -2,8 +2,9 @@
 
 ghost use Rattle.std.specs.Prelude.{◌≡◌, IfOk, OnOk, Some, [], map, is_some};
 ghost use Rattle.serde_json.specs.View.{view};
-ghost use Rattle.ss_bso.specs.Members.{parsed};
-ghost use Rattle.ss_bso.specs.Bodies.{id_of, part_of, failed_of, records_of, json_records, records_of_text, GivesRecords, Grows};
+ghost use Rattle.ss_bso.specs.Members.{parsed_body};
+ghost use Rattle.ss_bso.specs.Bodies.{id_of, part_of, failed_of, records_of, json_records, records_of_text};
+ghost use Rattle.ss_bso.specs.Bodies.{GivesRecords, Grows};
 ghost use Rattle.ss_text.specs.Texts.{lines_of};
 ghost use Rattle.ss_bso.specs.declared.bodies.BodyFault.TheVariants.{Memory};
 
@@ -107,7 +108,7 @@ fn records_in(alloc: Global, values: Vec<Value>) -> Result<Records, BodyFault>
 }
 
 fn records_in_lines(alloc: Global, lines: &[&[u8]]) -> Result<Records, BodyFault>
-    ensures { GivesRecords result (records_of (map (λ line. parsed line.now) lines.now)) }
+    ensures { GivesRecords result (records_of (map (λ line. parsed_body line.now) lines.now)) }
 {
     let mut gathering = Gathering::new(alloc);
     let mut place = 0u64;
@@ -124,7 +125,7 @@ fn records_in_lines(alloc: Global, lines: &[&[u8]]) -> Result<Records, BodyFault
 }
 
 fn read_list(alloc: Global, body: &[u8]) -> Result<Records, BodyFault>
-    ensures { GivesRecords result (json_records (parsed body.now)) }
+    ensures { GivesRecords result (json_records (parsed_body body.now)) }
 {
     let value = parse(alloc, body)?.ok_or(BodyFault::NotJson)?;
     match value {
@@ -134,7 +135,7 @@ fn read_list(alloc: Global, body: &[u8]) -> Result<Records, BodyFault>
 }
 
 fn read_lines(alloc: Global, body: &[u8]) -> Result<Records, BodyFault>
-    ensures { GivesRecords result (records_of (map parsed (lines_of body.now))) }
+    ensures { GivesRecords result (records_of (map parsed_body (lines_of body.now))) }
 {
     let lines = lines_in(alloc, body)?;
     records_in_lines(alloc, lines.as_slice())

@@ -2,7 +2,8 @@
 
 ghost use Rattle.std.specs.Prelude.{◌≡◌, IfOk, option_map};
 ghost use Rattle.serde_json.specs.View.{view};
-ghost use Rattle.ss_bso.specs.Members.{json_of, parsed, payload_of, sortindex_of, ttl_of, fields_of, fields_of_text, GivesFields};
+ghost use Rattle.ss_bso.specs.Members.{json_of, parsed_body, payload_of, sortindex_of, ttl_of, fields_of};
+ghost use Rattle.ss_bso.specs.Members.{fields_of_text, GivesFields};
 ghost use Rattle.ss_bso.specs.declared.members.FieldsFault.TheVariants.{Memory};
 
 use crate::limits::{LEAST_SORTINDEX, MOST_RECORD_PAYLOAD_BYTES, MOST_SORTINDEX, MOST_TTL};
@@ -47,7 +48,7 @@ fn read(alloc: Global, bytes: &[u8]) -> Result<Option<Value>, AllocError>
 /// The JSON value of a text, its decimals wrapped first; None exactly where it is no JSON. A text without decimals is
 /// read as it is.
 pub(crate) fn parse(alloc: Global, text: &[u8]) -> Result<Option<Value>, AllocError>
-    ensures { IfOk result (λ value. option_map view value ≡ parsed text.now) }
+    ensures { IfOk result (λ value. option_map view value ≡ parsed_body text.now) }
 {
     if count_decimals(text) == 0 {
         return read(alloc, text);

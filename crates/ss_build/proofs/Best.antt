@@ -1,15 +1,18 @@
 -- The best of some folders is the one that a pass over them keeps; ids in order.
-use Rattle.std.proofs.Common.{◌≡◌, ◌≢◌, ℕ, ◌<◌, List, [], ◌∷◌, Bool, true, false, not, cond, ◌&&◌, ◌==◌, ◌⊎◌, inl, inr, nat_lt, refl, sym, ap, ◌∙◌, subst, arith, filter, find, bytes_eq, Some, Ordering, Less, Equal, Greater, nat_cmp, is_lt, eq-eqb, lt-ltb}
+use Rattle.std.proofs.Common.{◌≡◌, ◌≢◌, ℕ, ◌<◌, List, [], ◌∷◌, Bool, true, false, not, cond, ◌&&◌, ◌==◌, ◌⊎◌, inl, inr}
+use Rattle.std.proofs.Common.{nat_lt, refl, sym, ap, ◌∙◌, subst, arith, filter, find, bytes_eq, Some, Ordering, Less}
+use Rattle.std.proofs.Common.{Equal, Greater, nat_cmp, is_lt, eq-eqb, lt-ltb}
 use Rattle.std.specs.Bool.{⊤}
 use Rattle.std.specs.List.{list_all, best_of}
 use Rattle.std.specs.Ordering.{ordering_reverse, is_eq}
 use Rattle.std.specs.Cmp.Lexicographic.{slice_cmp, nat_list_cmp_total}
-use Rattle.std.proofs.lemmas.Bool.{or_cases, and_parts, and_from, or_left, or_right, false≢true, ltb-true, eqb-true, cases_order, false_from_ne_true}
+use Rattle.std.proofs.lemmas.Bool.{or_cases, and_parts, and_from, or_left, or_right, false≢true, ltb-true, eqb-true}
+use Rattle.std.proofs.lemmas.Bool.{cases_order, false_from_ne_true}
 use Rattle.std.proofs.lemmas.Map.Text.{is_eq-slice_cmp}
 use Rattle.ss_build.specs.Built.{beats, best, claim, ids}
 use Rattle.ss_build.specs.declared.claims.Claim.{Claim}
 use Rattle.ss_record.specs.Ids.{Apart, before, by_id, has}
-use Rattle.ss_text.specs.Texts.{placed}
+use Rattle.ss_text.specs.Texts.{list_with}
 use Rattle.ss_record.proofs.IdLists.{has-head, has-tail, Apart-head, Apart-tail, Apart-cons}
 use Rattle.ss_build.proofs.Items.{In, claim_in}
 use Rattle.ss_text.proofs.Basics.{same_text, bytes_eq-same, is_less}
@@ -206,21 +209,21 @@ least_cons : (x y : List ℕ) (ys : List (List ℕ)) → before y x ≡ false �
 unfolding Least
 least_cons x y ys e l = (e, l)
 
-least_placed : (x z : List ℕ) (ys : List (List ℕ)) → before z x ≡ false → Least x ys → Least x (placed before z ys)
+least_placed : (x z : List ℕ) (ys : List (List ℕ)) → before z x ≡ false → Least x ys → Least x (list_with before z ys)
 unfolding Least
 least_placed x z [] e l = (e, tt)
 least_placed x z (y ∷ ys) e l = go (before y z) (least_placed x z ys e l.1)
   where
-    go : (b : Bool) → Least x (placed before z ys) → Least x (cond b (y ∷ placed before z ys) (z ∷ y ∷ ys))
+    go : (b : Bool) → Least x (list_with before z ys) → Least x (cond b (y ∷ list_with before z ys) (z ∷ y ∷ ys))
     go true ih = (l.0, ih)
     go false ih = (e, l)
 
-placed_in_order : (x : List ℕ) (ys : List (List ℕ)) → InOrder ys → InOrder (placed before x ys)
+placed_in_order : (x : List ℕ) (ys : List (List ℕ)) → InOrder ys → InOrder (list_with before x ys)
 unfolding Least InOrder
 placed_in_order x [] o = (tt, tt)
 placed_in_order x (y ∷ ys) o = go (before y x) refl (placed_in_order x ys o.1)
   where
-    go : (b : Bool) → before y x ≡ b → InOrder (placed before x ys) → InOrder (cond b (y ∷ placed before x ys) (x ∷ y ∷ ys))
+    go : (b : Bool) → before y x ≡ b → InOrder (list_with before x ys) → InOrder (cond b (y ∷ list_with before x ys) (x ∷ y ∷ ys))
     go true e ih = (least_placed y x ys (false_from_ne_true (before x y) (λ h. before_asym y x e h)) o.0, ih)
     go false e ih = ((e, least_less x y ys e o.0), o)
 
@@ -229,10 +232,10 @@ unfolding InOrder
 by_id_in_order [] = tt
 by_id_in_order (x ∷ xs) = placed_in_order x (by_id xs) (by_id_in_order xs)
 
-placed_least : (x : List ℕ) (ys : List (List ℕ)) → Least x ys → placed before x ys ≡ x ∷ ys
+placed_least : (x : List ℕ) (ys : List (List ℕ)) → Least x ys → list_with before x ys ≡ x ∷ ys
 unfolding Least
 placed_least x [] l = refl
-placed_least x (y ∷ ys) l = ap (λ b. cond b (y ∷ placed before x ys) (x ∷ y ∷ ys)) l.0
+placed_least x (y ∷ ys) l = ap (λ b. cond b (y ∷ list_with before x ys) (x ∷ y ∷ ys)) l.0
 
 least_filter : (p : List ℕ → Bool) (x : List ℕ) (ys : List (List ℕ)) → Least x ys → Least x (filter p ys)
 unfolding Least
@@ -243,7 +246,7 @@ least_filter p x (y ∷ ys) l = go (p y) (least_filter p x ys l.1)
     go true ih = (l.0, ih)
     go false ih = ih
 
-filter-placed : (p : List ℕ → Bool) (x : List ℕ) (ys : List (List ℕ)) → InOrder ys → filter p (placed before x ys) ≡ cond (p x) (placed before x (filter p ys)) (filter p ys)
+filter-placed : (p : List ℕ → Bool) (x : List ℕ) (ys : List (List ℕ)) → InOrder ys → filter p (list_with before x ys) ≡ cond (p x) (list_with before x (filter p ys)) (filter p ys)
 unfolding InOrder
 filter-placed p x [] o = refl
 filter-placed p x (y ∷ ys) o = go (before y x) refl (filter-placed p x ys o.1)
@@ -251,26 +254,26 @@ filter-placed p x (y ∷ ys) o = go (before y x) refl (filter-placed p x ys o.1)
     F : List (List ℕ)
     F = filter p ys
 
-    after : before y x ≡ true → (b c : Bool) → cond b (y ∷ cond c (placed before x F) F) (cond c (placed before x F) F) ≡ cond c (placed before x (cond b (y ∷ F) F)) (cond b (y ∷ F) F)
-    after e true true = sym (ap (λ b. cond b (y ∷ placed before x F) (x ∷ y ∷ F)) e)
+    after : before y x ≡ true → (b c : Bool) → cond b (y ∷ cond c (list_with before x F) F) (cond c (list_with before x F) F) ≡ cond c (list_with before x (cond b (y ∷ F) F)) (cond b (y ∷ F) F)
+    after e true true = sym (ap (λ b. cond b (y ∷ list_with before x F) (x ∷ y ∷ F)) e)
     after e true false = refl
     after e false true = refl
     after e false false = refl
 
-    here : (c : Bool) → before y x ≡ false → cond c (x ∷ filter p (y ∷ ys)) (filter p (y ∷ ys)) ≡ cond c (placed before x (filter p (y ∷ ys))) (filter p (y ∷ ys))
+    here : (c : Bool) → before y x ≡ false → cond c (x ∷ filter p (y ∷ ys)) (filter p (y ∷ ys)) ≡ cond c (list_with before x (filter p (y ∷ ys))) (filter p (y ∷ ys))
     here true e = sym (placed_least x (filter p (y ∷ ys)) (least_filter p x (y ∷ ys) (least_cons x y ys e (least_less x y ys e o.0))))
     here false e = refl
 
-    go : (a : Bool) → before y x ≡ a → filter p (placed before x ys) ≡ cond (p x) (placed before x (filter p ys)) (filter p ys)
-        → filter p (cond a (y ∷ placed before x ys) (x ∷ y ∷ ys)) ≡ cond (p x) (placed before x (filter p (y ∷ ys))) (filter p (y ∷ ys))
+    go : (a : Bool) → before y x ≡ a → filter p (list_with before x ys) ≡ cond (p x) (list_with before x (filter p ys)) (filter p ys)
+        → filter p (cond a (y ∷ list_with before x ys) (x ∷ y ∷ ys)) ≡ cond (p x) (list_with before x (filter p (y ∷ ys))) (filter p (y ∷ ys))
     go true e ih = ap (λ w. cond (p y) (y ∷ w) w) ih ∙ after e (p y) (p x)
     go false e ih = here (p x) e
 
 -- a filter keeps the order, so what is left of the ids in order is what is left, in order
 pub filter-by_id : (p : List ℕ → Bool) (xs : List (List ℕ)) → filter p (by_id xs) ≡ by_id (filter p xs)
 filter-by_id p [] = refl
-filter-by_id p (x ∷ xs) = filter-placed p x (by_id xs) (by_id_in_order xs) ∙ (ap (λ w. cond (p x) (placed before x w) w) (filter-by_id p xs) ∙ go (p x))
+filter-by_id p (x ∷ xs) = filter-placed p x (by_id xs) (by_id_in_order xs) ∙ (ap (λ w. cond (p x) (list_with before x w) w) (filter-by_id p xs) ∙ go (p x))
   where
-    go : (b : Bool) → cond b (placed before x (by_id (filter p xs))) (by_id (filter p xs)) ≡ by_id (cond b (x ∷ filter p xs) (filter p xs))
+    go : (b : Bool) → cond b (list_with before x (by_id (filter p xs))) (by_id (filter p xs)) ≡ by_id (cond b (x ∷ filter p xs) (filter p xs))
     go true = refl
     go false = refl

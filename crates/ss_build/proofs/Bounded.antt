@@ -1,8 +1,9 @@
 -- Who comes back to itself at all does so within as many steps as there are items.
-use Rattle.std.proofs.Common.{◌≡◌, ◌≢◌, ℕ, zero, suc, ◌<◌, List, [], ◌∷◌, length, Bool, true, false, ◌||◌, ◌⊎◌, ◌↔◌, inl, inr, refl, sym, ap, ◌∙◌, arith, bytes_eq}
+use Rattle.std.proofs.Common.{◌≡◌, ◌≢◌, ℕ, zero, suc, ◌<◌, List, [], ◌∷◌, length, Bool, true, false, ◌||◌, ◌⊎◌, ◌↔◌}
+use Rattle.std.proofs.Common.{inl, inr, refl, sym, ap, ◌∙◌, arith, bytes_eq}
 use Rattle.std.specs.List.{list_any}
 use Rattle.std.proofs.lemmas.Bool.{false≢true}
-use Rattle.ss_build.specs.Built.{comes_back, ids, proposed, walk}
+use Rattle.ss_build.specs.Built.{comes_back, ids, proposed_parents, walk}
 use Rattle.ss_build.specs.declared.claims.Claim.{Claim}
 use Rattle.ss_record.specs.Ids.{has, places, roots}
 use Rattle.ss_record.specs.Kinds.{is_folder}
@@ -57,35 +58,35 @@ unfolding steps
 same_circle f j zero y back = back
 same_circle f j (suc m) y back = same_circle f j m (f y) (steps_after f j (f y) ∙ ap f back)
 
-pub comes_back_is : (es : List Claim) → AreClaims es → (x : List ℕ) → has x (ids es) ≡ true → (comes_back (proposed es) (length es) x ≡ true) ↔ ((k : ℕ) × (steps (proposed es) (suc k) x ≡ x))
+pub comes_back_is : (es : List Claim) → AreClaims es → (x : List ℕ) → has x (ids es) ≡ true → (comes_back (proposed_parents es) (length es) x ≡ true) ↔ ((k : ℕ) × (steps (proposed_parents es) (suc k) x ≡ x))
 unfolding comes_back steps
-comes_back_is es a x hx = (λ h. walk_steps (proposed es) (length es) (proposed es x) x h, bounded)
+comes_back_is es a x hx = (λ h. walk_steps (proposed_parents es) (length es) (proposed_parents es x) x h, bounded)
   where
-    closed : (z : List ℕ) → has z (ids es) ≡ true → (has (proposed es z) (ids es) ≡ true) ⊎ (proposed es z ≡ places)
+    closed : (z : List ℕ) → has z (ids es) ≡ true → (has (proposed_parents es z) (ids es) ≡ true) ⊎ (proposed_parents es z ≡ places)
     closed z h = pick (proposed_cases es a z h)
       where
-        pick : ((has z roots ≡ true) × (proposed es z ≡ places)) ⊎ ((f : Claim) × In f es × (is_folder f.item.kind ≡ true) × (proposed es z ≡ f.item.id)) → (has (proposed es z) (ids es) ≡ true) ⊎ (proposed es z ≡ places)
+        pick : ((has z roots ≡ true) × (proposed_parents es z ≡ places)) ⊎ ((f : Claim) × In f es × (is_folder f.item.kind ≡ true) × (proposed_parents es z ≡ f.item.id)) → (has (proposed_parents es z) (ids es) ≡ true) ⊎ (proposed_parents es z ≡ places)
         pick (inl p) = inr p.1
         pick (inr p) = inl (ap (λ w. has w (ids es)) p.3 ∙ In_has es p.0 p.1)
 
-    top_up : proposed es places ≡ places
+    top_up : proposed_parents es places ≡ places
     top_up = proposed_none es places places_no_root a.no_places
 
     ne : x ≢ places
     ne p = false≢true (sym a.no_places ∙ (ap (λ w. has w (ids es)) (sym p) ∙ hx))
 
-    bounded : (k : ℕ) × (steps (proposed es) k (proposed es x) ≡ x) → has x (walk (proposed es) (length es) (proposed es x)) ≡ true
-    bounded k = go (top_or_circle (ids es) (length es) (let n : length (ids es) ≡ length es = length-ids es in omega arith) places (proposed es) closed x hx)
+    bounded : (k : ℕ) × (steps (proposed_parents es) k (proposed_parents es x) ≡ x) → has x (walk (proposed_parents es) (length es) (proposed_parents es x)) ≡ true
+    bounded k = go (top_or_circle (ids es) (length es) (let n : length (ids es) ≡ length es = length-ids es in omega arith) places (proposed_parents es) closed x hx)
       where
-        go : (has places (walk (proposed es) (suc (length es)) x) ≡ true) ⊎ ((has places (walk (proposed es) (suc (length es)) x) ≡ false) × (list_any (comes_back (proposed es) (length es)) (walk (proposed es) (suc (length es)) x) ≡ true)) → has x (walk (proposed es) (length es) (proposed es x)) ≡ true
+        go : (has places (walk (proposed_parents es) (suc (length es)) x) ≡ true) ⊎ ((has places (walk (proposed_parents es) (suc (length es)) x) ≡ false) × (list_any (comes_back (proposed_parents es) (length es)) (walk (proposed_parents es) (suc (length es)) x) ≡ true)) → has x (walk (proposed_parents es) (length es) (proposed_parents es x)) ≡ true
         go (inl e) =
-            let r = walk_steps (proposed es) (suc (length es)) x places e in
-            absurd (ne (circle_top (proposed es) places top_up k.0 r.0 x k.1 r.1))
+            let r = walk_steps (proposed_parents es) (suc (length es)) x places e in
+            absurd (ne (circle_top (proposed_parents es) places top_up k.0 r.0 x k.1 r.1))
         go (inr e) =
-            let y = any_found (comes_back (proposed es) (length es)) (walk (proposed es) (suc (length es)) x) e.1 in
-            let i = walk_steps (proposed es) (suc (length es)) x y.0 y.1 in
-            let j = walk_steps_below (proposed es) (length es) (proposed es y.0) y.0 y.2 in
-            let m = way_back (proposed es) k.0 i.0 x k.1 in
-            let x_at : steps (proposed es) m.0 y.0 ≡ x = ap (steps (proposed es) m.0) (sym i.1) ∙ m.1 in
-            let around : steps (proposed es) j.0 (proposed es x) ≡ x = ap (λ w. steps (proposed es) j.0 (proposed es w)) (sym x_at) ∙ (same_circle (proposed es) j.0 m.0 y.0 j.2 ∙ x_at) in
-            ap (λ w. has w (walk (proposed es) (length es) (proposed es x))) (sym around) ∙ steps_on_walk (proposed es) j.0 (length es) (proposed es x) j.1
+            let y = any_found (comes_back (proposed_parents es) (length es)) (walk (proposed_parents es) (suc (length es)) x) e.1 in
+            let i = walk_steps (proposed_parents es) (suc (length es)) x y.0 y.1 in
+            let j = walk_steps_below (proposed_parents es) (length es) (proposed_parents es y.0) y.0 y.2 in
+            let m = way_back (proposed_parents es) k.0 i.0 x k.1 in
+            let x_at : steps (proposed_parents es) m.0 y.0 ≡ x = ap (steps (proposed_parents es) m.0) (sym i.1) ∙ m.1 in
+            let around : steps (proposed_parents es) j.0 (proposed_parents es x) ≡ x = ap (λ w. steps (proposed_parents es) j.0 (proposed_parents es w)) (sym x_at) ∙ (same_circle (proposed_parents es) j.0 m.0 y.0 j.2 ∙ x_at) in
+            ap (λ w. has w (walk (proposed_parents es) (length es) (proposed_parents es x))) (sym around) ∙ steps_on_walk (proposed_parents es) j.0 (length es) (proposed_parents es x) j.1

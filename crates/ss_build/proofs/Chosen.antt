@@ -1,13 +1,18 @@
 -- Proposed parents by their places.
-use Rattle.std.proofs.Common.{◌≡◌, ◌≢◌, ℕ, suc, ◌+◌, ◌<◌, ◌≤◌, ◌==◌, ◌⊎◌, inl, inr, List, [], ◌∷◌, ◌++◌, length, map, take, get_or, set, Bool, true, false, not, cond, ◌&&◌, ◌||◌, nat_eq, nat_lt, refl, sym, ap, ap₂, ◌∙◌, subst, arith, eq-eqb, lt-ltb, find, bytes_eq, filter, Option, Some, None, unwrap_or, option_map, option_and_then}
+use Rattle.std.proofs.Common.{◌≡◌, ◌≢◌, ℕ, suc, ◌+◌, ◌<◌, ◌≤◌, ◌==◌, ◌⊎◌, inl, inr, List, [], ◌∷◌, ◌++◌, length, map}
+use Rattle.std.proofs.Common.{take, get_or, set, Bool, true, false, not, cond, ◌&&◌, ◌||◌, nat_eq, nat_lt, refl, sym}
+use Rattle.std.proofs.Common.{ap, ap₂, ◌∙◌, subst, arith, eq-eqb, lt-ltb, find, bytes_eq, filter, Option, Some, None}
+use Rattle.std.proofs.Common.{unwrap_or, option_map, option_and_then}
 use Rattle.std.specs.List.{list_all, list_any}
 use Rattle.std.proofs.lemmas.Bool.{false≢true, cases_lt, cases_eq, ne_eqb, and_parts, and_from, le-ltb}
-use Rattle.std.proofs.lemmas.List.{get_or_read, take_all, take_more, get_or-set_same, get_or-set_other, ext_get_or, get_or-map, length-map}
+use Rattle.std.proofs.lemmas.List.{get_or_read, take_all, take_more, get_or-set_same, get_or-set_other, ext_get_or}
+use Rattle.std.proofs.lemmas.List.{get_or-map, length-map}
 use Rattle.ss_record.specs.Ids.{Apart, has, places, roots, unfiled}
 use Rattle.ss_record.specs.Kinds.{is_folder}
 use Rattle.ss_record.proofs.IdLists.{bytes_eq-apart, Apart-head, Apart-tail}
 use Rattle.ss_build.specs.declared.claims.Claim.{Claim}
-use Rattle.ss_build.specs.Built.{beats, best, claim, empty_root, ids, kept_if, lists, named, or_else, proposal, proposed}
+use Rattle.ss_build.specs.Built.{beats, best, claim, empty_root, ids, kept_if, lists, named, or_else, proposal}
+use Rattle.ss_build.specs.Built.{proposed_parents}
 use Rattle.ss_build.specs.Places.{AreItems, at, chosen, kept_at, next_of, place, seat}
 use Rattle.ss_build.proofs.Items.{In, find_in, In_has, In-filter, claim_in}
 use Rattle.ss_build.proofs.Valid.{length-ids, proposed_claim, proposed_root}
@@ -262,7 +267,7 @@ unfolding best
 best_in es x f q = (In-filter (λ f. lists f x) es f (find_in (λ f. list_all (λ g. not (beats g f)) (filter (λ f. lists f x) es)) (filter (λ f. lists f x) es) f q).0).0
 
 next_at : (es : List Claim) (i : ℕ) → AreItems es → i < length es
-    → place (proposed es (at es i).item.id) (ids es)
+    → place (proposed_parents es (at es i).item.id) (ids es)
     ≡ chosen (has (at es i).item.id roots) (kept_at es (at es i)) (seat es (named es (at es i))) (seat es (best (filter (λ f. lists f (at es i).item.id) es))) (place unfiled (ids es)) (length es)
 unfolding proposal kept_at
 next_at es i a l = go (has (at es i).item.id roots) refl
@@ -270,7 +275,7 @@ next_at es i a l = go (has (at es i).item.id roots) refl
     here : claim (at es i).item.id es ≡ Some (at es i)
     here = claim_in es (at es i) a.apart (at_in es i l)
 
-    go : (b : Bool) → has (at es i).item.id roots ≡ b → place (proposed es (at es i).item.id) (ids es)
+    go : (b : Bool) → has (at es i).item.id roots ≡ b → place (proposed_parents es (at es i).item.id) (ids es)
         ≡ chosen b (unwrap_or (option_map (λ f. lists f (at es i).item.id) (named es (at es i))) false) (seat es (named es (at es i))) (seat es (best (filter (λ f. lists f (at es i).item.id) es))) (place unfiled (ids es)) (length es)
     go true h = ap (λ x. place x (ids es)) (proposed_root es (at es i).item.id h) ∙ (place_none places (ids es) a.no_places ∙ length-ids es)
     go false h =
@@ -287,8 +292,8 @@ pub next_more : (es : List Claim) (next : List ℕ) (listed : List Bool) (claime
     → next ++ v ∷ [] ≡ take (i + 1) (next_of es)
 unfolding next_of
 next_more es next listed claimed listers fallback i v root li ci bi e a l k c b f at_e r lr cr br n w =
-    ap₂ (λ x y. x ++ y ∷ []) n (w ∙ (same ∙ (sym (next_at es i a l) ∙ sym (get_or-map (λ e. place (proposed es e.item.id) (ids es)) es i (empty_root places) 0 l))))
-    ∙ sym (take_more (map (λ e. place (proposed es e.item.id) (ids es)) es) i 0 (let m : length (map (λ e. place (proposed es e.item.id) (ids es)) es) ≡ length es = length-map es (λ e. place (proposed es e.item.id) (ids es)) in omega arith))
+    ap₂ (λ x y. x ++ y ∷ []) n (w ∙ (same ∙ (sym (next_at es i a l) ∙ sym (get_or-map (λ e. place (proposed_parents es e.item.id) (ids es)) es i (empty_root places) 0 l))))
+    ∙ sym (take_more (map (λ e. place (proposed_parents es e.item.id) (ids es)) es) i 0 (let m : length (map (λ e. place (proposed_parents es e.item.id) (ids es)) es) ≡ length es = length-map es (λ e. place (proposed_parents es e.item.id) (ids es)) in omega arith))
   where
     rooted : root ≡ has (at es i).item.id roots
     rooted = r ∙ ap (λ z. has z.item.id roots) (get_or_read es i e l at_e (empty_root places))
@@ -302,7 +307,7 @@ next_more es next listed claimed listers fallback i v root li ci bi e a l k c b 
 
 pub next_all : (es : List Claim) (next : List ℕ) (i : ℕ) → length es ≤ i → next ≡ take i (next_of es) → next ≡ next_of es
 unfolding next_of
-next_all es next i l n = n ∙ take_all i (map (λ e. place (proposed es e.item.id) (ids es)) es) (let m : length (map (λ e. place (proposed es e.item.id) (ids es)) es) ≡ length es = length-map es (λ e. place (proposed es e.item.id) (ids es)) in omega arith)
+next_all es next i l n = n ∙ take_all i (map (λ e. place (proposed_parents es e.item.id) (ids es)) es) (let m : length (map (λ e. place (proposed_parents es e.item.id) (ids es)) es) ≡ length es = length-map es (λ e. place (proposed_parents es e.item.id) (ids es)) in omega arith)
 
 -- what is read of the folder that an item names
 pub named_here : (es : List Claim) (e f : Claim) (p : List ℕ) (i : ℕ) → e.parentid ≡ Some p → Apart (ids es) → i ≡ place p (ids es) → i < length es → f ≡ get_or es i f → is_folder f.item.kind ≡ true → i ≡ seat es (named es e)

@@ -1,17 +1,18 @@
 -- What stands of the items of rows, and of the tree that is made of them.
-use Rattle.std.proofs.Common.{◌≡◌, ℕ, ◌<◌, ◌≤◌, List, [], ◌∷◌, length, map, get_or, refl, sym, ap, ◌∙◌, subst, arith, true, filter_map, codes, option_map}
+use Rattle.std.proofs.Common.{◌≡◌, ℕ, ◌<◌, ◌≤◌, List, [], ◌∷◌, length, map, get_or, refl, sym, ap, ◌∙◌, subst, arith}
+use Rattle.std.proofs.Common.{true, filter_map, codes, option_map}
 use Rattle.std.proofs.lemmas.List.{length-append}
 use Rattle.ss_record.specs.Ids.{Apart, unfiled}
 use Rattle.ss_record.specs.declared.readings.Sheet.{Sheet}
 use Rattle.ss_tree.specs.declared.entries.Entry.{Entry}
 use Rattle.ss_tree.specs.Entries.{IsTree, entry_ids, is_live, placed, tree}
-use Rattle.ss_tree.specs.Trees.{IsSame, IsValidTree, Placed, node_ids}
+use Rattle.ss_tree.specs.Trees.{IsSame, IsValidTree, PlacedItem, node_ids}
 use Rattle.ss_build.specs.declared.claims.Claim.{Claim}
 use Rattle.ss_build.specs.Built.{built, claims, ids, tree_of, with_roots}
 use Rattle.ss_build.specs.Places.{AreItems, at, in_order, names, parents_of}
 use Rattle.ss_build.specs.Planted.{entries}
 use Rattle.ss_build.specs.Rows.{Row, claim_of, rows_of}
-use Rattle.ss_build.specs.Stand.{IsSameUntimed, StandFor, untimed}
+use Rattle.ss_build.specs.Stand.{IsSameUntimed, StandFor, without_time}
 use Rattle.ss_build.proofs.Items.{AreClaims}
 use Rattle.ss_build.proofs.Valid.{tree_of_valid}
 use Rattle.ss_build.proofs.Seats.{at_in}
@@ -65,12 +66,12 @@ pub tree_planted : (es : List Claim) (parents order : List ℕ) (t : List Entry)
     → t ≡ entries es parents order → IsTree t
 tree_planted es parents order t a p n b e = subst IsTree (sym e) (entries_tree es a parents order p n b)
 
-pub built_is : (rows : List Row) (es : List Claim) (t : List Placed) → es ≡ claims rows → IsSame t (tree_of es) → IsSame t (built rows)
+pub built_is : (rows : List Row) (es : List Claim) (t : List PlacedItem) → es ≡ claims rows → IsSame t (tree_of es) → IsSame t (built rows)
 unfolding built
 built_is rows es t e s = subst (λ w. IsSame t (tree_of w)) e s
 
-pub built_back : (sheets : List Sheet) (b : List Placed) → Apart (map (λ s. s.id) sheets) → IsSame b (built (rows_of sheets)) → (t : List Placed) → IsValidTree t → StandFor t (rows_of sheets) → IsSameUntimed b t
-built_back sheets b a s t v h x = ap (option_map untimed) (s x) ∙ sheets_built_back t sheets v a h x
+pub built_back : (sheets : List Sheet) (b : List PlacedItem) → Apart (map (λ s. s.id) sheets) → IsSame b (built (rows_of sheets)) → (t : List PlacedItem) → IsValidTree t → StandFor t (rows_of sheets) → IsSameUntimed b t
+built_back sheets b a s t v h x = ap (option_map without_time) (s x) ∙ sheets_built_back t sheets v a h x
 
 pub numbered_planted : (es : List Claim) (parents order : List ℕ) (t : List Entry) → AreItems es → parents ≡ parents_of es → names (ids es) order ≡ in_order es → ((k : ℕ) → k < length order → get_or order k 0 < length es)
     → t ≡ entries es parents order → (k : ℕ) → is_live k t ≡ true → k < length t

@@ -1,11 +1,12 @@
 -- Steps along proposed parents are hops along their places.
-use Rattle.std.proofs.Common.{◌≡◌, ℕ, zero, suc, ◌<◌, ◌≤◌, ◌⊎◌, ◌↔◌, inl, inr, List, [], ◌∷◌, length, get_or, Bool, true, false, refl, sym, ap, ◌∙◌, arith}
+use Rattle.std.proofs.Common.{◌≡◌, ℕ, zero, suc, ◌<◌, ◌≤◌, ◌⊎◌, ◌↔◌, inl, inr, List, [], ◌∷◌, length, get_or, Bool}
+use Rattle.std.proofs.Common.{true, false, refl, sym, ap, ◌∙◌, arith}
 use Rattle.std.proofs.Math.ListN.{get_or-eq_default}
 use Rattle.std.proofs.lemmas.Bool.{cases_lt, false≢true}
 use Rattle.std.proofs.lemmas.List.{get_or_default}
 use Rattle.ss_build.specs.Marks.{next_at, hops, AreCircles}
 use Rattle.ss_build.specs.Places.{IsNext}
-use Rattle.ss_build.specs.Built.{comes_back, ids, proposed}
+use Rattle.ss_build.specs.Built.{comes_back, ids, proposed_parents}
 use Rattle.ss_build.specs.declared.claims.Claim.{Claim}
 use Rattle.ss_record.specs.Ids.{Apart, has, places}
 use Rattle.ss_tree.specs.Trees.{steps}
@@ -34,22 +35,22 @@ module _ (es : List Claim) (a : AreClaims es) (next : List ℕ) (n : IsNext es n
   sizes : length (ids es) ≡ length next
   sizes = length-ids es ∙ sym n.same_length
 
-  one_step : (i : ℕ) → proposed es (id_at i) ≡ id_at (next_at next i)
+  one_step : (i : ℕ) → proposed_parents es (id_at i) ≡ id_at (next_at next i)
   unfolding id_at
   one_step i = go (cases_lt i (length next))
     where
-      go : (i < length next) ⊎ (length next ≤ i) → proposed es (get_or (ids es) i places) ≡ get_or (ids es) (next_at next i) places
+      go : (i < length next) ⊎ (length next ≤ i) → proposed_parents es (get_or (ids es) i places) ≡ get_or (ids es) (next_at next i) places
       go (inl l) = n.each i l ∙ ap (λ k. get_or (ids es) k places) (get_or_default next i 0 (length next) l)
       go (inr l) =
           let s : length (ids es) ≡ length next = sizes in
           let top : get_or (ids es) i places ≡ places = get_or-eq_default (ids es) places (omega arith) in
           let end : get_or (ids es) (next_at next i) places ≡ places = ap (λ k. get_or (ids es) k places) (get_or-eq_default next (length next) l) ∙ get_or-eq_default (ids es) places (omega arith) in
-          ap (proposed es) top ∙ (proposed_none es places places_no_root a.no_places ∙ sym end)
+          ap (proposed_parents es) top ∙ (proposed_none es places places_no_root a.no_places ∙ sym end)
 
-  many_steps : (k i : ℕ) → steps (proposed es) k (id_at i) ≡ id_at (hops next k i)
+  many_steps : (k i : ℕ) → steps (proposed_parents es) k (id_at i) ≡ id_at (hops next k i)
   unfolding steps hops
   many_steps zero i = refl
-  many_steps (suc k) i = ap (steps (proposed es) k) (one_step i) ∙ many_steps k (next_at next i)
+  many_steps (suc k) i = ap (steps (proposed_parents es) k) (one_step i) ∙ many_steps k (next_at next i)
 
   same_at : (i j : ℕ) → i < length next → id_at j ≡ id_at i → j ≡ i
   unfolding id_at
@@ -62,15 +63,15 @@ module _ (es : List Claim) (a : AreClaims es) (next : List ℕ) (n : IsNext es n
           let top : get_or (ids es) j places ≡ places = get_or-eq_default (ids es) places (omega arith) in
           absurd (false≢true (sym a.no_places ∙ (ap (λ w. has w (ids es)) (sym top ∙ e) ∙ has_at (ids es) i places (omega arith))))
 
-  pub circles_told : (circles : List Bool) → AreCircles next circles → (i : ℕ) → i < length next → get_or circles i false ≡ comes_back (proposed es) (length es) (get_or (ids es) i places)
+  pub circles_told : (circles : List Bool) → AreCircles next circles → (i : ℕ) → i < length next → get_or circles i false ≡ comes_back (proposed_parents es) (length es) (get_or (ids es) i places)
   unfolding id_at hops steps
-  circles_told circles r i l = equal_bools (get_or circles i false) (comes_back (proposed es) (length es) (get_or (ids es) i places)) down up
+  circles_told circles r i l = equal_bools (get_or circles i false) (comes_back (proposed_parents es) (length es) (get_or (ids es) i places)) down up
     where
-      is : (comes_back (proposed es) (length es) (get_or (ids es) i places) ≡ true) ↔ ((k : ℕ) × (steps (proposed es) (suc k) (get_or (ids es) i places) ≡ get_or (ids es) i places))
+      is : (comes_back (proposed_parents es) (length es) (get_or (ids es) i places) ≡ true) ↔ ((k : ℕ) × (steps (proposed_parents es) (suc k) (get_or (ids es) i places) ≡ get_or (ids es) i places))
       is = comes_back_is es a (get_or (ids es) i places) (has_at (ids es) i places (let s : length (ids es) ≡ length next = sizes in omega arith))
 
-      down : get_or circles i false ≡ true → comes_back (proposed es) (length es) (get_or (ids es) i places) ≡ true
+      down : get_or circles i false ≡ true → comes_back (proposed_parents es) (length es) (get_or (ids es) i places) ≡ true
       down h = let k = (r.each i l).0 h in is.1 (k.0, many_steps (suc k.0) i ∙ ap (λ w. get_or (ids es) w places) k.1)
 
-      up : comes_back (proposed es) (length es) (get_or (ids es) i places) ≡ true → get_or circles i false ≡ true
+      up : comes_back (proposed_parents es) (length es) (get_or (ids es) i places) ≡ true → get_or circles i false ≡ true
       up h = let k = is.0 h in (r.each i l).1 (k.0, same_at i (hops next k.0 (next_at next i)) l (sym (many_steps (suc k.0) i) ∙ k.1))

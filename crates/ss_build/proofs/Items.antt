@@ -1,5 +1,7 @@
 -- Entries by their ids, their proposed parents and their parents.
-use Rattle.std.proofs.Common.{◌≡◌, ◌≢◌, ℕ, List, [], ◌∷◌, Bool, true, false, not, cond, ◌&&◌, ◌||◌, ◌⊎◌, inl, inr, refl, sym, ap, ◌∙◌, filter, find, bytes_eq, Option, Some, None, option_map, option_and_then, unwrap_or}
+use Rattle.std.proofs.Common.{◌≡◌, ◌≢◌, ℕ, List, [], ◌∷◌, Bool, true, false, not, cond, ◌&&◌, ◌||◌, ◌⊎◌, inl, inr, refl}
+use Rattle.std.proofs.Common.{sym, ap, ◌∙◌, filter, find, bytes_eq, Option, Some, None, option_map, option_and_then}
+use Rattle.std.proofs.Common.{unwrap_or}
 use Rattle.std.specs.Bool.{⊤}
 use Rattle.std.specs.List.{list_all}
 use Rattle.std.proofs.lemmas.Bool.{or_parts, and_parts, false≢true}
@@ -7,7 +9,8 @@ use Rattle.ss_build.specs.Built.{beats, best, claim, ids, kept_if, lists, named,
 use Rattle.ss_build.specs.declared.claims.Claim.{Claim}
 use Rattle.ss_record.specs.Ids.{Apart, has, places, roots, unfiled}
 use Rattle.ss_record.specs.Kinds.{is_folder}
-use Rattle.ss_record.proofs.IdLists.{bytes_eq-refl, bytes_eq-apart, has-nil, has-cons, has-head, has-tail, Apart-head, Apart-tail}
+use Rattle.ss_record.proofs.IdLists.{bytes_eq-refl, bytes_eq-apart, has-nil, has-cons, has-head, has-tail, Apart-head}
+use Rattle.ss_record.proofs.IdLists.{Apart-tail}
 use Rattle.ss_text.proofs.Basics.{same_text}
 
 -- ---- elements of any list

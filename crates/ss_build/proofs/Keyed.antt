@@ -1,8 +1,10 @@
 -- A look-up by key in a list of any type.
-use Rattle.std.proofs.Common.{◌≡◌, ◌≢◌, ℕ, List, [], ◌∷◌, map, Bool, true, false, cond, ◌||◌, inl, inr, refl, sym, ap, ◌∙◌, find, bytes_eq, Some, None}
+use Rattle.std.proofs.Common.{◌≡◌, ◌≢◌, ℕ, List, [], ◌∷◌, map, Bool, true, false, cond, ◌||◌, inl, inr, refl, sym, ap}
+use Rattle.std.proofs.Common.{◌∙◌, find, bytes_eq, Some, None}
 use Rattle.std.proofs.lemmas.Bool.{or_parts, false≢true}
 use Rattle.ss_record.specs.Ids.{Apart, has}
-use Rattle.ss_record.proofs.IdLists.{bytes_eq-refl, bytes_eq-apart, has-nil, has-cons, has-head, has-tail, Apart-head, Apart-tail}
+use Rattle.ss_record.proofs.IdLists.{bytes_eq-refl, bytes_eq-apart, has-nil, has-cons, has-head, has-tail, Apart-head}
+use Rattle.ss_record.proofs.IdLists.{Apart-tail}
 use Rattle.ss_build.proofs.Items.{In, find_in}
 use Rattle.ss_text.proofs.Basics.{same_text}
 

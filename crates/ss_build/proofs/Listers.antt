@@ -1,8 +1,11 @@
 -- The best of the folders that list an item, by their places.
-use Rattle.std.proofs.Common.{◌≡◌, ◌≢◌, ℕ, zero, suc, ◌+◌, ◌<◌, ◌≤◌, ◌⊎◌, inl, inr, List, [], ◌∷◌, ◌++◌, length, map, take, get_or, set, Bool, true, false, not, cond, ◌&&◌, ◌||◌, nat_eq, nat_lt, refl, sym, ap, ap₂, ◌∙◌, subst, arith, eq-eqb, lt-ltb, filter, bytes_eq, drop, Option, Some, None}
+use Rattle.std.proofs.Common.{◌≡◌, ◌≢◌, ℕ, zero, suc, ◌+◌, ◌<◌, ◌≤◌, ◌⊎◌, inl, inr, List, [], ◌∷◌, ◌++◌, length, map}
+use Rattle.std.proofs.Common.{take, get_or, set, Bool, true, false, not, cond, ◌&&◌, ◌||◌, nat_eq, nat_lt, refl, sym}
+use Rattle.std.proofs.Common.{ap, ap₂, ◌∙◌, subst, arith, eq-eqb, lt-ltb, filter, bytes_eq, drop, Option, Some, None}
 use Rattle.std.specs.List.{list_all, list_any, best_of}
 use Rattle.std.proofs.lemmas.Bool.{cases_eq, ne_eqb, or_parts, le-ltb}
-use Rattle.std.proofs.lemmas.List.{append-nil, get_or_read, take_all, take-append-drop, take_more, get_or-set_same, get_or-set_other, ext_get_or, get_or-map, length-map}
+use Rattle.std.proofs.lemmas.List.{append-nil, get_or_read, take_all, take-append-drop, take_more, get_or-set_same}
+use Rattle.std.proofs.lemmas.List.{get_or-set_other, ext_get_or, get_or-map, length-map}
 use Rattle.std.proofs.lemmas.List.Elements.{filter-append}
 use Rattle.ss_record.specs.Ids.{Apart, has, places}
 use Rattle.ss_record.specs.Kinds.{is_folder}

@@ -1,11 +1,13 @@
 -- Circles: who leads to whom, and what marking one keeps.
-use Rattle.std.proofs.Common.{◌≡◌, ◌≢◌, ℕ, zero, suc, ◌+◌, ◌<◌, ◌≤◌, ◌⊎◌, inl, inr, List, length, get_or, set, count_by, All, Bool, true, false, not, cond, refl, sym, ap, ◌∙◌, subst, arith, get_or-set_same, get_or-set_other, length-set}
+use Rattle.std.proofs.Common.{◌≡◌, ◌≢◌, ℕ, zero, suc, ◌+◌, ◌<◌, ◌≤◌, ◌⊎◌, inl, inr, List, length, get_or, set, count_by}
+use Rattle.std.proofs.Common.{All, Bool, true, false, not, cond, refl, sym, ap, ◌∙◌, subst, arith, get_or-set_same}
+use Rattle.std.proofs.Common.{get_or-set_other, length-set}
 use Rattle.std.specs.List.{sum_by}
 use Rattle.std.proofs.Math.ListN.{get_or-eq_default}
 use Rattle.std.proofs.lemmas.Bool.{cases_eq, cases_lt, false≢true}
 use Rattle.std.proofs.lemmas.List.{get_or_default}
 use Rattle.std.proofs.lemmas.List.Sums.{sum_by-set}
-use Rattle.ss_build.specs.Marks.{next_at, hops, Leads, IsClosed, Marked}
+use Rattle.ss_build.specs.Marks.{next_at, hops, Leads, IsClosedUnder, MarksWay}
 use Rattle.ss_build.proofs.Walking.{hops_after, Leads-on}
 
 top_stays : (next : List ℕ) → next_at next (length next) ≡ length next
@@ -55,7 +57,7 @@ way_back next i j back h = subst (λ w. Leads next w i) h.1 (go h.0)
     go (suc k) = subst (λ w. Leads next w i) (sym (hops_after next k (next_at next i))) (onward (hops next k (next_at next i)) (go k))
 
 -- what has been seen leads to what has been seen, or to the top
-pub closed_leads : (next seen : List ℕ) → IsClosed next seen → (i j : ℕ) → i < length next → 0 < get_or seen i 0 → Leads next i j → (j ≡ length next) ⊎ (0 < get_or seen j 0)
+pub closed_leads : (next seen : List ℕ) → IsClosedUnder next seen → (i j : ℕ) → i < length next → 0 < get_or seen i 0 → Leads next i j → (j ≡ length next) ⊎ (0 < get_or seen j 0)
 unfolding hops
 closed_leads next seen c i j lt s h = subst (λ w. (w ≡ length next) ⊎ (0 < get_or seen w 0)) h.1 (go h.0)
   where
@@ -149,7 +151,7 @@ marking_goes next old circles first at same inside lt circle m = record {
     begun (inl e) = inr (ap (λ w. get_or (set circles at true) w false) e ∙ here)
     begun (inr h) = inr (raise first h)
 
-pub marking_ends : (next : List ℕ) (old circles : List Bool) (first at : ℕ) → length old ≡ length next → get_or circles at false ≡ true → Marking next old circles first at → Marked next old circles first
+pub marking_ends : (next : List ℕ) (old circles : List Bool) (first at : ℕ) → length old ≡ length next → get_or circles at false ≡ true → Marking next old circles first at → MarksWay next old circles first
 unfolding hops
 marking_ends next old circles first at same end m = record { same_length = m.same_length; each = λ z. (m.sound z, up z) }
   where

@@ -1,5 +1,6 @@
 -- The claims of rows with distinct ids, and so the built tree.
-use Rattle.std.proofs.Common.{◌≡◌, ◌≢◌, ℕ, List, [], ◌∷◌, ◌++◌, map, Bool, true, false, not, ◌&&◌, ◌||◌, ◌⊎◌, inl, inr, refl, sym, ap, ap₂, ◌∙◌, subst, filter, filter_map, bytes_eq, Option, Some, None}
+use Rattle.std.proofs.Common.{◌≡◌, ◌≢◌, ℕ, List, [], ◌∷◌, ◌++◌, map, Bool, true, false, not, ◌&&◌, ◌||◌, ◌⊎◌, inl, inr}
+use Rattle.std.proofs.Common.{refl, sym, ap, ap₂, ◌∙◌, subst, filter, filter_map, bytes_eq, Option, Some, None}
 use Rattle.std.specs.List.{cons_option}
 use Rattle.std.proofs.lemmas.Bool.{false≢true, false_from_ne_true}
 use Rattle.ss_build.specs.Built.{built, claims, empty_root, ids, with_roots}
@@ -10,7 +11,8 @@ use Rattle.ss_record.specs.Kinds.{is_folder}
 use Rattle.ss_record.specs.declared.readings.Reading.{Reading}
 use Rattle.ss_record.specs.declared.readings.Reading.TheVariants.{Item, Skipped, Tombstone}
 use Rattle.ss_tree.specs.Trees.{IsValidTree}
-use Rattle.ss_record.proofs.IdLists.{has-nil, has-cons, has-head, has-tail, has-filter, has-append, Apart-nil, Apart-cons, Apart-head, Apart-tail, Apart-filter, Apart-append}
+use Rattle.ss_record.proofs.IdLists.{has-nil, has-cons, has-head, has-tail, has-filter, has-append, Apart-nil}
+use Rattle.ss_record.proofs.IdLists.{Apart-cons, Apart-head, Apart-tail, Apart-filter, Apart-append}
 use Rattle.ss_build.proofs.Items.{In, AreClaims, places_no_root, Apart-roots}
 use Rattle.ss_build.proofs.Valid.{tree_of_valid}
 use Rattle.ss_record.proofs.OfId.{IsRead}

@@ -2,7 +2,7 @@
 use Rattle.std.proofs.Common.{◌≡◌, List, [], ◌∷◌, inl, inr, map, refl, sym, ap, subst}
 use Rattle.ss_record.specs.Ids.{Apart}
 use Rattle.ss_record.specs.declared.readings.Sheet.{Sheet}
-use Rattle.ss_tree.specs.Trees.{IsValidTree, Placed}
+use Rattle.ss_tree.specs.Trees.{IsValidTree, PlacedItem}
 use Rattle.ss_build.specs.Built.{built}
 use Rattle.ss_build.specs.Rows.{row_of, rows_of}
 use Rattle.ss_build.specs.Stand.{IsSameUntimed, StandFor}
@@ -35,5 +35,5 @@ sheets_are_rows sheets a = record {
 pub sheets_built_valid : (sheets : List Sheet) → Apart (map (λ s. s.id) sheets) → IsValidTree (built (rows_of sheets))
 sheets_built_valid sheets a = built_valid (rows_of sheets) (sheets_are_rows sheets a)
 
-pub sheets_built_back : (t : List Placed) (sheets : List Sheet) → IsValidTree t → Apart (map (λ s. s.id) sheets) → StandFor t (rows_of sheets) → IsSameUntimed (built (rows_of sheets)) t
+pub sheets_built_back : (t : List PlacedItem) (sheets : List Sheet) → IsValidTree t → Apart (map (λ s. s.id) sheets) → StandFor t (rows_of sheets) → IsSameUntimed (built (rows_of sheets)) t
 sheets_built_back t sheets v a h = stand_built t (rows_of sheets) v (sheets_are_rows sheets a) h

@@ -1,19 +1,24 @@
 -- The entries of the items in order are a tree: the built one.
-use Rattle.std.proofs.Common.{◌≡◌, ◌≢◌, ℕ, zero, suc, ◌+◌, ◌<◌, ◌≤◌, ◌==◌, ◌⊎◌, inl, inr, List, [], ◌∷◌, length, map, get_or, Bool, true, false, cond, ◌||◌, nat_eq, refl, sym, ap, ap₂, ◌∙◌, subst, arith, eq-eqb, lt-ltb, filter, find, bytes_eq, Option, Some, None, is_some, option_map, option_and_then, unwrap_or}
+use Rattle.std.proofs.Common.{◌≡◌, ◌≢◌, ℕ, zero, suc, ◌+◌, ◌<◌, ◌≤◌, ◌==◌, ◌⊎◌, inl, inr, List, [], ◌∷◌, length, map}
+use Rattle.std.proofs.Common.{get_or, Bool, true, false, cond, ◌||◌, nat_eq, refl, sym, ap, ap₂, ◌∙◌, subst, arith}
+use Rattle.std.proofs.Common.{eq-eqb, lt-ltb, filter, find, bytes_eq, Option, Some, None, is_some, option_map}
+use Rattle.std.proofs.Common.{option_and_then, unwrap_or}
 use Rattle.std.specs.List.{list_any}
 use Rattle.std.proofs.lemmas.Bool.{cases_eq, ne_eqb, eqb-true, false≢true, le-ltb}
 use Rattle.std.proofs.lemmas.List.{get_or-map, length-map}
 use Rattle.std.proofs.lemmas.Map.Steps.{le-length_from_below}
 use Rattle.ss_record.specs.Ids.{Apart, has, places, roots}
 use Rattle.ss_record.specs.Kinds.{is_folder}
-use Rattle.ss_record.proofs.IdLists.{bytes_eq-apart, has-nil, has-cons, has-head, has-tail, Apart-cons, Apart-head, Apart-tail}
+use Rattle.ss_record.proofs.IdLists.{bytes_eq-apart, has-nil, has-cons, has-head, has-tail, Apart-cons, Apart-head}
+use Rattle.ss_record.proofs.IdLists.{Apart-tail}
 use Rattle.ss_tree.specs.declared.entries.Entry.{Entry}
-use Rattle.ss_tree.specs.Entries.{IsTree, NodesApart, above, entry, entry_ids, is_live, kid_ids, placed, stands_under, top_entry, tree, up}
-use Rattle.ss_tree.specs.Trees.{IsSame, Placed, Reaches, node, parent_in, places_node, steps}
+use Rattle.ss_tree.specs.Entries.{IsTree, NodesApart, above, entry, entry_ids, is_live, kid_ids, placed, stands_under}
+use Rattle.ss_tree.specs.Entries.{top_entry, tree, up}
+use Rattle.ss_tree.specs.Trees.{IsSame, PlacedItem, Reaches, node, parent_in, places_node, steps}
 use Rattle.ss_build.specs.declared.claims.Claim.{Claim}
 use Rattle.ss_build.specs.Built.{built_children, built_parent, claim, empty_root, ids, node_of, tree_of}
 use Rattle.ss_build.specs.Places.{AreItems, at, in_order, names, parents_of, place}
-use Rattle.ss_build.specs.Planted.{entries, node_at, planted}
+use Rattle.ss_build.specs.Planted.{entries, node_at, planted_entry}
 use Rattle.ss_build.proofs.Items.{In, In_has, claim_found, has_claim, claim_none}
 use Rattle.ss_build.proofs.Valid.{length-ids, node_tree, node_places, parent_cases, parent_in_claim, up_ends}
 use Rattle.ss_build.proofs.Seats.{place_lt, place_at, place_none, at_place, has_at, place_same, id_at, at_in}
@@ -24,28 +29,28 @@ use Rattle.ss_text.proofs.Basics.{same_text, bytes_eq-same}
 
 -- ---- entries by their nodes
 
-entry_planted : (es : List Claim) (parents order : List ℕ) (i : ℕ) → list_any (nat_eq i) order ≡ true → entry (i + 1) (map (planted es parents) order) ≡ Some (planted es parents i)
+entry_planted : (es : List Claim) (parents order : List ℕ) (i : ℕ) → list_any (nat_eq i) order ≡ true → entry (i + 1) (map (planted_entry es parents) order) ≡ Some (planted_entry es parents i)
 unfolding entry
 entry_planted es parents [] i h = absurd (false≢true h)
 entry_planted es parents (j ∷ js) i h = go (cases_eq i j) (entry_planted es parents js i)
   where
-    go : (i ≡ j) ⊎ (i ≢ j) → (list_any (nat_eq i) js ≡ true → find (λ e. i + 1 == e.node) (map (planted es parents) js) ≡ Some (planted es parents i)) → find (λ e. i + 1 == e.node) (planted es parents j ∷ map (planted es parents) js) ≡ Some (planted es parents i)
-    go (inl q) ih = ap (λ b. cond b (Some (planted es parents j)) (find (λ e. i + 1 == e.node) (map (planted es parents) js))) (eq-eqb (i + 1) (j + 1) (ap (λ k. k + 1) q)) ∙ ap (λ k. Some (planted es parents k)) (sym q)
+    go : (i ≡ j) ⊎ (i ≢ j) → (list_any (nat_eq i) js ≡ true → find (λ e. i + 1 == e.node) (map (planted_entry es parents) js) ≡ Some (planted_entry es parents i)) → find (λ e. i + 1 == e.node) (planted_entry es parents j ∷ map (planted_entry es parents) js) ≡ Some (planted_entry es parents i)
+    go (inl q) ih = ap (λ b. cond b (Some (planted_entry es parents j)) (find (λ e. i + 1 == e.node) (map (planted_entry es parents) js))) (eq-eqb (i + 1) (j + 1) (ap (λ k. k + 1) q)) ∙ ap (λ k. Some (planted_entry es parents k)) (sym q)
     go (inr ne) ih =
-        ap (λ b. cond b (Some (planted es parents j)) (find (λ e. i + 1 == e.node) (map (planted es parents) js))) (ne_eqb (i + 1) (j + 1) (λ q. ne (omega arith)))
+        ap (λ b. cond b (Some (planted_entry es parents j)) (find (λ e. i + 1 == e.node) (map (planted_entry es parents) js))) (ne_eqb (i + 1) (j + 1) (λ q. ne (omega arith)))
         ∙ ih (ap (λ b. b || list_any (nat_eq i) js) (sym (ne_eqb i j ne)) ∙ h)
 
-entry_from : (es : List Claim) (parents order : List ℕ) (k : ℕ) (e : Entry) → entry k (map (planted es parents) order) ≡ Some e → (i : ℕ) × (k ≡ i + 1) × (list_any (nat_eq i) order ≡ true) × (e ≡ planted es parents i)
+entry_from : (es : List Claim) (parents order : List ℕ) (k : ℕ) (e : Entry) → entry k (map (planted_entry es parents) order) ≡ Some e → (i : ℕ) × (k ≡ i + 1) × (list_any (nat_eq i) order ≡ true) × (e ≡ planted_entry es parents i)
 unfolding entry
 entry_from es parents [] k e h = cc
 entry_from es parents (j ∷ js) k e h = go (k == j + 1) refl h (entry_from es parents js k e)
   where
-    go : (b : Bool) → (k == j + 1) ≡ b → cond b (Some (planted es parents j)) (find (λ e. k == e.node) (map (planted es parents) js)) ≡ Some e
-        → (find (λ e. k == e.node) (map (planted es parents) js) ≡ Some e → (i : ℕ) × (k ≡ i + 1) × (list_any (nat_eq i) js ≡ true) × (e ≡ planted es parents i))
-        → (i : ℕ) × (k ≡ i + 1) × (list_any (nat_eq i) (j ∷ js) ≡ true) × (e ≡ planted es parents i)
+    go : (b : Bool) → (k == j + 1) ≡ b → cond b (Some (planted_entry es parents j)) (find (λ e. k == e.node) (map (planted_entry es parents) js)) ≡ Some e
+        → (find (λ e. k == e.node) (map (planted_entry es parents) js) ≡ Some e → (i : ℕ) × (k ≡ i + 1) × (list_any (nat_eq i) js ≡ true) × (e ≡ planted_entry es parents i))
+        → (i : ℕ) × (k ≡ i + 1) × (list_any (nat_eq i) (j ∷ js) ≡ true) × (e ≡ planted_entry es parents i)
     go true q s ih = (j, eqb-true k (j + 1) q, ap (λ b. b || list_any (nat_eq j) js) (eq-eqb j j refl), some_is s)
       where
-        some_is : Some (planted es parents j) ≡ Some e → e ≡ planted es parents j
+        some_is : Some (planted_entry es parents j) ≡ Some e → e ≡ planted_entry es parents j
         some_is s = cc
     go false q s ih = let r = ih s in (r.0, r.1, later (nat_eq r.0 j) r.2, r.3)
       where
@@ -53,18 +58,18 @@ entry_from es parents (j ∷ js) k e h = go (k == j + 1) refl h (entry_from es p
         later true e = refl
         later false e = e
 
-no_zero : (es : List Claim) (parents order : List ℕ) → entry 0 (map (planted es parents) order) ≡ None
+no_zero : (es : List Claim) (parents order : List ℕ) → entry 0 (map (planted_entry es parents) order) ≡ None
 unfolding entry
 no_zero es parents [] = refl
-no_zero es parents (j ∷ js) = ap (λ b. cond b (Some (planted es parents j)) (find (λ e. 0 == e.node) (map (planted es parents) js))) (ne_eqb 0 (j + 1) (λ q. absurd (omega arith))) ∙ no_zero es parents js
+no_zero es parents (j ∷ js) = ap (λ b. cond b (Some (planted_entry es parents j)) (find (λ e. 0 == e.node) (map (planted_entry es parents) js))) (ne_eqb 0 (j + 1) (λ q. absurd (omega arith))) ∙ no_zero es parents js
 
 entry_top : (es : List Claim) (parents order : List ℕ) → entry 0 (entries es parents order) ≡ Some top_entry
 unfolding entry
 entry_top es parents order = refl
 
-entry_below : (es : List Claim) (parents order : List ℕ) (i : ℕ) → entry (i + 1) (entries es parents order) ≡ entry (i + 1) (map (planted es parents) order)
+entry_below : (es : List Claim) (parents order : List ℕ) (i : ℕ) → entry (i + 1) (entries es parents order) ≡ entry (i + 1) (map (planted_entry es parents) order)
 unfolding entry
-entry_below es parents order i = ap (λ b. cond b (Some top_entry) (find (λ e. i + 1 == e.node) (map (planted es parents) order))) (ne_eqb (i + 1) 0 (λ q. absurd (omega arith)))
+entry_below es parents order i = ap (λ b. cond b (Some top_entry) (find (λ e. i + 1 == e.node) (map (planted_entry es parents) order))) (ne_eqb (i + 1) 0 (λ q. absurd (omega arith)))
 
 -- ---- with the parents and the order of building
 
@@ -115,11 +120,11 @@ module _ (es : List Claim) (a : AreItems es) (parents order : List ℕ) (up_is :
       go (inl q) ih = let l : j < length es = b 0 (omega arith) in omega arith
       go (inr ne) ih = ih (ap (λ c. c || list_any (nat_eq i) js) (sym (ne_eqb i j ne)) ∙ h)
 
-  entry_item : (i : ℕ) → i < length es → entry (i + 1) (entries es parents order) ≡ Some (planted es parents i)
+  entry_item : (i : ℕ) → i < length es → entry (i + 1) (entries es parents order) ≡ Some (planted_entry es parents i)
   entry_item i l = entry_below es parents order i ∙ entry_planted es parents order i (in_order_of i l)
 
   -- what an entry is
-  entry_is : (k : ℕ) (e : Entry) → entry k (entries es parents order) ≡ Some e → ((k ≡ 0) × (e ≡ top_entry)) ⊎ ((i : ℕ) × (k ≡ i + 1) × (i < length es) × (e ≡ planted es parents i))
+  entry_is : (k : ℕ) (e : Entry) → entry k (entries es parents order) ≡ Some e → ((k ≡ 0) × (e ≡ top_entry)) ⊎ ((i : ℕ) × (k ≡ i + 1) × (i < length es) × (e ≡ planted_entry es parents i))
   entry_is zero e h = inl (refl, some_is (sym (entry_top es parents order) ∙ h))
     where
       some_is : Some top_entry ≡ Some e → e ≡ top_entry
@@ -135,7 +140,7 @@ module _ (es : List Claim) (a : AreItems es) (parents order : List ℕ) (up_is :
   below k x = k == node_at (length es) (place (built_parent es x) (ids es))
 
   kids_from : (xs : List ℕ) (k : ℕ) → ((j : ℕ) → j < length xs → get_or xs j 0 < length es)
-      → map (λ e. e.item.id) (filter (stands_under k) (map (planted es parents) xs)) ≡ filter (below k) (names (ids es) xs)
+      → map (λ e. e.item.id) (filter (stands_under k) (map (planted_entry es parents) xs)) ≡ filter (below k) (names (ids es) xs)
   unfolding below
   kids_from [] k b = refl
   kids_from (i ∷ xs) k b = go (kids_from xs k (λ j l. b (suc j) (omega arith)))
@@ -146,13 +151,13 @@ module _ (es : List Claim) (a : AreItems es) (parents order : List ℕ) (up_is :
       test : (k == node_at (length es) (get_or parents i 0)) ≡ (k == node_at (length es) (place (built_parent es (get_or (ids es) i places)) (ids es)))
       test = ap (λ p. k == node_at (length es) p) (parent_at i l ∙ ap (λ w. place (built_parent es w) (ids es)) (sym (id_at es i)))
 
-      go : map (λ e. e.item.id) (filter (stands_under k) (map (planted es parents) xs)) ≡ filter (λ x. k == node_at (length es) (place (built_parent es x) (ids es))) (names (ids es) xs)
-          → map (λ e. e.item.id) (cond (k == node_at (length es) (get_or parents i 0)) (planted es parents i ∷ filter (stands_under k) (map (planted es parents) xs)) (filter (stands_under k) (map (planted es parents) xs)))
+      go : map (λ e. e.item.id) (filter (stands_under k) (map (planted_entry es parents) xs)) ≡ filter (λ x. k == node_at (length es) (place (built_parent es x) (ids es))) (names (ids es) xs)
+          → map (λ e. e.item.id) (cond (k == node_at (length es) (get_or parents i 0)) (planted_entry es parents i ∷ filter (stands_under k) (map (planted_entry es parents) xs)) (filter (stands_under k) (map (planted_entry es parents) xs)))
           ≡ cond (k == node_at (length es) (place (built_parent es (get_or (ids es) i places)) (ids es))) (get_or (ids es) i places ∷ filter (λ x. k == node_at (length es) (place (built_parent es x) (ids es))) (names (ids es) xs)) (filter (λ x. k == node_at (length es) (place (built_parent es x) (ids es))) (names (ids es) xs))
       go ih = step (k == node_at (length es) (get_or parents i 0)) test
         where
           step : (b : Bool) → b ≡ (k == node_at (length es) (place (built_parent es (get_or (ids es) i places)) (ids es)))
-              → map (λ e. e.item.id) (cond b (planted es parents i ∷ filter (stands_under k) (map (planted es parents) xs)) (filter (stands_under k) (map (planted es parents) xs)))
+              → map (λ e. e.item.id) (cond b (planted_entry es parents i ∷ filter (stands_under k) (map (planted_entry es parents) xs)) (filter (stands_under k) (map (planted_entry es parents) xs)))
               ≡ cond (k == node_at (length es) (place (built_parent es (get_or (ids es) i places)) (ids es))) (get_or (ids es) i places ∷ filter (λ x. k == node_at (length es) (place (built_parent es x) (ids es))) (names (ids es) xs)) (filter (λ x. k == node_at (length es) (place (built_parent es x) (ids es))) (names (ids es) xs))
           step true q = ap₂ (λ x w. x ∷ w) (sym (id_at es i)) ih ∙ ap (λ b. cond b (get_or (ids es) i places ∷ filter (λ x. k == node_at (length es) (place (built_parent es x) (ids es))) (names (ids es) xs)) (filter (λ x. k == node_at (length es) (place (built_parent es x) (ids es))) (names (ids es) xs))) q
           step false q = ih ∙ ap (λ b. cond b (get_or (ids es) i places ∷ filter (λ x. k == node_at (length es) (place (built_parent es x) (ids es))) (names (ids es) xs)) (filter (λ x. k == node_at (length es) (place (built_parent es x) (ids es))) (names (ids es) xs))) q
@@ -233,7 +238,7 @@ module _ (es : List Claim) (a : AreItems es) (parents order : List ℕ) (up_is :
   own_id : (i : ℕ) → i < length es → has (at es i).item.id (ids es) ≡ true
   own_id i l = In_has es (at es i) (at_in es i l)
 
-  placed_item : (i : ℕ) → i < length es → placed (entries es parents order) (planted es parents i) ≡ node_of es (at es i)
+  placed_item : (i : ℕ) → i < length es → placed (entries es parents order) (planted_entry es parents i) ≡ node_of es (at es i)
   unfolding placed node_of
   placed_item i l =
       ap₂ (λ p c. record { id = (at es i).item.id; kind = (at es i).item.kind; content = (at es i).item.content; parent = p; children = c; time = (at es i).time })
@@ -244,7 +249,7 @@ module _ (es : List Claim) (a : AreItems es) (parents order : List ℕ) (up_is :
   placed_top = ap (λ c. record { id = top_entry.item.id; kind = top_entry.item.kind; content = top_entry.item.content; parent = None; children = c; time = 0 }) kids_top
 
   find_placed : (xs : List ℕ) (x : List ℕ) → ((k : ℕ) → k < length xs → get_or xs k 0 < length es)
-      → find (λ n. bytes_eq x n.id) (map (placed (entries es parents order)) (map (planted es parents) xs)) ≡ cond (has x (names (ids es) xs)) (Some (node_of es (at es (place x (ids es))))) None
+      → find (λ n. bytes_eq x n.id) (map (placed (entries es parents order)) (map (planted_entry es parents) xs)) ≡ cond (has x (names (ids es) xs)) (Some (node_of es (at es (place x (ids es))))) None
   unfolding placed
   find_placed [] x b = ap (λ c. cond c (Some (node_of es (at es (place x (ids es))))) None) (sym (has-nil x))
   find_placed (i ∷ xs) x b =
@@ -255,24 +260,24 @@ module _ (es : List Claim) (a : AreItems es) (parents order : List ℕ) (up_is :
       l = b 0 (omega arith)
 
       go : (c : Bool) → bytes_eq x (at es i).item.id ≡ c
-          → find (λ n. bytes_eq x n.id) (map (placed (entries es parents order)) (map (planted es parents) xs)) ≡ cond (has x (names (ids es) xs)) (Some (node_of es (at es (place x (ids es))))) None
-          → cond (bytes_eq x (at es i).item.id) (Some (placed (entries es parents order) (planted es parents i))) (find (λ n. bytes_eq x n.id) (map (placed (entries es parents order)) (map (planted es parents) xs)))
+          → find (λ n. bytes_eq x n.id) (map (placed (entries es parents order)) (map (planted_entry es parents) xs)) ≡ cond (has x (names (ids es) xs)) (Some (node_of es (at es (place x (ids es))))) None
+          → cond (bytes_eq x (at es i).item.id) (Some (placed (entries es parents order) (planted_entry es parents i))) (find (λ n. bytes_eq x n.id) (map (placed (entries es parents order)) (map (planted_entry es parents) xs)))
           ≡ cond (bytes_eq x (at es i).item.id || has x (names (ids es) xs)) (Some (node_of es (at es (place x (ids es))))) None
       go true q ih =
-          ap (λ c. cond c (Some (placed (entries es parents order) (planted es parents i))) (find (λ n. bytes_eq x n.id) (map (placed (entries es parents order)) (map (planted es parents) xs)))) q
+          ap (λ c. cond c (Some (placed (entries es parents order) (planted_entry es parents i))) (find (λ n. bytes_eq x n.id) (map (placed (entries es parents order)) (map (planted_entry es parents) xs)))) q
           ∙ (ap Some (placed_item i l)
           ∙ (ap (λ k. Some (node_of es (at es k))) (sym (ap (λ w. place w (ids es)) (same_text x (at es i).item.id q) ∙ place_own es i a.apart l))
           ∙ ap (λ c. cond (c || has x (names (ids es) xs)) (Some (node_of es (at es (place x (ids es))))) None) (sym q)))
       go false q ih =
-          ap (λ c. cond c (Some (placed (entries es parents order) (planted es parents i))) (find (λ n. bytes_eq x n.id) (map (placed (entries es parents order)) (map (planted es parents) xs)))) q
+          ap (λ c. cond c (Some (placed (entries es parents order) (planted_entry es parents i))) (find (λ n. bytes_eq x n.id) (map (placed (entries es parents order)) (map (planted_entry es parents) xs)))) q
           ∙ (ih ∙ ap (λ c. cond (c || has x (names (ids es) xs)) (Some (node_of es (at es (place x (ids es))))) None) (sym q))
 
   pub same_tree : IsSame (tree (entries es parents order)) (tree_of es)
   unfolding tree node places_node
   same_tree x = go (bytes_eq x places) refl
     where
-      rest : List Placed
-      rest = map (placed (entries es parents order)) (map (planted es parents) order)
+      rest : List PlacedItem
+      rest = map (placed (entries es parents order)) (map (planted_entry es parents) order)
 
       at_item : (b : Bool) → has x (ids es) ≡ b → cond b (Some (node_of es (at es (place x (ids es))))) None ≡ option_map (node_of es) (claim x es)
       at_item true h =
@@ -282,14 +287,14 @@ module _ (es : List Claim) (a : AreItems es) (parents order : List ℕ) (up_is :
       at_item false h = sym (ap (option_map (node_of es)) (claim_none es x h))
 
       go : (b : Bool) → bytes_eq x places ≡ b
-          → find (λ n. bytes_eq x n.id) (placed (entries es parents order) top_entry ∷ map (placed (entries es parents order)) (map (planted es parents) order)) ≡ find (λ n. bytes_eq x n.id) (tree_of es)
+          → find (λ n. bytes_eq x n.id) (placed (entries es parents order) top_entry ∷ map (placed (entries es parents order)) (map (planted_entry es parents) order)) ≡ find (λ n. bytes_eq x n.id) (tree_of es)
       go true q =
-          ap (λ n. find (λ m. bytes_eq x m.id) (n ∷ map (placed (entries es parents order)) (map (planted es parents) order))) placed_top
-          ∙ (ap (λ b. cond b (Some places_node) (find (λ m. bytes_eq x m.id) (map (placed (entries es parents order)) (map (planted es parents) order)))) q
+          ap (λ n. find (λ m. bytes_eq x m.id) (n ∷ map (placed (entries es parents order)) (map (planted_entry es parents) order))) placed_top
+          ∙ (ap (λ b. cond b (Some places_node) (find (λ m. bytes_eq x m.id) (map (placed (entries es parents order)) (map (planted_entry es parents) order)))) q
           ∙ sym (ap (λ w. find (λ m. bytes_eq w m.id) (tree_of es)) (same_text x places q) ∙ node_places es))
       go false q =
-          ap (λ n. find (λ m. bytes_eq x m.id) (n ∷ map (placed (entries es parents order)) (map (planted es parents) order))) placed_top
-          ∙ (ap (λ b. cond b (Some places_node) (find (λ m. bytes_eq x m.id) (map (placed (entries es parents order)) (map (planted es parents) order)))) q
+          ap (λ n. find (λ m. bytes_eq x m.id) (n ∷ map (placed (entries es parents order)) (map (planted_entry es parents) order))) placed_top
+          ∙ (ap (λ b. cond b (Some places_node) (find (λ m. bytes_eq x m.id) (map (placed (entries es parents order)) (map (planted_entry es parents) order)))) q
           ∙ (find_placed order x bounded
           ∙ (ap (λ b. cond b (Some (node_of es (at es (place x (ids es))))) None) (ap (has x) names_are ∙ has-in_order es x a)
           ∙ (at_item (has x (ids es)) refl ∙ sym (node_tree es x (λ p. false≢true (sym q ∙ bytes_eq-same x places p)))))))
@@ -304,19 +309,19 @@ module _ (es : List Claim) (a : AreItems es) (parents order : List ℕ) (up_is :
       go (inl q) ih = ap (λ k. has (get_or (ids es) k places) (get_or (ids es) j places ∷ names (ids es) js)) q ∙ has-head (get_or (ids es) j places) (names (ids es) js)
       go (inr ne) ih = has-tail (get_or (ids es) i places) (get_or (ids es) j places) (names (ids es) js) (ih (ap (λ b. b || list_any (nat_eq i) js) (sym (ne_eqb i j ne)) ∙ h))
 
-  nodes_from : (xs : List ℕ) → Apart (names (ids es) xs) → NodesApart (map (planted es parents) xs)
+  nodes_from : (xs : List ℕ) → Apart (names (ids es) xs) → NodesApart (map (planted_entry es parents) xs)
   unfolding NodesApart
   nodes_from [] p = tt
-  nodes_from (i ∷ xs) p = (alone (entry (i + 1) (map (planted es parents) xs)) refl, nodes_from xs (Apart-tail (get_or (ids es) i places) (names (ids es) xs) p))
+  nodes_from (i ∷ xs) p = (alone (entry (i + 1) (map (planted_entry es parents) xs)) refl, nodes_from xs (Apart-tail (get_or (ids es) i places) (names (ids es) xs) p))
     where
-      alone : (o : Option Entry) → entry (i + 1) (map (planted es parents) xs) ≡ o → o ≡ None
+      alone : (o : Option Entry) → entry (i + 1) (map (planted_entry es parents) xs) ≡ o → o ≡ None
       alone None q = refl
       alone (Some e) q =
           let r = entry_from es parents xs (i + 1) e q in
           let same : r.0 ≡ i = omega arith in
           absurd (false≢true (sym (Apart-head (get_or (ids es) i places) (names (ids es) xs) p) ∙ (ap (λ k. has (get_or (ids es) k places) (names (ids es) xs)) (sym same) ∙ names_in xs r.0 r.2)))
 
-  ids_from : (xs : List ℕ) → map (λ e. e.item.id) (map (planted es parents) xs) ≡ names (ids es) xs
+  ids_from : (xs : List ℕ) → map (λ e. e.item.id) (map (planted_entry es parents) xs) ≡ names (ids es) xs
   ids_from [] = refl
   ids_from (i ∷ xs) = ap₂ (λ x w. x ∷ w) (sym (id_at es i)) (ids_from xs)
 
@@ -348,7 +353,7 @@ module _ (es : List Claim) (a : AreItems es) (parents order : List ℕ) (up_is :
   root_folders : (k : ℕ) (e : Entry) → entry k (entries es parents order) ≡ Some e → e.parent ≡ Some 0 → is_folder e.item.kind ≡ true
   root_folders k e h q = go (entry_is k e h)
     where
-      go : ((k ≡ 0) × (e ≡ top_entry)) ⊎ ((i : ℕ) × (k ≡ i + 1) × (i < length es) × (e ≡ planted es parents i)) → is_folder e.item.kind ≡ true
+      go : ((k ≡ 0) × (e ≡ top_entry)) ⊎ ((i : ℕ) × (k ≡ i + 1) × (i < length es) × (e ≡ planted_entry es parents i)) → is_folder e.item.kind ≡ true
       go (inl t) = ap (λ w. is_folder w.item.kind) t.1
       go (inr t) =
           ap (λ w. is_folder w.item.kind) t.3
@@ -360,7 +365,7 @@ module _ (es : List Claim) (a : AreItems es) (parents order : List ℕ) (up_is :
   folders : (k : ℕ) (e : Entry) → entry k (entries es parents order) ≡ Some e → k ≢ 0 → (p : ℕ) × (e.parent ≡ Some p) × (f : Entry) × (entry p (entries es parents order) ≡ Some f) × (is_folder f.item.kind ≡ true)
   folders k e h ne = go (entry_is k e h)
     where
-      go : ((k ≡ 0) × (e ≡ top_entry)) ⊎ ((i : ℕ) × (k ≡ i + 1) × (i < length es) × (e ≡ planted es parents i)) → (p : ℕ) × (e.parent ≡ Some p) × (f : Entry) × (entry p (entries es parents order) ≡ Some f) × (is_folder f.item.kind ≡ true)
+      go : ((k ≡ 0) × (e ≡ top_entry)) ⊎ ((i : ℕ) × (k ≡ i + 1) × (i < length es) × (e ≡ planted_entry es parents i)) → (p : ℕ) × (e.parent ≡ Some p) × (f : Entry) × (entry p (entries es parents order) ≡ Some f) × (is_folder f.item.kind ≡ true)
       go (inl t) = absurd (ne t.0)
       go (inr t) = pick (parent_cases es (claims_from es a) (at es t.0).item.id (own_id t.0 t.2))
         where
@@ -373,7 +378,7 @@ module _ (es : List Claim) (a : AreItems es) (parents order : List ℕ) (up_is :
           pick (inr f) = (
             place f.0.item.id (ids es) + 1,
             above_is ∙ ap Some (ap (λ w. node_at (length es) (place w (ids es))) f.3 ∙ number_item f.0.item.id (In_has es f.0 f.1)),
-            planted es parents (place f.0.item.id (ids es)),
+            planted_entry es parents (place f.0.item.id (ids es)),
             entry_item (place f.0.item.id (ids es)) (place_in es f.0 f.1),
             ap (λ w. is_folder w.item.kind) (at_own es f.0 a.apart f.1) ∙ f.2,
           )
@@ -415,7 +420,7 @@ module _ (es : List Claim) (a : AreItems es) (parents order : List ℕ) (up_is :
   unfolding steps
   reach k e h = go (entry_is k e h)
     where
-      go : ((k ≡ 0) × (e ≡ top_entry)) ⊎ ((i : ℕ) × (k ≡ i + 1) × (i < length es) × (e ≡ planted es parents i)) → Reaches (up (entries es parents order)) 0 k
+      go : ((k ≡ 0) × (e ≡ top_entry)) ⊎ ((i : ℕ) × (k ≡ i + 1) × (i < length es) × (e ≡ planted_entry es parents i)) → Reaches (up (entries es parents order)) 0 k
       go (inl t) = (zero, t.0)
       go (inr t) =
           let w = up_ends es (claims_from es a) (at es t.0).item.id (own_id t.0 t.2) in
@@ -440,11 +445,11 @@ module _ (es : List Claim) (a : AreItems es) (parents order : List ℕ) (up_is :
       go None q e = absurd (false≢true e)
       go (Some e) q s = pick (entry_is k e q)
         where
-          pick : ((k ≡ 0) × (e ≡ top_entry)) ⊎ ((i : ℕ) × (k ≡ i + 1) × (i < length es) × (e ≡ planted es parents i)) → k < length (entries es parents order)
+          pick : ((k ≡ 0) × (e ≡ top_entry)) ⊎ ((i : ℕ) × (k ≡ i + 1) × (i < length es) × (e ≡ planted_entry es parents i)) → k < length (entries es parents order)
           pick (inl t) = let z : k ≡ 0 = t.0 in omega arith
           pick (inr t) =
               let z : k ≡ t.0 + 1 = t.1 in
               let l : t.0 < length es = t.2 in
               let n : length es ≤ length order = le-length_from_below order (length es) (λ i m. in_order_of i m) in
-              let m : length (map (planted es parents) order) ≡ length order = length-map order (planted es parents) in
+              let m : length (map (planted_entry es parents) order) ≡ length order = length-map order (planted_entry es parents) in
               omega arith

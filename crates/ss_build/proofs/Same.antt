@@ -1,18 +1,18 @@
 -- Validity is about look-ups: the order of a tree's list means nothing.
 use Rattle.std.proofs.Common.{◌≡◌, ◌↔◌, ℕ, List, sym, ap, ◌∙◌, unwrap_or, option_and_then}
 use Rattle.ss_record.specs.Ids.{Apart, places}
-use Rattle.ss_tree.specs.Trees.{IsUnder, IsValidTree, Placed, node, node_ids, parent_in}
+use Rattle.ss_tree.specs.Trees.{IsUnder, IsValidTree, PlacedItem, node, node_ids, parent_in}
 use Rattle.ss_build.proofs.Stand.{steps_same}
 
-parent_same : (t u : List Placed) → ((x : List ℕ) → node x u ≡ node x t) → (x : List ℕ) → parent_in u x ≡ parent_in t x
+parent_same : (t u : List PlacedItem) → ((x : List ℕ) → node x u ≡ node x t) → (x : List ℕ) → parent_in u x ≡ parent_in t x
 unfolding parent_in
 parent_same t u e x = ap (λ o. unwrap_or (option_and_then (λ n. n.parent) o) places) (e x)
 
-under_same : (t u : List Placed) → ((x : List ℕ) → node x u ≡ node x t) → (y x : List ℕ) → IsUnder t y x ↔ IsUnder u y x
+under_same : (t u : List PlacedItem) → ((x : List ℕ) → node x u ≡ node x t) → (y x : List ℕ) → IsUnder t y x ↔ IsUnder u y x
 unfolding IsUnder
 under_same t u e y x = ((λ h. (h.0, e x ∙ h.1, h.2)), (λ h. (h.0, sym (e x) ∙ h.1, h.2)))
 
-pub valid_same : (t u : List Placed) → IsValidTree t → Apart (node_ids u) → ((x : List ℕ) → node x u ≡ node x t) → IsValidTree u
+pub valid_same : (t u : List PlacedItem) → IsValidTree t → Apart (node_ids u) → ((x : List ℕ) → node x u ≡ node x t) → IsValidTree u
 valid_same t u v a e = record {
   apart = a;
   top_is = e places ∙ v.top_is;

@@ -1,11 +1,15 @@
 -- Rows that stand for a valid tree are built to it.
-use Rattle.std.proofs.Common.{◌≡◌, ◌≢◌, ℕ, zero, suc, List, [], ◌∷◌, ◌++◌, length, map, Bool, true, false, not, cond, ◌&&◌, ◌||◌, inl, inr, refl, sym, ap, ap₂, ◌∙◌, subst, filter, filter_map, find, bytes_eq, Option, Some, None, option_map, option_and_then, unwrap_or, append-nil}
+use Rattle.std.proofs.Common.{◌≡◌, ◌≢◌, ℕ, zero, suc, List, [], ◌∷◌, ◌++◌, length, map, Bool, true, false, not, cond}
+use Rattle.std.proofs.Common.{◌&&◌, ◌||◌, inl, inr, refl, sym, ap, ap₂, ◌∙◌, subst, filter, filter_map, find, bytes_eq}
+use Rattle.std.proofs.Common.{Option, Some, None, option_map, option_and_then, unwrap_or, append-nil}
 use Rattle.std.specs.List.{cons_option}
 use Rattle.std.proofs.lemmas.Bool.{and_parts, false≢true}
 use Rattle.std.proofs.lemmas.Slice.Eq.{bytes_eq-Decides, slice_eq-Decides}
-use Rattle.ss_build.specs.Built.{best, built, built_children, built_parent, claim, claims, comes_back, ids, is_child, kept_if, lists, named, node_of, or_else, proposal, proposed, tree_of, walk, with_roots}
+use Rattle.ss_build.specs.Built.{best, built, built_children, built_parent, claim, claims, comes_back, ids, is_child}
+use Rattle.ss_build.specs.Built.{kept_if, lists, named, node_of, or_else, proposal, proposed_parents, tree_of, walk}
+use Rattle.ss_build.specs.Built.{with_roots}
 use Rattle.ss_build.specs.Rows.{Row, claim_at, claim_of, is_item}
-use Rattle.ss_build.specs.Stand.{HasItsRows, IsFresh, IsSameUntimed, StandFor, agrees, row, same_parent, untimed}
+use Rattle.ss_build.specs.Stand.{HasItsRows, IsFresh, IsSameUntimed, StandFor, agrees, row, same_parent, without_time}
 use Rattle.ss_build.specs.declared.claims.Claim.{Claim}
 use Rattle.ss_record.specs.Ids.{Apart, by_id, firsts, has, places, roots, same_list, unfiled}
 use Rattle.ss_record.specs.Kinds.{is_folder, kind_name, kind_of, same_kind}
@@ -13,11 +17,13 @@ use Rattle.ss_record.specs.declared.kinds.Kind.{Kind}
 use Rattle.ss_record.specs.declared.kinds.Kind.TheVariants.{Bookmark, Folder, Livemark, Query, Separator}
 use Rattle.ss_record.specs.declared.readings.Reading.{Reading}
 use Rattle.ss_record.specs.declared.readings.Reading.TheVariants.{Item, Skipped, Tombstone}
-use Rattle.ss_tree.specs.Trees.{IsUnder, IsValidTree, Placed, empty_tree, node, node_ids, parent_in, places_node, steps}
+use Rattle.ss_tree.specs.Trees.{IsUnder, IsValidTree, PlacedItem, empty_tree, node, node_ids, parent_in, places_node}
+use Rattle.ss_tree.specs.Trees.{steps}
 use Rattle.ss_record.proofs.IdLists.{bytes_eq-apart, has-nil, has-cons, Apart-head, Apart-tail, has-head, has-tail}
 use Rattle.ss_build.proofs.Items.{In, claim_in, claim_found, claim_has, claim_none, AreClaims, places_no_root}
 use Rattle.ss_build.proofs.Keyed.{key_found, found_key, key_at, has_key, no_key}
-use Rattle.ss_build.proofs.Valid.{proposed_root, proposed_claim, proposed_none, node_tree, node_claim, node_places, is_roots}
+use Rattle.ss_build.proofs.Valid.{proposed_root, proposed_claim, proposed_none, node_tree, node_claim, node_places}
+use Rattle.ss_build.proofs.Valid.{is_roots}
 use Rattle.ss_record.proofs.OfId.{IsRead}
 use Rattle.ss_build.proofs.OfRows.{AreRows, of_row, read_from, has_ids, has-with_roots, claims_are}
 use Rattle.ss_text.proofs.Basics.{some_same, same_text, bytes_eq-same}
@@ -43,40 +49,40 @@ by_id_nil = refl
 
 -- ---- nodes of a tree
 
-pub node_id : (t : List Placed) (x : List ℕ) (n : Placed) → node x t ≡ Some n → n.id ≡ x
+pub node_id : (t : List PlacedItem) (x : List ℕ) (n : PlacedItem) → node x t ≡ Some n → n.id ≡ x
 unfolding node
 node_id t x n q = (key_found (λ m. m.id) t x n q).1
 
-pub node_has : (t : List Placed) (x : List ℕ) (n : Placed) → node x t ≡ Some n → has x (node_ids t) ≡ true
+pub node_has : (t : List PlacedItem) (x : List ℕ) (n : PlacedItem) → node x t ≡ Some n → has x (node_ids t) ≡ true
 unfolding node node_ids
 node_has t x n q = found_key (λ m. m.id) t x n q
 
-pub has_node : (t : List Placed) (x : List ℕ) → has x (node_ids t) ≡ true → (n : Placed) × (node x t ≡ Some n)
+pub has_node : (t : List PlacedItem) (x : List ℕ) → has x (node_ids t) ≡ true → (n : PlacedItem) × (node x t ≡ Some n)
 unfolding node node_ids
 has_node t x h = has_key (λ m. m.id) t x h
 
-pub node_none : (t : List Placed) (x : List ℕ) → has x (node_ids t) ≡ false → node x t ≡ None
+pub node_none : (t : List PlacedItem) (x : List ℕ) → has x (node_ids t) ≡ false → node x t ≡ None
 unfolding node node_ids
 node_none t x h = no_key (λ m. m.id) t x h
 
 -- the roots are in a valid tree, under `places`
-pub root_under : (t : List Placed) → IsValidTree t → (r : List ℕ) → has r roots ≡ true → (n : Placed) × (node r t ≡ Some n) × (n.parent ≡ Some places)
+pub root_under : (t : List PlacedItem) → IsValidTree t → (r : List ℕ) → has r roots ≡ true → (n : PlacedItem) × (node r t ≡ Some n) × (n.parent ≡ Some places)
 unfolding IsUnder
 root_under t v r h = (v.stands places places_node v.top_is r).0 (ap (has r) is_roots ∙ h)
 
-pub under_places : (t : List Placed) → IsValidTree t → (x : List ℕ) (n : Placed) → node x t ≡ Some n → n.parent ≡ Some places → has x roots ≡ true
+pub under_places : (t : List PlacedItem) → IsValidTree t → (x : List ℕ) (n : PlacedItem) → node x t ≡ Some n → n.parent ≡ Some places → has x roots ≡ true
 unfolding IsUnder
 under_places t v x n q p = ap (has x) (sym is_roots) ∙ (v.stands places places_node v.top_is x).1 (n, q, p)
 
-pub parent_in_at : (t : List Placed) (x : List ℕ) (n : Placed) (y : List ℕ) → node x t ≡ Some n → n.parent ≡ Some y → parent_in t x ≡ y
+pub parent_in_at : (t : List PlacedItem) (x : List ℕ) (n : PlacedItem) (y : List ℕ) → node x t ≡ Some n → n.parent ≡ Some y → parent_in t x ≡ y
 unfolding parent_in
 parent_in_at t x n y q p = ap (λ o. unwrap_or (option_and_then (λ m. m.parent) o) places) q ∙ ap (λ o. unwrap_or o places) p
 
-pub parent_in_top : (t : List Placed) → IsValidTree t → parent_in t places ≡ places
+pub parent_in_top : (t : List PlacedItem) → IsValidTree t → parent_in t places ≡ places
 unfolding parent_in places_node
 parent_in_top t v = ap (λ o. unwrap_or (option_and_then (λ m. m.parent) o) places) v.top_is
 
-pub parent_in_no : (t : List Placed) (x : List ℕ) → node x t ≡ None → parent_in t x ≡ places
+pub parent_in_no : (t : List PlacedItem) (x : List ℕ) → node x t ≡ None → parent_in t x ≡ places
 unfolding parent_in
 parent_in_no t x q = ap (λ o. unwrap_or (option_and_then (λ m. m.parent) o) places) q
 
@@ -95,14 +101,14 @@ unfolding same_list
 same_list_is xs ys e = (slice_eq-Decides bytes_eq-Decides xs ys (same_list xs ys) refl).0 e
 
 -- a claim that says what a node is
-pub record IsAs (n : Placed) (e : Claim) : Type 0 where
+pub record IsAs (n : PlacedItem) (e : Claim) : Type 0 where
   pub id : e.item.id ≡ n.id
   pub kind : e.item.kind ≡ n.kind
   pub content : e.item.content ≡ n.content
   pub parent : same_parent n e.parentid ≡ true
   pub listed : e.children ≡ n.children
 
-claim_agrees : (n : Placed) (x : List ℕ) (time : ℕ) (g : Reading) → IsRead x g → n.id ≡ x → agrees n g ≡ true → (e : Claim) × (claim_at time g ≡ Some e) × IsAs n e
+claim_agrees : (n : PlacedItem) (x : List ℕ) (time : ℕ) (g : Reading) → IsRead x g → n.id ≡ x → agrees n g ≡ true → (e : Claim) × (claim_at time g ≡ Some e) × IsAs n e
 claim_agrees n x time Tombstone h q a = absurd (false≢true a)
 claim_agrees n x time Skipped h q a = absurd (false≢true a)
 claim_agrees n x time (Item i p cs) h q a =
@@ -219,20 +225,20 @@ proposal_named es e f y p q h l =
     subst (λ o. unwrap_or (option_map (λ g. g.item.id) (or_else (kept_if (λ g. lists g e.item.id) o) (or_else (best (filter (λ g. lists g e.item.id) es)) o))) unfiled ≡ y) (sym n)
     (subst (λ b. unwrap_or (option_map (λ g. g.item.id) (or_else (cond b (Some f) None) (or_else (best (filter (λ g. lists g e.item.id) es)) (Some f)))) unfiled ≡ y) (sym l) id)
 
-made : List ℕ → Kind → List ℕ → Option (List ℕ) → List (List ℕ) → Placed
+made : List ℕ → Kind → List ℕ → Option (List ℕ) → List (List ℕ) → PlacedItem
 made i k c p cs = record { id = i; kind = k; content = c; parent = p; children = cs; time = 0 }
 
 made_same : (i j : List ℕ) (k l : Kind) (c d : List ℕ) (p q : Option (List ℕ)) (cs ds : List (List ℕ)) → i ≡ j → k ≡ l → c ≡ d → p ≡ q → cs ≡ ds
-    → untimed (record { id = i; kind = k; content = c; parent = p; children = cs; time = 0 }) ≡ untimed (record { id = j; kind = l; content = d; parent = q; children = ds; time = 0 })
+    → without_time (record { id = i; kind = k; content = c; parent = p; children = cs; time = 0 }) ≡ without_time (record { id = j; kind = l; content = d; parent = q; children = ds; time = 0 })
 unfolding made
 made_same i j k l c d p q cs ds e1 e2 e3 e4 e5 =
     ap (λ w. made w k c p cs) e1 ∙ (ap (λ w. made j w c p cs) e2 ∙ (ap (λ w. made j l w p cs) e3 ∙ (ap (λ w. made j l d w cs) e4 ∙ ap (λ w. made j l d q w) e5)))
 
-module _ (t : List Placed) (v : IsValidTree t) (rows : List Row) (a : AreRows rows) (h : HasItsRows t rows) where
+module _ (t : List PlacedItem) (v : IsValidTree t) (rows : List Row) (a : AreRows rows) (h : HasItsRows t rows) where
   es_are : AreClaims (claims rows)
   es_are = claims_are rows a
 
-  matched : (x : List ℕ) (n : Placed) → x ≢ places → node x t ≡ Some n → (e : Claim) × (claim x (claims rows) ≡ Some e) × IsAs n e
+  matched : (x : List ℕ) (n : PlacedItem) → x ≢ places → node x t ≡ Some n → (e : Claim) × (claim x (claims rows) ≡ Some e) × IsAs n e
   unfolding claim_of
   matched x n ne q =
       let r = h.each x n ne q in
@@ -253,18 +259,18 @@ module _ (t : List Placed) (v : IsValidTree t) (rows : List Row) (a : AreRows ro
           h.others x s.0 (ap (λ w. row w rows) (sym same) ∙ row_of_in rows s.0 a.apart s.1) (item_reading s.0 e.0 s.2)
       go false q r = let n = root_under t v x r in node_has t x n.0 n.1
 
-  node_of_item : (x : List ℕ) → has x (ids (claims rows)) ≡ true → (n : Placed) × (node x t ≡ Some n)
+  node_of_item : (x : List ℕ) → has x (ids (claims rows)) ≡ true → (n : PlacedItem) × (node x t ≡ Some n)
   node_of_item x k = has_node t x (item_in x k)
 
   item_places : (x : List ℕ) → has x (ids (claims rows)) ≡ true → x ≢ places
   item_places x k q = false≢true (sym es_are.no_places ∙ (ap (λ w. has w (ids (claims rows))) (sym q) ∙ k))
 
   -- proposed parents are the parents
-  proposed_item : (x : List ℕ) (n : Placed) (e : Claim) → x ≢ places → node x t ≡ Some n → claim x (claims rows) ≡ Some e → IsAs n e → proposed (claims rows) x ≡ parent_in t x
+  proposed_item : (x : List ℕ) (n : PlacedItem) (e : Claim) → x ≢ places → node x t ≡ Some n → claim x (claims rows) ≡ Some e → IsAs n e → proposed_parents (claims rows) x ≡ parent_in t x
   unfolding lists IsUnder
   proposed_item x n e ne q k w0 = go (has x roots) refl
     where
-      go : (b : Bool) → has x roots ≡ b → proposed (claims rows) x ≡ parent_in t x
+      go : (b : Bool) → has x roots ≡ b → proposed_parents (claims rows) x ≡ parent_in t x
       go true r = let u = root_under t v x r in proposed_root (claims rows) x r ∙ sym (parent_in_at t x u.0 places u.1 u.2)
       go false r =
           let f = v.folder x n q ne in
@@ -283,7 +289,7 @@ module _ (t : List Placed) (v : IsValidTree t) (rows : List Row) (a : AreRows ro
               let s : unwrap_or (option_map (bytes_eq w) n.parent) false ≡ true = sym (ap (same_parent n) z) ∙ w0.parent in
               z ∙ ap Some (same_text w y (sym (ap (λ o. unwrap_or (option_map (bytes_eq w) o) false) p) ∙ s))
 
-          listed : (g : Claim) (y : List ℕ) (m : Placed) → IsAs m g → n.parent ≡ Some y → node y t ≡ Some m → is_folder g.item.kind ≡ true → lists g e.item.id ≡ true
+          listed : (g : Claim) (y : List ℕ) (m : PlacedItem) → IsAs m g → n.parent ≡ Some y → node y t ≡ Some m → is_folder g.item.kind ≡ true → lists g e.item.id ≡ true
           listed g y m w p z fold = ap₂ (λ b c. b && c) fold (ap (has e.item.id) w.listed ∙ (ap (λ u. has u m.children) (w0.id ∙ node_id t x n q) ∙ (v.stands y m z x).1 (n, q, p)))
 
   no_root : (x : List ℕ) → has x (node_ids t) ≡ false → has x roots ≡ false
@@ -300,47 +306,47 @@ module _ (t : List Placed) (v : IsValidTree t) (rows : List Row) (a : AreRows ro
       go true r = absurd (false≢true (sym k ∙ item_in x r))
       go false r = refl
 
-  top_up : proposed (claims rows) places ≡ places
+  top_up : proposed_parents (claims rows) places ≡ places
   top_up = proposed_none (claims rows) places places_no_root es_are.no_places
 
-  proposed_is : (x : List ℕ) → proposed (claims rows) x ≡ parent_in t x
+  proposed_is : (x : List ℕ) → proposed_parents (claims rows) x ≡ parent_in t x
   proposed_is x = top_or (bytes_eq x places) refl
     where
-      top_or : (b : Bool) → bytes_eq x places ≡ b → proposed (claims rows) x ≡ parent_in t x
-      top_or true q = ap (proposed (claims rows)) (same_text x places q) ∙ (top_up ∙ (sym (parent_in_top t v) ∙ sym (ap (parent_in t) (same_text x places q))))
+      top_or : (b : Bool) → bytes_eq x places ≡ b → proposed_parents (claims rows) x ≡ parent_in t x
+      top_or true q = ap (proposed_parents (claims rows)) (same_text x places q) ∙ (top_up ∙ (sym (parent_in_top t v) ∙ sym (ap (parent_in t) (same_text x places q))))
       top_or false q = known (has x (node_ids t)) refl
         where
           ne : x ≢ places
           ne p = false≢true (sym q ∙ bytes_eq-same x places p)
 
-          known : (b : Bool) → has x (node_ids t) ≡ b → proposed (claims rows) x ≡ parent_in t x
+          known : (b : Bool) → has x (node_ids t) ≡ b → proposed_parents (claims rows) x ≡ parent_in t x
           known true k = let n = has_node t x k in let e = matched x n.0 ne n.1 in proposed_item x n.0 e.0 ne n.1 e.1 e.2
           known false k = proposed_none (claims rows) x (no_root x k) (no_item x k) ∙ sym (parent_in_no t x (node_none t x k))
 
-  never_back : (x : List ℕ) (n : Placed) → x ≢ places → node x t ≡ Some n → comes_back (proposed (claims rows)) (length (claims rows)) x ≡ false
+  never_back : (x : List ℕ) (n : PlacedItem) → x ≢ places → node x t ≡ Some n → comes_back (proposed_parents (claims rows)) (length (claims rows)) x ≡ false
   unfolding comes_back
-  never_back x n ne q = go (has x (walk (proposed (claims rows)) (length (claims rows)) (proposed (claims rows) x))) refl
+  never_back x n ne q = go (has x (walk (proposed_parents (claims rows)) (length (claims rows)) (proposed_parents (claims rows) x))) refl
     where
-      go : (b : Bool) → has x (walk (proposed (claims rows)) (length (claims rows)) (proposed (claims rows) x)) ≡ b → b ≡ false
+      go : (b : Bool) → has x (walk (proposed_parents (claims rows)) (length (claims rows)) (proposed_parents (claims rows) x)) ≡ b → b ≡ false
       go false k = refl
       go true k =
-          let back = walk_steps (proposed (claims rows)) (length (claims rows)) (proposed (claims rows) x) x k in
+          let back = walk_steps (proposed_parents (claims rows)) (length (claims rows)) (proposed_parents (claims rows) x) x k in
           let up = v.reaches x n q in
-          absurd (ne (circle_top (proposed (claims rows)) places top_up back.0 up.0 x back.1 (steps_same (proposed (claims rows)) (parent_in t) proposed_is up.0 x ∙ up.1)))
+          absurd (ne (circle_top (proposed_parents (claims rows)) places top_up back.0 up.0 x back.1 (steps_same (proposed_parents (claims rows)) (parent_in t) proposed_is up.0 x ∙ up.1)))
 
-  parent_is : (x : List ℕ) (n : Placed) → x ≢ places → node x t ≡ Some n → built_parent (claims rows) x ≡ parent_in t x
+  parent_is : (x : List ℕ) (n : PlacedItem) → x ≢ places → node x t ≡ Some n → built_parent (claims rows) x ≡ parent_in t x
   unfolding built_parent
-  parent_is x n ne q = ap (λ b. cond b unfiled (proposed (claims rows) x)) (never_back x n ne q) ∙ proposed_is x
+  parent_is x n ne q = ap (λ b. cond b unfiled (proposed_parents (claims rows) x)) (never_back x n ne q) ∙ proposed_is x
 
   -- children are the children
-  top_no_parent : (m : Placed) (x : List ℕ) → node places t ≡ Some m → m.parent ≡ Some x → ⊥
+  top_no_parent : (m : PlacedItem) (x : List ℕ) → node places t ≡ Some m → m.parent ≡ Some x → ⊥
   unfolding places_node
   top_no_parent m x q p = let same : places_node ≡ m = some_same (sym v.top_is ∙ q) in no (ap (λ w. w.parent) same ∙ p)
     where
       no : None ≡ Some x → ⊥
       no e = cc
 
-  child_parts : (x c : List ℕ) → is_child (claims rows) x c ≡ true → (n : Placed) × (node c t ≡ Some n) × (n.parent ≡ Some x)
+  child_parts : (x c : List ℕ) → is_child (claims rows) x c ≡ true → (n : PlacedItem) × (node c t ≡ Some n) × (n.parent ≡ Some x)
   unfolding is_child
   child_parts x c k =
       let p = and_parts (has c (ids (claims rows))) (bytes_eq (built_parent (claims rows) c) x) k in
@@ -349,13 +355,13 @@ module _ (t : List Placed) (v : IsValidTree t) (rows : List Row) (a : AreRows ro
       let up : f.0 ≡ x = sym (parent_in_at t c n.0 f.0 n.1 f.1) ∙ (sym (parent_is c n.0 (item_places c p.0) n.1) ∙ same_text (built_parent (claims rows) c) x p.1) in
       (n.0, n.1, f.1 ∙ ap Some up)
 
-  child_from : (x c : List ℕ) (n : Placed) → c ≢ places → node c t ≡ Some n → n.parent ≡ Some x → is_child (claims rows) x c ≡ true
+  child_from : (x c : List ℕ) (n : PlacedItem) → c ≢ places → node c t ≡ Some n → n.parent ≡ Some x → is_child (claims rows) x c ≡ true
   unfolding is_child
   child_from x c n ne q p =
       let e = matched c n ne q in
       ap₂ (λ b d. b && d) (claim_has (claims rows) c e.0 e.1) (bytes_eq-same (built_parent (claims rows) c) x (parent_is c n ne q ∙ parent_in_at t c n x q p))
 
-  children_is : (x : List ℕ) (n : Placed) (e : Claim) → x ≢ places → node x t ≡ Some n → e.item.id ≡ x → e.children ≡ n.children → built_children (claims rows) e ≡ n.children
+  children_is : (x : List ℕ) (n : PlacedItem) (e : Claim) → x ≢ places → node x t ≡ Some n → e.item.id ≡ x → e.children ≡ n.children → built_children (claims rows) e ≡ n.children
   unfolding built_children IsUnder
   children_is x n e ne q id l =
       ap₂ (λ xs ys. xs ++ ys) listed (ap (λ ls. by_id (filter (λ c. is_child (claims rows) e.item.id c && not (has c ls)) (ids (claims rows)))) listed ∙ (ap by_id rest ∙ by_id_nil))
@@ -376,7 +382,7 @@ module _ (t : List Placed) (v : IsValidTree t) (rows : List Row) (a : AreRows ro
           go c true k = let u = child_parts e.item.id c k in ap₂ (λ a b. a && not b) k ((v.stands x n q c).1 (u.0, u.1, u.2 ∙ ap Some id))
           go c false k = ap (λ a. a && not (has c n.children)) k
 
-  same_node : (x : List ℕ) (n : Placed) (e : Claim) → x ≢ places → node x t ≡ Some n → claim x (claims rows) ≡ Some e → IsAs n e → untimed (node_of (claims rows) e) ≡ untimed n
+  same_node : (x : List ℕ) (n : PlacedItem) (e : Claim) → x ≢ places → node x t ≡ Some n → claim x (claims rows) ≡ Some e → IsAs n e → without_time (node_of (claims rows) e) ≡ without_time n
   unfolding node_of
   same_node x n e ne q k w0 =
       let f = v.folder x n q ne in
@@ -388,21 +394,21 @@ module _ (t : List Placed) (v : IsValidTree t) (rows : List Row) (a : AreRows ro
   pub rows_built : IsSameUntimed (tree_of (claims rows)) t
   rows_built x = top_or (bytes_eq x places) refl
     where
-      top_or : (b : Bool) → bytes_eq x places ≡ b → option_map untimed (node x (tree_of (claims rows))) ≡ option_map untimed (node x t)
+      top_or : (b : Bool) → bytes_eq x places ≡ b → option_map without_time (node x (tree_of (claims rows))) ≡ option_map without_time (node x t)
       top_or true q =
           let p : x ≡ places = same_text x places q in
-          ap (option_map untimed) (ap (λ w. node w (tree_of (claims rows))) p ∙ (node_places (claims rows) ∙ (sym v.top_is ∙ sym (ap (λ w. node w t) p))))
+          ap (option_map without_time) (ap (λ w. node w (tree_of (claims rows))) p ∙ (node_places (claims rows) ∙ (sym v.top_is ∙ sym (ap (λ w. node w t) p))))
       top_or false q = known (has x (node_ids t)) refl
         where
           ne : x ≢ places
           ne p = false≢true (sym q ∙ bytes_eq-same x places p)
 
-          known : (b : Bool) → has x (node_ids t) ≡ b → option_map untimed (node x (tree_of (claims rows))) ≡ option_map untimed (node x t)
+          known : (b : Bool) → has x (node_ids t) ≡ b → option_map without_time (node x (tree_of (claims rows))) ≡ option_map without_time (node x t)
           known true k =
               let n = has_node t x k in
               let e = matched x n.0 ne n.1 in
-              ap (option_map untimed) (node_claim (claims rows) x e.0 es_are e.1) ∙ (ap Some (same_node x n.0 e.0 ne n.1 e.1 e.2) ∙ sym (ap (option_map untimed) n.1))
-          known false k = ap (option_map untimed) (node_tree (claims rows) x ne ∙ (ap (option_map (node_of (claims rows))) (claim_none (claims rows) x (no_item x k)) ∙ sym (node_none t x k)))
+              ap (option_map without_time) (node_claim (claims rows) x e.0 es_are e.1) ∙ (ap Some (same_node x n.0 e.0 ne n.1 e.1 e.2) ∙ sym (ap (option_map without_time) n.1))
+          known false k = ap (option_map without_time) (node_tree (claims rows) x ne ∙ (ap (option_map (node_of (claims rows))) (claim_none (claims rows) x (no_item x k)) ∙ sym (node_none t x k)))
 
 -- ---- rows none of which reads as an item
 
@@ -421,16 +427,16 @@ no_claims [] h = refl
 no_claims (r ∷ rows) h = ap (λ o. cons_option o (filter_map claim_of rows)) (no_claim r (h r (inl refl))) ∙ no_claims rows (λ s i. h s (inr i))
 
 empty_is : tree_of (with_roots []) ≡ empty_tree
-unfolding tree_of with_roots empty_tree node_of built_parent built_children is_child proposed proposal comes_back ids claim lists named best or_else kept_if roots unfiled places has walk places_node
+unfolding tree_of with_roots empty_tree node_of built_parent built_children is_child proposed_parents proposal comes_back ids claim lists named best or_else kept_if roots unfiled places has walk places_node
 empty_is = refl
 
-pub fresh_built : (t : List Placed) (rows : List Row) → AreRows rows → IsFresh t rows → IsSameUntimed (tree_of (claims rows)) t
+pub fresh_built : (t : List PlacedItem) (rows : List Row) → AreRows rows → IsFresh t rows → IsSameUntimed (tree_of (claims rows)) t
 unfolding claims
 fresh_built t rows a f x =
     let none : filter_map claim_of rows ≡ [] = no_claims rows (λ r i. f.none r.id r (row_of_in rows r a.apart i)) in
-    ap (λ es. option_map untimed (node x (tree_of (with_roots es)))) none ∙ (ap (λ u. option_map untimed (node x u)) empty_is ∙ sym (f.empty x))
+    ap (λ es. option_map without_time (node x (tree_of (with_roots es)))) none ∙ (ap (λ u. option_map without_time (node x u)) empty_is ∙ sym (f.empty x))
 
-pub stand_built : (t : List Placed) (rows : List Row) → IsValidTree t → AreRows rows → StandFor t rows → IsSameUntimed (built rows) t
+pub stand_built : (t : List PlacedItem) (rows : List Row) → IsValidTree t → AreRows rows → StandFor t rows → IsSameUntimed (built rows) t
 unfolding built
 stand_built t rows v a (inl h) = rows_built t v rows a h
 stand_built t rows v a (inr f) = fresh_built t rows a f

@@ -1,17 +1,24 @@
 -- Taking items one by one.
-use Rattle.std.proofs.Common.{◌≡◌, ◌≢◌, ℕ, zero, suc, ◌+◌, ◌-◌, ◌<◌, ◌≤◌, ◌==◌, ◌⊎◌, inl, inr, List, [], ◌∷◌, ◌++◌, length, map, take, get_or, set, Bool, true, false, not, cond, ◌&&◌, ◌||◌, refl, sym, ap, ap₂, ◌∙◌, subst, arith, eq-eqb, lt-ltb, filter, bytes_eq}
+use Rattle.std.proofs.Common.{◌≡◌, ◌≢◌, ℕ, zero, suc, ◌+◌, ◌-◌, ◌<◌, ◌≤◌, ◌==◌, ◌⊎◌, inl, inr, List, [], ◌∷◌, ◌++◌}
+use Rattle.std.proofs.Common.{length, map, take, get_or, set, Bool, true, false, not, cond, ◌&&◌, ◌||◌, refl, sym, ap}
+use Rattle.std.proofs.Common.{ap₂, ◌∙◌, subst, arith, eq-eqb, lt-ltb, filter, bytes_eq}
 use Rattle.std.specs.List.{flat_map}
-use Rattle.std.proofs.lemmas.Bool.{cases_eq, cases_lt, ne_eqb, or_parts, and_parts, false≢true, false_from_ne_true, le-ltb}
-use Rattle.std.proofs.lemmas.List.{append-nil, append_assoc, map_push, take_more, take_all, get_or_append_left, get_or_push, get_or-map, length-map, length-append, length_push, get_or_read}
+use Rattle.std.proofs.lemmas.Bool.{cases_eq, cases_lt, ne_eqb, or_parts, and_parts, false≢true, false_from_ne_true}
+use Rattle.std.proofs.lemmas.Bool.{le-ltb}
+use Rattle.std.proofs.lemmas.List.{append-nil, append_assoc, map_push, take_more, take_all, get_or_append_left}
+use Rattle.std.proofs.lemmas.List.{get_or_push, get_or-map, length-map, length-append, length_push, get_or_read}
 use Rattle.std.proofs.lemmas.List.Elements.{filter-append}
 use Rattle.ss_record.specs.Ids.{Apart, firsts, has, places, roots}
-use Rattle.ss_record.proofs.IdLists.{bytes_eq-refl, bytes_eq-apart, has-nil, has-cons, has-head, has-tail, has-append, has-filter, has-firsts, Apart-head, Apart-tail}
+use Rattle.ss_record.proofs.IdLists.{bytes_eq-refl, bytes_eq-apart, has-nil, has-cons, has-head, has-tail, has-append}
+use Rattle.ss_record.proofs.IdLists.{has-filter, has-firsts, Apart-head, Apart-tail}
 use Rattle.ss_build.specs.declared.claims.Claim.{Claim}
 use Rattle.ss_build.specs.Built.{built_parent, empty_root, ids, is_child}
-use Rattle.ss_build.specs.Places.{AreItems, IsTaken, at, front, is_next, listed, lists_as_told, names, parents_of, place}
+use Rattle.ss_build.specs.Places.{AreItems, IsTakenSoFar, at, front, is_next, claimed_children, lists_as_told, names}
+use Rattle.ss_build.specs.Places.{parents_of, place}
 use Rattle.ss_build.proofs.Items.{In_has}
 use Rattle.ss_build.proofs.Valid.{length-ids, parent_root, is_child_parts}
-use Rattle.ss_build.proofs.Seats.{place_lt, place_at, place_none, at_place, has_at, has_from_place, id_at, at_in, ids_take}
+use Rattle.ss_build.proofs.Seats.{place_lt, place_at, place_none, at_place, has_at, has_from_place, id_at, at_in}
+use Rattle.ss_build.proofs.Seats.{ids_take}
 use Rattle.ss_build.proofs.Uppers.{claims_from}
 use Rattle.std.proofs.Math.Bool.{or-true, or-false}
 use Rattle.ss_text.proofs.Basics.{bytes_eq-sym, bytes_eq-same}
@@ -40,7 +47,7 @@ mark_set F (x ∷ xs) (suc i) d a l =
     ne : x ≢ get_or xs i d
     ne q = false≢true (sym (Apart-head x xs a) ∙ (ap (λ w. has w xs) q ∙ has_at xs i d (omega arith)))
 
-pub taken_push : (xs : List (List ℕ)) (order : List ℕ) (taken : List Bool) (i : ℕ) → Apart xs → i < length xs → IsTaken xs order taken → IsTaken xs (order ++ i ∷ []) (set taken i true)
+pub taken_push : (xs : List (List ℕ)) (order : List ℕ) (taken : List Bool) (i : ℕ) → Apart xs → i < length xs → IsTakenSoFar xs order taken → IsTakenSoFar xs (order ++ i ∷ []) (set taken i true)
 taken_push xs order taken i a l t = record {
   bounded = λ k m. pick k m (cases_lt k (length order));
   marked = ap (λ w. set w i true) t.marked ∙ (mark_set (names xs order) xs i places a l ∙ ap (λ F. map (λ z. has z F) xs) (sym (names_push xs order i)));
@@ -53,7 +60,7 @@ taken_push xs order taken i a l t = record {
         let e : get_or (order ++ i ∷ []) k 0 ≡ i = get_or_push order i 0 k (omega arith) in
         omega arith
 
-pub none_taken : (xs : List (List ℕ)) (taken : List Bool) → taken ≡ map (λ z. false) xs → IsTaken xs [] taken
+pub none_taken : (xs : List (List ℕ)) (taken : List Bool) → taken ≡ map (λ z. false) xs → IsTakenSoFar xs [] taken
 none_taken xs taken e = record { bounded = λ k l. absurd (omega arith); marked = e ∙ nobody xs }
   where
     nobody : (xs : List (List ℕ)) → map (λ z. false) xs ≡ map (λ z. has z []) xs
@@ -106,7 +113,7 @@ unfolding parents_of
 parents_length es parents e = ap length e ∙ length-map es (λ e. place (built_parent es e.item.id) (ids es))
 
 -- whether the place of an id is that of a child that isn't taken
-next_test : (es : List Claim) (parents : List ℕ) (folder : ℕ) (order : List ℕ) (taken : List Bool) (c : List ℕ) → AreItems es → parents ≡ parents_of es → folder < length es → IsTaken (ids es) order taken
+next_test : (es : List Claim) (parents : List ℕ) (folder : ℕ) (order : List ℕ) (taken : List Bool) (c : List ℕ) → AreItems es → parents ≡ parents_of es → folder < length es → IsTakenSoFar (ids es) order taken
     → is_next parents folder taken (place c (ids es)) ≡ (is_child es (at es folder).item.id c && not (has c (names (ids es) order)))
 unfolding parents_of is_child
 next_test es parents folder order taken c a e l t = go (has c (ids es)) refl
@@ -143,7 +150,7 @@ next_test es parents folder order taken c a e l t = go (has c (ids es)) refl
 -- what a folder lists, as far as the loop has come
 pub record Listing (es : List Claim) (folder : ℕ) (old order : List ℕ) (taken : List Bool) (cs : List (List ℕ)) : Type 0 where
   pub names_are : names (ids es) order ≡ names (ids es) old ++ firsts (filter (λ x. is_child es (at es folder).item.id x && not (has x (names (ids es) old))) cs)
-  pub is_taken : IsTaken (ids es) order taken
+  pub is_taken : IsTakenSoFar (ids es) order taken
 
 pub child_more : (es : List Claim) (parents : List ℕ) (folder : ℕ) (old order neworder : List ℕ) (taken newtaken : List Bool) (cs : List (List ℕ)) (j i : ℕ) → AreItems es → parents ≡ parents_of es → folder < length es
     → j < length cs → i ≡ place (get_or cs j places) (ids es)
@@ -196,7 +203,7 @@ child_more es parents folder old order neworder taken newtaken cs j i a e l m q 
               ∙ (ap₂ (λ x y. x ++ y ∷ []) g.names_are (ap (λ w. get_or (ids es) w places) q ∙ at_place (get_or cs j places) (ids es) places (has_from_place (get_or cs j places) (ids es) (subst (λ w. w < length (ids es)) q k)))
               ∙ (append_assoc (names (ids es) old) (firsts (filter (λ x. is_child es (at es folder).item.id x && not (has x (names (ids es) old))) (take j cs))) (get_or cs j places ∷ [])
               ∙ ap (λ w. names (ids es) old ++ w) (sym (longer ∙ ap (λ b. firsts (filter (λ x. is_child es (at es folder).item.id x && not (has x (names (ids es) old))) (take j cs)) ++ cond b (get_or cs j places ∷ []) []) h)))));
-          is_taken = subst (λ w. IsTaken (ids es) w newtaken) (sym o) (subst (IsTaken (ids es) (order ++ i ∷ [])) (sym t) (taken_push (ids es) order taken i a.apart k g.is_taken));
+          is_taken = subst (λ w. IsTakenSoFar (ids es) w newtaken) (sym o) (subst (IsTakenSoFar (ids es) (order ++ i ∷ [])) (sym t) (taken_push (ids es) order taken i a.apart k g.is_taken));
         }
     go false h =
         let o : neworder ≡ order = eo ∙ ap (λ b. cond b (order ++ i ∷ []) order) h in
@@ -205,10 +212,10 @@ child_more es parents folder old order neworder taken newtaken cs j i a e l m q 
           names_are =
               ap (names (ids es)) o ∙ (g.names_are
               ∙ ap (λ w. names (ids es) old ++ w) (sym (longer ∙ (ap (λ b. firsts (filter (λ x. is_child es (at es folder).item.id x && not (has x (names (ids es) old))) (take j cs)) ++ cond b (get_or cs j places ∷ []) []) h ∙ append-nil (firsts (filter (λ x. is_child es (at es folder).item.id x && not (has x (names (ids es) old))) (take j cs)))))));
-          is_taken = subst (λ w. IsTaken (ids es) w newtaken) (sym o) (subst (IsTaken (ids es) order) (sym t) g.is_taken);
+          is_taken = subst (λ w. IsTakenSoFar (ids es) w newtaken) (sym o) (subst (IsTakenSoFar (ids es) order) (sym t) g.is_taken);
         }
 
-pub none_listed : (es : List Claim) (folder : ℕ) (old : List ℕ) (taken : List Bool) → IsTaken (ids es) old taken → Listing es folder old old taken []
+pub none_listed : (es : List Claim) (folder : ℕ) (old : List ℕ) (taken : List Bool) → IsTakenSoFar (ids es) old taken → Listing es folder old old taken []
 none_listed es folder old taken t = record { names_are = sym (append-nil (names (ids es) old)); is_taken = t }
 
 pub listed_all : (es : List Claim) (folder : ℕ) (old order : List ℕ) (taken : List Bool) (cs : List (List ℕ)) (j : ℕ) → length cs ≤ j → cs ≡ (at es folder).children → Listing es folder old order taken (take j cs)
@@ -220,21 +227,21 @@ item_at es i e l r = get_or_read es i e l r (empty_root places)
 
 -- ---- the children of the folders, one folder after the other
 
-listed_is : (es : List Claim) (f : Claim) → firsts (filter (is_child es f.item.id) f.children) ≡ listed es f
-unfolding listed
+listed_is : (es : List Claim) (f : Claim) → firsts (filter (is_child es f.item.id) f.children) ≡ claimed_children es f
+unfolding claimed_children
 listed_is es f = refl
 
-pub has-listed : (es : List Claim) (f : Claim) (x : List ℕ) → has x (listed es f) ≡ (has x f.children && is_child es f.item.id x)
-unfolding listed
+pub has-listed : (es : List Claim) (f : Claim) (x : List ℕ) → has x (claimed_children es f) ≡ (has x f.children && is_child es f.item.id x)
+unfolding claimed_children
 has-listed es f x = has-firsts x (filter (is_child es f.item.id) f.children) ∙ has-filter (is_child es f.item.id) x f.children
 
 -- who is listed by one of these stands under it
-pub listed_under : (es gs : List Claim) (x : List ℕ) → has x (flat_map (listed es) gs) ≡ true → (has x (ids es) ≡ true) × (has (built_parent es x) (ids gs) ≡ true)
+pub listed_under : (es gs : List Claim) (x : List ℕ) → has x (flat_map (claimed_children es) gs) ≡ true → (has x (ids es) ≡ true) × (has (built_parent es x) (ids gs) ≡ true)
 unfolding ids
 listed_under es [] x h = absurd (false≢true (sym (has-nil x) ∙ h))
-listed_under es (g ∷ gs) x h = go (has x (listed es g)) refl (sym (has-append x (listed es g) (flat_map (listed es) gs)) ∙ h) (listed_under es gs x)
+listed_under es (g ∷ gs) x h = go (has x (claimed_children es g)) refl (sym (has-append x (claimed_children es g) (flat_map (claimed_children es) gs)) ∙ h) (listed_under es gs x)
   where
-    go : (b : Bool) → has x (listed es g) ≡ b → (b || has x (flat_map (listed es) gs)) ≡ true → (has x (flat_map (listed es) gs) ≡ true → (has x (ids es) ≡ true) × (has (built_parent es x) (ids gs) ≡ true))
+    go : (b : Bool) → has x (claimed_children es g) ≡ b → (b || has x (flat_map (claimed_children es) gs)) ≡ true → (has x (flat_map (claimed_children es) gs) ≡ true → (has x (ids es) ≡ true) × (has (built_parent es x) (ids gs) ≡ true))
         → (has x (ids es) ≡ true) × (has (built_parent es x) (g.item.id ∷ ids gs) ≡ true)
     go true q e ih =
         let c = is_child_parts es g.item.id x (and_parts (has x g.children) (is_child es g.item.id x) (sym (has-listed es g x) ∙ q)).1 in
@@ -251,9 +258,9 @@ not_in_front (x ∷ xs) (suc j) d a l =
     ne q = false≢true (sym (Apart-head x xs a) ∙ (ap (λ w. has w xs) (sym q) ∙ has_at xs j d (omega arith)))
 
 -- a child of a folder wasn't taken for an earlier one, nor is it a root
-not_yet : (es : List Claim) (j : ℕ) (x : List ℕ) → AreItems es → j < length es → is_child es (at es j).item.id x ≡ true → has x (roots ++ flat_map (listed es) (take j es)) ≡ false
+not_yet : (es : List Claim) (j : ℕ) (x : List ℕ) → AreItems es → j < length es → is_child es (at es j).item.id x ≡ true → has x (roots ++ flat_map (claimed_children es) (take j es)) ≡ false
 not_yet es j x a l h =
-    has-append x roots (flat_map (listed es) (take j es)) ∙ ap₂ (λ b c. b || c) (false_from_ne_true (has x roots) no_root) (false_from_ne_true (has x (flat_map (listed es) (take j es))) no_earlier)
+    has-append x roots (flat_map (claimed_children es) (take j es)) ∙ ap₂ (λ b c. b || c) (false_from_ne_true (has x roots) no_root) (false_from_ne_true (has x (flat_map (claimed_children es) (take j es))) no_earlier)
   where
     parts : (has x (ids es) ≡ true) × (built_parent es x ≡ (at es j).item.id)
     parts = is_child_parts es (at es j).item.id x h
@@ -261,7 +268,7 @@ not_yet es j x a l h =
     no_root : has x roots ≡ true → ⊥
     no_root r = false≢true (sym a.no_places ∙ (ap (λ w. has w (ids es)) (sym (parent_root es x (claims_from es a) r) ∙ parts.1) ∙ In_has es (at es j) (at_in es j l)))
 
-    no_earlier : has x (flat_map (listed es) (take j es)) ≡ true → ⊥
+    no_earlier : has x (flat_map (claimed_children es) (take j es)) ≡ true → ⊥
     no_earlier q =
         let s : length (ids es) ≡ length es = length-ids es in
         false≢true (sym (not_in_front (ids es) j places a.apart (omega arith)) ∙ (ap₂ has (id_at es j ∙ sym parts.1) (sym (ids_take j es)) ∙ (listed_under es (take j es) x q).1))
@@ -270,16 +277,16 @@ filter_same : (p q : List ℕ → Bool) (xs : List (List ℕ)) → ((x : List �
 filter_same p q [] h = refl
 filter_same p q (x ∷ xs) h = ap₂ (λ b w. cond b (x ∷ w) w) (h x) (filter_same p q xs h)
 
-pub front_more : (es : List Claim) (old order : List ℕ) (j : ℕ) → AreItems es → j < length es → names (ids es) old ≡ roots ++ flat_map (listed es) (take j es)
+pub front_more : (es : List Claim) (old order : List ℕ) (j : ℕ) → AreItems es → j < length es → names (ids es) old ≡ roots ++ flat_map (claimed_children es) (take j es)
     → names (ids es) order ≡ names (ids es) old ++ firsts (filter (λ x. is_child es (at es j).item.id x && not (has x (names (ids es) old))) (at es j).children)
-    → (names (ids es) order ≡ names (ids es) old ++ listed es (at es j)) × (names (ids es) order ≡ roots ++ flat_map (listed es) (take (j + 1) es))
-front_more es old order j a l e g = (one, one ∙ (ap (λ w. w ++ listed es (at es j)) e ∙ (append_assoc roots (flat_map (listed es) (take j es)) (listed es (at es j)) ∙ ap (λ w. roots ++ w) (ap (λ w. flat_map (listed es) (take j es) ++ w) (sym (append-nil (listed es (at es j)))) ∙ (sym (flat_map-append (listed es) (take j es) (at es j ∷ [])) ∙ ap (flat_map (listed es)) (sym (take_more es j (empty_root places) l)))))))
+    → (names (ids es) order ≡ names (ids es) old ++ claimed_children es (at es j)) × (names (ids es) order ≡ roots ++ flat_map (claimed_children es) (take (j + 1) es))
+front_more es old order j a l e g = (one, one ∙ (ap (λ w. w ++ claimed_children es (at es j)) e ∙ (append_assoc roots (flat_map (claimed_children es) (take j es)) (claimed_children es (at es j)) ∙ ap (λ w. roots ++ w) (ap (λ w. flat_map (claimed_children es) (take j es) ++ w) (sym (append-nil (claimed_children es (at es j)))) ∙ (sym (flat_map-append (claimed_children es) (take j es) (at es j ∷ [])) ∙ ap (flat_map (claimed_children es)) (sym (take_more es j (empty_root places) l)))))))
   where
     unlisted : (b : Bool) (x : List ℕ) → is_child es (at es j).item.id x ≡ b → (b && not (has x (names (ids es) old))) ≡ b
     unlisted true x h = ap not (ap (has x) e ∙ not_yet es j x a l h)
     unlisted false x h = refl
 
-    one : names (ids es) order ≡ names (ids es) old ++ listed es (at es j)
+    one : names (ids es) order ≡ names (ids es) old ++ claimed_children es (at es j)
     one = g ∙ ap (λ w. names (ids es) old ++ w) (ap firsts (filter_same (λ x. is_child es (at es j).item.id x && not (has x (names (ids es) old))) (is_child es (at es j).item.id) (at es j).children (λ x. unlisted (is_child es (at es j).item.id x) x refl)) ∙ listed_is es (at es j))
 
 pub names_length : (xs : List (List ℕ)) (order : List ℕ) → length (names xs order) ≡ length order
@@ -287,35 +294,35 @@ names_length xs order = length-map order (λ i. get_or xs i places)
 
 -- how many a folder lists
 pub told_more : (es : List Claim) (told : List Bool) (old order : List ℕ) (j : ℕ) (v : Bool) (n : ℕ) → j < length es → n ≡ length (at es j).children
-    → names (ids es) order ≡ names (ids es) old ++ listed es (at es j) → v ≡ (length order - length old == n)
+    → names (ids es) order ≡ names (ids es) old ++ claimed_children es (at es j) → v ≡ (length order - length old == n)
     → told ≡ map (lists_as_told es) (take j es) → told ++ v ∷ [] ≡ map (lists_as_told es) (take (j + 1) es)
 unfolding lists_as_told
 told_more es told old order j v n l m e w t =
     ap₂ (λ x y. x ++ y ∷ []) t (w ∙ ap₂ (λ x y. x == y) count m)
-    ∙ (sym (map_push (λ e. length (listed es e) == length e.children) (take j es) (at es j)) ∙ ap (map (λ e. length (listed es e) == length e.children)) (sym (take_more es j (empty_root places) l)))
+    ∙ (sym (map_push (λ e. length (claimed_children es e) == length e.children) (take j es) (at es j)) ∙ ap (map (λ e. length (claimed_children es e) == length e.children)) (sym (take_more es j (empty_root places) l)))
   where
-    count : length order - length old ≡ length (listed es (at es j))
+    count : length order - length old ≡ length (claimed_children es (at es j))
     count =
         let a : length (names (ids es) order) ≡ length order = names_length (ids es) order in
         let b : length (names (ids es) old) ≡ length old = names_length (ids es) old in
-        let c : length (names (ids es) order) ≡ length (names (ids es) old ++ listed es (at es j)) = ap length e in
-        let d : length (names (ids es) old ++ listed es (at es j)) ≡ length (names (ids es) old) + length (listed es (at es j)) = length-append (names (ids es) old) (listed es (at es j)) in
+        let c : length (names (ids es) order) ≡ length (names (ids es) old ++ claimed_children es (at es j)) = ap length e in
+        let d : length (names (ids es) old ++ claimed_children es (at es j)) ≡ length (names (ids es) old) + length (claimed_children es (at es j)) = length-append (names (ids es) old) (claimed_children es (at es j)) in
         omega arith
 
-pub taken_length : (xs : List (List ℕ)) (order : List ℕ) (taken : List Bool) → IsTaken xs order taken → length taken ≡ length xs
+pub taken_length : (xs : List (List ℕ)) (order : List ℕ) (taken : List Bool) → IsTakenSoFar xs order taken → length taken ≡ length xs
 taken_length xs order taken t = ap length t.marked ∙ length-map xs (λ x. has x (names xs order))
 
-pub front_all : (es : List Claim) (order : List ℕ) (j : ℕ) → length es ≤ j → names (ids es) order ≡ roots ++ flat_map (listed es) (take j es) → names (ids es) order ≡ front es
+pub front_all : (es : List Claim) (order : List ℕ) (j : ℕ) → length es ≤ j → names (ids es) order ≡ roots ++ flat_map (claimed_children es) (take j es) → names (ids es) order ≡ front es
 unfolding front
-front_all es order j l e = e ∙ ap (λ w. roots ++ flat_map (listed es) w) (take_all j es l)
+front_all es order j l e = e ∙ ap (λ w. roots ++ flat_map (claimed_children es) w) (take_all j es l)
 
-pub longer_front : (es : List Claim) (old order : List ℕ) (j : ℕ) → names (ids es) order ≡ names (ids es) old ++ listed es (at es j) → length old ≤ length order
+pub longer_front : (es : List Claim) (old order : List ℕ) (j : ℕ) → names (ids es) order ≡ names (ids es) old ++ claimed_children es (at es j) → length old ≤ length order
 longer_front es old order j e =
     let a : length (names (ids es) order) ≡ length order = names_length (ids es) order in
     let b : length (names (ids es) old) ≡ length old = names_length (ids es) old in
-    let c : length (names (ids es) order) ≡ length (names (ids es) old ++ listed es (at es j)) = ap length e in
-    let d : length (names (ids es) old ++ listed es (at es j)) ≡ length (names (ids es) old) + length (listed es (at es j)) = length-append (names (ids es) old) (listed es (at es j)) in
+    let c : length (names (ids es) order) ≡ length (names (ids es) old ++ claimed_children es (at es j)) = ap length e in
+    let d : length (names (ids es) old ++ claimed_children es (at es j)) ≡ length (names (ids es) old) + length (claimed_children es (at es j)) = length-append (names (ids es) old) (claimed_children es (at es j)) in
     omega arith
 
-pub taken_pushed : (xs : List (List ℕ)) (order neworder : List ℕ) (taken newtaken : List Bool) (i : ℕ) → Apart xs → i < length xs → neworder ≡ order ++ i ∷ [] → newtaken ≡ set taken i true → IsTaken xs order taken → IsTaken xs neworder newtaken
-taken_pushed xs order neworder taken newtaken i a l eo et t = subst (λ w. IsTaken xs w newtaken) (sym eo) (subst (IsTaken xs (order ++ i ∷ [])) (sym et) (taken_push xs order taken i a l t))
+pub taken_pushed : (xs : List (List ℕ)) (order neworder : List ℕ) (taken newtaken : List Bool) (i : ℕ) → Apart xs → i < length xs → neworder ≡ order ++ i ∷ [] → newtaken ≡ set taken i true → IsTakenSoFar xs order taken → IsTakenSoFar xs neworder newtaken
+taken_pushed xs order neworder taken newtaken i a l eo et t = subst (λ w. IsTakenSoFar xs w newtaken) (sym eo) (subst (IsTakenSoFar xs (order ++ i ∷ [])) (sym et) (taken_push xs order taken i a l t))

@@ -1,5 +1,7 @@
 -- Which items have the children that their records name.
-use Rattle.std.proofs.Common.{◌≡◌, ◌≢◌, ℕ, zero, suc, ◌+◌, ◌<◌, ◌≤◌, ◌==◌, ◌⊎◌, inl, inr, List, [], ◌∷◌, ◌++◌, length, map, take, replicate, get_or, set, Bool, true, false, not, cond, ◌&&◌, ◌||◌, refl, sym, ap, ap₂, ◌∙◌, subst, arith, eq-eqb, filter, bytes_eq}
+use Rattle.std.proofs.Common.{◌≡◌, ◌≢◌, ℕ, zero, suc, ◌+◌, ◌<◌, ◌≤◌, ◌==◌, ◌⊎◌, inl, inr, List, [], ◌∷◌, ◌++◌, length}
+use Rattle.std.proofs.Common.{map, take, replicate, get_or, set, Bool, true, false, not, cond, ◌&&◌, ◌||◌, refl, sym}
+use Rattle.std.proofs.Common.{ap, ap₂, ◌∙◌, subst, arith, eq-eqb, filter, bytes_eq}
 use Rattle.std.specs.List.{list_any}
 use Rattle.std.proofs.lemmas.Bool.{cases_eq, ne_eqb, eqb-true, and_parts, false≢true, false_from_ne_true}
 use Rattle.std.proofs.lemmas.List.{append-nil, get_or-map, get_or-set_same, get_or-set_other, length-map, ext_get_or}
@@ -8,7 +10,8 @@ use Rattle.ss_record.specs.Ids.{by_id, firsts, has, places, same_list}
 use Rattle.ss_record.proofs.IdLists.{has-nil, has-cons, has-head, has-tail, has-append, has-filter, has-by_id}
 use Rattle.ss_build.specs.declared.claims.Claim.{Claim}
 use Rattle.ss_build.specs.Built.{built_children, built_parent, empty_root, ids, is_child}
-use Rattle.ss_build.specs.Places.{AreItems, IsTaken, as_told, at, front, in_order, listed, lists_as_told, names, parents_of, place, rest, untaken}
+use Rattle.ss_build.specs.Places.{AreItems, IsTakenSoFar, as_told, at, front, in_order, claimed_children, lists_as_told}
+use Rattle.ss_build.specs.Places.{names, parents_of, place, rest, untaken}
 use Rattle.ss_build.proofs.Items.{In}
 use Rattle.ss_build.proofs.Valid.{length-ids}
 use Rattle.ss_build.proofs.Bounded.{any_found}
@@ -49,7 +52,7 @@ replicate_map : (xs : List (List ℕ)) (b : Bool) → replicate (length xs) b �
 replicate_map [] b = refl
 replicate_map (x ∷ xs) b = ap (λ w. b ∷ w) (replicate_map xs b)
 
-pub fresh_taken : (xs : List (List ℕ)) (taken : List Bool) (n : ℕ) → length xs ≡ n → taken ≡ replicate n false → IsTaken xs [] taken
+pub fresh_taken : (xs : List (List ℕ)) (taken : List Bool) (n : ℕ) → length xs ≡ n → taken ≡ replicate n false → IsTakenSoFar xs [] taken
 fresh_taken xs taken n q e = none_taken xs taken (e ∙ (ap (λ k. replicate k false) (sym q) ∙ replicate_map xs false))
 
 -- ---- one more that is left
@@ -101,8 +104,8 @@ firsts_whole (x ∷ xs) e =
     let s : suc (length (filter (λ y. not (bytes_eq y x)) (firsts xs))) ≡ suc (length xs) = e in
     ap (λ w. x ∷ w) (filter_whole (λ y. not (bytes_eq y x)) (firsts xs) (omega arith) ∙ firsts_whole xs (omega arith))
 
-listed_whole : (es : List Claim) (f : Claim) → length (listed es f) ≡ length f.children → listed es f ≡ f.children
-unfolding listed
+listed_whole : (es : List Claim) (f : Claim) → length (claimed_children es f) ≡ length f.children → claimed_children es f ≡ f.children
+unfolding claimed_children
 listed_whole es f e =
     let a : length (firsts (filter (is_child es f.item.id) f.children)) ≤ length (filter (is_child es f.item.id) f.children) = le-firsts (filter (is_child es f.item.id) f.children) in
     let b : length (filter (is_child es f.item.id) f.children) ≤ length f.children = length-filter_le (is_child es f.item.id) f.children in
@@ -135,12 +138,12 @@ unfolding lists_as_told as_told is_child
 told_is es f a i = go (list_any (λ x. bytes_eq (built_parent es x) f.item.id) (rest es)) refl
   where
     others : List (List ℕ)
-    others = by_id (filter (λ x. (has x (ids es) && bytes_eq (built_parent es x) f.item.id) && not (has x (listed es f))) (ids es))
+    others = by_id (filter (λ x. (has x (ids es) && bytes_eq (built_parent es x) f.item.id) && not (has x (claimed_children es f))) (ids es))
 
-    has-others : (x : List ℕ) → has x others ≡ (has x (ids es) && ((has x (ids es) && bytes_eq (built_parent es x) f.item.id) && not (has x (listed es f))))
-    has-others x = has-by_id x (filter (λ x. (has x (ids es) && bytes_eq (built_parent es x) f.item.id) && not (has x (listed es f))) (ids es)) ∙ has-filter (λ x. (has x (ids es) && bytes_eq (built_parent es x) f.item.id) && not (has x (listed es f))) x (ids es)
+    has-others : (x : List ℕ) → has x others ≡ (has x (ids es) && ((has x (ids es) && bytes_eq (built_parent es x) f.item.id) && not (has x (claimed_children es f))))
+    has-others x = has-by_id x (filter (λ x. (has x (ids es) && bytes_eq (built_parent es x) f.item.id) && not (has x (claimed_children es f))) (ids es)) ∙ has-filter (λ x. (has x (ids es) && bytes_eq (built_parent es x) f.item.id) && not (has x (claimed_children es f))) x (ids es)
 
-    parts : built_children es f ≡ listed es f ++ others
+    parts : built_children es f ≡ claimed_children es f ++ others
     parts = children_parts es f
 
     and_false : (b : Bool) → (b && false) ≡ false
@@ -148,7 +151,7 @@ told_is es f a i = go (list_any (λ x. bytes_eq (built_parent es x) f.item.id) (
     and_false false = refl
 
     -- one that is left isn't among those that are listed
-    left_out : (x : List ℕ) → has x (rest es) ≡ true → bytes_eq (built_parent es x) f.item.id ≡ true → (has x (ids es) ≡ true) × (has x (listed es f) ≡ false)
+    left_out : (x : List ℕ) → has x (rest es) ≡ true → bytes_eq (built_parent es x) f.item.id ≡ true → (has x (ids es) ≡ true) × (has x (claimed_children es f) ≡ false)
     left_out x h q =
         let p = and_parts (has x (ids es)) (not (has x (front es))) (sym (has-rest es x) ∙ h) in
         (p.0, sym (front_has es f x a i (same_text (built_parent es x) f.item.id q)) ∙ not_true (has x (front es)) p.1)
@@ -162,20 +165,20 @@ told_is es f a i = go (list_any (λ x. bytes_eq (built_parent es x) f.item.id) (
         let r = any_found (λ x. bytes_eq (built_parent es x) f.item.id) (rest es) h in
         let o = left_out r.0 r.1 r.2 in
         let in_others : has r.0 others ≡ true = has-others r.0 ∙ (ap₂ (λ b c. b && ((b && bytes_eq (built_parent es r.0) f.item.id) && not c)) o.0 o.1 ∙ ap (λ b. true && ((true && b) && true)) r.2) in
-        let listed_too : has r.0 f.children ≡ true = ap (has r.0) (sym (same_list_is (built_children es f) f.children s) ∙ parts) ∙ (has-append r.0 (listed es f) others ∙ either (has r.0 (listed es f)) in_others) in
+        let listed_too : has r.0 f.children ≡ true = ap (has r.0) (sym (same_list_is (built_children es f) f.children s) ∙ parts) ∙ (has-append r.0 (claimed_children es f) others ∙ either (has r.0 (claimed_children es f)) in_others) in
         false≢true (sym o.1 ∙ (has-listed es f r.0 ∙ (ap₂ (λ b c. b && (c && bytes_eq (built_parent es r.0) f.item.id)) listed_too o.0 ∙ r.2))))
       where
         either : {c : Bool} (b : Bool) → c ≡ true → (b || c) ≡ true
         either true e = refl
         either false e = e
 
-    none_left : list_any (λ x. bytes_eq (built_parent es x) f.item.id) (rest es) ≡ false → built_children es f ≡ listed es f
-    none_left h = parts ∙ (ap (λ w. listed es f ++ w) (none_is others nobody) ∙ append-nil (listed es f))
+    none_left : list_any (λ x. bytes_eq (built_parent es x) f.item.id) (rest es) ≡ false → built_children es f ≡ claimed_children es f
+    none_left h = parts ∙ (ap (λ w. claimed_children es f ++ w) (none_is others nobody) ∙ append-nil (claimed_children es f))
       where
         nobody : (x : List ℕ) → has x others ≡ true → ⊥
         nobody x k =
             let p = and_parts (has x (ids es)) _ (sym (has-others x) ∙ k) in
-            let q = and_parts (has x (ids es) && bytes_eq (built_parent es x) f.item.id) (not (has x (listed es f))) p.1 in
+            let q = and_parts (has x (ids es) && bytes_eq (built_parent es x) f.item.id) (not (has x (claimed_children es f))) p.1 in
             let u = and_parts (has x (ids es)) (bytes_eq (built_parent es x) f.item.id) q.0 in
             let in_rest : has x (rest es) ≡ true = has-rest es x ∙ ap₂ (λ b c. b && not c) p.0 (front_has es f x a i (same_text (built_parent es x) f.item.id u.1)) ∙ q.1 in
             false≢true (sym h ∙ any_from (λ x. bytes_eq (built_parent es x) f.item.id) (rest es) x in_rest u.1)
@@ -189,13 +192,13 @@ told_is es f a i = go (list_any (λ x. bytes_eq (built_parent es x) f.item.id) (
     and_true true = refl
     and_true false = refl
 
-    go : (b : Bool) → list_any (λ x. bytes_eq (built_parent es x) f.item.id) (rest es) ≡ b → ((length (listed es f) == length f.children) && not b) ≡ same_list (built_children es f) f.children
-    go true h = and_false (length (listed es f) == length f.children) ∙ sym (some_left h)
+    go : (b : Bool) → list_any (λ x. bytes_eq (built_parent es x) f.item.id) (rest es) ≡ b → ((length (claimed_children es f) == length f.children) && not b) ≡ same_list (built_children es f) f.children
+    go true h = and_false (length (claimed_children es f) == length f.children) ∙ sym (some_left h)
     go false h =
-        and_true (length (listed es f) == length f.children)
-        ∙ same_bools (length (listed es f) == length f.children) (same_list (built_children es f) f.children)
-        (λ e. is_same_list (built_children es f) f.children (none_left h ∙ listed_whole es f (eqb-true (length (listed es f)) (length f.children) e)))
-        (λ e. eq-eqb (length (listed es f)) (length f.children) (ap length (sym (none_left h) ∙ same_list_is (built_children es f) f.children e)))
+        and_true (length (claimed_children es f) == length f.children)
+        ∙ same_bools (length (claimed_children es f) == length f.children) (same_list (built_children es f) f.children)
+        (λ e. is_same_list (built_children es f) f.children (none_left h ∙ listed_whole es f (eqb-true (length (claimed_children es f)) (length f.children) e)))
+        (λ e. eq-eqb (length (claimed_children es f)) (length f.children) (ap length (sym (none_left h) ∙ same_list_is (built_children es f) f.children e)))
 
 -- the parents of those that are left, by their places
 left_at : (es : List Claim) (parents : List ℕ) (i n : ℕ) (xs : List (List ℕ)) → AreItems es → parents ≡ parents_of es → i < length es → ((x : List ℕ) → has x xs ≡ true → has x (ids es) ≡ true)
@@ -227,7 +230,7 @@ told_all es parents told new seats a e t q n h =
     (ap (list_any (λ s. get_or parents s (length told) == i)) q ∙ left_at es parents i (length told) (rest es) a e k (λ x r. (and_parts (has x (ids es)) (not (has x (front es))) (sym (has-rest es x) ∙ r)).0))
     ∙ (told_is es (at es i) a (at_in es i k) ∙ sym (get_or-map (as_told es) es i (empty_root places) false k))))
 
-pub left_is : (es : List Claim) (order : List ℕ) (taken : List Bool) (left : List (List ℕ)) → IsTaken (ids es) order taken → names (ids es) order ≡ front es → left ≡ by_id (untaken (ids es) taken) → left ≡ rest es
+pub left_is : (es : List Claim) (order : List ℕ) (taken : List Bool) (left : List (List ℕ)) → IsTakenSoFar (ids es) order taken → names (ids es) order ≡ front es → left ≡ by_id (untaken (ids es) taken) → left ≡ rest es
 unfolding rest
 left_is es order taken left t f e =
     e ∙ ap by_id (ap (untaken (ids es)) t.marked ∙ (untaken_all (names (ids es) order) (ids es) ∙ ap (λ F. filter (λ x. not (has x F)) (ids es)) f))

@@ -1,14 +1,20 @@
 -- The built tree is valid.
-use Rattle.std.proofs.Common.{◌≡◌, ◌≢◌, ℕ, zero, suc, List, [], ◌∷◌, ◌++◌, length, map, Bool, true, false, not, cond, ◌&&◌, ◌||◌, ◌⊎◌, ◌↔◌, inl, inr, refl, sym, ap, ap₂, ◌∙◌, subst, arith, filter, find, bytes_eq, Option, Some, None, option_map, option_and_then, unwrap_or}
+use Rattle.std.proofs.Common.{◌≡◌, ◌≢◌, ℕ, zero, suc, List, [], ◌∷◌, ◌++◌, length, map, Bool, true, false, not, cond}
+use Rattle.std.proofs.Common.{◌&&◌, ◌||◌, ◌⊎◌, ◌↔◌, inl, inr, refl, sym, ap, ap₂, ◌∙◌, subst, arith, filter, find}
+use Rattle.std.proofs.Common.{bytes_eq, Option, Some, None, option_map, option_and_then, unwrap_or}
 use Rattle.std.proofs.lemmas.Bool.{and_parts, false≢true}
-use Rattle.ss_build.specs.Built.{built_children, built_parent, claim, comes_back, ids, is_child, node_of, proposal, proposed, tree_of, walk}
+use Rattle.ss_build.specs.Built.{built_children, built_parent, claim, comes_back, ids, is_child, node_of, proposal}
+use Rattle.ss_build.specs.Built.{proposed_parents, tree_of, walk}
 use Rattle.ss_build.specs.declared.claims.Claim.{Claim}
 use Rattle.ss_record.specs.Ids.{Apart, by_id, firsts, has, places, roots, unfiled}
 use Rattle.ss_record.specs.Kinds.{is_folder}
-use Rattle.ss_tree.specs.Trees.{IsUnder, IsValidTree, Placed, Reaches, node, node_ids, parent_in, places_node}
-use Rattle.ss_record.proofs.IdLists.{bytes_eq-refl, bytes_eq-apart, has-nil, has-cons, has-filter, has-firsts, has-by_id, has-append, Apart-cons, Apart-filter, Apart-firsts, Apart-by_id, Apart-append}
+use Rattle.ss_tree.specs.Trees.{IsUnder, IsValidTree, PlacedItem, Reaches, node, node_ids, parent_in, places_node}
+use Rattle.ss_record.proofs.IdLists.{bytes_eq-refl, bytes_eq-apart, has-nil, has-cons, has-filter, has-firsts}
+use Rattle.ss_record.proofs.IdLists.{has-by_id, has-append, Apart-cons, Apart-filter, Apart-firsts, Apart-by_id}
+use Rattle.ss_record.proofs.IdLists.{Apart-append}
 use Rattle.ss_build.proofs.Walks.{Reaches-here, Reaches-step, walk_ends}
-use Rattle.ss_build.proofs.Items.{In, In_has, claim_in, claim_found, claim_has, has_claim, claim_none, AreClaims, places_no_root, unfiled_root, Apart-roots, root-places, proposal_folder}
+use Rattle.ss_build.proofs.Items.{In, In_has, claim_in, claim_found, claim_has, has_claim, claim_none, AreClaims}
+use Rattle.ss_build.proofs.Items.{places_no_root, unfiled_root, Apart-roots, root-places, proposal_folder}
 use Rattle.ss_text.proofs.Basics.{same_text, bytes_eq-same}
 
 pub is_roots : places_node.children ≡ roots
@@ -17,46 +23,46 @@ is_roots = refl
 
 -- ---- proposed parents, and parents
 
-pub proposed_root : (es : List Claim) (r : List ℕ) → has r roots ≡ true → proposed es r ≡ places
-unfolding proposed
+pub proposed_root : (es : List Claim) (r : List ℕ) → has r roots ≡ true → proposed_parents es r ≡ places
+unfolding proposed_parents
 proposed_root es r h = ap (λ b. cond b places (unwrap_or (option_map (proposal es) (claim r es)) places)) h
 
-pub proposed_claim : (es : List Claim) (x : List ℕ) (e : Claim) → has x roots ≡ false → claim x es ≡ Some e → proposed es x ≡ proposal es e
-unfolding proposed
+pub proposed_claim : (es : List Claim) (x : List ℕ) (e : Claim) → has x roots ≡ false → claim x es ≡ Some e → proposed_parents es x ≡ proposal es e
+unfolding proposed_parents
 proposed_claim es x e h q = ap (λ b. cond b places (unwrap_or (option_map (proposal es) (claim x es)) places)) h ∙ ap (λ o. unwrap_or (option_map (proposal es) o) places) q
 
-pub proposed_none : (es : List Claim) (x : List ℕ) → has x roots ≡ false → has x (ids es) ≡ false → proposed es x ≡ places
-unfolding proposed
+pub proposed_none : (es : List Claim) (x : List ℕ) → has x roots ≡ false → has x (ids es) ≡ false → proposed_parents es x ≡ places
+unfolding proposed_parents
 proposed_none es x h n = ap (λ b. cond b places (unwrap_or (option_map (proposal es) (claim x es)) places)) h ∙ ap (λ o. unwrap_or (option_map (proposal es) o) places) (claim_none es x n)
 
 -- an item's proposed parent is a folder, or the item is a root
 pub proposed_cases : (es : List Claim) → AreClaims es → (x : List ℕ) → has x (ids es) ≡ true
-    → ((has x roots ≡ true) × (proposed es x ≡ places)) ⊎ ((f : Claim) × In f es × (is_folder f.item.kind ≡ true) × (proposed es x ≡ f.item.id))
+    → ((has x roots ≡ true) × (proposed_parents es x ≡ places)) ⊎ ((f : Claim) × In f es × (is_folder f.item.kind ≡ true) × (proposed_parents es x ≡ f.item.id))
 proposed_cases es a x h = go (has x roots) refl
   where
-    go : (b : Bool) → has x roots ≡ b → ((has x roots ≡ true) × (proposed es x ≡ places)) ⊎ ((f : Claim) × In f es × (is_folder f.item.kind ≡ true) × (proposed es x ≡ f.item.id))
+    go : (b : Bool) → has x roots ≡ b → ((has x roots ≡ true) × (proposed_parents es x ≡ places)) ⊎ ((f : Claim) × In f es × (is_folder f.item.kind ≡ true) × (proposed_parents es x ≡ f.item.id))
     go true r = inl (r, proposed_root es x r)
     go false r = let e = has_claim es x h in let f = proposal_folder es a e.0 in inr (f.0, f.1, f.2, proposed_claim es x e.0 r e.1 ∙ f.3)
 
-parent_apart : (es : List Claim) (x : List ℕ) → comes_back (proposed es) (length es) x ≡ false → built_parent es x ≡ proposed es x
+parent_apart : (es : List Claim) (x : List ℕ) → comes_back (proposed_parents es) (length es) x ≡ false → built_parent es x ≡ proposed_parents es x
 unfolding built_parent
-parent_apart es x h = ap (λ b. cond b unfiled (proposed es x)) h
+parent_apart es x h = ap (λ b. cond b unfiled (proposed_parents es x)) h
 
-parent_circle : (es : List Claim) (x : List ℕ) → comes_back (proposed es) (length es) x ≡ true → built_parent es x ≡ unfiled
+parent_circle : (es : List Claim) (x : List ℕ) → comes_back (proposed_parents es) (length es) x ≡ true → built_parent es x ≡ unfiled
 unfolding built_parent
-parent_circle es x h = ap (λ b. cond b unfiled (proposed es x)) h
+parent_circle es x h = ap (λ b. cond b unfiled (proposed_parents es x)) h
 
-walk_places : (es : List Claim) (r : List ℕ) (n : ℕ) → AreClaims es → r ≢ places → has r (walk (proposed es) n places) ≡ false
+walk_places : (es : List Claim) (r : List ℕ) (n : ℕ) → AreClaims es → r ≢ places → has r (walk (proposed_parents es) n places) ≡ false
 unfolding walk
 walk_places es r zero a ne = has-nil r
 walk_places es r (suc n) a ne =
-    has-cons r places (walk (proposed es) n (proposed es places))
-    ∙ (ap₂ (λ b w. b || has r (walk (proposed es) n w)) (bytes_eq-apart r places ne) (proposed_none es places places_no_root a.no_places)
+    has-cons r places (walk (proposed_parents es) n (proposed_parents es places))
+    ∙ (ap₂ (λ b w. b || has r (walk (proposed_parents es) n w)) (bytes_eq-apart r places ne) (proposed_none es places places_no_root a.no_places)
     ∙ walk_places es r n a ne)
 
-root_apart : (es : List Claim) (r : List ℕ) (n : ℕ) → AreClaims es → has r roots ≡ true → comes_back (proposed es) n r ≡ false
+root_apart : (es : List Claim) (r : List ℕ) (n : ℕ) → AreClaims es → has r roots ≡ true → comes_back (proposed_parents es) n r ≡ false
 unfolding comes_back
-root_apart es r n a h = ap (λ w. has r (walk (proposed es) n w)) (proposed_root es r h) ∙ walk_places es r n a (root-places r h)
+root_apart es r n a h = ap (λ w. has r (walk (proposed_parents es) n w)) (proposed_root es r h) ∙ walk_places es r n a (root-places r h)
 
 pub parent_root : (es : List Claim) (r : List ℕ) → AreClaims es → has r roots ≡ true → built_parent es r ≡ places
 parent_root es r a h = parent_apart es r (root_apart es r (length es) a h) ∙ proposed_root es r h
@@ -70,10 +76,10 @@ unfiled_claim es a =
 -- so is its parent
 pub parent_cases : (es : List Claim) → AreClaims es → (x : List ℕ) → has x (ids es) ≡ true
     → ((has x roots ≡ true) × (built_parent es x ≡ places)) ⊎ ((f : Claim) × In f es × (is_folder f.item.kind ≡ true) × (built_parent es x ≡ f.item.id))
-parent_cases es a x h = go (comes_back (proposed es) (length es) x) refl (proposed_cases es a x h)
+parent_cases es a x h = go (comes_back (proposed_parents es) (length es) x) refl (proposed_cases es a x h)
   where
-    go : (b : Bool) → comes_back (proposed es) (length es) x ≡ b
-        → ((has x roots ≡ true) × (proposed es x ≡ places)) ⊎ ((f : Claim) × In f es × (is_folder f.item.kind ≡ true) × (proposed es x ≡ f.item.id))
+    go : (b : Bool) → comes_back (proposed_parents es) (length es) x ≡ b
+        → ((has x roots ≡ true) × (proposed_parents es x ≡ places)) ⊎ ((f : Claim) × In f es × (is_folder f.item.kind ≡ true) × (proposed_parents es x ≡ f.item.id))
         → ((has x roots ≡ true) × (built_parent es x ≡ places)) ⊎ ((f : Claim) × In f es × (is_folder f.item.kind ≡ true) × (built_parent es x ≡ f.item.id))
     go true c p = let u = unfiled_claim es a in inr (u.0, u.1, u.2, parent_circle es x c ∙ sym u.3)
     go false c (inl p) = inl (p.0, parent_apart es x c ∙ p.1)
@@ -102,7 +108,7 @@ node_claim es x e a q = node_tree es x ne ∙ ap (option_map (node_of es)) q
     ne p = false≢true (sym a.no_places ∙ (ap (λ w. has w (ids es)) (sym p) ∙ claim_has es x e q))
 
 -- an item of the tree that is not the top is of a claim
-pub node_from : (es : List Claim) (x : List ℕ) (n : Placed) → x ≢ places → node x (tree_of es) ≡ Some n → (e : Claim) × (claim x es ≡ Some e) × (n ≡ node_of es e)
+pub node_from : (es : List Claim) (x : List ℕ) (n : PlacedItem) → x ≢ places → node x (tree_of es) ≡ Some n → (e : Claim) × (claim x es ≡ Some e) × (n ≡ node_of es e)
 node_from es x n ne q = go (claim x es) refl (sym (node_tree es x ne) ∙ q)
   where
     go : (o : Option Claim) → claim x es ≡ o → option_map (node_of es) o ≡ Some n → (e : Claim) × (claim x es ≡ Some e) × (n ≡ node_of es e)
@@ -140,28 +146,28 @@ length-ids (e ∷ es) = ap suc (length-ids es)
 
 pub up_ends : (es : List Claim) → AreClaims es → (x : List ℕ) → has x (ids es) ≡ true → Reaches (parent_in (tree_of es)) places x
 up_ends es a =
-    walk_ends (ids es) (length es) (let n : length (ids es) ≡ length es = length-ids es in omega arith) places (proposed es) (parent_in (tree_of es)) closed agree jump
+    walk_ends (ids es) (length es) (let n : length (ids es) ≡ length es = length-ids es in omega arith) places (proposed_parents es) (parent_in (tree_of es)) closed agree jump
   where
-    closed : (z : List ℕ) → has z (ids es) ≡ true → (has (proposed es z) (ids es) ≡ true) ⊎ (proposed es z ≡ places)
+    closed : (z : List ℕ) → has z (ids es) ≡ true → (has (proposed_parents es z) (ids es) ≡ true) ⊎ (proposed_parents es z ≡ places)
     closed z h = pick (proposed_cases es a z h)
       where
-        pick : ((has z roots ≡ true) × (proposed es z ≡ places)) ⊎ ((f : Claim) × In f es × (is_folder f.item.kind ≡ true) × (proposed es z ≡ f.item.id)) → (has (proposed es z) (ids es) ≡ true) ⊎ (proposed es z ≡ places)
+        pick : ((has z roots ≡ true) × (proposed_parents es z ≡ places)) ⊎ ((f : Claim) × In f es × (is_folder f.item.kind ≡ true) × (proposed_parents es z ≡ f.item.id)) → (has (proposed_parents es z) (ids es) ≡ true) ⊎ (proposed_parents es z ≡ places)
         pick (inl p) = inr p.1
         pick (inr p) = inl (ap (λ w. has w (ids es)) p.3 ∙ In_has es p.0 p.1)
 
-    agree : (z : List ℕ) → comes_back (proposed es) (length es) z ≡ false → parent_in (tree_of es) z ≡ proposed es z
+    agree : (z : List ℕ) → comes_back (proposed_parents es) (length es) z ≡ false → parent_in (tree_of es) z ≡ proposed_parents es z
     agree z c = top_or (bytes_eq z places) refl
       where
-        top_or : (b : Bool) → bytes_eq z places ≡ b → parent_in (tree_of es) z ≡ proposed es z
+        top_or : (b : Bool) → bytes_eq z places ≡ b → parent_in (tree_of es) z ≡ proposed_parents es z
         top_or true q =
             let p : z ≡ places = same_text z places q in
-            ap (parent_in (tree_of es)) p ∙ (parent_in_places es ∙ sym (ap (proposed es) p ∙ proposed_none es places places_no_root a.no_places))
+            ap (parent_in (tree_of es)) p ∙ (parent_in_places es ∙ sym (ap (proposed_parents es) p ∙ proposed_none es places places_no_root a.no_places))
         top_or false q = known (has z (ids es)) refl
           where
             ne : z ≢ places
             ne p = false≢true (sym q ∙ bytes_eq-same z places p)
 
-            known : (b : Bool) → has z (ids es) ≡ b → parent_in (tree_of es) z ≡ proposed es z
+            known : (b : Bool) → has z (ids es) ≡ b → parent_in (tree_of es) z ≡ proposed_parents es z
             known true h = step_agrees es a z ne h ∙ parent_apart es z c
             known false h = parent_in_none es z ne h ∙ sym (proposed_none es z no_root h)
               where
@@ -172,7 +178,7 @@ up_ends es a =
                     pick true r = absurd (false≢true (sym h ∙ a.roots_in z r))
                     pick false r = refl
 
-    jump : (z : List ℕ) → comes_back (proposed es) (length es) z ≡ true → Reaches (parent_in (tree_of es)) places z
+    jump : (z : List ℕ) → comes_back (proposed_parents es) (length es) z ≡ true → Reaches (parent_in (tree_of es)) places z
     jump z c = top_or (bytes_eq z places) refl
       where
         top_or : (b : Bool) → bytes_eq z places ≡ b → Reaches (parent_in (tree_of es)) places z
@@ -289,7 +295,7 @@ under_parts es y x a u = go (bytes_eq x places) refl
 
 -- ---- the tree is valid
 
-no_node : (es : List Claim) (x : List ℕ) (n : Placed) → AreClaims es → x ≢ places → node x (tree_of es) ≡ Some n → has x (ids es) ≡ true
+no_node : (es : List Claim) (x : List ℕ) (n : PlacedItem) → AreClaims es → x ≢ places → node x (tree_of es) ≡ Some n → has x (ids es) ≡ true
 no_node es x n a ne q = let e = node_from es x n ne q in claim_has es x e.0 e.1
 
 ids_of_nodes : (es fs : List Claim) → map (λ n. n.id) (map (node_of fs) es) ≡ ids es
@@ -332,13 +338,13 @@ at_places {A} y f g = go (bytes_eq y places) refl
     go true q = f (same_text y places q)
     go false q = g (λ p. false≢true (sym q ∙ bytes_eq-same y places p))
 
-same_top : (es : List Claim) (y : List ℕ) (m : Placed) → y ≡ places → node y (tree_of es) ≡ Some m → m ≡ places_node
+same_top : (es : List Claim) (y : List ℕ) (m : PlacedItem) → y ≡ places → node y (tree_of es) ≡ Some m → m ≡ places_node
 same_top es y m p q = some (sym q ∙ (ap (λ w. node w (tree_of es)) p ∙ node_places es))
   where
     some : Some m ≡ Some places_node → m ≡ places_node
     some e = cc
 
-children_are : (es : List Claim) → AreClaims es → (y : List ℕ) (m : Placed) → node y (tree_of es) ≡ Some m → (x : List ℕ) → (has x m.children ≡ true) ↔ IsUnder (tree_of es) y x
+children_are : (es : List Claim) → AreClaims es → (y : List ℕ) (m : PlacedItem) → node y (tree_of es) ≡ Some m → (x : List ℕ) → (has x m.children ≡ true) ↔ IsUnder (tree_of es) y x
 children_are es a y m q x = at_places y root_case item_case
   where
     root_case : y ≡ places → (has x m.children ≡ true) ↔ IsUnder (tree_of es) y x
@@ -368,13 +374,13 @@ children_are es a y m q x = at_places y root_case item_case
         up : IsUnder (tree_of es) y x → has x m.children ≡ true
         up u = let w = under_parts es y x a u in list ∙ is_child_from es y x w.0 w.1
 
-children_once : (es : List Claim) → AreClaims es → (y : List ℕ) (m : Placed) → node y (tree_of es) ≡ Some m → Apart m.children
+children_once : (es : List Claim) → AreClaims es → (y : List ℕ) (m : PlacedItem) → node y (tree_of es) ≡ Some m → Apart m.children
 children_once es a y m q = at_places y
     (λ p. subst Apart (sym (ap (λ n. n.children) (same_top es y m p q) ∙ is_roots)) Apart-roots)
     (λ ne. let e = node_from es y m ne q in subst Apart (sym (ap (λ n. n.children) e.2 ∙ node_children es e.0)) (Apart-children es e.0 a.apart))
 
-under_folder : (es : List Claim) → AreClaims es → (x : List ℕ) (n : Placed) → node x (tree_of es) ≡ Some n → x ≢ places
-    → (y : List ℕ) × (n.parent ≡ Some y) × (m : Placed) × (node y (tree_of es) ≡ Some m) × (is_folder m.kind ≡ true)
+under_folder : (es : List Claim) → AreClaims es → (x : List ℕ) (n : PlacedItem) → node x (tree_of es) ≡ Some n → x ≢ places
+    → (y : List ℕ) × (n.parent ≡ Some y) × (m : PlacedItem) × (node y (tree_of es) ≡ Some m) × (is_folder m.kind ≡ true)
 under_folder es a x n q ne = go (parent_cases es a x (claim_has es x of.0 of.1))
   where
     of : (e : Claim) × (claim x es ≡ Some e) × (n ≡ node_of es e)
@@ -384,11 +390,11 @@ under_folder es a x n q ne = go (parent_cases es a x (claim_has es x of.0 of.1))
     above = ap (λ k. k.parent) of.2 ∙ (node_parent es of.0 ∙ ap (λ w. Some (built_parent es w)) (claim_found es x of.0 of.1).1)
 
     go : ((has x roots ≡ true) × (built_parent es x ≡ places)) ⊎ ((f : Claim) × In f es × (is_folder f.item.kind ≡ true) × (built_parent es x ≡ f.item.id))
-        → (y : List ℕ) × (n.parent ≡ Some y) × (m : Placed) × (node y (tree_of es) ≡ Some m) × (is_folder m.kind ≡ true)
+        → (y : List ℕ) × (n.parent ≡ Some y) × (m : PlacedItem) × (node y (tree_of es) ≡ Some m) × (is_folder m.kind ≡ true)
     go (inl r) = (places, above ∙ ap Some r.1, places_node, node_places es, top_folder)
     go (inr f) = (f.0.item.id, above ∙ ap Some f.3, node_of es f.0, node_claim es f.0.item.id f.0 a (claim_in es f.0 a.apart f.1), ap is_folder (node_kind es f.0) ∙ f.2)
 
-roots_folders : (es : List Claim) → AreClaims es → (r : List ℕ) (n : Placed) → has r roots ≡ true → node r (tree_of es) ≡ Some n → is_folder n.kind ≡ true
+roots_folders : (es : List Claim) → AreClaims es → (r : List ℕ) (n : PlacedItem) → has r roots ≡ true → node r (tree_of es) ≡ Some n → is_folder n.kind ≡ true
 roots_folders es a r n h q =
     let e = node_from es r n (root-places r h) q in
     let i = claim_found es r e.0 e.1 in

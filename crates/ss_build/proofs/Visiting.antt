@@ -1,8 +1,9 @@
 -- What a round keeps.
-use Rattle.std.proofs.Common.{◌≡◌, ◌≢◌, ℕ, zero, suc, ◌+◌, ◌<◌, ◌≤◌, ◌⊎◌, ◌↔◌, inl, inr, List, length, get_or, Bool, true, false, refl, sym, ◌∙◌, subst, arith}
+use Rattle.std.proofs.Common.{◌≡◌, ◌≢◌, ℕ, zero, suc, ◌+◌, ◌<◌, ◌≤◌, ◌⊎◌, ◌↔◌, inl, inr, List, length, get_or, Bool}
+use Rattle.std.proofs.Common.{true, false, refl, sym, ◌∙◌, subst, arith}
 use Rattle.std.proofs.Math.ListN.{get_or-eq_default}
 use Rattle.std.proofs.lemmas.Bool.{cases_eq, cases_lt, false≢true, false_from_ne_true}
-use Rattle.ss_build.specs.Marks.{Leads, Walked, Marked, AreCircles, Rounds}
+use Rattle.ss_build.specs.Marks.{Leads, WalksTo, MarksWay, AreCircles, Rounds}
 use Rattle.ss_build.proofs.Marking.{top_leads, Leads-trans, way_back, closed_leads}
 
 pub at_top : {n e : ℕ} {A B : Type 0} → n ≤ e → (e ≡ n) ⊎ ((e < n) × A) → (e ≡ n) ⊎ B
@@ -13,7 +14,7 @@ zero_or : (n : ℕ) → (n ≡ 0) ⊎ (0 < n)
 zero_or zero = inl refl
 zero_or (suc n) = inr (omega arith)
 
-module _ (next old new : List ℕ) (circles : List Bool) (start end : ℕ) (lt : start < length next) (r : Rounds next old circles start) (w : Walked next old new (start + 1) start end) where
+module _ (next old new : List ℕ) (circles : List Bool) (start end : ℕ) (lt : start < length next) (r : Rounds next old circles start) (w : WalksTo next old new (start + 1) start end) where
   within : (z : ℕ) → 0 < get_or old z 0 → z < length next
   within z h = go (cases_lt z (length next))
     where
@@ -100,7 +101,7 @@ module _ (next old new : List ℕ) (circles : List Bool) (start end : ℕ) (lt :
       go t (inl q) = false≢true (sym (r.untold z q) ∙ t)
       go t (inr p) = let f : 0 < get_or old end 0 = old_leads z end p l (way_back next end z (circle_back l e h) g) in omega arith
 
-  pub round_closed : (circles' : List Bool) → end < length next → get_or old end 0 ≡ 0 → 0 < get_or new end 0 → Marked next circles circles' end → Rounds next new circles' (start + 1)
+  pub round_closed : (circles' : List Bool) → end < length next → get_or old end 0 ≡ 0 → 0 < get_or new end 0 → MarksWay next circles circles' end → Rounds next new circles' (start + 1)
   round_closed circles' l e h m = round_with circles' (m.same_length ∙ r.same_circles) (λ z k s. told z k s (zero_or (get_or old z 0))) untold
     where
       back : Leads next end end

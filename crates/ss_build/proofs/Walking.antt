@@ -1,10 +1,12 @@
 -- What a walk with marks keeps.
-use Rattle.std.proofs.Common.{◌≡◌, ◌≢◌, ℕ, zero, suc, ◌+◌, ◌<◌, ◌≤◌, ◌⊎◌, ◌==◌, inl, inr, List, length, get_or, set, count_by, All, Bool, true, false, cond, refl, sym, ap, ◌∙◌, subst, arith, get_or-set_same, get_or-set_other, eq-eqb, ne_eqb}
+use Rattle.std.proofs.Common.{◌≡◌, ◌≢◌, ℕ, zero, suc, ◌+◌, ◌<◌, ◌≤◌, ◌⊎◌, ◌==◌, inl, inr, List, length, get_or, set}
+use Rattle.std.proofs.Common.{count_by, All, Bool, true, false, cond, refl, sym, ap, ◌∙◌, subst, arith, get_or-set_same}
+use Rattle.std.proofs.Common.{get_or-set_other, eq-eqb, ne_eqb}
 use Rattle.std.specs.List.{sum_by}
 use Rattle.std.proofs.lemmas.Bool.{cases_eq}
 use Rattle.std.proofs.lemmas.List.{get_or_default}
 use Rattle.std.proofs.lemmas.List.Sums.{sum_by-set}
-use Rattle.ss_build.specs.Marks.{next_at, hops, Leads, IsClosed, Walked}
+use Rattle.ss_build.specs.Marks.{next_at, hops, Leads, IsClosedUnder, WalksTo}
 
 pub hops_after : (next : List ℕ) (k i : ℕ) → hops next k (next_at next i) ≡ next_at next (hops next k i)
 unfolding hops
@@ -27,7 +29,7 @@ pub record Walking (next old seen : List ℕ) (number start at : ℕ) : Type 0 w
   pub begun : (start ≡ at) ⊎ (0 < get_or seen start 0)
   pub closed : (z : ℕ) → z < length next → 0 < get_or seen z 0 → (next_at next z ≡ length next) ⊎ ((0 < get_or seen (next_at next z) 0) ⊎ (next_at next z ≡ at))
 
-pub walking_begins : (next old : List ℕ) (number start : ℕ) → start < length next → IsClosed next old → Walking next old old number start start
+pub walking_begins : (next old : List ℕ) (number start : ℕ) → start < length next → IsClosedUnder next old → Walking next old old number start start
 walking_begins next old number start lt closed = record {
   same_length = refl;
   within = omega arith;
@@ -97,7 +99,7 @@ walking_fewer seen at number lt unseen some =
     let f : count_by (λ s. s == 0) (set seen at number) + 1 ≡ count_by (λ s. s == 0) seen + 0 = ap (λ n. sum_by (λ s. tick (s == 0)) (set seen at number) + n) (sym a) ∙ (e ∙ ap (λ n. sum_by (λ s. tick (s == 0)) seen + n) b) in
     omega (arith, f)
 
-pub walking_ends : (next old seen : List ℕ) (number start at : ℕ) → length old ≡ length next → start < length next → (length next ≤ at) ⊎ (0 < get_or seen at 0) → Walking next old seen number start at → Walked next old seen number start at
+pub walking_ends : (next old seen : List ℕ) (number start at : ℕ) → length old ≡ length next → start < length next → (length next ≤ at) ⊎ (0 < get_or seen at 0) → Walking next old seen number start at → WalksTo next old seen number start at
 walking_ends next old seen number start at same lt end w = record {
   same_length = w.same_length;
   kept = w.kept;

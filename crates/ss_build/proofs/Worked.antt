@@ -1,6 +1,8 @@
 -- Worked rows, computed from the definitions.
 use Rattle.std.proofs.Common.{◌≡◌, ℕ, List, [], ◌∷◌, map, refl, Some, None, Option, codes}
-use Rattle.ss_build.specs.Built.{is_kept, beats, best, built, built_children, built_parent, claim, claims, comes_back, ids, is_child, kept_if, lists, named, node_of, or_else, proposal, proposed, repaired, tree_of, walk, with_roots}
+use Rattle.ss_build.specs.Built.{is_kept, beats, best, built, built_children, built_parent, claim, claims, comes_back}
+use Rattle.ss_build.specs.Built.{ids, is_child, kept_if, lists, named, node_of, or_else, proposal, proposed_parents}
+use Rattle.ss_build.specs.Built.{repaired, tree_of, walk, with_roots}
 use Rattle.ss_build.specs.Rows.{Row, claim_of}
 use Rattle.ss_record.specs.Ids.{before, has, places, roots, same_list, unfiled}
 use Rattle.ss_record.specs.declared.kinds.Kind.{Kind}
@@ -24,11 +26,11 @@ parents : List (Option (List ℕ))
 parents = map (λ n. n.parent) (built rows)
 
 parents_are : parents ≡ None ∷ Some (codes "places") ∷ Some (codes "menu") ∷ Some (codes "f1") ∷ Some (codes "unfiled") ∷ Some (codes "unfiled") ∷ Some (codes "places") ∷ Some (codes "places") ∷ Some (codes "places") ∷ []
-unfolding parents rows row_at has roots places unfiled before walk same_list claim_of places_node ids claim lists beats best named or_else kept_if proposal proposed comes_back built_parent is_child built_children node_of with_roots claims tree_of built
+unfolding parents rows row_at has roots places unfiled before walk same_list claim_of places_node ids claim lists beats best named or_else kept_if proposal proposed_parents comes_back built_parent is_child built_children node_of with_roots claims tree_of built
 parents_are = refl
 
 repaired_are : repaired rows ≡ codes "b1" ∷ codes "b2" ∷ codes "f1" ∷ codes "g1" ∷ codes "menu" ∷ []
-unfolding rows row_at has roots places unfiled before walk same_list claim_of ids claim lists beats best named or_else kept_if proposal proposed comes_back built_parent is_child built_children with_roots claims is_kept repaired
+unfolding rows row_at has roots places unfiled before walk same_list claim_of ids claim lists beats best named or_else kept_if proposal proposed_parents comes_back built_parent is_child built_children with_roots claims is_kept repaired
 repaired_are = refl
 
 -- two folders of one time list b1, whose parentid is neither: the one with the smaller id
@@ -40,7 +42,7 @@ twins =
     ∷ []
 
 twin_parent : built_parent (claims twins) (codes "b1") ≡ codes "f1"
-unfolding twins row_at has roots places unfiled before walk claim_of ids claim lists beats best named or_else kept_if proposal proposed comes_back built_parent with_roots claims
+unfolding twins row_at has roots places unfiled before walk claim_of ids claim lists beats best named or_else kept_if proposal proposed_parents comes_back built_parent with_roots claims
 twin_parent = refl
 
 -- a circle of two, and a third that leads into it: the two go to `unfiled`, the third stays
@@ -52,5 +54,5 @@ circle =
     ∷ []
 
 circle_parents : map (built_parent (claims circle)) (codes "a" ∷ codes "b" ∷ codes "c" ∷ []) ≡ codes "unfiled" ∷ codes "unfiled" ∷ codes "b" ∷ []
-unfolding circle row_at has roots places unfiled before walk claim_of ids claim lists beats best named or_else kept_if proposal proposed comes_back built_parent with_roots claims
+unfolding circle row_at has roots places unfiled before walk claim_of ids claim lists beats best named or_else kept_if proposal proposed_parents comes_back built_parent with_roots claims
 circle_parents = refl

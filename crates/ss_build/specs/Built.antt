@@ -1,10 +1,12 @@
 -- The tree that is built from rows, however damaged they are.
-use Rattle.std.specs.Prelude.{◌&&◌, ◌||◌, ◌==◌, nat_lt, ℕ, zero, suc, List, [], ◌∷◌, ◌++◌, Bool, false, not, if◌then◌else◌, Option, Some, None, map, filter, filter_map, find, length, bytes_eq, unwrap_or, option_map, option_and_then}
+use Rattle.std.specs.Prelude.{◌&&◌, ◌||◌, ◌==◌, nat_lt, ℕ, zero, suc, List, [], ◌∷◌, ◌++◌, Bool, false, not}
+use Rattle.std.specs.Prelude.{if◌then◌else◌, Option, Some, None, map, filter, filter_map, find, length, bytes_eq}
+use Rattle.std.specs.Prelude.{unwrap_or, option_map, option_and_then}
 use Rattle.std.specs.List.{list_all}
 use Rattle.ss_record.specs.Ids.{has, places, roots, unfiled, firsts, before, by_id, same_list}
 use Rattle.ss_record.specs.Kinds.{is_folder}
 use Rattle.ss_record.specs.Items.{empty_folder}
-use Rattle.ss_tree.specs.Trees.{Placed, places_node}
+use Rattle.ss_tree.specs.Trees.{PlacedItem, places_node}
 use Rattle.ss_build.specs.declared.claims.Claim.{Claim}
 use Rattle.ss_build.specs.Rows.{Row, claim_of}
 
@@ -65,8 +67,8 @@ proposal es e = unwrap_or (option_map (λ f. f.item.id)
     (named es e)))) unfiled
 
 -- one step along proposed parents: a root leads to `places`, and so does an id that is no item
-unfoldable pub proposed : List Claim → List ℕ → List ℕ
-proposed es x = if has x roots then places else unwrap_or (option_map (proposal es) (claim x es)) places
+unfoldable pub proposed_parents : List Claim → List ℕ → List ℕ
+proposed_parents es x = if has x roots then places else unwrap_or (option_map (proposal es) (claim x es)) places
 
 -- ---- circles
 
@@ -81,7 +83,7 @@ comes_back step n x = has x (walk step n (step x))
 
 -- an item that comes back to itself along proposed parents stands under `unfiled`, each other one under its proposed parent
 unfoldable pub built_parent : List Claim → List ℕ → List ℕ
-built_parent es x = if comes_back (proposed es) (length es) x then unfiled else proposed es x
+built_parent es x = if comes_back (proposed_parents es) (length es) x then unfiled else proposed_parents es x
 
 -- ---- children
 
@@ -97,13 +99,13 @@ built_children es f =
 
 -- ---- the tree
 
-unfoldable pub node_of : List Claim → Claim → Placed
+unfoldable pub node_of : List Claim → Claim → PlacedItem
 node_of es e = record { id = e.item.id; kind = e.item.kind; content = e.item.content; parent = Some (built_parent es e.item.id); children = built_children es e; time = e.time }
 
-unfoldable pub tree_of : List Claim → List Placed
+unfoldable pub tree_of : List Claim → List PlacedItem
 tree_of es = places_node ∷ map (node_of es) es
 
-unfoldable pub built : List Row → List Placed
+unfoldable pub built : List Row → List PlacedItem
 built rows = tree_of (claims rows)
 
 -- its record names the parent, or it is a root

@@ -19,20 +19,20 @@ pub record AreCircles (next : List ℕ) (circles : List Bool) : Type 0 where
   pub each : (i : ℕ) → i < length next → (get_or circles i false ≡ true) ↔ Leads next i i
 
 -- what has been seen leads to what has been seen, or to the top
-abbrev pub IsClosed : List ℕ → List ℕ → Type 0
-IsClosed next seen = (z : ℕ) → z < length next → 0 < get_or seen z 0 → (next_at next z ≡ length next) ⊎ (0 < get_or seen (next_at next z) 0)
+abbrev pub IsClosedUnder : List ℕ → List ℕ → Type 0
+IsClosedUnder next seen = (z : ℕ) → z < length next → 0 < get_or seen z 0 → (next_at next z ≡ length next) ⊎ (0 < get_or seen (next_at next z) 0)
 
 -- a walk with this number from the start has seen all on its way to the end, where something was seen before
-pub record Walked (next old new : List ℕ) (number start end : ℕ) : Type 0 where
+pub record WalksTo (next old new : List ℕ) (number start end : ℕ) : Type 0 where
   pub same_length : length new ≡ length old
   pub kept : (z : ℕ) → 0 < get_or old z 0 → get_or new z 0 ≡ get_or old z 0
   pub fresh : (z : ℕ) → z < length next → get_or old z 0 ≡ 0 → (get_or new z 0 ≡ 0) ⊎ ((get_or new z 0 ≡ number) × Leads next z end)
   pub begun : 0 < get_or new start 0
-  pub closed : IsClosed next new
+  pub closed : IsClosedUnder next new
   pub ended : (end ≡ length next) ⊎ ((end < length next) × (0 < get_or new end 0))
 
 -- what the first leads to is told, and nothing else is changed
-pub record Marked (next : List ℕ) (old new : List Bool) (first : ℕ) : Type 0 where
+pub record MarksWay (next : List ℕ) (old new : List Bool) (first : ℕ) : Type 0 where
   pub same_length : length new ≡ length old
   pub each : (z : ℕ) → (get_or new z false ≡ true) ↔ ((get_or old z false ≡ true) ⊎ Leads next first z)
 
@@ -41,7 +41,7 @@ pub record Rounds (next seen : List ℕ) (circles : List Bool) (n : ℕ) : Type 
   pub same_seen : length seen ≡ length next
   pub same_circles : length circles ≡ length next
   pub numbers : (z : ℕ) → get_or seen z 0 ≤ n
-  pub closed : IsClosed next seen
+  pub closed : IsClosedUnder next seen
   pub told : (z : ℕ) → z < length next → 0 < get_or seen z 0 → (get_or circles z false ≡ true) ↔ Leads next z z
   pub untold : (z : ℕ) → get_or seen z 0 ≡ 0 → get_or circles z false ≡ false
   pub all : (z : ℕ) → z < n → 0 < get_or seen z 0

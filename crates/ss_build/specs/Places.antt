@@ -1,10 +1,13 @@
 -- Items by their places in the list.
-use Rattle.std.specs.Prelude.{◌≡◌, ◌<◌, ◌&&◌, ◌==◌, nat_lt, ℕ, suc, List, [], ◌∷◌, ◌++◌, Bool, true, false, not, if◌then◌else◌, Option, Some, None, map, filter, length, get_or, bytes_eq, unwrap_or, option_map}
+use Rattle.std.specs.Prelude.{◌≡◌, ◌<◌, ◌&&◌, ◌==◌, nat_lt, ℕ, suc, List, [], ◌∷◌, ◌++◌, Bool, true, false, not}
+use Rattle.std.specs.Prelude.{if◌then◌else◌, Option, Some, None, map, filter, length, get_or, bytes_eq, unwrap_or}
+use Rattle.std.specs.Prelude.{option_map}
 use Rattle.std.specs.List.{flat_map}
 use Rattle.ss_record.specs.Ids.{Apart, by_id, firsts, has, places, roots, same_list}
 use Rattle.ss_record.specs.Kinds.{is_folder}
 use Rattle.ss_build.specs.declared.claims.Claim.{Claim}
-use Rattle.ss_build.specs.Built.{beats, built_children, built_parent, empty_root, ids, is_child, lists, named, proposed}
+use Rattle.ss_build.specs.Built.{beats, built_children, built_parent, empty_root, ids, is_child, lists, named}
+use Rattle.ss_build.specs.Built.{proposed_parents}
 
 -- where x stands among the ids; their number where it isn't there
 abbrev pub place : List ℕ → List (List ℕ) → ℕ
@@ -34,12 +37,12 @@ better es old folder = if nat_lt old (length es) && not (beats (at es folder) (a
 
 -- the first of some places that there is, where the end stands for none; of a root none is
 abbrev pub chosen : Bool → Bool → ℕ → ℕ → ℕ → ℕ → ℕ
-chosen root listed claimed lister fallback end =
-    if root then end else (if listed then claimed else (if nat_lt lister end then lister else (if nat_lt claimed end then claimed else fallback)))
+chosen root claimed_children claimed lister fallback end =
+    if root then end else (if claimed_children then claimed else (if nat_lt lister end then lister else (if nat_lt claimed end then claimed else fallback)))
 
 -- the places of the proposed parents, and of the parents; the number of items stands for `places`
 unfoldable pub next_of : List Claim → List ℕ
-next_of es = map (λ e. place (proposed es e.item.id) (ids es)) es
+next_of es = map (λ e. place (proposed_parents es e.item.id) (ids es)) es
 
 unfoldable pub parents_of : List Claim → List ℕ
 parents_of es = map (λ e. place (built_parent es e.item.id) (ids es)) es
@@ -54,15 +57,15 @@ pub record AreItems (es : List Claim) : Type 0 where
 -- next has the place of each item's proposed parent, and the number of items for `places`
 pub record IsNext (es : List Claim) (next : List ℕ) : Type 0 where
   pub same_length : length next ≡ length es
-  pub each : (i : ℕ) → i < length next → proposed es (get_or (ids es) i places) ≡ get_or (ids es) (get_or next i 0) places
+  pub each : (i : ℕ) → i < length next → proposed_parents es (get_or (ids es) i places) ≡ get_or (ids es) (get_or next i 0) places
 
 -- the children of a folder that it lists, in the order of first appearance
-unfoldable pub listed : List Claim → Claim → List (List ℕ)
-listed es f = firsts (filter (is_child es f.item.id) f.children)
+unfoldable pub claimed_children : List Claim → Claim → List (List ℕ)
+claimed_children es f = firsts (filter (is_child es f.item.id) f.children)
 
 -- the roots, then what the items list
 unfoldable pub front : List Claim → List (List ℕ)
-front es = roots ++ flat_map (listed es) es
+front es = roots ++ flat_map (claimed_children es) es
 
 -- those that are left, by id
 unfoldable pub rest : List Claim → List (List ℕ)
@@ -77,7 +80,7 @@ unfoldable pub as_told : List Claim → Claim → Bool
 as_told es e = same_list (built_children es e) e.children
 
 -- what was taken so far: the order holds places below the number of the ids, and each id that stands in it is marked
-pub record IsTaken (xs : List (List ℕ)) (order : List ℕ) (taken : List Bool) : Type 0 where
+pub record IsTakenSoFar (xs : List (List ℕ)) (order : List ℕ) (taken : List Bool) : Type 0 where
   pub bounded : (k : ℕ) → k < length order → get_or order k 0 < length xs
   pub marked : taken ≡ map (λ x. has x (names xs order)) xs
 
@@ -93,4 +96,4 @@ untaken (x ∷ xs) (t ∷ ts) = if t then untaken xs ts else x ∷ untaken xs ts
 
 -- all that an item lists are its children, each once
 unfoldable pub lists_as_told : List Claim → Claim → Bool
-lists_as_told es e = length (listed es e) == length e.children
+lists_as_told es e = length (claimed_children es e) == length e.children

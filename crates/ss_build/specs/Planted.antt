@@ -10,9 +10,9 @@ abbrev pub node_at : ℕ → ℕ → ℕ
 node_at count p = if nat_lt p count then p + 1 else 0
 
 -- the entry of the item at a place
-abbrev pub planted : List Claim → List ℕ → ℕ → Entry
-planted es parents i = record { node = i + 1; parent = Some (node_at (length es) (get_or parents i 0)); item = (at es i).item; time = (at es i).time }
+abbrev pub planted_entry : List Claim → List ℕ → ℕ → Entry
+planted_entry es parents i = record { node = i + 1; parent = Some (node_at (length es) (get_or parents i 0)); item = (at es i).item; time = (at es i).time }
 
 -- the entries of the items in an order, under that of `places`
 abbrev pub entries : List Claim → List ℕ → List ℕ → List Entry
-entries es parents order = top_entry ∷ map (planted es parents) order
+entries es parents order = top_entry ∷ map (planted_entry es parents) order

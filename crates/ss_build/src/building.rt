@@ -3,7 +3,7 @@
 ghost use Rattle.std.specs.Prelude.{◌≡◌, ◌≤◌, ◌<◌, ℕ, List, IfOk, filter, get_or, length, map, not, take};
 ghost use Rattle.ss_record.specs.Ids.{Apart, by_id};
 ghost use Rattle.ss_tree.specs.Entries.{tree};
-ghost use Rattle.ss_tree.specs.Trees.{IsSame, IsValidTree, Placed};
+ghost use Rattle.ss_tree.specs.Trees.{IsSame, IsValidTree, PlacedItem};
 ghost use Rattle.ss_build.specs.Built.{built, ids, is_kept, repaired, tree_of};
 ghost use Rattle.ss_build.specs.Places.{AreItems, in_order, names, parents_of};
 ghost use Rattle.ss_build.specs.Rows.{dead, readings, rows_of, skipped};
@@ -96,7 +96,7 @@ pub fn build(alloc: Global, sheets: &[Sheet]) -> Result<Built, AllocError>
     requires distinct { Apart (map (λ s. s.id) sheets.now) }
     ensures tree { IfOk result (λ b. IsSame (tree b.tree) (built (rows_of sheets.now))) }
     ensures valid { IfOk result (λ b. IsValidTree (tree b.tree)) }
-    ensures back { IfOk result (λ b. (t : List Placed) → IsValidTree t → StandFor t (rows_of sheets.now) → IsSameUntimed (tree b.tree) t) }
+    ensures back { IfOk result (λ b. (t : List PlacedItem) → IsValidTree t → StandFor t (rows_of sheets.now) → IsSameUntimed (tree b.tree) t) }
     ensures readings { IfOk result (λ b. b.readings.items ≡ readings (rows_of sheets.now)) }
     ensures dead { IfOk result (λ b. b.dead ≡ dead (rows_of sheets.now)) }
     ensures skipped { IfOk result (λ b. b.skipped ≡ skipped (rows_of sheets.now)) }

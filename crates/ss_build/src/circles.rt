@@ -1,7 +1,7 @@
 //! Who comes back to itself along proposed parents, in one pass with marks.
 
 ghost use Rattle.std.specs.Prelude.{◌≡◌, ◌<◌, ◌≤◌, ◌+◌, ◌^◌, ℕ, All, IfOk, IsTrue, length, get_or, true, false};
-ghost use Rattle.ss_build.specs.Marks.{AreCircles, IsClosed, Leads, Marked, Rounds, Walked};
+ghost use Rattle.ss_build.specs.Marks.{AreCircles, IsClosedUnder, Leads, MarksWay, Rounds, WalksTo};
 
 use std::alloc::{AllocError, Global};
 
@@ -11,8 +11,8 @@ fn walk(next: &[usize], seen: &mut [usize], number: usize, start: usize) -> usiz
     requires same_length { length seen.old ≡ length next.now }
     requires some { 0 < number }
     requires inside { start < length next.now }
-    requires closed { IsClosed next.now seen.old }
-    ensures { Walked next.now seen.old seen.new number start result }
+    requires closed { IsClosedUnder next.now seen.old }
+    ensures { WalksTo next.now seen.old seen.new number start result }
 {
     let mut at = start;
     while at < next.len() && seen[at] == 0 {
@@ -29,7 +29,7 @@ fn mark(next: &[usize], circles: &mut [bool], first: usize)
     requires inside { first < length next.now }
     requires back { Leads next.now first first }
     requires free { (z : ℕ) → Leads next.now first z → get_or circles.old z false ≡ false }
-    ensures { Marked next.now circles.old circles.new first }
+    ensures { MarksWay next.now circles.old circles.new first }
 {
     let mut at = first;
     while !circles[at] {

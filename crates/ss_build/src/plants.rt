@@ -2,7 +2,7 @@
 
 ghost use Rattle.std.specs.Prelude.{◌≡◌, ◌≤◌, ◌<◌, ◌+◌, ◌^◌, ◌++◌, ◌∷◌, ℕ, Some, IfOk, get_or, length, map};
 ghost use Rattle.ss_tree.specs.Entries.{top_entry};
-ghost use Rattle.ss_build.specs.Planted.{entries, node_at, planted};
+ghost use Rattle.ss_build.specs.Planted.{entries, node_at, planted_entry};
 
 use crate::claims::Claim;
 use ss_record::Item;
@@ -41,7 +41,7 @@ fn node_at(place: usize, count: usize) -> Node
 fn plant(alloc: Global, claims: &[Claim], parents: &[usize], at: usize) -> Result<Entry, AllocError>
     requires inside { at < length claims.now }
     requires same_length { length parents.now ≡ length claims.now }
-    ensures { IfOk result (λ e. e ≡ planted claims.now parents.now at) }
+    ensures { IfOk result (λ e. e ≡ planted_entry claims.now parents.now at) }
 {
     let claim = &claims[at];
     Ok(Entry {

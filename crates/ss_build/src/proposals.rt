@@ -1,6 +1,7 @@
 //! Proposed parents, by their places.
 
-ghost use Rattle.std.specs.Prelude.{◌≡◌, ◌≤◌, ◌<◌, nat_lt, ◌&&◌, ◌||◌, ◌==◌, ℕ, false, IfOk, OnOk, nat_eq, true, map, length, filter, get_or, slice_set, if◌then◌else◌};
+ghost use Rattle.std.specs.Prelude.{◌≡◌, ◌≤◌, ◌<◌, nat_lt, ◌&&◌, ◌||◌, ◌==◌, ℕ, false, IfOk, OnOk, nat_eq, true, map};
+ghost use Rattle.std.specs.Prelude.{length, filter, get_or, slice_set, if◌then◌else◌};
 ghost use Rattle.std.specs.List.{list_any};
 ghost use Rattle.ss_record.specs.Ids.{Apart, unfiled};
 ghost use Rattle.ss_build.specs.Built.{beats, best, ids, lists, named};

@@ -1,10 +1,12 @@
 //! The order of the items: siblings stand in it as in their parent's children.
 
-ghost use Rattle.std.specs.Prelude.{◌≡◌, ◌<◌, ◌++◌, ◌∷◌, ◌&&◌, ◌==◌, [], ℕ, true, false, IfOk, OnOk, List, length, map, filter, not, get_or, slice_set, if◌then◌else◌};
+ghost use Rattle.std.specs.Prelude.{◌≡◌, ◌<◌, ◌++◌, ◌∷◌, ◌&&◌, ◌==◌, [], ℕ, true, false, IfOk, OnOk, List, length, map};
+ghost use Rattle.std.specs.Prelude.{filter, not, get_or, slice_set, if◌then◌else◌};
 ghost use Rattle.std.specs.List.{list_any};
 ghost use Rattle.ss_record.specs.Ids.{Apart, by_id, firsts, has, roots};
 ghost use Rattle.ss_build.specs.Built.{ids, is_child};
-ghost use Rattle.ss_build.specs.Places.{AreItems, IsTaken, as_told, at, front, in_order, is_next, lists_as_told, names, parents_of, place, rest, untaken};
+ghost use Rattle.ss_build.specs.Places.{AreItems, IsTakenSoFar, as_told, at, front, in_order, is_next, lists_as_told};
+ghost use Rattle.ss_build.specs.Places.{names, parents_of, place, rest, untaken};
 
 use crate::claims::Claim;
 use crate::orders::by_id;
@@ -39,9 +41,9 @@ fn take_all(
 ) -> Result<(), AllocError>
     requires apart { Apart places.now.keys }
     requires inside { (x : List ℕ) → has x words.now ≡ true → has x places.now.keys ≡ true }
-    requires taken { IsTaken places.now.keys order.old.items taken.old }
+    requires taken { IsTakenSoFar places.now.keys order.old.items taken.old }
     ensures names { OnOk result (names places.now.keys order.new.items ≡ names places.now.keys order.old.items ++ words.now) }
-    ensures taken { OnOk result (IsTaken places.now.keys order.new.items taken.new) }
+    ensures taken { OnOk result (IsTakenSoFar places.now.keys order.new.items taken.new) }
 {
     for word in words {
         take(order, taken, place(places, word))?;
@@ -82,9 +84,9 @@ fn take_listed(
     requires items { AreItems claims.now }
     requires parents { parents.now ≡ parents_of claims.now }
     requires folder { folder < length claims.now }
-    requires taken { IsTaken (ids claims.now) order.old.items taken.old }
+    requires taken { IsTakenSoFar (ids claims.now) order.old.items taken.old }
     ensures names { OnOk result (names (ids claims.now) order.new.items ≡ names (ids claims.now) order.old.items ++ firsts (filter (λ x. is_child claims.now (at claims.now folder).item.id x && not (has x (names (ids claims.now) order.old.items))) (at claims.now folder).children)) }
-    ensures taken { OnOk result (IsTaken (ids claims.now) order.new.items taken.new) }
+    ensures taken { OnOk result (IsTakenSoFar (ids claims.now) order.new.items taken.new) }
 {
     let claim = &claims[folder];
     for word in claim.children.as_slice() {
@@ -133,11 +135,11 @@ fn take_front(
     requires ids { places.now.keys ≡ ids claims.now }
     requires items { AreItems claims.now }
     requires parents { parents.now ≡ parents_of claims.now }
-    requires taken { IsTaken (ids claims.now) order.old.items taken.old }
+    requires taken { IsTakenSoFar (ids claims.now) order.old.items taken.old }
     requires roots { names (ids claims.now) order.old.items ≡ roots }
     requires none { as_told.old.items ≡ [] }
     ensures names { OnOk result (names (ids claims.now) order.new.items ≡ front claims.now) }
-    ensures taken { OnOk result (IsTaken (ids claims.now) order.new.items taken.new) }
+    ensures taken { OnOk result (IsTakenSoFar (ids claims.now) order.new.items taken.new) }
     ensures as_told { OnOk result (as_told.new.items ≡ map (lists_as_told claims.now) claims.now) }
 {
     for folder in 0..claims.len() {
@@ -181,11 +183,11 @@ fn order_all(
     requires ids { places.now.keys ≡ ids claims.now }
     requires items { AreItems claims.now }
     requires parents { parents.now ≡ parents_of claims.now }
-    requires taken { IsTaken (ids claims.now) order.old.items taken.old }
+    requires taken { IsTakenSoFar (ids claims.now) order.old.items taken.old }
     requires empty { order.old.items ≡ [] }
     requires none { as_told.old.items ≡ [] }
     ensures names { OnOk result (names (ids claims.now) order.new.items ≡ in_order claims.now) }
-    ensures taken { OnOk result (IsTaken (ids claims.now) order.new.items taken.new) }
+    ensures taken { OnOk result (IsTakenSoFar (ids claims.now) order.new.items taken.new) }
     ensures as_told { OnOk result (as_told.new.items ≡ map (lists_as_told claims.now) claims.now) }
     ensures left { IfOk result (λ left. left.items ≡ map (λ x. place x (ids claims.now)) (rest claims.now)) }
 {

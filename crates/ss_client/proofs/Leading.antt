@@ -1,5 +1,6 @@
 -- A request follows an answer only where a run may go on with it, and no rule stops a run for want of memory.
-use Rattle.std.proofs.Common.{◌≡◌, ℕ, ◌+◌, List, [], ◌∷◌, ◌++◌, length, Bool, true, false, cond, nat_lt, ◌&&◌, Option, Some, None, MatchOption, unwrap_or, slice_index, refl, sym, subst}
+use Rattle.std.proofs.Common.{◌≡◌, ℕ, ◌+◌, List, [], ◌∷◌, ◌++◌, length, Bool, true, false, cond, nat_lt, ◌&&◌, Option}
+use Rattle.std.proofs.Common.{Some, None, MatchOption, unwrap_or, slice_index, refl, sym, subst}
 use Rattle.std.specs.Prelude.{⊤}
 use Rattle.std.specs.Bool.{MatchBool}
 use Rattle.ss_record.specs.declared.readings.Sheet.{Sheet}
@@ -13,7 +14,8 @@ use Rattle.ss_plan.specs.declared.limits.Limits.{Limits}
 use Rattle.ss_device.specs.Device.{DeviceView}
 use Rattle.ss_sync.specs.Fetched.{are_known, kept}
 use Rattle.ss_hearing.specs.declared.answer.Answer.{Answer}
-use Rattle.ss_hearing.specs.declared.answer.Answer.TheVariants.{Configured, Paged, Listed, Held, Written, Failed, Changed, Refused, Unread}
+use Rattle.ss_hearing.specs.declared.answer.Answer.TheVariants.{Configured, Paged, Listed, Held, Written, Failed}
+use Rattle.ss_hearing.specs.declared.answer.Answer.TheVariants.{Changed, Refused, Unread}
 use Rattle.ss_client.specs.declared.summaries.SyncFault.TheVariants as fault
 use Rattle.ss_client.specs.declared.runs.Run.{Run}
 use Rattle.ss_client.specs.declared.runs.Stage.{Stage}
@@ -21,7 +23,9 @@ use Rattle.ss_client.specs.declared.runs.Stage.TheVariants.{Asks, Opens, Pages, 
 use Rattle.ss_client.specs.declared.summaries.SyncFault.{SyncFault}
 use Rattle.ss_client.specs.Runs.{rest_of}
 use Rattle.ss_client.specs.Asking.{awaits, awaited_of}
-use Rattle.ss_client.specs.Machine.{Begins, Finishes, Follows, Holds, LastPage, ListsAll, Next, OpensWith, PageIn, PageOn, Writes, Send, Done, Stop, again, falls_back, fetching, held_at, ids_at, is_bad, limits_at, onward, page_at, posting, unread, uploads, written_at}
+use Rattle.ss_client.specs.Machine.{Begins, Finishes, Follows, Holds, LastPage, ListsAll, Next, OpensWith, PageIn}
+use Rattle.ss_client.specs.Machine.{PageOn, Writes, Send, Done, Stop, again, falls_back, fetching, held_at, ids_at}
+use Rattle.ss_client.specs.Machine.{is_bad, limits_at, onward, page_at, posting, unread, uploads, written_at}
 use Rattle.ss_client.specs.Told.{is_of, leads_on}
 
 -- a request follows only where this is so, and nothing stops for want of memory

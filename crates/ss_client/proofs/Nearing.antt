@@ -1,5 +1,7 @@
 -- Each request of a run brings it nearer to its end.
-use Rattle.std.proofs.Common.{◌≡◌, ℕ, ◌+◌, ◌-◌, ◌<◌, ◌≤◌, List, [], ◌∷◌, ◌++◌, length, drop, Bool, true, false, cond, not, ◌||◌, ◌&&◌, nat_lt, nat_le, is_some, Option, Some, None, option_map, MatchOption, unwrap_or, slice_index, length-append, length-drop, refl, sym, ap, ◌∙◌, subst, arith}
+use Rattle.std.proofs.Common.{◌≡◌, ℕ, ◌+◌, ◌-◌, ◌<◌, ◌≤◌, List, [], ◌∷◌, ◌++◌, length, drop, Bool, true, false, cond}
+use Rattle.std.proofs.Common.{not, ◌||◌, ◌&&◌, nat_lt, nat_le, is_some, Option, Some, None, option_map, MatchOption}
+use Rattle.std.proofs.Common.{unwrap_or, slice_index, length-append, length-drop, refl, sym, ap, ◌∙◌, subst, arith}
 use Rattle.std.specs.Bool.{MatchBool}
 use Rattle.std.proofs.lemmas.Bool.Decides.{nat_tests}
 use Rattle.ss_record.specs.declared.readings.Sheet.{Sheet}
@@ -16,14 +18,17 @@ use Rattle.ss_device.specs.Device.{DeviceView}
 use Rattle.ss_sync.specs.Fetched.{are_apart, are_known, kept}
 use Rattle.ss_sync.specs.Rows.{ids_of}
 use Rattle.ss_hearing.specs.declared.answer.Answer.{Answer}
-use Rattle.ss_hearing.specs.declared.answer.Answer.TheVariants.{Configured, Paged, Listed, Held, Written, Failed, Changed, Refused, Unread}
+use Rattle.ss_hearing.specs.declared.answer.Answer.TheVariants.{Configured, Paged, Listed, Held, Written, Failed}
+use Rattle.ss_hearing.specs.declared.answer.Answer.TheVariants.{Changed, Refused, Unread}
 use Rattle.ss_client.specs.declared.summaries.SyncFault.TheVariants as fault
 use Rattle.ss_client.specs.declared.runs.Run.{Run}
 use Rattle.ss_client.specs.declared.runs.Stage.{Stage}
 use Rattle.ss_client.specs.declared.runs.Stage.TheVariants.{Asks, Opens, Pages, Lists, Uploads}
 use Rattle.ss_client.specs.Leaves.{UploadView}
 use Rattle.ss_client.specs.Runs.{rest_of}
-use Rattle.ss_client.specs.Machine.{Next, Stop, onward, posting, fetching, unread, again, falls_back, uploads, is_bad, Begins, Finishes, Holds, Writes, LastPage, PageIn, PageOn, OpensWith, ListsAll, limits_at, page_at, ids_at, held_at, written_at, Follows}
+use Rattle.ss_client.specs.Machine.{Next, Stop, onward, posting, fetching, unread, again, falls_back, uploads, is_bad}
+use Rattle.ss_client.specs.Machine.{Begins, Finishes, Holds, Writes, LastPage, PageIn, PageOn, OpensWith, ListsAll}
+use Rattle.ss_client.specs.Machine.{limits_at, page_at, ids_at, held_at, written_at, Follows}
 use Rattle.ss_client.specs.Sound.{TellsOurs}
 use Rattle.ss_client.specs.Bounds.{once, within_fetch, to_follow, IsBounded, IsNearer}
 use Rattle.ss_client.proofs.Posting.{rest-is}

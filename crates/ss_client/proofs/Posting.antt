@@ -1,5 +1,6 @@
 -- The parts of an upload.
-use Rattle.std.proofs.Common.{◌≡◌, ℕ, ◌+◌, ◌<◌, ◌≤◌, List, [], ◌∷◌, length, drop, true, Option, Some, None, MatchOption, length-drop, refl, sym, ap, ◌∙◌, subst, arith}
+use Rattle.std.proofs.Common.{◌≡◌, ℕ, ◌+◌, ◌<◌, ◌≤◌, List, [], ◌∷◌, length, drop, true, Option, Some, None, MatchOption}
+use Rattle.std.proofs.Common.{length-drop, refl, sym, ap, ◌∙◌, subst, arith}
 use Rattle.std.proofs.lemmas.List.{drop-drop, drop_all}
 use Rattle.ss_record.specs.declared.readings.Sheet.{Sheet}
 use Rattle.ss_tree.specs.declared.entries.Entry.{Entry}
@@ -8,12 +9,12 @@ use Rattle.ss_record.specs.declared.readings.Reading.{Reading}
 use Rattle.ss_tree.specs.Entries.{tree}
 use Rattle.ss_build.specs.Rows.{readings, rows_of}
 use Rattle.ss_build.specs.Stand.{HasItsRows}
-use Rattle.ss_plan.specs.Written.{IsWritten}
+use Rattle.ss_plan.specs.Written.{AreRowsAfter}
 use Rattle.ss_plan.specs.Plan.{plan}
 use Rattle.ss_plan.specs.Refusals.{refusal}
 use Rattle.ss_plan.specs.declared.limits.PlanFault.{PlanFault}
 use Rattle.ss_device.specs.Device.{DeviceView, dead_ids}
-use Rattle.ss_sync.specs.Joined.{IsJoined}
+use Rattle.ss_sync.specs.Joined.{IsJoinedTree}
 use Rattle.ss_client.specs.declared.summaries.SyncFault.TheVariants as fault
 use Rattle.ss_client.specs.declared.runs.Run.{Run}
 use Rattle.ss_client.specs.Leaves.{UploadView}
@@ -87,16 +88,16 @@ plans_ok : (o : Option PlanFault) (A : Type 0) (B : PlanFault → Type 0) → o 
 plans_ok o A B e a = subst (λ p. MatchOption p A B) (sym e) a
 
 pub finishes : (d : DeviceView) (run : Run) (time : ℕ) (rows slice vec mirror : List Sheet) (local : List Entry) (dead : List (List ℕ)) (merged : List Entry) (read : List (List ℕ × Reading)) (given parts : List Part) (next : Next)
-    → slice ≡ rows → vec ≡ rows → mirror ≡ d.mirror → local ≡ d.tree → dead ≡ dead_ids d.dead → IsJoined mirror local dead slice merged → read ≡ readings (rows_of slice) → given ≡ parts → parts ≡ plan merged read
-    → refusal run.limits (plan merged read) ≡ None → ((sheets after : List Sheet) (stamp : ℕ) → readings (rows_of sheets) ≡ read → IsWritten sheets parts stamp after → HasItsRows (tree merged) (rows_of after))
+    → slice ≡ rows → vec ≡ rows → mirror ≡ d.mirror → local ≡ d.tree → dead ≡ dead_ids d.dead → IsJoinedTree mirror local dead slice merged → read ≡ readings (rows_of slice) → given ≡ parts → parts ≡ plan merged read
+    → refusal run.limits (plan merged read) ≡ None → ((sheets after : List Sheet) (stamp : ℕ) → readings (rows_of sheets) ≡ read → AreRowsAfter sheets parts stamp after → HasItsRows (tree merged) (rows_of after))
     → Begins run time vec merged given next → Finishes d run time rows next
 finishes d run time rows slice vec mirror local dead merged read given parts next sl ve mi lo de j re gi pl none st b =
     let whole : plan merged read ≡ plan merged (readings (rows_of rows)) = ap (plan merged) (re ∙ ap (λ s. readings (rows_of s)) sl) in
     record {
       merged = merged;
-      joined = subst (λ s. IsJoined d.mirror d.tree (dead_ids d.dead) s merged) sl
-          (subst (λ x. IsJoined d.mirror d.tree x slice merged) de (subst (λ l. IsJoined d.mirror l dead slice merged) lo (subst (λ m. IsJoined m local dead slice merged) mi j)));
+      joined = subst (λ s. IsJoinedTree d.mirror d.tree (dead_ids d.dead) s merged) sl
+          (subst (λ x. IsJoinedTree d.mirror d.tree x slice merged) de (subst (λ l. IsJoinedTree d.mirror l dead slice merged) lo (subst (λ m. IsJoinedTree m local dead slice merged) mi j)));
       planned = plans_ok (refusal run.limits (plan merged (readings (rows_of rows)))) (Begins run time rows merged (plan merged (readings (rows_of rows))) next) (λ f. next ≡ Stop (fault.Plan f))
           (ap (refusal run.limits) (sym whole) ∙ none) (subst (λ p. Begins run time rows merged p next) (gi ∙ (pl ∙ whole)) (subst (λ v. Begins run time v merged given next) ve b));
-      standing = λ _ after stamp w. st rows after stamp (sym (re ∙ ap (λ s. readings (rows_of s)) sl)) (subst (λ ps. IsWritten rows ps stamp after) (sym (pl ∙ whole)) w);
+      standing = λ _ after stamp w. st rows after stamp (sym (re ∙ ap (λ s. readings (rows_of s)) sl)) (subst (λ ps. AreRowsAfter rows ps stamp after) (sym (pl ∙ whole)) w);
     }

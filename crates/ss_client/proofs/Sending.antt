@@ -1,5 +1,7 @@
 -- The requests of a machine can be sent.
-use Rattle.std.proofs.Common.{◌≡◌, ◌⊎◌, ℕ, ◌≤◌, List, [], ◌∷◌, length, take, sum_by, Bool, true, false, cond, ◌&&◌, nat_lt, nat_le, Option, Some, None, option_map, find, filter_map, refl, sym, ap, subst, inl, inr, arith}
+use Rattle.std.proofs.Common.{◌≡◌, ◌⊎◌, ℕ, ◌≤◌, List, [], ◌∷◌, length, take, sum_by, Bool, true, false, cond, ◌&&◌}
+use Rattle.std.proofs.Common.{nat_lt, nat_le, Option, Some, None, option_map, find, filter_map, refl, sym, ap, subst}
+use Rattle.std.proofs.Common.{inl, inr, arith}
 use Rattle.std.specs.List.{All, cons_option}
 use Rattle.std.proofs.lemmas.List.Elements.{All-cons, All-append}
 use Rattle.ss_tree.specs.declared.entries.Entry.{Entry}

@@ -1,5 +1,6 @@
 -- A machine's run is sound from its first request on.
-use Rattle.std.proofs.Common.{◌≡◌, ℕ, ◌+◌, ◌≤◌, List, [], ◌∷◌, ◌++◌, length, take, drop, Bool, true, false, cond, ◌&&◌, nat_lt, Option, Some, None, MatchOption, unwrap_or, slice_index, refl, sym, ◌∙◌, subst}
+use Rattle.std.proofs.Common.{◌≡◌, ℕ, ◌+◌, ◌≤◌, List, [], ◌∷◌, ◌++◌, length, take, drop, Bool, true, false, cond, ◌&&◌}
+use Rattle.std.proofs.Common.{nat_lt, Option, Some, None, MatchOption, unwrap_or, slice_index, refl, sym, ◌∙◌, subst}
 use Rattle.std.specs.Bool.{MatchBool}
 use Rattle.std.specs.List.{All}
 use Rattle.std.proofs.lemmas.List.Elements.{All-drop}
@@ -17,14 +18,17 @@ use Rattle.ss_route.specs.Sending.{IsUpload}
 use Rattle.ss_device.specs.Device.{DeviceView}
 use Rattle.ss_sync.specs.Fetched.{are_known, kept}
 use Rattle.ss_hearing.specs.declared.answer.Answer.{Answer}
-use Rattle.ss_hearing.specs.declared.answer.Answer.TheVariants.{Configured, Paged, Listed, Held, Written, Failed, Changed, Refused, Unread}
+use Rattle.ss_hearing.specs.declared.answer.Answer.TheVariants.{Configured, Paged, Listed, Held, Written, Failed}
+use Rattle.ss_hearing.specs.declared.answer.Answer.TheVariants.{Changed, Refused, Unread}
 use Rattle.ss_client.specs.declared.summaries.SyncFault.TheVariants as fault
 use Rattle.ss_client.specs.declared.runs.Run.{Run}
 use Rattle.ss_client.specs.declared.runs.Stage.{Stage}
 use Rattle.ss_client.specs.declared.runs.Stage.TheVariants.{Asks, Opens, Pages, Lists, Uploads}
 use Rattle.ss_client.specs.Leaves.{UploadView}
 use Rattle.ss_client.specs.Runs.{rest_of}
-use Rattle.ss_client.specs.Machine.{Next, Stop, onward, posting, fetching, unread, again, falls_back, uploads, is_bad, Ends, Begins, Finishes, Holds, Writes, LastPage, PageIn, PageOn, OpensWith, ListsAll, limits_at, page_at, ids_at, held_at, written_at, Follows}
+use Rattle.ss_client.specs.Machine.{Next, Stop, onward, posting, fetching, unread, again, falls_back, uploads, is_bad}
+use Rattle.ss_client.specs.Machine.{Ends, Begins, Finishes, Holds, Writes, LastPage, PageIn, PageOn, OpensWith}
+use Rattle.ss_client.specs.Machine.{ListsAll, limits_at, page_at, ids_at, held_at, written_at, Follows}
 use Rattle.ss_client.specs.Sound.{AreOurs, TellsOurs, CanUpload, CanGo, IsSound, IsSoundNext}
 use Rattle.ss_client.proofs.Posting.{rest-is}
 use Rattle.ss_client.proofs.Sending.{plan_uploads, not_refused, next_within}

@@ -1,15 +1,19 @@
 -- The limits that an answer tells are no greater than ours.
-use Rattle.std.proofs.Common.{◌≡◌, ℕ, ◌≤◌, List, min, Bool, true, false, cond, ◌==◌, ◌&&◌, Option, Some, None, option_map, option_and_then, unwrap_or, codes, refl, subst, arith}
+use Rattle.std.proofs.Common.{◌≡◌, ℕ, ◌≤◌, List, min, Bool, true, false, cond, ◌==◌, ◌&&◌, Option, Some, None}
+use Rattle.std.proofs.Common.{option_map, option_and_then, unwrap_or, codes, refl, subst, arith}
 use Rattle.json.specs.Json.{Json}
 use Rattle.ss_text.specs.Numbers.{number_of}
-use Rattle.ss_bso.specs.declared.limits.TheConstants.{MOST_RECORD_PAYLOAD_BYTES, MOST_POST_RECORDS, MOST_POST_BYTES, MOST_BATCH_RECORDS, MOST_BATCH_BYTES}
+use Rattle.ss_bso.specs.declared.limits.TheConstants.{MOST_RECORD_PAYLOAD_BYTES, MOST_POST_RECORDS, MOST_POST_BYTES}
+use Rattle.ss_bso.specs.declared.limits.TheConstants.{MOST_BATCH_RECORDS, MOST_BATCH_BYTES}
 use Rattle.ss_http.specs.declared.limits.TheConstants.{BODY_ROOM}
 use Rattle.ss_http.specs.declared.heard.Heard.{Heard}
 use Rattle.ss_plan.specs.declared.limits.Limits.{Limits}
 use Rattle.ss_hearing.specs.declared.answer.Awaited.{Awaited}
-use Rattle.ss_hearing.specs.declared.answer.Awaited.TheVariants.{Configuration, FirstPage, LaterPage, AllIds, Staging, Writing}
+use Rattle.ss_hearing.specs.declared.answer.Awaited.TheVariants.{Configuration, FirstPage, LaterPage, AllIds, Staging}
+use Rattle.ss_hearing.specs.declared.answer.Awaited.TheVariants.{Writing}
 use Rattle.ss_hearing.specs.declared.answer.Answer.{Answer}
-use Rattle.ss_hearing.specs.declared.answer.Answer.TheVariants.{Configured, Listed, Held, Written, Changed, Refused, Unread}
+use Rattle.ss_hearing.specs.declared.answer.Answer.TheVariants.{Configured, Listed, Held, Written, Changed, Refused}
+use Rattle.ss_hearing.specs.declared.answer.Answer.TheVariants.{Unread}
 use Rattle.ss_hearing.specs.Bodies.{json_of, number_in, stamp_in, ◌>>=◌}
 use Rattle.ss_hearing.specs.Limits.{limit_in, limits_of}
 use Rattle.ss_hearing.specs.Lists.{rows_of, ids_of, next_of}

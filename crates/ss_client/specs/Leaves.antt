@@ -6,17 +6,17 @@ use Rattle.ss_tree.specs.Entries.{tree}
 use Rattle.ss_build.specs.Rows.{rows_of}
 use Rattle.ss_build.specs.Stand.{HasItsRows}
 use Rattle.ss_bso.specs.declared.parts.Part.{Part}
-use Rattle.ss_plan.specs.Written.{IsWritten}
+use Rattle.ss_plan.specs.Written.{AreRowsAfter}
 use Rattle.ss_device.specs.Device.{IsKnown}
 use Rattle.ss_sync.specs.Rows.{AreById}
 
 -- each item of the tree that is built from the rows after these parts is in the merged tree
 abbrev pub LeavesKnown : List Sheet → List Part → List Entry → Type 0
-LeavesKnown rows parts merged = (after : List Sheet) (stamp : ℕ) → IsWritten rows parts stamp after → IsKnown after merged []
+LeavesKnown rows parts merged = (after : List Sheet) (stamp : ℕ) → AreRowsAfter rows parts stamp after → IsKnown after merged []
 
 -- the rows after these parts stand for the merged tree
 abbrev pub LeavesStanding : List Sheet → List Part → List Entry → Type 0
-LeavesStanding rows parts merged = (after : List Sheet) (stamp : ℕ) → IsWritten rows parts stamp after → HasItsRows (tree merged) (rows_of after)
+LeavesStanding rows parts merged = (after : List Sheet) (stamp : ℕ) → AreRowsAfter rows parts stamp after → HasItsRows (tree merged) (rows_of after)
 
 -- what a device has after a sync
 pub record SyncedView : Type 0 where

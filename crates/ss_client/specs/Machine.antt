@@ -1,6 +1,7 @@
 -- What a sync machine does with an answer (the protocol is SyncStorage API 1.5's, the machine this project's).
 -- It is a relation, since a merged tree is told by its look-ups and not by the order in which its entries lie.
-use Rattle.std.specs.Prelude.{◌≡◌, ℕ, min, ◌+◌, ◌-◌, List, [], ◌∷◌, ◌++◌, length, slice_index, Bool, false, not, ◌&&◌, ◌||◌, nat_lt, nat_le, if◌then◌else◌, Option, Some, None, is_some, unwrap_or, MatchOption}
+use Rattle.std.specs.Prelude.{◌≡◌, ℕ, min, ◌+◌, ◌-◌, List, [], ◌∷◌, ◌++◌, length, slice_index, Bool, false, not, ◌&&◌}
+use Rattle.std.specs.Prelude.{◌||◌, nat_lt, nat_le, if◌then◌else◌, Option, Some, None, is_some, unwrap_or, MatchOption}
 use Rattle.std.specs.Bool.{MatchBool}
 use Rattle.ss_record.specs.declared.readings.Sheet.{Sheet}
 use Rattle.ss_tree.specs.declared.entries.Entry.{Entry}
@@ -9,15 +10,16 @@ use Rattle.ss_build.specs.Rows.{readings, rows_of}
 use Rattle.ss_bso.specs.declared.parts.Part.{Part}
 use Rattle.ss_plan.specs.Plan.{plan}
 use Rattle.ss_plan.specs.Refusals.{refusal}
-use Rattle.ss_plan.specs.Written.{IsWritten}
+use Rattle.ss_plan.specs.Written.{AreRowsAfter}
 use Rattle.ss_plan.specs.declared.limits.Limits.{Limits}
 use Rattle.ss_device.specs.Device.{DeviceView, dead_ids}
 use Rattle.ss_sync.specs.Rows.{ids_of, AreById}
 use Rattle.ss_sync.specs.Fetched.{are_apart, are_known, kept}
-use Rattle.ss_sync.specs.Joined.{IsJoined}
+use Rattle.ss_sync.specs.Joined.{IsJoinedTree}
 use Rattle.ss_sync.specs.Posts.{IsNext}
 use Rattle.ss_hearing.specs.declared.answer.Answer.{Answer}
-use Rattle.ss_hearing.specs.declared.answer.Answer.TheVariants.{Configured, Paged, Listed, Held, Written, Failed, Changed, Refused, Unread}
+use Rattle.ss_hearing.specs.declared.answer.Answer.TheVariants.{Configured, Paged, Listed, Held, Written, Failed}
+use Rattle.ss_hearing.specs.declared.answer.Answer.TheVariants.{Changed, Refused, Unread}
 use Rattle.ss_client.specs.declared.summaries.Summary.{Summary}
 use Rattle.ss_client.specs.declared.summaries.SyncFault.{SyncFault}
 use Rattle.ss_client.specs.declared.summaries.SyncFault.TheVariants as fault
@@ -75,7 +77,7 @@ summary_of run merged stamp = record { items = items merged; posts = run.posts; 
 -- done: the device has the merged tree, nothing deleted, and the rows as the parts leave them, by id, at this time
 pub record Ends (run : Run) (rows : List Sheet) (merged : List Entry) (parts : List Part) (stamp : ℕ) (next : Next) : Type 0 where
   pub mirror : List Sheet
-  pub written : IsWritten rows parts stamp mirror
+  pub written : AreRowsAfter rows parts stamp mirror
   pub by_id : AreById mirror
   pub done : next ≡ Done (record { tree = merged; dead = []; mirror = mirror; stamp = stamp }) (summary_of run merged stamp)
 
@@ -97,7 +99,7 @@ Plans run time rows merged parts next = MatchOption (refusal run.limits parts) (
 -- all rows are there: they are merged, and the plan takes them to rows that stand for the merged tree
 pub record Finishes (d : DeviceView) (run : Run) (time : ℕ) (rows : List Sheet) (next : Next) : Type 0 where
   pub merged : List Entry
-  pub joined : IsJoined d.mirror d.tree (dead_ids d.dead) rows merged
+  pub joined : IsJoinedTree d.mirror d.tree (dead_ids d.dead) rows merged
   pub planned : Plans run time rows merged (plan merged (readings (rows_of rows))) next
   pub standing : refusal run.limits (plan merged (readings (rows_of rows))) ≡ None → LeavesStanding rows (plan merged (readings (rows_of rows))) merged
 

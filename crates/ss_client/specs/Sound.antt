@@ -1,6 +1,7 @@
 -- Requests that can be sent.
 use Rattle.std.specs.Prelude.{◌≤◌, length, All, ⊤}
-use Rattle.ss_bso.specs.Limits.{part_bytes, most_record_payload_bytes, most_post_records, most_post_bytes, most_batch_records}
+use Rattle.ss_bso.specs.Limits.{part_bytes, most_record_payload_bytes, most_post_records, most_post_bytes}
+use Rattle.ss_bso.specs.Limits.{most_batch_records}
 use Rattle.ss_plan.specs.declared.limits.Limits.{Limits}
 use Rattle.ss_plan.specs.Refusals.{payload_bytes}
 use Rattle.ss_route.specs.Sending.{IsUpload}

@@ -22,10 +22,10 @@ use Rattle.ss_client.specs.Machine.{Next, Send, Done, Stop}
 use Rattle.ss_client.specs.Bounds.{to_follow}
 
 -- what a step says
-abbrev pub told : Step → Next
-told (step.Send run stage) = Send run stage
-told (step.Done synced summary) = Done (record { tree = synced.tree; dead = []; mirror = synced.mirror; stamp = synced.stamp }) summary
-told (step.Stop fault) = Stop fault
+abbrev pub next_of_step : Step → Next
+next_of_step (step.Send run stage) = Send run stage
+next_of_step (step.Done synced summary) = Done (record { tree = synced.tree; dead = []; mirror = synced.mirror; stamp = synced.stamp }) summary
+next_of_step (step.Stop fault) = Stop fault
 
 -- what a call of a machine of this device says, of which this must hold: the device is as it was started until the run is done,
 -- a request is what the machine then asks, and a stop for want of memory may always come

@@ -2,7 +2,7 @@
 
 ghost use Rattle.std.specs.Prelude.{◌≡◌, ◌||◌, ◌&&◌, [], ◌++◌, not, nat_le, is_some, if◌then◌else◌, IfOk};
 ghost use Rattle.ss_client.specs.Machine.{is_bad, unread, falls_back, LastPage, PageOn, OpensWith, ListsAll};
-ghost use Rattle.ss_client.specs.Told.{told};
+ghost use Rattle.ss_client.specs.Told.{next_of_step};
 
 use crate::runs::{Listing, Paging, Run, Stage};
 use crate::steps::Step;
@@ -31,7 +31,7 @@ fn last_page(
     time: Stamp,
     rows: Fetched,
 ) -> Result<Step, AllocError>
-    ensures { IfOk result (λ step. LastPage device.now run time rows (told step)) }
+    ensures { IfOk result (λ step. LastPage device.now run time rows (next_of_step step)) }
 {
     if run.newer {
         Ok(run.onward(Stage::Lists(Listing { time, rows })))
@@ -49,7 +49,7 @@ pub(crate) fn page_on(
     rows: Sheets,
     offset: Option<u32>,
 ) -> Result<Step, AllocError>
-    ensures { IfOk result (λ step. PageOn device.now run paging.0 paging.1 paging.2 rows offset (told step)) }
+    ensures { IfOk result (λ step. PageOn device.now run paging.0 paging.1 paging.2 rows offset (next_of_step step)) }
 {
     let (time, pages, mut fetched) = paging;
     let fit = fetched.add(alloc, rows.into_vec())?;
@@ -69,7 +69,7 @@ pub(crate) fn page_on(
 
 /// The first page of a newer fetch whose collection's time is below the device's.
 fn give_up(alloc: Global, run: Run, rows: Sheets, offset: Option<u32>) -> Result<Step, AllocError>
-    ensures { IfOk result (λ step. told step ≡ (if is_bad 1 rows offset then unread run else falls_back run)) }
+    ensures { IfOk result (λ step. next_of_step step ≡ (if is_bad 1 rows offset then unread run else falls_back run)) }
 {
     let mut fetched = Fetched::new(alloc);
     let fit = fetched.add(alloc, rows.into_vec())?;
@@ -89,7 +89,7 @@ pub(crate) fn open_with(
     offset: Option<u32>,
     time: Stamp,
 ) -> Result<Step, AllocError>
-    ensures { IfOk result (λ step. OpensWith device.now run time rows offset (told step)) }
+    ensures { IfOk result (λ step. OpensWith device.now run time rows offset (next_of_step step)) }
 {
     if run.newer && time.get() < device.stamp().get() {
         return give_up(alloc, run, rows, offset);
@@ -106,7 +106,7 @@ pub(crate) fn list_all(
     listing: Listing,
     ids: &Ids,
 ) -> Result<Step, AllocError>
-    ensures { IfOk result (λ step. ListsAll device.now run listing.time listing.rows ids.now (told step)) }
+    ensures { IfOk result (λ step. ListsAll device.now run listing.time listing.rows ids.now (next_of_step step)) }
 {
     let Listing { time, mut rows } = listing;
     if !are_known(alloc, &rows, device.mirror(), ids)? {

@@ -7,7 +7,7 @@ ghost use Rattle.ss_client.specs.Runs.{first_run, is_newer};
 ghost use Rattle.ss_client.specs.Asking.{ask, awaits};
 ghost use Rattle.ss_client.specs.Machine.{Follows, limits_at, page_at, ids_at, held_at, written_at};
 ghost use Rattle.ss_client.specs.Sound.{TellsOurs};
-ghost use Rattle.ss_client.specs.Told.{told, leads_on, Says, CanSend, OnSend, OnWant, ComesNearer, TakesMemory};
+ghost use Rattle.ss_client.specs.Told.{next_of_step, leads_on, Says, CanSend, OnSend, OnWant, ComesNearer, TakesMemory};
 ghost use Rattle.ss_client.specs.declared.runs.Stage.TheVariants.{Asks};
 
 use crate::asking::asked;
@@ -55,7 +55,7 @@ pub enum Do {
 
 /// The limits come.
 fn configured(run: Run, stage: Stage, limits: Limits) -> Step
-    ensures { limits_at run stage limits (told result) }
+    ensures { limits_at run stage limits (next_of_step result) }
 {
     match stage {
         Stage::Asks => run.opening(limits),
@@ -74,7 +74,7 @@ fn paged(
     offset: Option<u32>,
     time: Stamp,
 ) -> Result<Step, AllocError>
-    ensures follows { IfOk result (λ step. page_at device.now run stage rows offset time (told step)) }
+    ensures follows { IfOk result (λ step. page_at device.now run stage rows offset time (next_of_step step)) }
     ensures wanting { OnErr result (leads_on run stage (Paged rows offset time) ≡ true) }
 {
     match stage {
@@ -100,7 +100,7 @@ fn listed(
     stage: Stage,
     ids: &Ids,
 ) -> Result<Step, AllocError>
-    ensures follows { IfOk result (λ step. ids_at device.now run stage ids.now (told step)) }
+    ensures follows { IfOk result (λ step. ids_at device.now run stage ids.now (next_of_step step)) }
     ensures wanting { OnErr result (leads_on run stage (Listed ids.now) ≡ true) }
 {
     match stage {
@@ -112,7 +112,7 @@ fn listed(
 /// A POST is in a batch.
 #[tactic(auto, unfolding(crate::specs::Asking::awaits))]
 fn held(alloc: Global, run: Run, stage: Stage, batch: u64) -> Result<Step, AllocError>
-    ensures follows { IfOk result (λ step. held_at run stage batch (told step)) }
+    ensures follows { IfOk result (λ step. held_at run stage batch (next_of_step step)) }
     ensures wanting { OnErr result (leads_on run stage (Held batch) ≡ true) }
 {
     match stage {
@@ -124,7 +124,7 @@ fn held(alloc: Global, run: Run, stage: Stage, batch: u64) -> Result<Step, Alloc
 /// A POST is written.
 #[tactic(auto, unfolding(crate::specs::Asking::awaits))]
 fn written(alloc: Global, run: Run, stage: Stage, stamp: Stamp) -> Result<Step, AllocError>
-    ensures follows { IfOk result (λ step. written_at run stage stamp (told step)) }
+    ensures follows { IfOk result (λ step. written_at run stage stamp (next_of_step step)) }
     ensures wanting { OnErr result (leads_on run stage (Written stamp) ≡ true) }
 {
     match stage {
@@ -142,7 +142,7 @@ fn step(
     stage: Stage,
     answer: Answer,
 ) -> Result<Step, AllocError>
-    ensures follows { IfOk result (λ step. Follows device.now run stage answer (told step)) }
+    ensures follows { IfOk result (λ step. Follows device.now run stage answer (next_of_step step)) }
     ensures wanting { OnErr result (leads_on run stage answer ≡ true) }
 {
     match answer {

@@ -2,7 +2,7 @@
 
 ghost use Rattle.std.specs.Prelude.{◌≡◌, true, length, nat_lt, IfOk, OnErr};
 ghost use Rattle.ss_client.specs.Machine.{counted, onward, posting, fetching, unread, again, falls_back};
-ghost use Rattle.ss_client.specs.Told.{told};
+ghost use Rattle.ss_client.specs.Told.{next_of_step};
 
 use crate::runs::{Run, Stage, Upload};
 use crate::summaries::{Summary, SyncFault};
@@ -29,7 +29,7 @@ fn counted(count: u64) -> u64
 impl Run {
     /// Goes on with a further request.
     pub(crate) fn onward(self, stage: Stage) -> Step
-        ensures { told result ≡ onward self stage }
+        ensures { next_of_step result ≡ onward self stage }
     {
         Step::Send(
             Run {
@@ -46,7 +46,7 @@ impl Run {
 
     /// Goes on with a POST.
     pub(crate) fn posting(self, upload: Upload) -> Step
-        ensures { told result ≡ posting self upload }
+        ensures { next_of_step result ≡ posting self upload }
     {
         Step::Send(
             Run {
@@ -63,7 +63,7 @@ impl Run {
 
     /// Begins the first fetch, with the server's limits.
     pub(crate) fn opening(self, limits: Limits) -> Step
-        ensures { told result ≡ fetching self self.newer self.changes limits }
+        ensures { next_of_step result ≡ fetching self self.newer self.changes limits }
     {
         Step::Send(
             Run {
@@ -80,7 +80,7 @@ impl Run {
 
     /// Begins the whole fetch in place of the newer one.
     pub(crate) fn falling_back(self) -> Step
-        ensures { told result ≡ falls_back self }
+        ensures { next_of_step result ≡ falls_back self }
     {
         Step::Send(
             Run {
@@ -97,7 +97,7 @@ impl Run {
 
     /// Stops since a reply isn't in form.
     pub(crate) fn unread(self) -> Step
-        ensures { told result ≡ unread self }
+        ensures { next_of_step result ≡ unread self }
     {
         Step::Stop(SyncFault::BadReply {
             number: self.number,
@@ -106,7 +106,7 @@ impl Run {
 
     /// Begins the fetch again, since something has changed; the fourth time it stops.
     pub(crate) fn again(self, time: Stamp) -> Result<Step, AllocError>
-        ensures follows { IfOk result (λ step. told step ≡ again self time) }
+        ensures follows { IfOk result (λ step. next_of_step step ≡ again self time) }
         ensures wanting { OnErr result (nat_lt (length self.changes) 3 ≡ true) }
     {
         if let [first, second, third, ..] = self.changes.as_slice() {

@@ -7,7 +7,7 @@ ghost use Rattle.ss_client.specs.Leaves.{LeavesKnown};
 ghost use Rattle.ss_client.specs.Runs.{rest_of};
 ghost use Rattle.ss_client.specs.Asking.{awaited_of};
 ghost use Rattle.ss_client.specs.Machine.{items, Ends, Begins, Finishes, Holds, Writes};
-ghost use Rattle.ss_client.specs.Told.{is_of, told};
+ghost use Rattle.ss_client.specs.Told.{is_of, next_of_step};
 
 use crate::runs::{Run, Upload};
 use crate::steps::Step;
@@ -39,7 +39,7 @@ fn end(
     stamp: Stamp,
 ) -> Result<Step, AllocError>
     requires { LeavesKnown rows parts merged }
-    ensures { IfOk result (λ step. Ends run rows merged parts stamp (told step)) }
+    ensures { IfOk result (λ step. Ends run rows merged parts stamp (next_of_step step)) }
 {
     let items = items(alloc, &merged)?;
     let mirror = rows_after(alloc, rows.into_vec(), parts.as_slice(), stamp)?;
@@ -62,7 +62,7 @@ fn begin(
     parts: Parts,
 ) -> Result<Step, AllocError>
     requires { LeavesKnown rows parts merged }
-    ensures { IfOk result (λ step. Begins run time rows merged parts (told step)) }
+    ensures { IfOk result (λ step. Begins run time rows merged parts (next_of_step step)) }
 {
     if parts.as_slice().is_empty() {
         return end(alloc, run, rows, merged, parts, time);
@@ -87,7 +87,7 @@ pub(crate) fn finish(
     time: Stamp,
     rows: Fetched,
 ) -> Result<Step, AllocError>
-    ensures { IfOk result (λ step. Finishes device.now run time rows (told step)) }
+    ensures { IfOk result (λ step. Finishes device.now run time rows (next_of_step step)) }
 {
     let dead = device.dead_ids(alloc)?;
     let joined = join(
@@ -114,7 +114,7 @@ pub(crate) fn finish(
 /// The POST is in the batch, and the next one takes what it can.
 #[tactic(auto, using(crate::proofs::Posting::held_awaited))]
 pub(crate) fn hold(alloc: Global, run: Run, upload: Upload, batch: u64) -> Result<Step, AllocError>
-    ensures holds { IfOk result (λ step. Holds run upload (unwrap_or upload.batch batch) (rest_of upload) (told step)) }
+    ensures holds { IfOk result (λ step. Holds run upload (unwrap_or upload.batch batch) (rest_of upload) (next_of_step step)) }
     ensures wanting { OnErr result (is_of (awaited_of (rest_of upload)) (Held batch) ≡ true) }
 {
     let sent = upload.sent + upload.count;
@@ -142,7 +142,7 @@ pub(crate) fn write(
     upload: Upload,
     stamp: Stamp,
 ) -> Result<Step, AllocError>
-    ensures writes { IfOk result (λ step. Writes run upload stamp (rest_of upload) (told step)) }
+    ensures writes { IfOk result (λ step. Writes run upload stamp (rest_of upload) (next_of_step step)) }
     ensures wanting { OnErr result (is_of (awaited_of (rest_of upload)) (Written stamp) ≡ true) }
 {
     if upload.sent + upload.count < upload.parts.as_slice().len() {

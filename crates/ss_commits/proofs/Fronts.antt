@@ -1,12 +1,14 @@
 -- Lines of a commit in texts: of which kind each is, and where it ends.
-use Rattle.std.proofs.Common.{◌≡◌, ◌≢◌, ℕ, ◌+◌, ◌<◌, ◌==◌, List, [], ◌∷◌, ◌++◌, length, take, true, false, Option, Some, None, option_map, position, append_assoc, refl, sym, ap, ap₂, ◌∙◌, arith, length-append}
+use Rattle.std.proofs.Common.{◌≡◌, ◌≢◌, ℕ, ◌+◌, ◌<◌, ◌==◌, List, [], ◌∷◌, ◌++◌, length, take, true, false, Option, Some}
+use Rattle.std.proofs.Common.{None, option_map, position, append_assoc, refl, sym, ap, ap₂, ◌∙◌, arith, length-append}
 use Rattle.std.proofs.Math.Seq.{take-append_seam}
 use Rattle.json.specs.Print.{escape_byte}
 use Rattle.serde_json.specs.Data.{array}
 use Rattle.serde_json.specs.Written.{compact_text}
 use Rattle.ss_lines.specs.Lines.{IsLine, line_text}
 use Rattle.ss_lines.specs.declared.lines.Line.{Line}
-use Rattle.ss_lines.specs.declared.lines.Line.TheVariants.{Account, Times, Collection, Row as RowLine, Batch, Part as PartLine, Digest, End}
+use Rattle.ss_lines.specs.declared.lines.Line.TheVariants.{Account, Times, Collection, Row as RowLine, Batch}
+use Rattle.ss_lines.specs.declared.lines.Line.TheVariants.{Part as PartLine, Digest, End}
 use Rattle.ss_lines.proofs.Fronts.{body, body_is, body_noline}
 use Rattle.ss_lines.proofs.OneLine.{NoLine, break_at}
 use Rattle.ss_text.proofs.Basics.{no_way, none_some, some_same}

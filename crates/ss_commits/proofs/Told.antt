@@ -1,5 +1,6 @@
 -- The lines of a commit tell its changes.
-use Rattle.std.proofs.Common.{◌≡◌, ℕ, List, [], ◌∷◌, ◌++◌, map, Option, Some, None, option_map, option_and_then, append_assoc, append-nil, refl, sym, ap, ◌∙◌}
+use Rattle.std.proofs.Common.{◌≡◌, ℕ, List, [], ◌∷◌, ◌++◌, map, Option, Some, None, option_map, option_and_then}
+use Rattle.std.proofs.Common.{append_assoc, append-nil, refl, sym, ap, ◌∙◌}
 use Rattle.std.specs.List.{flat_map}
 use Rattle.ss_bso.specs.declared.parts.Part.{Part}
 use Rattle.ss_bso.specs.declared.account.Staged.{Staged}
@@ -12,7 +13,8 @@ use Rattle.ss_bso.specs.declared.changes.BatchChange.{BatchChange}
 use Rattle.ss_bso.specs.declared.changes.BatchChange.TheVariants as batch
 use Rattle.ss_commits.specs.declared.notes.Note.{Note}
 use Rattle.ss_commits.specs.Commits.{batch_notes, changes_notes, collection_note, part_note, row_note}
-use Rattle.ss_commits.specs.Telling.{nothing, told_by, told_from, with_batch, with_collection, with_part, with_part_last, with_part_of, with_row}
+use Rattle.ss_commits.specs.Telling.{nothing, told_by, told_from, with_batch, with_collection, with_part}
+use Rattle.ss_commits.specs.Telling.{with_part_last, with_part_of, with_row}
 
 abbrev made : ℕ → List RowChange → List CollectionChange → ℕ → ℕ → ℕ → List BatchChange → Changes
 made m rs cs s l n bs = record { moment = m; rows = rs; collections = cs; store = s; last_delete = l; counter = n; batches = bs }

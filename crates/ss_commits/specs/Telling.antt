@@ -10,7 +10,8 @@ use Rattle.ss_bso.specs.declared.changes.CollectionChange.TheVariants as collect
 use Rattle.ss_bso.specs.declared.changes.BatchChange.{BatchChange}
 use Rattle.ss_bso.specs.declared.changes.BatchChange.TheVariants as batch
 use Rattle.ss_lines.specs.declared.lines.Line.{Line}
-use Rattle.ss_lines.specs.declared.lines.Line.TheVariants.{Account, Times, Collection, Row as RowLine, Batch, Part as PartLine, Digest, End}
+use Rattle.ss_lines.specs.declared.lines.Line.TheVariants.{Account, Times, Collection, Row as RowLine, Batch}
+use Rattle.ss_lines.specs.declared.lines.Line.TheVariants.{Part as PartLine, Digest, End}
 use Rattle.ss_commits.specs.Commits.{IsNote, text_of}
 use Rattle.ss_commits.specs.declared.marks.Mark.{Mark}
 use Rattle.ss_commits.specs.declared.marks.Mark.TheVariants.{Now, NoRow, NoCollection, NoBatch, NextParts}

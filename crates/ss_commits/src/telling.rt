@@ -2,7 +2,8 @@
 
 ghost use Rattle.std.specs.Prelude.{◌≡◌, ◌++◌, ◌∷◌, [], IfOk, option_map};
 ghost use Rattle.ss_commits.specs.Drafts.{changes_in};
-ghost use Rattle.ss_commits.specs.Telling.{nothing, told_by, with_batch, with_collection, with_line, with_mark, with_part, with_part_of, with_row};
+ghost use Rattle.ss_commits.specs.Telling.{nothing, told_by, with_batch, with_collection, with_line, with_mark};
+ghost use Rattle.ss_commits.specs.Telling.{with_part, with_part_of, with_row};
 
 use crate::marks::Mark;
 use crate::notes::Note;

@@ -3,7 +3,8 @@
 ghost use Rattle.std.specs.Prelude.{◌≡◌, IfOk, option_map, option_and_then};
 ghost use Rattle.serde_json.specs.View.{view};
 ghost use Rattle.ss_lines.specs.Values.{id_at, name_at, natural_at, text_at, time_at};
-ghost use Rattle.ss_commits.specs.Values.{kind_of, mark_from, next_parts_from, no_batch_from, no_collection_from, no_row_from, now_from};
+ghost use Rattle.ss_commits.specs.Values.{kind_of, mark_from, next_parts_from, no_batch_from, no_collection_from};
+ghost use Rattle.ss_commits.specs.Values.{no_row_from, now_from};
 
 use crate::marks::Mark;
 use serde_json::Value;

@@ -2,7 +2,8 @@
 
 ghost use Rattle.std.specs.Prelude.{◌≡◌, ◌++◌, IfOk, OnOk, map};
 ghost use Rattle.std.specs.List.{flat_map};
-ghost use Rattle.ss_commits.specs.Commits.{batch_notes, changes_text, collection_note, note_text, part_note, row_note, text_of};
+ghost use Rattle.ss_commits.specs.Commits.{batch_notes, changes_text, collection_note, note_text, part_note, row_note};
+ghost use Rattle.ss_commits.specs.Commits.{text_of};
 
 use crate::marks::{push_next_parts, push_no_batch, push_no_collection, push_no_row, push_now};
 use ss_bso::{BatchChange, Changes, CollectionChange, Part, RowChange};

@@ -1,5 +1,6 @@
 -- One message more that was answered.
-use Rattle.std.proofs.Common.{◌≡◌, inl, inr, ℕ, ◌≤◌, Bool, List, [], ◌∷◌, ◌++◌, length, length-append, map, drop, Option, refl, sym, ap, ◌∙◌, subst, append_assoc, arith}
+use Rattle.std.proofs.Common.{◌≡◌, inl, inr, ℕ, ◌≤◌, Bool, List, [], ◌∷◌, ◌++◌, length, length-append, map, drop}
+use Rattle.std.proofs.Common.{Option, refl, sym, ap, ◌∙◌, subst, append_assoc, arith}
 use Rattle.std.specs.Prelude.{IsFalse}
 use Rattle.std.proofs.lemmas.List.{append-nil, map-append, drop-append-le}
 use Rattle.std.proofs.lemmas.List.Elements.{All-push}
@@ -17,7 +18,7 @@ use Rattle.ss_http.proofs.MessageLemmas.{reads_append, reads_further}
 use Rattle.ss_route.specs.declared.manner.Manner.{Manner}
 use Rattle.ss_connection.specs.Known.{Known}
 use Rattle.ss_connection.specs.Turns.{AreGated, Exchange, SaysEach, SaysTurn, closes}
-use Rattle.ss_connection.specs.Calls.{added}
+use Rattle.ss_connection.specs.Calls.{turns_added}
 use Rattle.ss_connection.specs.Ends.{AreRead, AreReadings, GoesOn}
 use Rattle.ss_connection.specs.declared.notes.TurnNote.{TurnNote}
 
@@ -97,16 +98,16 @@ noted_push turns turns' xs x is =
     ap (λ l. l ++ x.note ∷ []) is ∙ (append_assoc turns (map note_in xs) (x.note ∷ []) ∙ ap (λ l. turns ++ l) (sym (map-append note_in xs (x ∷ []))))
 
 -- the turns that were added, after one more
-pub added_push : (turns turns' : List TurnNote) (note : TurnNote) → Begins turns turns' → added turns (turns' ++ note ∷ []) ≡ added turns turns' ++ note ∷ []
+pub added_push : (turns turns' : List TurnNote) (note : TurnNote) → Begins turns turns' → turns_added turns (turns' ++ note ∷ []) ≡ turns_added turns turns' ++ note ∷ []
 added_push turns turns' note begins =
     let within : length turns ≤ length turns' = omega (arith, ap length begins.1, length-append turns begins.0) in
     drop-append-le (length turns) turns' (note ∷ []) within
 
 -- where none was added
-pub added_nothing : (turns : List TurnNote) → added turns turns ≡ []
+pub added_nothing : (turns : List TurnNote) → turns_added turns turns ≡ []
 added_nothing turns = ap (drop (length turns)) (sym (append-nil turns)) ∙ drop-append_seam turns []
 
-pub nothing_added : (turns : List TurnNote) (k : ℕ) (note : TurnNote) → get_elem? (added turns turns) k ≡ some note → ⊥
+pub nothing_added : (turns : List TurnNote) (k : ℕ) (note : TurnNote) → get_elem? (turns_added turns turns) k ≡ some note → ⊥
 nothing_added turns k note at = some-ne-none note (sym at ∙ ap (λ (ts : List TurnNote). get_elem? ts k) (added_nothing turns))
 
 pub pushed_on : (new now old : List TurnNote) (note : TurnNote) → new ≡ now ++ note ∷ [] → now ≡ old → new ≡ old ++ note ∷ []

@@ -1,5 +1,6 @@
 -- What a connection says stays true where more is known of the accounts. Callers who know the journals later rest on `served_later`.
-use Rattle.std.proofs.Common.{◌≡◌, ◌≤◌, ℕ, ◌+◌, Bool, List, ◌∷◌, ◌++◌, length, length-append, take, Option, refl, sym, ap, ◌∙◌, append_assoc, arith}
+use Rattle.std.proofs.Common.{◌≡◌, ◌≤◌, ℕ, ◌+◌, Bool, List, ◌∷◌, ◌++◌, length, length-append, take, Option, refl, sym}
+use Rattle.std.proofs.Common.{ap, ◌∙◌, append_assoc, arith}
 use Rattle.std.proofs.lemmas.List.{take-append-le}
 use Rattle.ss_desk.specs.declared.journaled.Full.{Full}
 use Rattle.ss_desk.specs.Journal.{Begins}

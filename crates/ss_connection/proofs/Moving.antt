@@ -3,7 +3,8 @@ use Rattle.std.proofs.Common.{◌≡◌, ℕ, List, [], ◌++◌, Option, Some, 
 use Rattle.std.specs.Option.{option_map}
 use Rattle.ss_desk.proofs.Lists.{append_fixed}
 use Rattle.ss_outside.specs.Told.{Meanings, HasRead, HasWritten, Takes, Loses, Writes}
-use Rattle.ss_outside.proofs.Telling.{Takes-none, Takes-append, Loses-none, Loses-append, Writes-none, Writes-append, idle_append}
+use Rattle.ss_outside.proofs.Telling.{Takes-none, Takes-append, Loses-none, Loses-append, Writes-none, Writes-append}
+use Rattle.ss_outside.proofs.Telling.{idle_append}
 use Rattle.ss_connection.specs.Ends.{Moves}
 
 pub moves_none : (a : Meanings) → Moves [] [] a a

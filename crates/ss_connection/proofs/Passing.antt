@@ -1,5 +1,6 @@
 -- Passes that have seen more, and what a call at a town makes of them.
-use Rattle.std.proofs.Common.{nat_eq, ◌≡◌, ◌≢◌, ℕ, ◌-◌, Bool, true, false, List, [], ◌∷◌, ◌++◌, length, length-append, map, Some, refl, ap, sym, ◌∙◌, subst, append_assoc, arith}
+use Rattle.std.proofs.Common.{nat_eq, ◌≡◌, ◌≢◌, ℕ, ◌-◌, Bool, true, false, List, [], ◌∷◌, ◌++◌, length, length-append}
+use Rattle.std.proofs.Common.{map, Some, refl, ap, sym, ◌∙◌, subst, append_assoc, arith}
 use Rattle.std.specs.Prelude.{if◌then◌else◌}
 use Rattle.std.specs.List.Sorted.{IsStrictlyIncreasing}
 use Rattle.std.proofs.lemmas.Bool.Decides.{nat_tests}
@@ -26,7 +27,7 @@ use Rattle.ss_booked.specs.declared.booked.Terms.{Terms}
 use Rattle.ss_booked.specs.Turns.{ask_of, full_on, journal_on, IsLegalOn, RepliesLast}
 use Rattle.ss_connection.specs.Known.{KnowsMore, known_by, SeeMore}
 use Rattle.ss_connection.specs.Turns.{Called, WasFull}
-use Rattle.ss_connection.specs.Calls.{added, call_to, calls_to, own_tickets, Enters}
+use Rattle.ss_connection.specs.Calls.{turns_added, call_to, calls_to, own_tickets, Enters}
 use Rattle.ss_connection.specs.declared.notes.Turn.TheVariants as turns
 use Rattle.ss_connection.specs.declared.notes.TurnNote.{TurnNote}
 use Rattle.ss_connection.proofs.Exchanges.{added_push, added_nothing}
@@ -203,10 +204,10 @@ module _ {T : Type 0} (uids : List ℕ) where
       ∙ ap (λ l. own_tickets (known_by ps i) ++ l) (sym (flat_map-append (λ (note : TurnNote). call_to uid note.turn) notes more))))
 
   -- where no turn was added, and where one was
-  pub enters_nothing : (ps : List (RawPass T Terms Entry)) (turns : List TurnNote) → Enters uids ps ps (added turns turns)
-  enters_nothing ps turns = enters_none ps (added turns turns) (λ uid. ap (calls_to uid) (added_nothing turns))
+  pub enters_nothing : (ps : List (RawPass T Terms Entry)) (turns : List TurnNote) → Enters uids ps ps (turns_added turns turns)
+  enters_nothing ps turns = enters_none ps (turns_added turns turns) (λ uid. ap (calls_to uid) (added_nothing turns))
 
   pub enters_push : (ps qs rs : List (RawPass T Terms Entry)) (turns turns' : List TurnNote) (note : TurnNote) → Begins turns turns'
-      → Enters uids ps qs (added turns turns') → Enters uids qs rs (note ∷ []) → Enters uids ps rs (added turns (turns' ++ note ∷ []))
+      → Enters uids ps qs (turns_added turns turns') → Enters uids qs rs (note ∷ []) → Enters uids ps rs (turns_added turns (turns' ++ note ∷ []))
   enters_push ps qs rs turns turns' note begins first one =
-      subst (λ notes. Enters uids ps rs notes) (sym (added_push turns turns' note begins)) (enters_then ps qs rs (added turns turns') (note ∷ []) first one)
+      subst (λ notes. Enters uids ps rs notes) (sym (added_push turns turns' note begins)) (enters_then ps qs rs (turns_added turns turns') (note ∷ []) first one)

@@ -1,5 +1,6 @@
 -- What one message more, and an end, make of the progress of a connection.
-use Rattle.std.proofs.Common.{◌≡◌, ◌<◌, ◌≤◌, ℕ, ◌+◌, Bool, true, false, List, [], ◌∷◌, ◌++◌, length, length-append, map, drop, Option, None, Some, refl, sym, ◌∙◌, ap, subst, append_assoc, inl, inr, arith}
+use Rattle.std.proofs.Common.{◌≡◌, ◌<◌, ◌≤◌, ℕ, ◌+◌, Bool, true, false, List, [], ◌∷◌, ◌++◌, length, length-append, map}
+use Rattle.std.proofs.Common.{drop, Option, None, Some, refl, sym, ◌∙◌, ap, subst, append_assoc, inl, inr, arith}
 use Rattle.std.specs.Prelude.{IsFalse, IsTrue}
 use Rattle.std.specs.List.{flat_map}
 use Rattle.std.proofs.lemmas.List.{append-nil, length-map}
@@ -24,15 +25,18 @@ use Rattle.ss_route.specs.declared.manner.Manner.{Manner}
 use Rattle.ss_connection.specs.Known.{Known, KnowsMore}
 use Rattle.ss_connection.specs.Sending.{WasSent, WasCut}
 use Rattle.ss_connection.specs.Turns.{AreGated, Exchange, SaysEach, SaysTurn, closes, most_messages}
-use Rattle.ss_connection.specs.Calls.{added}
-use Rattle.ss_connection.specs.Ends.{AreRead, AreReadings, Cause, IsFewer, IsSparing, IsRefused, Sends, TakesNoMore, Unfaulted, responses, readings, Served}
+use Rattle.ss_connection.specs.Calls.{turns_added}
+use Rattle.ss_connection.specs.Ends.{AreRead, AreReadings, Cause, IsFewer, IsSparing, RefusesRest, Sends, TakesNoMore}
+use Rattle.ss_connection.specs.Ends.{RaisesOnlyEnd, responses, readings, Served}
 use Rattle.ss_connection.specs.Progress.{Progress, Refuses, Stops, end_of}
 use Rattle.ss_connection.specs.declared.notes.End.{End}
 use Rattle.ss_connection.specs.declared.notes.End.TheVariants as ends
 use Rattle.ss_connection.specs.declared.notes.TurnNote.{TurnNote}
 use Rattle.ss_connection.proofs.Later.{each_later}
 use Rattle.ss_connection.proofs.Moving.{moves_none, moves_read, moves_write, took_nothing, still_told}
-use Rattle.ss_connection.proofs.Exchanges.{message_in, note_in, now_in, response_in, got_in, added_push, gated_push, gets_push, read_push, says_push, readings_push, clock_push, split_push, goes_push, sends_push, noted_push}
+use Rattle.ss_connection.proofs.Exchanges.{message_in, note_in, now_in, response_in, got_in, added_push, gated_push}
+use Rattle.ss_connection.proofs.Exchanges.{gets_push, read_push, says_push, readings_push, clock_push, split_push}
+use Rattle.ss_connection.proofs.Exchanges.{goes_push, sends_push, noted_push}
 use Rattle.ss_route.proofs.Quiet.{quiet}
 
 no_exchange : (x : Exchange) (k : ℕ) → get_elem? {A = Exchange} [] k ≡ some x → ⊥
@@ -100,7 +104,7 @@ module _ (manner : Manner) (uids : List ℕ) (known known' : ℕ → Known) (mor
   gets_one : p.taken ++ a.got ≡ flat_map got_in (p.exchanges ++ exchange a.got message note bytes ∷ [])
   gets_one = gets_push p.taken p.exchanges (exchange a.got message note bytes) p.gets
 
-  added_one : added turns (turns' ++ note ∷ []) ≡ map note_in (p.exchanges ++ exchange a.got message note bytes ∷ [])
+  added_one : turns_added turns (turns' ++ note ∷ []) ≡ map note_in (p.exchanges ++ exchange a.got message note bytes ∷ [])
   added_one = ap (drop (length turns)) (noted_push turns turns' p.exchanges (exchange a.got message note bytes) p.noted) ∙ drop-append_seam turns (map note_in (p.exchanges ++ exchange a.got message note bytes ∷ []))
 
   -- it was answered, and the connection goes on
@@ -126,10 +130,10 @@ module _ (manner : Manner) (uids : List ℕ) (known known' : ℕ → Known) (mor
   }
 
   -- it was answered whole, and is the last one
-  ended_with : (end : End) → Cause end (p.exchanges ++ exchange a.got message note bytes ∷ []) None kept'.bytes link link3 → TakesNoMore end None [] → Unfaulted end link link3
+  ended_with : (end : End) → Cause end (p.exchanges ++ exchange a.got message note bytes ∷ []) None kept'.bytes link link3 → TakesNoMore end None [] → RaisesOnlyEnd end link link3
       → IsFewer end (length (p.exchanges ++ exchange a.got message note bytes ∷ []))
       → Sends end (p.sent ++ bytes) (responses (p.exchanges ++ exchange a.got message note bytes ∷ []) None)
-      → WasSent bytes link2 link3 → Served manner uids known' end link link3 coming coming2 (added turns (turns' ++ note ∷ []))
+      → WasSent bytes link2 link3 → Served manner uids known' end link link3 coming coming2 (turns_added turns (turns' ++ note ∷ []))
   ended_with end cause no_more faults fewer sends sent = record {
     exchanges = p.exchanges ++ exchange a.got message note bytes ∷ [];
     refusal = None;
@@ -159,15 +163,15 @@ module _ (manner : Manner) (uids : List ℕ) (known known' : ℕ → Known) (mor
   sends_one = sends_push p.sent p.exchanges (exchange a.got message note bytes) p.sends ∙ sym (append-nil (flat_map response_in (p.exchanges ++ exchange a.got message note bytes ∷ [])))
 
   -- it had asked to close
-  pub ended_asked : WasSent bytes link2 link3 → message.last ≡ true → Served manner uids known' ends.Asked link link3 coming coming2 (added turns (turns' ++ note ∷ []))
+  pub ended_asked : WasSent bytes link2 link3 → message.last ≡ true → Served manner uids known' ends.Asked link link3 coming coming2 (turns_added turns (turns' ++ note ∷ []))
   ended_asked sent closed = ended_with ends.Asked (record { before = p.exchanges; last = exchange a.got message note bytes; all = refl; goes_on = p.goes_on }, closed, refl) refl (faults_one sent) few_one sends_one sent
 
   -- it hadn't, and the gate said that its response closes
-  pub ended_by_gate : WasSent bytes link2 link3 → message.last ≡ false → note.closed_by_gate ≡ true → Served manner uids known' ends.Gate link link3 coming coming2 (added turns (turns' ++ note ∷ []))
+  pub ended_by_gate : WasSent bytes link2 link3 → message.last ≡ false → note.closed_by_gate ≡ true → Served manner uids known' ends.Gate link link3 coming coming2 (turns_added turns (turns' ++ note ∷ []))
   ended_by_gate sent stays closed = ended_with ends.Gate (record { before = p.exchanges; last = exchange a.got message note bytes; all = refl; goes_on = p.goes_on }, stays, closed, refl) refl (faults_one sent) few_one sends_one sent
 
   -- of its response a front was written
-  pub ended_cut : WasCut bytes link2 link3 → Served manner uids known' ends.WriteFault link link3 coming coming2 (added turns (turns' ++ note ∷ []))
+  pub ended_cut : WasCut bytes link2 link3 → Served manner uids known' ends.WriteFault link link3 coming coming2 (turns_added turns (turns' ++ note ∷ []))
   ended_cut cut =
       let R : ℕ → Type 0 = λ n. Rose n link3.write_faults in
       record {
@@ -211,7 +215,7 @@ pub record Faults (link link' : Meanings) (kept : Kept) (count : ℕ) (fault : M
 
 module _ (manner : Manner) (uids : List ℕ) (known : ℕ → Known) (link link' link2 link3 : Meanings) (coming coming' coming2 : Option (List ℕ)) (kept : Kept) (turns turns' : List TurnNote) (count : ℕ) (fault : MsgFault)
     (p : Progress manner uids known link link' coming coming' kept turns turns' count) where
-  added_none : added turns turns' ≡ map note_in p.exchanges
+  added_none : turns_added turns turns' ≡ map note_in p.exchanges
   added_none = ap (drop (length turns)) p.noted ∙ drop-append_seam turns (map note_in p.exchanges)
 
   few_none : count < most_messages → length p.exchanges < most_messages
@@ -240,14 +244,14 @@ module _ (manner : Manner) (uids : List ℕ) (known : ℕ → Known) (link link'
     split_more = reads_append p.taken f.got (map message_in p.exchanges) kept.bytes p.split
 
     module _ (now : ℕ) (bytes : List ℕ) (r : Refuses fault now coming' coming2 bytes) where
-      is_refused : IsRefused (kept.bytes ++ f.got) (record { fault = fault; now = now; response = bytes })
+      is_refused : RefusesRest (kept.bytes ++ f.got) (record { fault = fault; now = now; response = bytes })
       is_refused = record { cause = f.is; local = r.local; answered = r.answered; response = r.response }
 
       clock_refused : AreReadings (map now_in p.exchanges ++ now ∷ []) coming coming2
       clock_refused = readings_push (map now_in p.exchanges) now coming coming' coming2 p.clock r.reading
 
       -- the refusal was sent
-      ended_refusing : WasSent bytes link2 link3 → Served manner uids known (ends.BadMessage now) link link3 coming coming2 (added turns turns')
+      ended_refusing : WasSent bytes link2 link3 → Served manner uids known (ends.BadMessage now) link link3 coming coming2 (turns_added turns turns')
       ended_refusing sent = record {
         exchanges = p.exchanges;
         refusal = Some (record { fault = fault; now = now; response = bytes });
@@ -273,7 +277,7 @@ module _ (manner : Manner) (uids : List ℕ) (known : ℕ → Known) (link link'
       }
 
       -- a front of it was
-      ended_refusing_in_part : WasCut bytes link2 link3 → Served manner uids known ends.WriteFault link link3 coming coming2 (added turns turns')
+      ended_refusing_in_part : WasCut bytes link2 link3 → Served manner uids known ends.WriteFault link link3 coming coming2 (turns_added turns turns')
       ended_refusing_in_part cut =
           let R : ℕ → Type 0 = λ n. Rose n link3.write_faults in
           record {
@@ -306,7 +310,7 @@ module _ (manner : Manner) (uids : List ℕ) (known : ℕ → Known) (link link'
 -- the input ended or failed, or no memory was found for the message
 ended_unanswered : (manner : Manner) (uids : List ℕ) (known : ℕ → Known) (link link' link2 : Meanings) (coming coming' : Option (List ℕ)) (kept : Kept) (turns turns' : List TurnNote) (count : ℕ) (fault : MsgFault)
     → Progress manner uids known link link' coming coming' kept turns turns' count → Faults link' link2 kept count fault → refusal_of fault ≡ None
-    → Served manner uids known (end_of fault) link link2 coming coming' (added turns turns')
+    → Served manner uids known (end_of fault) link link2 coming coming' (turns_added turns turns')
 ended_unanswered manner uids known link link' link2 coming coming' kept turns turns' count faults.End p f none = record {
   exchanges = p.exchanges;
   refusal = None;
@@ -397,18 +401,18 @@ ended_unanswered manner uids known link link' link2 coming coming' kept turns tu
 unanswered : (manner : Manner) (uids : List ℕ) (known : ℕ → Known) (link link' link2 link3 : Meanings) (coming coming' coming2 : Option (List ℕ)) (kept : Kept) (turns turns' : List TurnNote) (count : ℕ) (fault : MsgFault) (end : End)
     → Progress manner uids known link link' coming coming' kept turns turns' count → Faults link' link2 kept count fault
     → (refusal_of fault ≡ None) × (end ≡ end_of fault) × (link3 ≡ link2) × (coming2 ≡ coming')
-    → Served manner uids known end link link3 coming coming2 (added turns turns')
+    → Served manner uids known end link link3 coming coming2 (turns_added turns turns')
 unanswered manner uids known link link' link2 link3 coming coming' coming2 kept turns turns' count fault end p f stops =
-    let E : End → Type 0 = λ e. Served manner uids known e link link3 coming coming2 (added turns turns') in
-    let M : Meanings → Type 0 = λ m. Served manner uids known (end_of fault) link m coming coming2 (added turns turns') in
-    let C : Option (List ℕ) → Type 0 = λ c. Served manner uids known (end_of fault) link link2 coming c (added turns turns') in
+    let E : End → Type 0 = λ e. Served manner uids known e link link3 coming coming2 (turns_added turns turns') in
+    let M : Meanings → Type 0 = λ m. Served manner uids known (end_of fault) link m coming coming2 (turns_added turns turns') in
+    let C : Option (List ℕ) → Type 0 = λ c. Served manner uids known (end_of fault) link link2 coming c (turns_added turns turns') in
     subst E (sym stops.1) (subst M (sym stops.2) (subst C (sym stops.3)
     (ended_unanswered manner uids known link link' link2 coming coming' kept turns turns' count fault p f stops.0)))
 
 -- the connection stopped as a message was to be read
 pub stopped : (manner : Manner) (uids : List ℕ) (known : ℕ → Known) (link link' link2 link3 : Meanings) (coming coming' coming2 : Option (List ℕ)) (kept : Kept) (turns turns' : List TurnNote) (count : ℕ) (fault : MsgFault) (end : End)
     → Progress manner uids known link link' coming coming' kept turns turns' count → Faults link' link2 kept count fault
-    → Stops end fault link2 link3 coming' coming2 → Served manner uids known end link link3 coming coming2 (added turns turns')
+    → Stops end fault link2 link3 coming' coming2 → Served manner uids known end link link3 coming coming2 (turns_added turns turns')
 stopped manner uids known link link' link2 link3 coming coming' coming2 kept turns turns' count fault (ends.BadMessage now) p f stops =
     ended_refusing manner uids known link link' link2 link3 coming coming' coming2 kept turns turns' count fault p f now stops.0 stops.1 stops.2
 stopped manner uids known link link' link2 link3 coming coming' coming2 kept turns turns' count fault ends.WriteFault p f stops =
@@ -431,7 +435,7 @@ stopped manner uids known link link' link2 link3 coming coming' coming2 kept tur
 module _ (manner : Manner) (uids : List ℕ) (known : ℕ → Known) (link link' : Meanings) (coming coming' : Option (List ℕ)) (kept : Kept) (turns turns' : List TurnNote) (count : ℕ)
     (p : Progress manner uids known link link' coming coming' kept turns turns' count) where
   -- as many messages were answered as may be
-  pub ended_counting : most_messages ≤ count → Served manner uids known ends.Count link link' coming coming' (added turns turns')
+  pub ended_counting : most_messages ≤ count → Served manner uids known ends.Count link link' coming coming' (turns_added turns turns')
   ended_counting full =
       let most : count ≤ most_messages = p.within in
       let long : length p.exchanges ≡ most_messages = (let e = p.counted in omega arith) in
@@ -457,7 +461,7 @@ module _ (manner : Manner) (uids : List ℕ) (known : ℕ → Known) (link link'
       }
 
   -- no memory was found for one turn more
-  pub ended_early : count < most_messages → Served manner uids known ends.Memory link link' coming coming' (added turns turns')
+  pub ended_early : count < most_messages → Served manner uids known ends.Memory link link' coming coming' (turns_added turns turns')
   ended_early few = record {
     exchanges = p.exchanges;
     refusal = None;
@@ -480,16 +484,16 @@ module _ (manner : Manner) (uids : List ℕ) (known : ℕ → Known) (link link'
   }
 
   -- what the gate was asked of the turns, after one more
-  pub gated_more : (says : ℕ → Bool → Type 0) (note : TurnNote) → AreGated says (added turns turns') → says count note.closed_by_gate → AreGated says (added turns (turns' ++ note ∷ []))
+  pub gated_more : (says : ℕ → Bool → Type 0) (note : TurnNote) → AreGated says (turns_added turns turns') → says count note.closed_by_gate → AreGated says (turns_added turns (turns' ++ note ∷ []))
   gated_more says note each one =
-      let long : count ≡ length (added turns turns') = p.counted ∙ (sym (length-map p.exchanges note_in) ∙ ap length (sym (added_none manner uids known link link' link' link' coming coming' coming' kept turns turns' count faults.End p))) in
+      let long : count ≡ length (turns_added turns turns') = p.counted ∙ (sym (length-map p.exchanges note_in) ∙ ap length (sym (added_none manner uids known link link' link' link' coming coming' coming' kept turns turns' count faults.End p))) in
       subst (AreGated says) (sym (added_push turns turns' note (map note_in p.exchanges, p.noted)))
-      (gated_push says (added turns turns') note each (subst (λ n. says n note.closed_by_gate) long one))
+      (gated_push says (turns_added turns turns') note each (subst (λ n. says n note.closed_by_gate) long one))
 
   -- the turns were added to those that were there
   pub begins : Begins turns turns'
   begins = (map note_in p.exchanges, p.noted)
 
 -- no memory was found for the connection
-pub unserved : (manner : Manner) (uids : List ℕ) (known : ℕ → Known) (link : Meanings) (coming : Option (List ℕ)) (turns : List TurnNote) → Served manner uids known ends.Memory link link coming coming (added turns turns)
+pub unserved : (manner : Manner) (uids : List ℕ) (known : ℕ → Known) (link : Meanings) (coming : Option (List ℕ)) (turns : List TurnNote) → Served manner uids known ends.Memory link link coming coming (turns_added turns turns)
 unserved manner uids known link coming turns = ended_early manner uids known link link coming coming (record { bytes = []; stop = None }) turns turns 0 (begun manner uids known link coming turns) (omega arith)

@@ -12,8 +12,8 @@ use Rattle.ss_connection.specs.declared.notes.Turn.TheVariants.{Call}
 use Rattle.ss_connection.specs.declared.notes.TurnNote.{TurnNote}
 
 -- the turns that were added to a list
-abbrev pub added : List TurnNote → List TurnNote → List TurnNote
-added before after = drop (length before) after
+abbrev pub turns_added : List TurnNote → List TurnNote → List TurnNote
+turns_added before after = drop (length before) after
 
 -- the tickets of a turn that called this account: its one, or none
 abbrev pub call_to : ℕ → Turn → List ℕ

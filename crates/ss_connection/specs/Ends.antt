@@ -1,5 +1,6 @@
 -- What a connection is: its messages and their responses in order, what was taken from its link, and how it ended.
-use Rattle.std.specs.Prelude.{◌≡◌, ◌<◌, ◌≤◌, ◌⊎◌, ℕ, true, List, [], ◌∷◌, ◌++◌, length, map, Option, None, Some, All, IsTrue, IsFalse, ⊤}
+use Rattle.std.specs.Prelude.{◌≡◌, ◌<◌, ◌≤◌, ◌⊎◌, ℕ, true, List, [], ◌∷◌, ◌++◌, length, map, Option, None, Some, All}
+use Rattle.std.specs.Prelude.{IsTrue, IsFalse, ⊤}
 use Rattle.std.specs.List.{flat_map}
 use Rattle.std.specs.Option.{option_map_or}
 use Rattle.ss_outside.specs.Told.{Meanings, IsUsedUp, Takes, Loses, Writes, TakesFirst}
@@ -13,7 +14,7 @@ use Rattle.ss_route.specs.declared.manner.Manner.{Manner}
 use Rattle.ss_route.specs.declared.routed.Local.{Local}
 use Rattle.ss_route.specs.Wire.{local_wire, refusal_of}
 use Rattle.ss_connection.specs.Known.{Known}
-use Rattle.ss_connection.specs.Sending.{clamped, OrMemory}
+use Rattle.ss_connection.specs.Sending.{clamped_reading, OrMemory}
 use Rattle.ss_connection.specs.Turns.{Exchange, SaysEach, most_messages}
 use Rattle.ss_connection.specs.declared.notes.End.{End}
 use Rattle.ss_connection.specs.declared.notes.End.TheVariants as ends
@@ -38,11 +39,11 @@ pub record Refusal : Type 0 where
   pub response : List ℕ
 
 -- The bytes behind the messages have a fault that is answered, and this is the response; it closes the connection
-pub record IsRefused (rest : List ℕ) (refusal : Refusal) : Type 0 where
+pub record RefusesRest (rest : List ℕ) (refusal : Refusal) : Type 0 where
   pub cause : IsMessageFault refusal.fault rest
   pub local : Local
   pub answered : refusal_of refusal.fault ≡ Some local
-  pub response : OrMemory (local_wire local (clamped refusal.now) true) (clamped refusal.now) true refusal.response
+  pub response : OrMemory (local_wire local (clamped_reading refusal.now) true) (clamped_reading refusal.now) true refusal.response
 
 -- the responses of a connection, in order, the one to refused bytes at their end
 abbrev pub responses : List Exchange → Option Refusal → List ℕ
@@ -72,12 +73,12 @@ Cause ends.Gate exchanges refusal rest link link' =
 Cause ends.Count exchanges refusal rest link link' = (length exchanges ≡ most_messages) × GoesOn exchanges × (refusal ≡ None)
 Cause ends.Cut exchanges refusal rest link link' = IsMessageFault faults.Cut rest × IsUsedUp link' × GoesOn exchanges × (refusal ≡ None)
 Cause (ends.BadMessage now) exchanges refusal rest link link' =
-    (refused : Refusal) × (refusal ≡ Some refused) × (refused.now ≡ now) × IsRefused rest refused × GoesOn exchanges
+    (refused : Refusal) × (refusal ≡ Some refused) × (refused.now ≡ now) × RefusesRest rest refused × GoesOn exchanges
 Cause ends.ReadFault exchanges refusal rest link link' =
     IsMessageFault faults.ReadFault rest × Rose link.read_faults link'.read_faults × GoesOn exchanges × (refusal ≡ None)
 Cause ends.WriteFault exchanges refusal rest link link' =
     Rose link.write_faults link'.write_faults
-    × ((EndsIn exchanges × (refusal ≡ None)) ⊎ ((refused : Refusal) × (refusal ≡ Some refused) × IsRefused rest refused × GoesOn exchanges))
+    × ((EndsIn exchanges × (refusal ≡ None)) ⊎ ((refused : Refusal) × (refusal ≡ Some refused) × RefusesRest rest refused × GoesOn exchanges))
 Cause ends.Memory exchanges refusal rest link link' = GoesOn exchanges × (refusal ≡ None)
 
 -- what was written of the responses: all; after a failure of the link a front
@@ -86,10 +87,10 @@ Sends ends.WriteFault sent whole = (rest : List ℕ) × (whole ≡ sent ++ rest)
 Sends _ sent whole = sent ≡ whole
 
 -- the link's counts of faults stand where they stood, but for the one that the end tells of
-abbrev pub Unfaulted : End → Meanings → Meanings → Type 0
-Unfaulted ends.ReadFault link link' = link'.write_faults ≡ link.write_faults
-Unfaulted ends.WriteFault link link' = link'.read_faults ≡ link.read_faults
-Unfaulted _ link link' = (link'.read_faults ≡ link.read_faults) × (link'.write_faults ≡ link.write_faults)
+abbrev pub RaisesOnlyEnd : End → Meanings → Meanings → Type 0
+RaisesOnlyEnd ends.ReadFault link link' = link'.write_faults ≡ link.write_faults
+RaisesOnlyEnd ends.WriteFault link link' = link'.read_faults ≡ link.read_faults
+RaisesOnlyEnd _ link link' = (link'.read_faults ≡ link.read_faults) × (link'.write_faults ≡ link.write_faults)
 
 -- The messages were read one after the other, each from the bytes that were kept and those that were taken for it. Where it was kept
 -- whole, none were
@@ -144,5 +145,5 @@ pub record Served (manner : Manner) (uids : List ℕ) (known : ℕ → Known) (e
   pub clock : AreReadings (readings exchanges refusal) coming coming'
   -- Why it ended.
   pub cause : Cause end exchanges refusal rest link link'
-  pub faults : Unfaulted end link link'
+  pub faults : RaisesOnlyEnd end link link'
   pub fewer : IsFewer end (length exchanges)

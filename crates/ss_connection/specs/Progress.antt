@@ -10,7 +10,7 @@ use Rattle.ss_route.specs.declared.manner.Manner.{Manner}
 use Rattle.ss_route.specs.declared.routed.Local.{Local}
 use Rattle.ss_route.specs.Wire.{local_wire, refusal_of}
 use Rattle.ss_connection.specs.Known.{Known}
-use Rattle.ss_connection.specs.Sending.{clamped, OrMemory, WasSent, WasCut}
+use Rattle.ss_connection.specs.Sending.{clamped_reading, OrMemory, WasSent, WasCut}
 use Rattle.ss_connection.specs.Turns.{Exchange, SaysEach, most_messages}
 use Rattle.ss_connection.specs.Ends.{AreRead, AreReadings, GoesOn, Moves}
 use Rattle.ss_connection.specs.declared.notes.End.{End}
@@ -47,7 +47,7 @@ end_of _ = ends.Memory
 pub record Refuses (fault : MsgFault) (now : ℕ) (coming coming' : Option (List ℕ)) (bytes : List ℕ) : Type 0 where
   pub local : Local
   pub answered : refusal_of fault ≡ Some local
-  pub response : OrMemory (local_wire local (clamped now) true) (clamped now) true bytes
+  pub response : OrMemory (local_wire local (clamped_reading now) true) (clamped_reading now) true bytes
   pub reading : TakesFirst coming coming' now
 
 -- how a connection stops whose next bytes have a fault: it is answered, at least in part; or nothing is written, and the clock isn't read

@@ -23,7 +23,7 @@ use Rattle.ss_route.specs.Refusals.{said}
 use Rattle.ss_route.specs.Routing.{routed}
 use Rattle.ss_route.specs.Wire.{wire, local_wire, not_listed}
 use Rattle.ss_connection.specs.Known.{Known}
-use Rattle.ss_connection.specs.Sending.{clamped, OrMemory}
+use Rattle.ss_connection.specs.Sending.{clamped_reading, OrMemory}
 use Rattle.ss_connection.specs.declared.notes.Turn.{Turn}
 use Rattle.ss_connection.specs.declared.notes.Turn.TheVariants as turns
 use Rattle.ss_connection.specs.declared.notes.TurnNote.{TurnNote}
@@ -68,13 +68,13 @@ abbrev pub IsUnlisted : List ℕ → ℕ → Type 0
 IsUnlisted uids uid = (i : ℕ) → At uids i uid → ⊥
 
 -- what a message is told that no account is asked for: what the first rule says that refuses it, or that its account isn't listed
-abbrev pub IsTold : List ℕ → Routed → Local → Type 0
-IsTold uids (routes.Local local) told = told ≡ local
-IsTold uids (routes.Ask uid request newlines) told = IsUnlisted uids uid × (told ≡ not_listed)
-IsTold uids routes.Memory told = ⊥
+abbrev pub IsToldLocally : List ℕ → Routed → Local → Type 0
+IsToldLocally uids (routes.Local local) told = told ≡ local
+IsToldLocally uids (routes.Ask uid request newlines) told = IsUnlisted uids uid × (told ≡ not_listed)
+IsToldLocally uids routes.Memory told = ⊥
 
 -- routing makes of a message a request to this account, which is listed
-pub record IsAsked (manner : Manner) (uids : List ℕ) (message : Message) (uid : ℕ) : Type 0 where
+pub record AsksAccount (manner : Manner) (uids : List ℕ) (message : Message) (uid : ℕ) : Type 0 where
   pub place : ℕ
   pub listed : At uids place uid
   pub request : Request
@@ -84,21 +84,21 @@ pub record IsAsked (manner : Manner) (uids : List ℕ) (message : Message) (uid 
 -- the response to a message that no account was asked for
 pub record SaysLocal (manner : Manner) (uids : List ℕ) (message : Message) (now : ℕ) (last : Bool) (bytes : List ℕ) : Type 0 where
   pub local : Local
-  pub told : IsTold uids (routed manner message) local
-  pub response : OrMemory (local_wire local (clamped now) last) (clamped now) last bytes
+  pub told : IsToldLocally uids (routed manner message) local
+  pub response : OrMemory (local_wire local (clamped_reading now) last) (clamped_reading now) last bytes
 
 -- the response to a message that was asked of its account: the reply at the place that bears the turn's ticket
 pub record SaysCall (manner : Manner) (uids : List ℕ) (known : ℕ → Known) (message : Message) (now : ℕ) (last : Bool) (uid ticket : ℕ) (bytes : List ℕ) : Type 0 where
-  pub asks : IsAsked manner uids message uid
+  pub asks : AsksAccount manner uids message uid
   pub reply : Reply
   pub called : Called (known asks.place) ticket (record { now = now; request = asks.request }) reply
   pub response : OrMemory (wire reply asks.newlines last) reply.moment last bytes
 
 -- the response to a message whose account's journal was full
 pub record SaysFull (manner : Manner) (uids : List ℕ) (known : ℕ → Known) (message : Message) (now : ℕ) (last : Bool) (uid : ℕ) (full : Full) (bytes : List ℕ) : Type 0 where
-  pub asks : IsAsked manner uids message uid
+  pub asks : AsksAccount manner uids message uid
   pub was_full : WasFull (known asks.place) full
-  pub response : OrMemory (local_wire term_is_full (clamped now) last) (clamped now) last bytes
+  pub response : OrMemory (local_wire term_is_full (clamped_reading now) last) (clamped_reading now) last bytes
 
 -- A message's turn at this reading of the clock has these bytes as its response. A turn is `Local` exactly where routing refuses the
 -- message or its account isn't listed, memory aside: the two after it say that the account is asked, and is listed
@@ -106,7 +106,7 @@ abbrev pub SaysTurn : Manner → List ℕ → (ℕ → Known) → Message → �
 SaysTurn manner uids known message now last turns.Local bytes = SaysLocal manner uids message now last bytes
 SaysTurn manner uids known message now last (turns.Call uid ticket) bytes = SaysCall manner uids known message now last uid ticket bytes
 SaysTurn manner uids known message now last (turns.Full uid entries size) bytes = SaysFull manner uids known message now last uid (record { entries = entries; bytes = size }) bytes
-SaysTurn manner uids known message now last turns.Memory bytes = bytes ≡ memory_response (clamped now) last
+SaysTurn manner uids known message now last turns.Memory bytes = bytes ≡ memory_response (clamped_reading now) last
 
 -- the bytes that were taken from the link for a message, the message that was answered, the note of its turn, and the response
 pub record Exchange : Type 0 where

@@ -3,7 +3,7 @@
 ghost use Rattle.std.specs.Prelude.{◌≡◌, OnOk, OnErr, IfOk};
 ghost use Rattle.ss_http.specs.Responses.{memory_response};
 ghost use Rattle.ss_route.specs.Wire.{wire, local_wire};
-ghost use Rattle.ss_connection.specs.Sending.{bytes_of, clamped, OrMemory, WasSent, WasCut};
+ghost use Rattle.ss_connection.specs.Sending.{bytes_of, clamped_reading, OrMemory, WasSent, WasCut};
 
 use ss_http::{memory_response, memory_response_len};
 use ss_outside::{Sink, WriteFault, write_all};
@@ -42,7 +42,7 @@ impl Response {
 
     /// The response where no account was asked, at a reading of the clock (hundredths of a second).
     pub(crate) fn to_local(alloc: Global, local: &Local, now: u64, last: bool) -> Response
-        ensures { OrMemory (local_wire local.now (clamped now) last) (clamped now) last (bytes_of result) }
+        ensures { OrMemory (local_wire local.now (clamped_reading now) last) (clamped_reading now) last (bytes_of result) }
     {
         let moment = Stamp::clamp(now);
         Response::of(render_local(alloc, local, moment, last), moment, last)
@@ -50,7 +50,7 @@ impl Response {
 
     /// The response where no memory was found, at a reading of the clock (hundredths of a second).
     pub(crate) fn unread(now: u64, last: bool) -> Response
-        ensures { bytes_of result ≡ memory_response (clamped now) last }
+        ensures { bytes_of result ≡ memory_response (clamped_reading now) last }
     {
         Response::Short {
             moment: Stamp::clamp(now),

@@ -1,5 +1,7 @@
 -- What a call says follows from what its steps tell.
-use Rattle.std.proofs.Common.{◌≡◌, ◌⊎◌, ℕ, ◌+◌, ◌<◌, ◌≤◌, List, [], ◌∷◌, ◌++◌, get_or, sym, refl, ap, ◌∙◌, subst, inl, inr, arith, append_assoc, Option, Some, None, Result, Ok, Err, MatchResult, OnOk, OnErr, IfOk, IfErr}
+use Rattle.std.proofs.Common.{◌≡◌, ◌⊎◌, ℕ, ◌+◌, ◌<◌, ◌≤◌, List, [], ◌∷◌, ◌++◌, get_or, sym, refl, ap, ◌∙◌, subst, inl}
+use Rattle.std.proofs.Common.{inr, arith, append_assoc, Option, Some, None, Result, Ok, Err, MatchResult, OnOk, OnErr}
+use Rattle.std.proofs.Common.{IfOk, IfErr}
 use Rattle.std.specs.List.{All}
 use Rattle.atomic_table.specs.Table.{Me, rest}
 use Rattle.ss_desk.specs.declared.journaled.Full.{Full}

@@ -1,5 +1,6 @@
 -- A join keeps the rule.
-use Rattle.std.proofs.Common.{◌≡◌, ◌≢◌, ◌⊎◌, ℕ, zero, suc, ◌<◌, List, ◌∷◌, ◌++◌, length, set, sym, refl, ap, ◌∙◌, subst, inl, inr, arith, Option, le_refl, cond, ltb, Bool, true, false}
+use Rattle.std.proofs.Common.{◌≡◌, ◌≢◌, ◌⊎◌, ℕ, zero, suc, ◌<◌, List, ◌∷◌, ◌++◌, length, set, sym, refl, ap, ◌∙◌, subst}
+use Rattle.std.proofs.Common.{inl, inr, arith, Option, le_refl, cond, ltb, Bool, true, false}
 use borrow.Author.Tests.{ltb-true}
 use mathlib.Core.Option.{some, some-ne-none, some-injective}
 use mathlib.Core.Logic.{dite}
@@ -12,9 +13,11 @@ use Rattle.ss_desk.specs.declared.view.Page.{Page}
 use Rattle.ss_desk.specs.declared.view.Stage.{Stage}
 use Rattle.ss_desk.specs.declared.view.Stage.TheVariants.{Idle, Holds}
 use Rattle.ss_desk.specs.Journal.{entries_of, Begins}
-use Rattle.ss_desk.specs.Views.{Among, HasTicket, tickets_at, numbers, tickets_held, Covers, Live, Bears, page_of, joined, spent}
+use Rattle.ss_desk.specs.Views.{Among, HasTicket, tickets_at, numbers, tickets_held, Covers, Live, Bears, page_of}
+use Rattle.ss_desk.specs.Views.{joined, spent}
 use Rattle.ss_desk.specs.Rule.{Agrees, InTurn, TakesTurns}
-use Rattle.ss_desk.proofs.Lists.{one_at, set_at, set_apart, total_set, either_part, on_right, shorter, among_append, among_left, among_right, own_between}
+use Rattle.ss_desk.proofs.Lists.{one_at, set_at, set_apart, total_set, either_part, on_right, shorter, among_append}
+use Rattle.ss_desk.proofs.Lists.{among_left, among_right, own_between}
 
 module _ {T F E : Type 0} (ticket_of pass_of : E → ℕ) (fixed : T → F) (entries : T → List E) (legal : F → List E → Type 0) (fix : F) where
   abbrev Rule : State (Option T) (View F E) → Type 0

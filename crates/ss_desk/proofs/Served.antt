@@ -1,5 +1,6 @@
 -- What a call adds to a pass's own entries, and what a desk leaves that nobody called. Callers of desks rest on these.
-use Rattle.std.proofs.Common.{◌≡◌, ℕ, zero, List, [], ◌∷◌, ◌++◌, length, refl, ap, sym, ◌∙◌, append_assoc, arith, inl, inr, Option, Some}
+use Rattle.std.proofs.Common.{◌≡◌, ℕ, zero, List, [], ◌∷◌, ◌++◌, length, refl, ap, sym, ◌∙◌, append_assoc, arith, inl}
+use Rattle.std.proofs.Common.{inr, Option, Some}
 use mathlib.Core.Option.{some, some-ne-none}
 use lib.ListN.{get_elem?}
 use Rattle.ss_desk.specs.declared.view.View.{View}

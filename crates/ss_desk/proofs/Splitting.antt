@@ -1,5 +1,6 @@
 -- A split keeps the rule.
-use Rattle.std.proofs.Common.{◌≡◌, ◌≢◌, ℕ, ◌+◌, ◌/◌, ◌<◌, ◌≤◌, List, [], ◌∷◌, ◌++◌, length, set, sym, refl, ap, ◌∙◌, subst, inl, inr, arith, Option, length-set}
+use Rattle.std.proofs.Common.{◌≡◌, ◌≢◌, ℕ, ◌+◌, ◌/◌, ◌<◌, ◌≤◌, List, [], ◌∷◌, ◌++◌, length, set, sym, refl, ap, ◌∙◌}
+use Rattle.std.proofs.Common.{subst, inl, inr, arith, Option, length-set}
 use mathlib.Core.Option.{some, some-ne-none}
 use mathlib.Core.Logic.{dite}
 use native.Mathlib.Decide.{ℕ_discrete}
@@ -9,9 +10,11 @@ use Rattle.atomic_table.proofs.Lists.{at_set, at_longer}
 use Rattle.ss_desk.specs.declared.view.View.{View}
 use Rattle.ss_desk.specs.declared.view.Stage.TheVariants.{Idle}
 use Rattle.ss_desk.specs.Journal.{entries_of}
-use Rattle.ss_desk.specs.Views.{InRange, HasTicket, tickets_at, numbers, tickets_held, Covers, Bears, middle, lower, upper}
+use Rattle.ss_desk.specs.Views.{InRange, HasTicket, tickets_at, numbers, tickets_held, Covers, Bears, middle, lower}
+use Rattle.ss_desk.specs.Views.{upper}
 use Rattle.ss_desk.specs.Rule.{Agrees, InTurn, TakesTurns}
-use Rattle.ss_desk.proofs.Lists.{one_at, at_length, set_at, set_apart, at_end, total_set, total_snoc, entries_of-append, append_empty}
+use Rattle.ss_desk.proofs.Lists.{one_at, at_length, set_at, set_apart, at_end, total_set, total_snoc, entries_of-append}
+use Rattle.ss_desk.proofs.Lists.{append_empty}
 
 module _ {T F E : Type 0} (ticket_of pass_of : E → ℕ) (fixed : T → F) (entries : T → List E) (legal : F → List E → Type 0) (fix : F) where
   abbrev Rule : State (Option T) (View F E) → Type 0

@@ -1,11 +1,13 @@
 -- The steps of a call keep the rule.
-use Rattle.std.proofs.Common.{◌≡◌, ◌≢◌, ◌⊎◌, ℕ, ◌+◌, ◌%◌, ◌^◌, ◌<◌, ◌≤◌, List, [], ◌∷◌, ◌++◌, slice_index, set, sym, refl, le_refl, ap, ◌∙◌, subst, inl, inr, arith, Option, Some}
+use Rattle.std.proofs.Common.{◌≡◌, ◌≢◌, ◌⊎◌, ℕ, ◌+◌, ◌%◌, ◌^◌, ◌<◌, ◌≤◌, List, [], ◌∷◌, ◌++◌, slice_index, set, sym}
+use Rattle.std.proofs.Common.{refl, le_refl, ap, ◌∙◌, subst, inl, inr, arith, Option, Some}
 use mathlib.Core.Option.{none, some}
 use mathlib.Core.Option as maybe
 use mathlib.Core.Logic.{dite}
 use native.Mathlib.Decide.{ℕ_discrete, dec_lt}
 use lib.ListN.{get_elem?}
-use Rattle.atomic_table.specs.Table.{State, Me, Act, put_back, rest, keeps, takes, gives, Valid, stepped, carried_after, Allows}
+use Rattle.atomic_table.specs.Table.{State, Me, Act, put_back, rest, keeps, takes, gives, Valid, stepped, carried_after}
+use Rattle.atomic_table.specs.Table.{Allows}
 use Rattle.atomic_table.proofs.Lists.{at_set, set_again}
 use Rattle.ss_desk.specs.declared.view.View.{View}
 use Rattle.ss_desk.specs.declared.view.Stage.{Stage}
@@ -15,7 +17,8 @@ use Rattle.ss_desk.specs.Views.{InRange, HasTicket, tickets_at, numbers, tickets
 use Rattle.ss_desk.specs.Rule.{total}
 use Rattle.ss_desk.specs.Rule.{Agrees, InTurn, IsHome, IsOut, TakesTurns}
 use Rattle.ss_desk.specs.Steps.{Looked, Made, held_entries}
-use Rattle.ss_desk.proofs.Lists.{append_nil, one_at, set_at, set_apart, at_end, after, total_set, total_le, entries_of-else, begins_more, rises_more, below_more}
+use Rattle.ss_desk.proofs.Lists.{append_nil, one_at, set_at, set_apart, at_end, after, total_set, total_le}
+use Rattle.ss_desk.proofs.Lists.{entries_of-else, begins_more, rises_more, below_more}
 
 module _ {T F E : Type 0} (ticket_of pass_of : E → ℕ) (fixed : T → F) (entries : T → List E) (legal : F → List E → Type 0) (fix : F) where
   abbrev St : Type 0

@@ -1,5 +1,6 @@
 -- Ids that come among the deleted.
-use Rattle.std.proofs.Common.{◌≡◌, ℕ, ◌+◌, ◌<◌, List, [], ◌∷◌, ◌++◌, Bool, true, false, cond, ◌||◌, take, get_or, length, refl, sym, ap, ap₂, ◌∙◌, Option, Some, None, is_some, bytes_eq}
+use Rattle.std.proofs.Common.{◌≡◌, ℕ, ◌+◌, ◌<◌, List, [], ◌∷◌, ◌++◌, Bool, true, false, cond, ◌||◌, take, get_or}
+use Rattle.std.proofs.Common.{length, refl, sym, ap, ap₂, ◌∙◌, Option, Some, None, is_some, bytes_eq}
 use Rattle.std.specs.Map.{lookup}
 use Rattle.std.specs.BTreeMap.{is_at}
 use Rattle.std.proofs.lemmas.Bool.{false≢true}

@@ -1,11 +1,12 @@
 -- What changes of entries are to the tree by ids.
-use Rattle.std.proofs.Common.{◌≡◌, ℕ, ◌==◌, List, [], map, Bool, true, false, cond, refl, sym, ap, ap₂, ◌∙◌, Option, Some, None, option_map, option_and_then, unwrap_or, bytes_eq}
+use Rattle.std.proofs.Common.{◌≡◌, ℕ, ◌==◌, List, [], map, Bool, true, false, cond, refl, sym, ap, ap₂, ◌∙◌, Option}
+use Rattle.std.proofs.Common.{Some, None, option_map, option_and_then, unwrap_or, bytes_eq}
 use Rattle.std.proofs.lemmas.Bool.{eqb-true, eqb-false}
 use Rattle.ss_record.specs.Items.{ItemView}
 use Rattle.ss_record.proofs.IdLists.{bytes_eq-apart}
 use Rattle.ss_tree.specs.declared.entries.Entry.{Entry}
-use Rattle.ss_tree.specs.Trees.{Placed, node}
-use Rattle.ss_tree.specs.Entries.{entry, kids, kid_ids, placed, tree, revised, IsTree}
+use Rattle.ss_tree.specs.Trees.{PlacedItem, node}
+use Rattle.ss_tree.specs.Entries.{entry, kids, kid_ids, placed, tree, revised_entry, IsTree}
 use Rattle.ss_tree.proofs.Valid.{entry_in, in_entry, one_entry, node_found, node_at}
 use Rattle.ss_tree.proofs.Settled.{kid_ids_are}
 use Rattle.ss_device.specs.Edits.{revised_node}
@@ -28,7 +29,7 @@ idof_some es k y q = go (entry k es) refl q
 
 -- ---- items in their places
 
-abbrev pub made : ItemView → Option (List ℕ) → List (List ℕ) → ℕ → Placed
+abbrev pub made : ItemView → Option (List ℕ) → List (List ℕ) → ℕ → PlacedItem
 made i p cs t = record { id = i.id; kind = i.kind; content = i.content; parent = p; children = cs; time = t }
 
 pub placed_is : (es : List Entry) → IsTree es → (k : ℕ) (e : Entry) → entry k es ≡ Some e → placed es e ≡ made e.item (option_and_then (idof es) e.parent) (map (name_at es) (kids k es)) e.time
@@ -43,16 +44,16 @@ at_entry es t k e q = node_at es e t.ids (entry_in k es e q).0
 pub no_entry : (es : List Entry) → IsTree es → (x : List ℕ) → ((k : ℕ) (e : Entry) → entry k es ≡ Some e → e.item.id ≡ x → ⊥) → node x (tree es) ≡ None
 no_entry es t x none = go (node x (tree es)) refl
   where
-    go : (o : Option Placed) → node x (tree es) ≡ o → node x (tree es) ≡ None
+    go : (o : Option PlacedItem) → node x (tree es) ≡ o → node x (tree es) ≡ None
     go None h = h
     go (Some m) h = let f = node_found es x m h in absurd (none f.0.node f.0 (in_entry es f.0 t.nodes f.1) f.2)
 
-pub by_entry : (es : List Entry) → IsTree es → (x : List ℕ) (o : Option Placed)
+pub by_entry : (es : List Entry) → IsTree es → (x : List ℕ) (o : Option PlacedItem)
     → ((k : ℕ) (e : Entry) → entry k es ≡ Some e → e.item.id ≡ x → o ≡ Some (placed es e))
     → (((k : ℕ) (e : Entry) → entry k es ≡ Some e → e.item.id ≡ x → ⊥) → o ≡ None) → node x (tree es) ≡ o
 by_entry es t x o to from = go (node x (tree es)) refl
   where
-    go : (n : Option Placed) → node x (tree es) ≡ n → node x (tree es) ≡ o
+    go : (n : Option PlacedItem) → node x (tree es) ≡ n → node x (tree es) ≡ o
     go (Some m) h = let f = node_found es x m h in h ∙ (ap Some f.3 ∙ sym (to f.0.node f.0 (in_entry es f.0 t.nodes f.1) f.2))
     go None h = h ∙ sym (from (λ k e q is. none_some (sym h ∙ (ap (λ z. node z (tree es)) (sym is) ∙ at_entry es t k e q))))
 
@@ -70,7 +71,7 @@ same_node es t k j e d q r = go (k == j) refl
 
 -- ---- where ids stay
 
-pub mapped : (es fs : List Entry) → IsTree es → IsTree fs → (change : Placed → Placed) → ((k : ℕ) → idof fs k ≡ idof es k)
+pub mapped : (es fs : List Entry) → IsTree es → IsTree fs → (change : PlacedItem → PlacedItem) → ((k : ℕ) → idof fs k ≡ idof es k)
     → ((k : ℕ) (e f : Entry) → entry k es ≡ Some e → entry k fs ≡ Some f → placed fs f ≡ change (placed es e)) → (y : List ℕ) → node y (tree fs) ≡ option_map change (node y (tree es))
 mapped es fs t u change ids each y = by_entry fs u y (option_map change (node y (tree es))) to from
   where
@@ -92,14 +93,14 @@ parts_same es fs ids p ks = ((λ i. option_and_then (λ k. ids k i) p), (λ i. m
 -- ---- another content and time
 
 module _ (es fs : List Entry) (t : IsTree es) (u : IsTree fs) (k0 : ℕ) (e0 : Entry) (q0 : entry k0 es ≡ Some e0) (content : List ℕ) (time : ℕ)
-    (entries : (j : ℕ) → entry j fs ≡ cond (j == k0) (option_map (revised content time) (entry j es)) (entry j es)) (same : (j : ℕ) → kids j fs ≡ kids j es) where
-  abbrev set_change : Placed → Placed
+    (entries : (j : ℕ) → entry j fs ≡ cond (j == k0) (option_map (revised_entry content time) (entry j es)) (entry j es)) (same : (j : ℕ) → kids j fs ≡ kids j es) where
+  abbrev set_change : PlacedItem → PlacedItem
   set_change n = cond (bytes_eq n.id e0.item.id) (revised_node content time n) n
 
   set_ids : (k : ℕ) → idof fs k ≡ idof es k
   set_ids k = ap (option_map (λ e. e.item.id)) (entries k) ∙ go (k == k0) (entry k es)
     where
-      go : (b : Bool) (o : Option Entry) → option_map (λ (e : Entry). e.item.id) (cond b (option_map (revised content time) o) o) ≡ option_map (λ (e : Entry). e.item.id) o
+      go : (b : Bool) (o : Option Entry) → option_map (λ (e : Entry). e.item.id) (cond b (option_map (revised_entry content time) o) o) ≡ option_map (λ (e : Entry). e.item.id) o
       go true None = refl
       go true (Some e) = refl
       go false o = refl
@@ -119,12 +120,12 @@ module _ (es fs : List Entry) (t : IsTree es) (u : IsTree fs) (k0 : ℕ) (e0 : E
 
       go : (b : Bool) → (k == k0) ≡ b → placed fs f ≡ set_change (placed es e)
       go true h =
-          let is : f ≡ revised content time e = some_same (sym r ∙ (entries k ∙ (ap (λ b. cond b (option_map (revised content time) (entry k es)) (entry k es)) h ∙ ap (option_map (revised content time)) q))) in
+          let is : f ≡ revised_entry content time e = some_same (sym r ∙ (entries k ∙ (ap (λ b. cond b (option_map (revised_entry content time) (entry k es)) (entry k es)) h ∙ ap (option_map (revised_entry content time)) q))) in
           shape (record { id = e.item.id; kind = e.item.kind; content = content }) time is
           ∙ (sym (ap (λ b. cond b (revised_node content time (made e.item (option_and_then (idof es) e.parent) (map (name_at es) (kids k es)) e.time)) (made e.item (option_and_then (idof es) e.parent) (map (name_at es) (kids k es)) e.time)) (same_node es t k k0 e e0 q q0 ∙ h))
           ∙ ap set_change (sym (placed_is es t k e q)))
       go false h =
-          let is : f ≡ e = some_same (sym r ∙ (entries k ∙ (ap (λ b. cond b (option_map (revised content time) (entry k es)) (entry k es)) h ∙ q))) in
+          let is : f ≡ e = some_same (sym r ∙ (entries k ∙ (ap (λ b. cond b (option_map (revised_entry content time) (entry k es)) (entry k es)) h ∙ q))) in
           shape e.item e.time is
           ∙ (sym (ap (λ b. cond b (revised_node content time (made e.item (option_and_then (idof es) e.parent) (map (name_at es) (kids k es)) e.time)) (made e.item (option_and_then (idof es) e.parent) (map (name_at es) (kids k es)) e.time)) (same_node es t k k0 e e0 q q0 ∙ h))
           ∙ ap set_change (sym (placed_is es t k e q)))

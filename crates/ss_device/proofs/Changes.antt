@@ -1,17 +1,20 @@
 -- Items that come, go and move, as the tree by ids sees them.
-use Rattle.std.proofs.Common.{◌≡◌, ℕ, ◌==◌, ◌<◌, List, [], ◌∷◌, ◌++◌, map, not, Bool, true, false, cond, refl, sym, ap, ap₂, ◌∙◌, subst, inl, inr, arith, Option, Some, None, option_map, option_and_then, unwrap_or, bytes_eq}
+use Rattle.std.proofs.Common.{◌≡◌, ℕ, ◌==◌, ◌<◌, List, [], ◌∷◌, ◌++◌, map, not, Bool, true, false, cond, refl, sym, ap}
+use Rattle.std.proofs.Common.{ap₂, ◌∙◌, subst, inl, inr, arith, Option, Some, None, option_map, option_and_then}
+use Rattle.std.proofs.Common.{unwrap_or, bytes_eq}
 use Rattle.std.proofs.lemmas.Bool.{false≢true, eqb-true, eqb-false, eq-eqb}
 use Rattle.ss_list.specs.Chain.{times}
 use Rattle.ss_list.proofs.Times.{at_head}
 use Rattle.ss_record.specs.Items.{ItemView}
 use Rattle.ss_tree.specs.declared.entries.Entry.{Entry}
-use Rattle.ss_tree.specs.Trees.{Placed, node}
+use Rattle.ss_tree.specs.Trees.{PlacedItem, node}
 use Rattle.ss_tree.specs.Entries.{entry, kids, placed, tree, under, put_before, without_node, top_entry, IsTree}
 use Rattle.ss_tree.proofs.Valid.{In}
 use Rattle.ss_tree.proofs.Kin.{kid_entry, entry_kid}
 use Rattle.ss_tree.proofs.Listed.{nobody}
 use Rattle.ss_device.specs.Edits.{left_node, moved_only, new_node, with_child, without_id}
-use Rattle.ss_device.proofs.ByIds.{idof, name_at, idof_some, made, placed_is, at_entry, no_entry, by_entry, same_node, mapped}
+use Rattle.ss_device.proofs.ByIds.{idof, name_at, idof_some, made, placed_is, at_entry, no_entry, by_entry, same_node}
+use Rattle.ss_device.proofs.ByIds.{mapped}
 use Rattle.ss_text.proofs.Basics.{same_text, bytes_eq-same, number_turned, some_same, none_some}
 
 pub times_in : (k : ℕ) (ks : List ℕ) → In k ks → 0 < times k ks
@@ -77,7 +80,7 @@ module _ (es : List Entry) (t : IsTree es) (k0 : ℕ) (e0 : Entry) (q0 : entry k
 module _ (es fs : List Entry) (t : IsTree es) (u : IsTree fs) (k0 : ℕ) (e0 : Entry) (q0 : entry k0 es ≡ Some e0) (p : ℕ) (d : Entry) (qd : entry p es ≡ Some d)
     (entries : (j : ℕ) → entry j fs ≡ cond (j == k0) (option_map (under p) (entry j es)) (entry j es))
     (rows : (j : ℕ) → kids j fs ≡ cond (j == p) (put_before None k0 (without_node k0 (kids j es))) (without_node k0 (kids j es))) where
-  abbrev move_change : Placed → Placed
+  abbrev move_change : PlacedItem → PlacedItem
   move_change n = moved_only e0.item.id d.item.id n
 
   move_ids : (k : ℕ) → idof fs k ≡ idof es k
@@ -136,7 +139,7 @@ module _ (es fs : List Entry) (t : IsTree es) (u : IsTree fs) (k0 : ℕ) (e0 : E
 
 module _ (es fs : List Entry) (t : IsTree es) (u : IsTree fs) (k0 : ℕ) (e0 : Entry) (q0 : entry k0 es ≡ Some e0) (childless : kids k0 es ≡ [])
     (entries : (j : ℕ) → entry j fs ≡ cond (k0 == j) None (entry j es)) (rows : (j : ℕ) → kids j fs ≡ without_node k0 (kids j es)) where
-  abbrev left_one : Placed → Placed
+  abbrev left_one : PlacedItem → PlacedItem
   left_one n = left_node e0.item.id n
 
   gone_kept : (k : ℕ) (f : Entry) → entry k fs ≡ Some f → ((k0 == k) ≡ false) × (entry k es ≡ Some f)
@@ -212,7 +215,7 @@ module _ (es fs : List Entry) (t : IsTree es) (u : IsTree fs) (m : ℕ) (i : Ite
     (new_id : (k : ℕ) (e : Entry) → entry k es ≡ Some e → bytes_eq e.item.id i.id ≡ false)
     (entries : (j : ℕ) → entry j fs ≡ cond (j == m) (Some (record { node = m; parent = Some p; item = i; time = time })) (entry j es))
     (rows : (j : ℕ) → kids j fs ≡ cond (j == p) (put_before None m (kids j es)) (kids j es)) where
-  abbrev grown_node : Placed → Placed
+  abbrev grown_node : PlacedItem → PlacedItem
   grown_node n = cond (bytes_eq n.id d.item.id) (with_child i.id n) n
 
   there_other : (k : ℕ) (e : Entry) → entry k es ≡ Some e → (k == m) ≡ false

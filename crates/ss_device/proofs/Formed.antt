@@ -1,5 +1,7 @@
 -- What is written of a device has its form.
-use Rattle.std.proofs.Common.{◌≡◌, ◌≢◌, ℕ, ◌+◌, ◌<◌, ◌≤◌, List, [], ◌∷◌, ◌++◌, length, take, get_or, append-nil, append_assoc, true, sym, ap, subst, ◌∙◌, Option, Some, None, option_map, option_and_then, unwrap_or}
+use Rattle.std.proofs.Common.{◌≡◌, ◌≢◌, ℕ, ◌+◌, ◌<◌, ◌≤◌, List, [], ◌∷◌, ◌++◌, length, take, get_or, append-nil}
+use Rattle.std.proofs.Common.{append_assoc, true, sym, ap, subst, ◌∙◌, Option, Some, None, option_map, option_and_then}
+use Rattle.std.proofs.Common.{unwrap_or}
 use Rattle.std.specs.Str.{IsUtf8}
 use Rattle.std.proofs.lemmas.Grind.{flat_map-append}
 use Rattle.std.proofs.lemmas.List.{take_more}

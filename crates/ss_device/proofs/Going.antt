@@ -1,5 +1,7 @@
 -- Nodes of an item and of all below it, as they can be removed.
-use Rattle.std.proofs.Common.{◌≡◌, ◌≢◌, ◌⊎◌, ℕ, zero, suc, ◌+◌, ◌-◌, ◌<◌, ◌≤◌, ◌==◌, nat_eq, List, [], ◌∷◌, ◌++◌, map, filter, length, Bool, true, false, cond, ◌||◌, refl, sym, ap, subst, ◌∙◌, arith, inl, inr, Option, Some, None, option_map, option_and_then, unwrap_or, is_some}
+use Rattle.std.proofs.Common.{◌≡◌, ◌≢◌, ◌⊎◌, ℕ, zero, suc, ◌+◌, ◌-◌, ◌<◌, ◌≤◌, ◌==◌, nat_eq, List, [], ◌∷◌, ◌++◌, map}
+use Rattle.std.proofs.Common.{filter, length, Bool, true, false, cond, ◌||◌, refl, sym, ap, subst, ◌∙◌, arith, inl, inr}
+use Rattle.std.proofs.Common.{Option, Some, None, option_map, option_and_then, unwrap_or, is_some}
 use Rattle.std.specs.Cmp.{both_ways, nat_eq_equiv}
 use Rattle.std.specs.List.{flat_map, IsDistinct}
 use Rattle.std.specs.Set.{is_member}
@@ -10,13 +12,15 @@ use Rattle.ss_list.specs.Chain.{times}
 use Rattle.ss_list.proofs.Times.{at_head, times-here, times-append}
 use Rattle.ss_tree.specs.declared.entries.Entry.{Entry}
 use Rattle.ss_tree.specs.Trees.{node, steps}
-use Rattle.ss_tree.specs.Entries.{above, ancestor, entry, is_below, is_live, kids, node_of, placed, preorder, stands_under, top_entry, tree, up, IsBelow, IsTree}
+use Rattle.ss_tree.specs.Entries.{above, ancestor, entry, is_below, is_live, kids, node_of, placed, preorder}
+use Rattle.ss_tree.specs.Entries.{stands_under, top_entry, tree, up, IsBelow, IsTree}
 use Rattle.ss_tree.specs.Entries as entries
 use Rattle.ss_tree.proofs.Changes.{up_of}
 use Rattle.ss_tree.proofs.EachMet.{each_met}
 use Rattle.ss_tree.proofs.Once.{once_each}
 use Rattle.ss_tree.proofs.Valid.{In, under_from}
-use Rattle.ss_tree.proofs.Ways.{walk, length-walk, member_walk, all_apart, distinct_walk, live_member, length-nodes, stays, steps_add, first_zero, below_is, up_some}
+use Rattle.ss_tree.proofs.Ways.{walk, length-walk, member_walk, all_apart, distinct_walk, live_member, length-nodes}
+use Rattle.ss_tree.proofs.Ways.{stays, steps_add, first_zero, below_is, up_some}
 use Rattle.ss_tree.proofs.Changes.{live_steps}
 use Rattle.ss_device.specs.Edits.{is_fixed, is_within}
 use Rattle.ss_device.specs.Removal.{CanGo, among}

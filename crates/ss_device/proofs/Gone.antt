@@ -1,5 +1,7 @@
 -- What is left of a tree when an item has gone with all below it.
-use Rattle.std.proofs.Common.{◌≡◌, ◌⊎◌, ℕ, zero, suc, ◌+◌, ◌<◌, ◌==◌, List, [], ◌∷◌, ◌++◌, map, filter, not, length, get_or, take, Bool, true, false, cond, ◌||◌, refl, sym, ap, ap₂, ◌∙◌, inl, inr, arith, Option, Some, None, option_map, option_and_then, unwrap_or, is_some, bytes_eq}
+use Rattle.std.proofs.Common.{◌≡◌, ◌⊎◌, ℕ, zero, suc, ◌+◌, ◌<◌, ◌==◌, List, [], ◌∷◌, ◌++◌, map, filter, not, length}
+use Rattle.std.proofs.Common.{get_or, take, Bool, true, false, cond, ◌||◌, refl, sym, ap, ap₂, ◌∙◌, inl, inr, arith}
+use Rattle.std.proofs.Common.{Option, Some, None, option_map, option_and_then, unwrap_or, is_some, bytes_eq}
 use Rattle.std.specs.Cmp.{both_ways}
 use Rattle.std.proofs.lemmas.Bool.{false≢true, eq-eqb}
 use Rattle.std.proofs.lemmas.List.{take_more}
@@ -8,8 +10,9 @@ use Rattle.ss_record.specs.Items.{ItemView}
 use Rattle.ss_record.proofs.IdLists.{has-nil, has-cons}
 use Rattle.ss_tree.specs.declared.entries.Entry.{Entry}
 use Rattle.ss_tree.specs.declared.faults.RemoveFault.TheVariants.{Root as Fixed, NotEmpty}
-use Rattle.ss_tree.specs.Trees.{Placed, node, parent_in}
-use Rattle.ss_tree.specs.Entries.{above, ancestor, entry, first_of, is_below, is_fixed as is_fixed_node, is_live, kids, node_of, placed, remove_fault, stands_under, tree, without_node, IsTree}
+use Rattle.ss_tree.specs.Trees.{PlacedItem, node, parent_in}
+use Rattle.ss_tree.specs.Entries.{above, ancestor, entry, first_of, is_below, is_fixed as is_fixed_node, is_live, kids}
+use Rattle.ss_tree.specs.Entries.{node_of, placed, remove_fault, stands_under, tree, without_node, IsTree}
 use Rattle.ss_tree.proofs.EachMet.{in_times}
 use Rattle.ss_tree.proofs.Kin.{entry_kid}
 use Rattle.ss_tree.proofs.Valid.{In, node_found, in_entry}
@@ -99,7 +102,7 @@ module _ (es : List Entry) (t : IsTree es) (x : List ℕ) (top : ℕ) (at : node
   unfolding parent_in
   absent_outside zero y h ne = ne
   absent_outside (suc n) y h ne =
-      ap₂ (λ a b. a || b) ne (ap (is_met (tree es) n x) (ap (λ o. unwrap_or (option_and_then (λ (m : Placed). m.parent) o) places) h) ∙ top_misses es t x top at inner n)
+      ap₂ (λ a b. a || b) ne (ap (is_met (tree es) n x) (ap (λ o. unwrap_or (option_and_then (λ (m : PlacedItem). m.parent) o) places) h) ∙ top_misses es t x top at inner n)
 
   not_absent : (y : List ℕ) → node y (tree es) ≡ None → is_within (tree es) x y ≡ true → ⊥
   unfolding is_within
@@ -124,7 +127,7 @@ module _ (es : List Entry) (t : IsTree es) (x : List ℕ) (top : ℕ) (at : node
       from : is_within (tree es) x y ≡ true → has y (map (name_at es) nodes) ≡ true
       from h = go (node y (tree es)) refl
         where
-          go : (o : Option Placed) → node y (tree es) ≡ o → has y (map (name_at es) nodes) ≡ true
+          go : (o : Option PlacedItem) → node y (tree es) ≡ o → has y (map (name_at es) nodes) ≡ true
           go None q = absurd (not_absent y q h)
           go (Some m) q =
               let f = node_found es y m q in

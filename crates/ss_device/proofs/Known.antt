@@ -1,11 +1,12 @@
 -- Which items a device knows, and ids that stand by id.
-use Rattle.std.proofs.Common.{◌≡◌, ℕ, List, [], ◌∷◌, map, filter_map, Bool, true, false, cond, ◌||◌, refl, sym, ap, ◌∙◌, subst, Some, is_some, find, bytes_eq}
+use Rattle.std.proofs.Common.{◌≡◌, ℕ, List, [], ◌∷◌, map, filter_map, Bool, true, false, cond, ◌||◌, refl, sym, ap, ◌∙◌}
+use Rattle.std.proofs.Common.{subst, Some, is_some, find, bytes_eq}
 use Rattle.std.specs.List.Sorted.{IsStrictlySortedBy}
 use Rattle.ss_record.specs.declared.readings.Sheet.{Sheet}
 use Rattle.ss_record.specs.Ids.{has, Apart, places, roots}
 use Rattle.ss_record.proofs.IdLists.{has-nil, has-cons, Apart-nil, Apart-cons}
 use Rattle.ss_tree.specs.declared.entries.Entry.{Entry}
-use Rattle.ss_tree.specs.Trees.{Placed, IsSame, node, node_ids, places_node, empty_tree}
+use Rattle.ss_tree.specs.Trees.{PlacedItem, IsSame, node, node_ids, places_node, empty_tree}
 use Rattle.ss_tree.specs.Entries.{tree}
 use Rattle.ss_build.specs.declared.claims.Claim.{Claim}
 use Rattle.ss_build.specs.Rows.{claim_of, rows_of}
@@ -27,16 +28,16 @@ by_id-nil = tt
 
 -- ---- ids of trees
 
-pub has_is_node : (x : List ℕ) (t : List Placed) → has x (node_ids t) ≡ is_some (node x t)
+pub has_is_node : (x : List ℕ) (t : List PlacedItem) → has x (node_ids t) ≡ is_some (node x t)
 unfolding node_ids node
 has_is_node x [] = has-nil x
 has_is_node x (n ∷ t) = has-cons x n.id (map (λ m. m.id) t) ∙ go (bytes_eq x n.id) (has_is_node x t)
   where
-    go : (b : Bool) → has x (map (λ (m : Placed). m.id) t) ≡ is_some (find (λ (m : Placed). bytes_eq x m.id) t) → (b || has x (map (λ (m : Placed). m.id) t)) ≡ is_some (cond b (Some n) (find (λ (m : Placed). bytes_eq x m.id) t))
+    go : (b : Bool) → has x (map (λ (m : PlacedItem). m.id) t) ≡ is_some (find (λ (m : PlacedItem). bytes_eq x m.id) t) → (b || has x (map (λ (m : PlacedItem). m.id) t)) ≡ is_some (cond b (Some n) (find (λ (m : PlacedItem). bytes_eq x m.id) t))
     go true h = refl
     go false h = h
 
-pub same_ids : (x : List ℕ) (t u : List Placed) → IsSame t u → has x (node_ids t) ≡ has x (node_ids u)
+pub same_ids : (x : List ℕ) (t u : List PlacedItem) → IsSame t u → has x (node_ids t) ≡ has x (node_ids u)
 same_ids x t u s = has_is_node x t ∙ (ap is_some (s x) ∙ sym (has_is_node x u))
 
 nodes_ids : (es fs : List Claim) → node_ids (map (node_of es) fs) ≡ ids fs

@@ -1,5 +1,6 @@
 -- The line of an item, as it is read out of a tree.
-use Rattle.std.proofs.Common.{◌≡◌, ℕ, ◌==◌, List, [], Bool, true, false, cond, refl, sym, ap, ap₂, ◌∙◌, Option, Some, None, option_map, option_and_then, unwrap_or}
+use Rattle.std.proofs.Common.{◌≡◌, ℕ, ◌==◌, List, [], Bool, true, false, cond, refl, sym, ap, ap₂, ◌∙◌, Option, Some}
+use Rattle.std.proofs.Common.{None, option_map, option_and_then, unwrap_or}
 use Rattle.std.proofs.lemmas.Bool.{eqb-true, eqb-false}
 use Rattle.ss_record.specs.Items.{ItemView}
 use Rattle.ss_record.specs.Records.{record_of}

@@ -1,5 +1,7 @@
 -- Refusals of a tree's calls, by ids.
-use Rattle.std.proofs.Common.{◌≡◌, ℕ, zero, suc, ◌==◌, List, map, length, not, Bool, true, false, cond, ◌||◌, ◌&&◌, refl, sym, ap, ap₂, ◌∙◌, Option, Some, None, option_map, option_and_then, unwrap_or, is_some, bytes_eq}
+use Rattle.std.proofs.Common.{◌≡◌, ℕ, zero, suc, ◌==◌, List, map, length, not, Bool, true, false, cond, ◌||◌, ◌&&◌}
+use Rattle.std.proofs.Common.{refl, sym, ap, ap₂, ◌∙◌, Option, Some, None, option_map, option_and_then, unwrap_or}
+use Rattle.std.proofs.Common.{is_some, bytes_eq}
 use Rattle.std.specs.Cmp.{both_ways}
 use Rattle.std.proofs.lemmas.Bool.{false≢true}
 use Rattle.std.proofs.lemmas.List.{length-map}
@@ -8,9 +10,11 @@ use Rattle.ss_record.specs.Items.{ItemView}
 use Rattle.ss_record.specs.Kinds.{is_folder}
 use Rattle.ss_tree.specs.declared.entries.Entry.{Entry}
 use Rattle.ss_tree.specs.declared.faults.TreeFault.TheVariants.{NotFolder as NoFolder, Twice as Doubled, BadPlace}
-use Rattle.ss_tree.specs.declared.faults.MoveFault.TheVariants.{Root as Fixed, NotFolder as MoveNoFolder, Under as Below, BadPlace as MoveBadPlace}
-use Rattle.ss_tree.specs.Trees.{Placed, node, node_ids, parent_in, IsUnder, places_node}
-use Rattle.ss_tree.specs.Entries.{above, entry, entry_ids, is_below, is_place, insert_fault, kids, met, move_fault, node_of, placed, stands_under, takes_children, top_entry, tree, IsTree}
+use Rattle.ss_tree.specs.declared.faults.MoveFault.TheVariants.{Root as Fixed, NotFolder as MoveNoFolder}
+use Rattle.ss_tree.specs.declared.faults.MoveFault.TheVariants.{Under as Below, BadPlace as MoveBadPlace}
+use Rattle.ss_tree.specs.Trees.{PlacedItem, node, node_ids, parent_in, IsUnder, places_node}
+use Rattle.ss_tree.specs.Entries.{above, entry, entry_ids, is_below, is_place, insert_fault, kids, met, move_fault}
+use Rattle.ss_tree.specs.Entries.{node_of, placed, stands_under, takes_children, top_entry, tree, IsTree}
 use Rattle.ss_tree.specs.Entries as entries
 use Rattle.ss_tree.proofs.Edits.{entry_has}
 use Rattle.ss_tree.proofs.Kept.{insert_free}
@@ -19,7 +23,8 @@ use Rattle.ss_tree.proofs.Ids.{has_node, node_found}
 use Rattle.ss_tree.proofs.Valid.{valid_tree, under_from}
 use Rattle.ss_device.specs.declared.faults.EditFault.{EditFault}
 use Rattle.ss_device.specs.declared.faults.EditFault.TheVariants.{NoItem, Root, NotFolder, Under, Twice, Memory}
-use Rattle.ss_device.specs.Edits.{add_fault, change_fault, item_of, is_fixed, is_met, is_within, lacks_item, takes_items}
+use Rattle.ss_device.specs.Edits.{add_fault, change_fault, item_of, is_fixed, is_met, is_within, lacks_item}
+use Rattle.ss_device.specs.Edits.{takes_items}
 use Rattle.ss_device.specs.Edits as edits
 use Rattle.ss_device.specs.Refusals.{edit_of_move, edit_of_tree}
 use Rattle.ss_device.proofs.ByIds.{at_entry, idof, idof_some, placed_is, same_node}
@@ -64,7 +69,7 @@ module _ (es : List Entry) (t : IsTree es) (x : List ℕ) (k : ℕ) (at : node_o
   item_id i h = ap (λ (v : ItemView). v.id) (some_same (sym h ∙ ap (option_map (λ (e : Entry). e.item)) found.1)) ∙ found.2
 
   -- what is read of the node is the item in its place
-  pub item_is : (i : ItemView) → option_map (λ e. e.item) (entry k es) ≡ Some i → (n : Placed) → node x (tree es) ≡ Some n → item_of n ≡ i
+  pub item_is : (i : ItemView) → option_map (λ e. e.item) (entry k es) ≡ Some i → (n : PlacedItem) → node x (tree es) ≡ Some n → item_of n ≡ i
   unfolding placed found there
   item_is i h n q =
       let same : placed es found.0 ≡ n = some_same (sym there.3 ∙ q) in
@@ -72,14 +77,14 @@ module _ (es : List Entry) (t : IsTree es) (x : List ℕ) (k : ℕ) (at : node_o
 
   pub folder_is : takes_items (tree es) x ≡ takes_children k es
   unfolding takes_children placed found there
-  folder_is = ap₂ (λ a b. not a && b) top_is (ap (λ o. unwrap_or (option_map (λ (n : Placed). is_folder n.kind) o) false) there.3 ∙ sym (ap (λ o. unwrap_or (option_map (λ (e : Entry). is_folder e.item.kind) o) false) found.1))
+  folder_is = ap₂ (λ a b. not a && b) top_is (ap (λ o. unwrap_or (option_map (λ (n : PlacedItem). is_folder n.kind) o) false) there.3 ∙ sym (ap (λ o. unwrap_or (option_map (λ (e : Entry). is_folder e.item.kind) o) false) found.1))
 
   under_root : has x roots ≡ true → stands_under 0 found.0 ≡ true
   unfolding places_node roots IsUnder found there
   under_root h =
       let u = ((valid_tree es t).stands places places_node (valid_tree es t).top_is x).0 h in
       let same : u.0 ≡ placed es found.0 = some_same (sym u.1 ∙ there.3) in
-      let parent : option_and_then (idof es) found.0.parent ≡ Some places = sym (ap (λ (n : Placed). n.parent) (same ∙ placed_is es t k found.0 found.1)) ∙ u.2 in
+      let parent : option_and_then (idof es) found.0.parent ≡ Some places = sym (ap (λ (n : PlacedItem). n.parent) (same ∙ placed_is es t k found.0 found.1)) ∙ u.2 in
       go found.0.parent refl parent
     where
       go : (o : Option ℕ) → found.0.parent ≡ o → option_and_then (idof es) o ≡ Some places → unwrap_or (option_map (λ p. 0 == p) found.0.parent) false ≡ true
@@ -93,7 +98,7 @@ module _ (es : List Entry) (t : IsTree es) (x : List ℕ) (k : ℕ) (at : node_o
   unfolding IsUnder found there roots places_node
   root_under h =
       let parent : option_and_then (idof es) found.0.parent ≡ Some places = ap (option_and_then (idof es)) (under_from 0 found.0 h) ∙ ap (option_map (λ (w : Entry). w.item.id)) t.top in
-      ((valid_tree es t).stands places places_node (valid_tree es t).top_is x).1 (placed es found.0, there.3, ap (λ (n : Placed). n.parent) (placed_is es t k found.0 found.1) ∙ parent)
+      ((valid_tree es t).stands places places_node (valid_tree es t).top_is x).1 (placed es found.0, there.3, ap (λ (n : PlacedItem). n.parent) (placed_is es t k found.0 found.1) ∙ parent)
 
   pub fixed_is : is_fixed x ≡ entries.is_fixed k es
   unfolding entries.is_fixed
@@ -104,7 +109,7 @@ module _ (es : List Entry) (t : IsTree es) (x : List ℕ) (k : ℕ) (at : node_o
 module _ (es : List Entry) (t : IsTree es) (x : List ℕ) (k : ℕ) (at : node_of x es ≡ Some k) (inner : (k == 0) ≡ false) where
   pub step_in : (p : ℕ) (f : Entry) → entry p es ≡ Some f → parent_in (tree es) f.item.id ≡ unwrap_or (option_and_then (idof es) f.parent) places
   unfolding parent_in
-  step_in p f q = ap (λ o. unwrap_or (option_and_then (λ (n : Placed). n.parent) o) places) (at_entry es t p f q) ∙ ap (λ (n : Placed). unwrap_or n.parent places) (placed_is es t p f q)
+  step_in p f q = ap (λ o. unwrap_or (option_and_then (λ (n : PlacedItem). n.parent) o) places) (at_entry es t p f q) ∙ ap (λ (n : PlacedItem). unwrap_or n.parent places) (placed_is es t p f q)
 
   here : (p : ℕ) (f : Entry) → entry p es ≡ Some f → bytes_eq f.item.id x ≡ (k == p)
   here p f q =
@@ -263,10 +268,10 @@ fixed_inner x h = go (bytes_eq x places) h
     go true k = absurd (false≢true (sym k))
     go false k = refl
 
-pub takes_inner : (t : List Placed) (y : List ℕ) → takes_items t y ≡ true → bytes_eq y places ≡ false
+pub takes_inner : (t : List PlacedItem) (y : List ℕ) → takes_items t y ≡ true → bytes_eq y places ≡ false
 takes_inner t y h = go (bytes_eq y places) h
   where
-    go : (a : Bool) → (not a && unwrap_or (option_map (λ (n : Placed). is_folder n.kind) (node y t)) false) ≡ true → a ≡ false
+    go : (a : Bool) → (not a && unwrap_or (option_map (λ (n : PlacedItem). is_folder n.kind) (node y t)) false) ≡ true → a ≡ false
     go true k = absurd (false≢true k)
     go false k = refl
 
@@ -318,7 +323,7 @@ module _ (es : List Entry) (t : IsTree es) (x : List ℕ) (k : ℕ) (at : node_o
       at_folder (Some f) h r =
           let id : f.item.id ≡ i.id = ap (λ (v : ItemView). v.id) (some_same r) in
           let step : parent_in (tree es) x ≡ f.item.id =
-          ap (λ o. unwrap_or (option_and_then (λ (n : Placed). n.parent) o) places) e.3 ∙ (ap (λ (n : Placed). unwrap_or n.parent places) (placed_is es t k e.0 e.1) ∙ (ap (λ o. unwrap_or (option_and_then (idof es) o) places) parent ∙ ap (λ o. unwrap_or (option_map (λ (d : Entry). d.item.id) o) places) h)) in
+          ap (λ o. unwrap_or (option_and_then (λ (n : PlacedItem). n.parent) o) places) e.3 ∙ (ap (λ (n : PlacedItem). unwrap_or n.parent places) (placed_is es t k e.0 e.1) ∙ (ap (λ o. unwrap_or (option_and_then (idof es) o) places) parent ∙ ap (λ o. unwrap_or (option_map (λ (d : Entry). d.item.id) o) places) h)) in
           let inner : bytes_eq f.item.id places ≡ false = same_node es t p 0 f top_entry h t.top ∙ not_top (p == 0) refl in
           (step ∙ id, ap (λ z. is_some (node z (tree es))) (sym id) ∙ ap is_some (at_entry es t p f h), ap (λ z. bytes_eq z places) (sym id) ∙ inner)
         where
@@ -330,7 +335,7 @@ module _ (es : List Entry) (t : IsTree es) (x : List ℕ) (k : ℕ) (at : node_o
               absurd (false≢true (sym loose ∙ yes))
 
 -- the rules by which a renaming and a deletion are refused know no want of memory
-pub change_not_memory : (t : List Placed) (x : List ℕ) (e : EditFault) → change_fault t x ≡ Some e → e ≡ Memory → ⊥
+pub change_not_memory : (t : List PlacedItem) (x : List ℕ) (e : EditFault) → change_fault t x ≡ Some e → e ≡ Memory → ⊥
 unfolding change_fault
 change_not_memory t x e q m = go (lacks_item t x) (is_fixed x) q
   where

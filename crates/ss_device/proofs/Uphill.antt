@@ -1,9 +1,10 @@
 -- Steps up, by ids and by nodes.
-use Rattle.std.proofs.Common.{◌≡◌, ◌↔◌, ℕ, zero, suc, ◌==◌, List, [], Bool, true, false, ◌||◌, inl, inr, refl, sym, ap, ◌∙◌, Option, Some, None, option_map, option_and_then, unwrap_or, is_some, bytes_eq}
+use Rattle.std.proofs.Common.{◌≡◌, ◌↔◌, ℕ, zero, suc, ◌==◌, List, [], Bool, true, false, ◌||◌, inl, inr, refl, sym, ap}
+use Rattle.std.proofs.Common.{◌∙◌, Option, Some, None, option_map, option_and_then, unwrap_or, is_some, bytes_eq}
 use Rattle.std.proofs.lemmas.Bool.{false≢true, eqb-true, or_cases, eq-eqb}
 use Rattle.ss_record.specs.Ids.{has, places}
 use Rattle.ss_tree.specs.declared.entries.Entry.{Entry}
-use Rattle.ss_tree.specs.Trees.{Placed, node_ids, parent_in, steps}
+use Rattle.ss_tree.specs.Trees.{PlacedItem, node_ids, parent_in, steps}
 use Rattle.ss_tree.specs.Entries.{above, ancestor, entry, is_below, node_of, top_entry, tree, up, IsBelow, IsTree}
 use Rattle.ss_tree.proofs.Changes.{live_steps}
 use Rattle.ss_tree.proofs.Ways.{below_is, stays}
@@ -15,7 +16,7 @@ use Rattle.ss_device.proofs.Refused.{at_there, step_in, there, top_is, within_no
 use Rattle.ss_tree.proofs.Looked.{live_entry}
 use Rattle.ss_text.proofs.Basics.{same_text, bytes_eq-same}
 
-met_steps : (t : List Placed) (n : ℕ) (x y : List ℕ) → is_met t n x y ≡ true → (k : ℕ) × (steps (parent_in t) k y ≡ x)
+met_steps : (t : List PlacedItem) (n : ℕ) (x y : List ℕ) → is_met t n x y ≡ true → (k : ℕ) × (steps (parent_in t) k y ≡ x)
 unfolding steps
 met_steps t zero x y h = (0, same_text y x h)
 met_steps t (suc n) x y h = elim (or_cases (bytes_eq y x) (is_met t n x (parent_in t y)) h) [

@@ -34,7 +34,7 @@ pub record IsDeath (d : List ℕ × ℕ) : Type 0 where
   pub time : d.1 ≤ last_stamp
 
 -- a device: what holds of every one, and the forms of its parts
-pub record IsFormed (d : DeviceView) : Type 0 where
+pub record HasDeviceForm (d : DeviceView) : Type 0 where
   pub device : IsDevice d
   pub valid : IsTree d.tree
   pub items : AreItems d.tree

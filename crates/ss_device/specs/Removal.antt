@@ -3,7 +3,7 @@ use Rattle.std.specs.Prelude.{◌≡◌, ◌==◌, ℕ, List, ◌∷◌, ◌++�
 use Rattle.std.specs.List.{list_any}
 use Rattle.ss_tree.specs.declared.entries.Entry.{Entry}
 use Rattle.ss_tree.specs.Entries.{IsTree, entry, is_fixed, is_live, kids, tree}
-use Rattle.ss_tree.specs.Trees.{IsValidTree, Placed, node, parent_in}
+use Rattle.ss_tree.specs.Trees.{IsValidTree, PlacedItem, node, parent_in}
 use Rattle.ss_record.specs.Ids.{places}
 use Rattle.ss_record.specs.Items.{is_fit}
 use Rattle.ss_device.specs.Edits.{is_fixed as is_fixed_id, is_within, item_of}
@@ -32,5 +32,5 @@ pub record IsDoomed (es : List Entry) (x : List ℕ) (nodes : List ℕ) (from co
   pub folder_there : is_some (node from (tree es)) ≡ true
   pub folder_inner : bytes_eq from places ≡ false
   pub folder_outside : is_within (tree es) x from ≡ false
-  pub content_is : (n : Placed) → node from (tree es) ≡ Some n → n.content ≡ content
-  pub content_fit : (n : Placed) → node from (tree es) ≡ Some n → is_fit (item_of n) ≡ true
+  pub content_is : (n : PlacedItem) → node from (tree es) ≡ Some n → n.content ≡ content
+  pub content_fit : (n : PlacedItem) → node from (tree es) ≡ Some n → is_fit (item_of n) ≡ true

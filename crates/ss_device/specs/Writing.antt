@@ -11,8 +11,8 @@ use Rattle.ss_tree.specs.Entries.{entry, placed, preorder}
 use Rattle.ss_device.specs.Device.{DeviceView}
 
 -- a string as JSON writes it
-abbrev pub quoted : List ℕ → List ℕ
-quoted s = compact_text (string s)
+abbrev pub quoted_string : List ℕ → List ℕ
+quoted_string s = compact_text (string s)
 
 -- ---- lines: a JSON list each, with its newline
 
@@ -23,14 +23,14 @@ unfoldable pub stamp_line : ℕ → List ℕ
 stamp_line stamp = codes "[\"stamp\",\"" ++ stamp_text stamp ++ codes "\"]\n"
 
 unfoldable pub row_line : Sheet → List ℕ
-row_line r = codes "[\"row\",\"" ++ stamp_text r.modified ++ codes "\"," ++ quoted r.id ++ codes "," ++ quoted r.payload ++ codes "]\n"
+row_line r = codes "[\"row\",\"" ++ stamp_text r.modified ++ codes "\"," ++ quoted_string r.id ++ codes "," ++ quoted_string r.payload ++ codes "]\n"
 
 -- an item's time in hundredths of a second, and its record, in which each number stands with the characters that it has
 unfoldable pub item_line : ℕ → List ℕ → List ℕ
 item_line time record_text = codes "[\"item\"," ++ decimal time ++ codes "," ++ record_text ++ codes "]\n"
 
 unfoldable pub dead_line : List ℕ × ℕ → List ℕ
-dead_line d = codes "[\"dead\"," ++ decimal d.1 ++ codes "," ++ quoted d.0 ++ codes "]\n"
+dead_line d = codes "[\"dead\"," ++ decimal d.1 ++ codes "," ++ quoted_string d.0 ++ codes "]\n"
 
 unfoldable pub end_line : List ℕ
 end_line = codes "[\"end\"]\n"

@@ -5,7 +5,7 @@ ghost use Rattle.std.specs.BTreeMap.{IsOrdered, get};
 ghost use Rattle.ss_text.specs.Texts.{text_cmp};
 ghost use Rattle.ss_tree.specs.Trees.{IsSame};
 ghost use Rattle.ss_tree.specs.Entries.{tree as tree_of};
-ghost use Rattle.ss_device.specs.Edits.{change_fault, deleted, is_within};
+ghost use Rattle.ss_device.specs.Edits.{change_fault, tree_after_delete, is_within};
 ghost use Rattle.ss_device.specs.Removal.{IsDoomed};
 ghost use Rattle.ss_device.specs.declared.faults.EditFault.TheVariants.{Memory};
 
@@ -68,7 +68,7 @@ pub(crate) fn with_doomed(
 /// Takes an item with all below it out of the tree; its folder has another time.
 pub(crate) fn take_out(tree: &mut Tree, id: &Id, doomed: Doomed, time: Stamp)
     requires { IsDoomed tree.old id.now doomed.nodes.items doomed.from doomed.content }
-    ensures { IsSame (tree_of tree.new) (deleted time id.now (tree_of tree.old)) }
+    ensures { IsSame (tree_of tree.new) (tree_after_delete time id.now (tree_of tree.old)) }
 {
     let Doomed {
         nodes,

@@ -2,7 +2,8 @@
 
 ghost use Rattle.std.specs.Prelude.{◌≡◌, ◌⊎◌, Some, None, IfErr, OnOk, OnErr, MatchResult};
 ghost use Rattle.ss_tree.specs.Entries.{tree as tree_of};
-ghost use Rattle.ss_device.specs.Edits.{IsAdded, IsDeleted, IsMoved, IsRenamed, add_fault, change_fault, move_fault};
+ghost use Rattle.ss_device.specs.Edits.{AddsItem, DeletesItem, MovesItem, RenamesItem, add_fault, change_fault};
+ghost use Rattle.ss_device.specs.Edits.{move_fault};
 ghost use Rattle.ss_device.specs.declared.faults.EditFault.TheVariants.{Memory};
 
 use crate::deletions::{sentence, take_out, with_doomed};
@@ -19,7 +20,7 @@ impl Device {
     pub fn add(&mut self, alloc: Global, now: u64, parent: &Id, item: Item) -> Result<(), EditFault>
         ensures refused { MatchResult result (λ _. add_fault (tree_of self.old.tree) parent.now item.id
             ≡ None) (λ e. (e ≡ Memory) ⊎ (add_fault (tree_of self.old.tree) parent.now item.id ≡ Some e)) }
-        ensures added { OnOk result (IsAdded now parent.now item self.old self.new) }
+        ensures added { OnOk result (AddsItem now parent.now item self.old self.new) }
         ensures unchanged { OnErr result (self.new ≡ self.old) }
     {
         let id = item.id().copy(alloc)?;
@@ -34,7 +35,7 @@ impl Device {
         ensures refused { MatchResult result (λ _. change_fault (tree_of self.old.tree) id.now
             ≡ None) (λ e. (e ≡ Memory) ⊎ (change_fault (tree_of self.old.tree) id.now ≡ Some e)) }
         ensures wanting { IfErr result (λ e. e ≡ Memory → change_fault (tree_of self.old.tree) id.now ≡ None) }
-        ensures renamed { OnOk result (IsRenamed now id.now title.now self.old self.new) }
+        ensures renamed { OnOk result (RenamesItem now id.now title.now self.old self.new) }
         ensures unchanged { OnErr result (self.new ≡ self.old) }
     {
         rename_in(alloc, &mut self.tree, Stamp::clamp(now), id, title)?;
@@ -53,7 +54,7 @@ impl Device {
         ensures refused { MatchResult result (λ _. move_fault (tree_of self.old.tree) id.now parent.now
             ≡ None) (λ e. (e ≡ Memory) ⊎ (move_fault (tree_of self.old.tree) id.now parent.now ≡ Some e)) }
         ensures wanting { IfErr result (λ e. e ≡ Memory → change_fault (tree_of self.old.tree) id.now ≡ None) }
-        ensures moved { OnOk result (IsMoved now id.now parent.now self.old self.new) }
+        ensures moved { OnOk result (MovesItem now id.now parent.now self.old self.new) }
         ensures unchanged { OnErr result (self.new ≡ self.old) }
     {
         move_in(alloc, &mut self.tree, Stamp::clamp(now), id, parent)?;
@@ -66,7 +67,7 @@ impl Device {
         ensures refused { MatchResult result (λ _. change_fault (tree_of self.old.tree) id.now
             ≡ None) (λ e. (e ≡ Memory) ⊎ (change_fault (tree_of self.old.tree) id.now ≡ Some e)) }
         ensures wanting { IfErr result (λ e. e ≡ Memory → change_fault (tree_of self.old.tree) id.now ≡ None) }
-        ensures deleted { OnOk result (IsDeleted now id.now self.old self.new) }
+        ensures deleted { OnOk result (DeletesItem now id.now self.old self.new) }
         ensures unchanged { OnErr result (self.new ≡ self.old) }
     {
         let doomed = sentence(alloc, &self.tree, id)?;

@@ -1,11 +1,13 @@
 //! Changes of a tree that name items by their ids.
 
-ghost use Rattle.std.specs.Prelude.{◌≡◌, ◌⊎◌, ◌++◌, ◌∷◌, [], ℕ, List, Some, None, true, false, not, is_some, IfOk, OnOk, OnErr, MatchResult, MatchOption, option_map, bytes_eq, if◌then◌else◌};
+ghost use Rattle.std.specs.Prelude.{◌≡◌, ◌⊎◌, ◌++◌, ◌∷◌, [], ℕ, List, Some, None, true, false, not, is_some, IfOk};
+ghost use Rattle.std.specs.Prelude.{OnOk, OnErr, MatchResult, MatchOption, option_map, bytes_eq, if◌then◌else◌};
 ghost use Rattle.ss_record.specs.Ids.{places};
 ghost use Rattle.ss_record.specs.Items.{is_fit};
-ghost use Rattle.ss_tree.specs.Trees.{Placed, node};
+ghost use Rattle.ss_tree.specs.Trees.{PlacedItem, node};
 ghost use Rattle.ss_tree.specs.Entries.{IsTree, tree as tree_of};
-ghost use Rattle.ss_device.specs.Edits.{add_fault, change_fault, is_fixed, item_of, left_node, lacks_item, move_fault, moved_only, new_node, revised_node, stamped, with_child};
+ghost use Rattle.ss_device.specs.Edits.{add_fault, change_fault, is_fixed, item_of, left_node, lacks_item, move_fault};
+ghost use Rattle.ss_device.specs.Edits.{moved_only, new_node, revised_node, item_at_time, with_child};
 ghost use Rattle.ss_device.specs.Refusals.{edit_of_move, edit_of_tree};
 ghost use Rattle.ss_tree.specs.declared.faults.TreeFault.TheVariants.{BadPlace};
 ghost use Rattle.ss_tree.specs.declared.faults.MoveFault.TheVariants.{BadPlace as NoPlace};
@@ -20,9 +22,9 @@ use std::alloc::{AllocError, Global};
 /// The content of an item that is there.
 pub(crate) fn content_of(alloc: Global, tree: &Tree, id: &Id) -> Result<Word, AllocError>
     requires { is_some (node id.now (tree_of tree.now)) ≡ true }
-    ensures content { IfOk result (λ content. (n : Placed) → node id.now (tree_of tree.now) ≡ Some n
+    ensures content { IfOk result (λ content. (n : PlacedItem) → node id.now (tree_of tree.now) ≡ Some n
         → n.content ≡ content) }
-    ensures fit { (n : Placed) → node id.now (tree_of tree.now) ≡ Some n → is_fit (item_of n) ≡ true }
+    ensures fit { (n : PlacedItem) → node id.now (tree_of tree.now) ≡ Some n → is_fit (item_of n) ≡ true }
 {
     let Some(at) = tree.find(id) else {
         unreachable!();
@@ -34,7 +36,7 @@ pub(crate) fn content_of(alloc: Global, tree: &Tree, id: &Id) -> Result<Word, Al
 pub fn revise(tree: &mut Tree, id: &Id, content: Word, time: Stamp)
     requires there { is_some (node id.now (tree_of tree.old)) ≡ true }
     requires inner { bytes_eq id.now places ≡ false }
-    requires fit { (n : Placed) → node id.now (tree_of tree.old) ≡ Some n
+    requires fit { (n : PlacedItem) → node id.now (tree_of tree.old) ≡ Some n
         → is_fit (record { id = n.id; kind = n.kind; content = content }) ≡ true }
     ensures nodes { (y : List ℕ) → node y (tree_of tree.new) ≡ option_map
         (λ n. if bytes_eq n.id id.now then revised_node content time n else n) (node y (tree_of tree.old)) }
@@ -51,9 +53,9 @@ pub fn revise(tree: &mut Tree, id: &Id, content: Word, time: Stamp)
 pub(crate) fn touch(tree: &mut Tree, id: &Id, content: Word, time: Stamp)
     requires there { is_some (node id.now (tree_of tree.old)) ≡ true }
     requires inner { bytes_eq id.now places ≡ false }
-    requires content { (n : Placed) → node id.now (tree_of tree.old) ≡ Some n → n.content ≡ content }
-    requires fit { (n : Placed) → node id.now (tree_of tree.old) ≡ Some n → is_fit (item_of n) ≡ true }
-    ensures nodes { (y : List ℕ) → node y (tree_of tree.new) ≡ option_map (stamped id.now time)
+    requires content { (n : PlacedItem) → node id.now (tree_of tree.old) ≡ Some n → n.content ≡ content }
+    requires fit { (n : PlacedItem) → node id.now (tree_of tree.old) ≡ Some n → is_fit (item_of n) ≡ true }
+    ensures nodes { (y : List ℕ) → node y (tree_of tree.new) ≡ option_map (item_at_time id.now time)
         (node y (tree_of tree.old)) }
     ensures kept { IsTree tree.new }
 {

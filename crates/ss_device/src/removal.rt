@@ -1,6 +1,7 @@
 //! Taking an item with all below it out of a tree.
 
-ghost use Rattle.std.specs.Prelude.{◌≡◌, ◌==◌, ◌||◌, ℕ, List, Some, None, true, false, is_some, IfOk, OnOk, filter, length, map, option_map, if◌then◌else◌};
+ghost use Rattle.std.specs.Prelude.{◌≡◌, ◌==◌, ◌||◌, ℕ, List, Some, None, true, false, is_some, IfOk, OnOk, filter};
+ghost use Rattle.std.specs.Prelude.{length, map, option_map, if◌then◌else◌};
 ghost use Rattle.ss_record.specs.Ids.{has};
 ghost use Rattle.ss_tree.specs.Trees.{node};
 ghost use Rattle.ss_tree.specs.Entries.{IsTree, is_below, preorder, tree as tree_of};

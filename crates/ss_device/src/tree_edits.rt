@@ -1,11 +1,13 @@
 //! Edits of a tree: what a device's edits make of it.
 
-ghost use Rattle.std.specs.Prelude.{◌≡◌, ◌⊎◌, ℕ, List, Some, None, true, false, is_some, IfErr, IfOk, OnOk, OnErr, MatchResult, bytes_eq};
+ghost use Rattle.std.specs.Prelude.{◌≡◌, ◌⊎◌, ℕ, List, Some, None, true, false, is_some, IfErr, IfOk, OnOk, OnErr};
+ghost use Rattle.std.specs.Prelude.{MatchResult, bytes_eq};
 ghost use Rattle.ss_record.specs.Ids.{places};
 ghost use Rattle.ss_record.specs.Items.{is_fit};
-ghost use Rattle.ss_tree.specs.Trees.{IsSame, IsValidTree, Placed, node, parent_in};
+ghost use Rattle.ss_tree.specs.Trees.{IsSame, IsValidTree, PlacedItem, node, parent_in};
 ghost use Rattle.ss_tree.specs.Entries.{tree as tree_of};
-ghost use Rattle.ss_device.specs.Edits.{add_fault, added, change_fault, is_fixed, is_within, move_fault, moved, renamed, titled};
+ghost use Rattle.ss_device.specs.Edits.{add_fault, tree_after_add, change_fault, is_fixed, is_within, move_fault};
+ghost use Rattle.ss_device.specs.Edits.{tree_after_move, tree_after_rename, titled};
 ghost use Rattle.ss_device.specs.declared.faults.EditFault.TheVariants.{Memory};
 
 use crate::faults::EditFault;
@@ -26,7 +28,7 @@ pub(crate) fn add_to(
 ) -> Result<(), EditFault>
     ensures refused { MatchResult result (λ _. add_fault (tree_of tree.old) parent.now item.id
         ≡ None) (λ e. (e ≡ Memory) ⊎ (add_fault (tree_of tree.old) parent.now item.id ≡ Some e)) }
-    ensures same { OnOk result (IsSame (tree_of tree.new) (added time parent.now item (tree_of tree.old))) }
+    ensures same { OnOk result (IsSame (tree_of tree.new) (tree_after_add time parent.now item (tree_of tree.old))) }
     ensures unchanged { OnErr result (tree.new ≡ tree.old) }
 {
     if tree.find(parent).is_none() {
@@ -42,9 +44,9 @@ pub(crate) fn add_to(
 fn titled_at(alloc: Global, tree: &Tree, id: &Id, title: &str) -> Result<Word, AllocError>
     requires there { is_some (node id.now (tree_of tree.now)) ≡ true }
     requires inner { bytes_eq id.now places ≡ false }
-    ensures content { IfOk result (λ content. (n : Placed) → node id.now (tree_of tree.now) ≡ Some n
+    ensures content { IfOk result (λ content. (n : PlacedItem) → node id.now (tree_of tree.now) ≡ Some n
         → titled title.now n.content ≡ content) }
-    ensures fit { (n : Placed) → node id.now (tree_of tree.now) ≡ Some n
+    ensures fit { (n : PlacedItem) → node id.now (tree_of tree.now) ≡ Some n
         → is_fit (record { id = n.id; kind = n.kind; content = titled title.now n.content }) ≡ true }
 {
     let Some(at) = tree.find(id) else {
@@ -64,7 +66,7 @@ pub(crate) fn rename_in(
     ensures refused { MatchResult result (λ _. change_fault (tree_of tree.old) id.now ≡ None) (λ e. (e ≡ Memory)
         ⊎ (change_fault (tree_of tree.old) id.now ≡ Some e)) }
     ensures wanting { IfErr result (λ e. e ≡ Memory → change_fault (tree_of tree.old) id.now ≡ None) }
-    ensures same { OnOk result (IsSame (tree_of tree.new) (renamed time id.now title.now (tree_of tree.old))) }
+    ensures same { OnOk result (IsSame (tree_of tree.new) (tree_after_rename time id.now title.now (tree_of tree.old))) }
     ensures unchanged { OnErr result (tree.new ≡ tree.old) }
 {
     if let Some(fault) = change_fault(tree, id) {
@@ -105,7 +107,7 @@ pub(crate) fn move_in(
     ensures refused { MatchResult result (λ _. move_fault (tree_of tree.old) id.now parent.now
         ≡ None) (λ e. (e ≡ Memory) ⊎ (move_fault (tree_of tree.old) id.now parent.now ≡ Some e)) }
     ensures wanting { IfErr result (λ e. e ≡ Memory → change_fault (tree_of tree.old) id.now ≡ None) }
-    ensures same { OnOk result (IsSame (tree_of tree.new) (moved time id.now parent.now (tree_of tree.old))) }
+    ensures same { OnOk result (IsSame (tree_of tree.new) (tree_after_move time id.now parent.now (tree_of tree.old))) }
     ensures unchanged { OnErr result (tree.new ≡ tree.old) }
 {
     if tree.find(parent).is_none() {

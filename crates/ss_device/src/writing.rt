@@ -1,10 +1,11 @@
 //! Writing a device's file.
 
-ghost use Rattle.std.specs.Prelude.{◌≡◌, ◌≢◌, ◌++◌, ◌==◌, ℕ, List, [], Some, true, false, IfOk, OnOk, length, if◌then◌else◌};
+ghost use Rattle.std.specs.Prelude.{◌≡◌, ◌≢◌, ◌++◌, ◌==◌, ℕ, List, [], Some, true, false, IfOk, OnOk, length};
+ghost use Rattle.std.specs.Prelude.{if◌then◌else◌};
 ghost use Rattle.std.specs.List.{AllByRecursion, flat_map};
 ghost use Rattle.ss_tree.specs.declared.entries.Entry.{Entry};
 ghost use Rattle.ss_tree.specs.Entries.{IsTree, entry, is_live, kid_ids, preorder};
-ghost use Rattle.ss_device.specs.Forms.{AreItems, IsDeath, IsFormed, IsItem, IsRow};
+ghost use Rattle.ss_device.specs.Forms.{AreItems, IsDeath, HasDeviceForm, IsItem, IsRow};
 ghost use Rattle.ss_device.specs.Writing.{dead_line, device_text, node_line, node_lines, row_line};
 
 use crate::device::Device;
@@ -86,7 +87,7 @@ fn push_deaths(out: &mut Vec<u8>, dead: &BTreeMap<Id, Stamp>) -> Result<(), Allo
 #[tactic(auto, unfolding(crate::specs::Writing::device_text, crate::specs::Writing::device_line, crate::specs::Writing::end_line))]
 pub fn write_device(alloc: Global, device: &Device) -> Result<Vec<u8>, AllocError>
     ensures text { IfOk result (λ bytes. bytes.items ≡ device_text device.now) }
-    ensures formed { OnOk result (IsFormed device.now) }
+    ensures formed { OnOk result (HasDeviceForm device.now) }
 {
     let mut out = Vec::from_slice(alloc, b"[\"device\",2]\n")?;
     time_form(device.stamp);

@@ -1,5 +1,7 @@
 -- What is written for a device is a file of it.
-use Rattle.std.proofs.Common.{◌≡◌, ℕ, ◌≤◌, ◌==◌, ◌&&◌, ◌||◌, not, nat_lt, Bool, true, false, cond, List, [], ◌∷◌, ◌++◌, length, map, filter_map, find, codes, decimal, append_assoc, append-nil, refl, sym, ap, ap₂, subst, ◌∙◌, arith, Option, Some, None, option_map, unwrap_or, Less, inl, inr}
+use Rattle.std.proofs.Common.{◌≡◌, ℕ, ◌≤◌, ◌==◌, ◌&&◌, ◌||◌, not, nat_lt, Bool, true, false, cond, List, [], ◌∷◌, ◌++◌}
+use Rattle.std.proofs.Common.{length, map, filter_map, find, codes, decimal, append_assoc, append-nil, refl, sym, ap}
+use Rattle.std.proofs.Common.{ap₂, subst, ◌∙◌, arith, Option, Some, None, option_map, unwrap_or, Less, inl, inr}
 use Rattle.std.specs.List.{AllByRecursion, cons_option, flat_map, list_all}
 use Rattle.std.specs.List.Sorted.{IsStrictlySortedBy}
 use Rattle.std.specs.Ordering.{is_lt}
@@ -21,16 +23,19 @@ use Rattle.ss_tree.proofs.Valid.{In}
 use Rattle.ss_build.specs.Rows.{rows_of}
 use Rattle.ss_build.specs.Built.{built}
 use Rattle.ss_device.specs.Device.{AreById, Dead, DeviceView, dead_ids, row_ids}
-use Rattle.ss_device.specs.Forms.{IsDeath, IsFormed, IsRow}
-use Rattle.ss_device.specs.Writing.{dead_line, device_line, device_text, end_line, item_line, node_line, node_lines, record_at, row_line, stamp_line}
+use Rattle.ss_device.specs.Forms.{IsDeath, HasDeviceForm, IsRow}
+use Rattle.ss_device.specs.Writing.{dead_line, device_line, device_text, end_line, item_line, node_line, node_lines}
+use Rattle.ss_device.specs.Writing.{record_at, row_line, stamp_line}
 use Rattle.ss_device.proofs.Known.{same_ids}
 use Rattle.ss_device_file.specs.declared.lines.Version.TheVariants.{Second}
 use Rattle.ss_device_file.specs.declared.lines.ItemLine.{ItemLine}
 use Rattle.ss_device_file.specs.declared.lines.Line.{Line}
 use Rattle.ss_device_file.specs.declared.lines.Line.TheVariants.{Head, Synced, Row, Item, Dead as Died, End}
-use Rattle.ss_device_file.specs.Lines.{AreLines, ComeAfter, IsItemLine, IsLine, follows, is_end, is_ended, last_of, line_text, may_come, record_in, suits, text_of}
+use Rattle.ss_device_file.specs.Lines.{AreLines, ComeAfter, IsItemLine, IsLine, follows, is_end, is_ended, last_of}
+use Rattle.ss_device_file.specs.Lines.{line_text, may_come, record_in, suits, text_of}
 use Rattle.ss_device_file.specs.Places.{IsWhole, tree_of}
-use Rattle.ss_device_file.specs.Files.{IsFileOf, death_in, deaths_in, is_lost, item_in, items_in, lost_in, mirror_in, row_in, rows_in, synced_in}
+use Rattle.ss_device_file.specs.Files.{IsFileOf, death_in, deaths_in, is_lost, item_in, items_in, lost_in, mirror_in}
+use Rattle.ss_device_file.specs.Files.{row_in, rows_in, synced_in}
 use Rattle.ss_device_file.proofs.Ordered.{Chain, last_is}
 use Rattle.ss_device_file.proofs.Preorder.{all_placed, inner, inner_below, inner_live, node_item, node_items, order_is}
 use Rattle.ss_device_file.proofs.Standing.{item_formed, line_is, record_formed, record_same, same_items, there}
@@ -290,7 +295,7 @@ not_lost : (a b c : Bool) → (a ≡ true → (b || c) ≡ true) → (a && not (
 not_lost false b c h = refl
 not_lost true b c h = ap not (h refl)
 
-nothing_lost : (d : DeviceView) → IsFormed d → lost_in (lines_of d) ≡ None
+nothing_lost : (d : DeviceView) → HasDeviceForm d → lost_in (lines_of d) ≡ None
 unfolding lost_in
 nothing_lost d h =
     ap₂ (λ (m : List Sheet) (p : List ItemLine × Dead). find (is_lost (built (rows_of m)) (tree_of p.0) p.1) (row_ids m)) (mirror_is d) (ap₂ (λ a b. (a, b)) (items_are d) (deaths_are d))
@@ -300,7 +305,7 @@ nothing_lost d h =
 
 -- ---- the file
 
-all_lines : (d : DeviceView) → IsFormed d → AreLines (lines_of d)
+all_lines : (d : DeviceView) → HasDeviceForm d → AreLines (lines_of d)
 unfolding AreLines may_come
 all_lines d h = (refl, head_formed, come_from [] (Synced d.stamp ∷ behind) (all_chain d h.device.mirror_by_id h.device.dead_by_id) (synced_line d.stamp h.stamp, each))
   where
@@ -316,7 +321,7 @@ all_lines d h = (refl, head_formed, come_from [] (Synced d.stamp ∷ behind) (al
         (each_join (map Item (items_of d)) (map dead_of d.dead ++ End ∷ []) (each_item d.tree (inner d.tree) (λ k i. item_line_formed (node_item d.tree k) (item_formed d.tree h.valid h.items k i) (record_formed d.tree h.valid h.items k i)))
         (each_join (map dead_of d.dead) (End ∷ []) (each_map IsDeath dead_of dead_line_formed d.dead h.deaths) last))
 
-pub written_read_back : (d : DeviceView) → IsFormed d → IsFileOf (device_text d) d
+pub written_read_back : (d : DeviceView) → HasDeviceForm d → IsFileOf (device_text d) d
 written_read_back d h = record {
   lines = lines_of d;
   all = record { lines = all_lines d h; ended = ended d; text_is = device_text_is d h.valid };

@@ -1,11 +1,14 @@
 -- A line of a device's file has one line break, at its end.
-use Rattle.std.proofs.Common.{◌≡◌, ℕ, suc, ◌+◌, ◌≤◌, ◌==◌, ◌||◌, not, nat_lt, Bool, true, false, cond, List, [], ◌∷◌, ◌++◌, length, take, Some, None, is_some, codes, decimal, position, append_assoc, refl, sym, ap, ap₂, subst, ◌∙◌, arith, ltb, lt-ltb, ne_eqb, length-append}
+use Rattle.std.proofs.Common.{◌≡◌, ℕ, suc, ◌+◌, ◌≤◌, ◌==◌, ◌||◌, not, nat_lt, Bool, true, false, cond, List, [], ◌∷◌}
+use Rattle.std.proofs.Common.{◌++◌, length, take, Some, None, is_some, codes, decimal, position, append_assoc, refl}
+use Rattle.std.proofs.Common.{sym, ap, ap₂, subst, ◌∙◌, arith, ltb, lt-ltb, ne_eqb, length-append}
 use Rattle.std.specs.Bool.{⊤}
 use Rattle.std.specs.List.{prefix_len, list_any}
 use Rattle.std.proofs.lemmas.Bool.{false≢true, le-ltb, ltb-false, ltb-true}
 use Rattle.std.proofs.lemmas.Fmt.{decimal_is_IsNumeral}
 use Rattle.std.proofs.Math.Seq.{take-append_seam}
-use Rattle.serde_json.specs.Data.{unsigned, negative, float, null, boolean, number, string, array, object, Items, no_items, item, Members, put}
+use Rattle.serde_json.specs.Data.{unsigned, negative, float, null, boolean, number, string, array, object, Items}
+use Rattle.serde_json.specs.Data.{no_items, item, Members, put}
 use Rattle.serde_json.specs.Written.{comma_if, compact_text, items_text}
 use Rattle.ss_text.specs.Time.{last_stamp}
 use Rattle.ss_record.specs.declared.kinds.Kind.{Kind}
@@ -25,7 +28,8 @@ use Rattle.ss_device_file.specs.Lines.{HasForm, line_text, record_in}
 use Rattle.ss_device_file.specs.Values.{is_item, parts_of}
 use Rattle.ss_device_file.proofs.Breaks.{unmarked_noline}
 use Rattle.ss_device_file.proofs.Written.{json_line}
-use Rattle.ss_record.proofs.OneLine.{NoLine, noline_by, noline_append, digits_noline, quoted_noline, value_noline, comma_noline}
+use Rattle.ss_record.proofs.OneLine.{NoLine, noline_by, noline_append, digits_noline, quoted_noline, value_noline}
+use Rattle.ss_record.proofs.OneLine.{comma_noline}
 
 -- ---- lists of texts and numbers
 

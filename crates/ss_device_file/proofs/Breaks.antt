@@ -1,8 +1,11 @@
 -- No line break stands inside a line.
-use Rattle.std.proofs.Common.{◌≡◌, ◌≢◌, ℕ, zero, suc, ◌+◌, ◌==◌, Bool, true, false, cond, List, [], ◌∷◌, ◌++◌, drop, refl, sym, subst, arith}
+use Rattle.std.proofs.Common.{◌≡◌, ◌≢◌, ℕ, zero, suc, ◌+◌, ◌==◌, Bool, true, false, cond, List, [], ◌∷◌, ◌++◌, drop}
+use Rattle.std.proofs.Common.{refl, sym, subst, arith}
 use Rattle.std.specs.Bool.{⊤}
 use Rattle.std.specs.List.{flat_map}
-use Rattle.ss_text.specs.Decimals.{Place, outside, inside, escaped, Piece, run, text, unended, byte, pieces, next_place, with_byte, with_front, with_character, at_end, is_number_byte, spelled, unmarked_piece, begins_marked, unmarked}
+use Rattle.ss_text.specs.Decimals.{Place, outside, inside, escaped, Piece, run, text, unended, byte, pieces, next_place}
+use Rattle.ss_text.specs.Decimals.{with_byte, with_front, with_character, at_end, is_number_byte, bytes_of_piece}
+use Rattle.ss_text.specs.Decimals.{unmarked_piece, begins_marked, unmarked_text}
 use Rattle.ss_record.proofs.OneLine.{NoLine, noline_append}
 
 -- ---- unmarking makes no line break
@@ -10,7 +13,7 @@ use Rattle.ss_record.proofs.OneLine.{NoLine, noline_append}
 -- of each piece's text
 abbrev EachNoLine : List Piece → Type 0
 EachNoLine [] = ⊤
-EachNoLine (p ∷ ps) = NoLine (spelled p) × EachNoLine ps
+EachNoLine (p ∷ ps) = NoLine (bytes_of_piece p) × EachNoLine ps
 
 noline_tail : (xs ys : List ℕ) → NoLine (xs ++ ys) → NoLine xs
 noline_tail [] ys h = tt
@@ -72,25 +75,25 @@ unquoted_noline s h = noline_tail s (34 ∷ []) h.1
 quote_noline : (s : List ℕ) → NoLine s → NoLine (34 ∷ (s ++ 34 ∷ []))
 quote_noline s h = (quote_other, noline_append s (34 ∷ []) h (quote_other, tt))
 
-piece_unmarked : (p : Piece) → NoLine (spelled p) → NoLine (spelled (unmarked_piece p))
+piece_unmarked : (p : Piece) → NoLine (bytes_of_piece p) → NoLine (bytes_of_piece (unmarked_piece p))
 piece_unmarked (run r) h = h
 piece_unmarked (text s) h = go (begins_marked s) (begins_marked (drop 6 s))
   where
     rest : NoLine (drop 6 s)
     rest = noline_drop 6 s (unquoted_noline s h)
 
-    go : (a b : Bool) → NoLine (spelled (cond a (cond b (text (drop 6 s)) (run (drop 6 s))) (text s)))
+    go : (a b : Bool) → NoLine (bytes_of_piece (cond a (cond b (text (drop 6 s)) (run (drop 6 s))) (text s)))
     go true true = quote_noline (drop 6 s) rest
     go true false = rest
     go false b = h
 piece_unmarked (unended s) h = h
 piece_unmarked (byte b) h = h
 
-all_unmarked : (change : Piece → List Piece) → ((p : Piece) → change p ≡ unmarked_piece p ∷ []) → (ps : List Piece) → EachNoLine ps → NoLine (flat_map spelled (flat_map change ps))
+all_unmarked : (change : Piece → List Piece) → ((p : Piece) → change p ≡ unmarked_piece p ∷ []) → (ps : List Piece) → EachNoLine ps → NoLine (flat_map bytes_of_piece (flat_map change ps))
 all_unmarked change is [] h = tt
 all_unmarked change is (p ∷ ps) h =
-    subst (λ (qs : List Piece). NoLine (flat_map spelled (qs ++ flat_map change ps))) (sym (is p))
-    (noline_append (spelled (unmarked_piece p)) (flat_map spelled (flat_map change ps)) (piece_unmarked p h.0) (all_unmarked change is ps h.1))
+    subst (λ (qs : List Piece). NoLine (flat_map bytes_of_piece (qs ++ flat_map change ps))) (sym (is p))
+    (noline_append (bytes_of_piece (unmarked_piece p)) (flat_map bytes_of_piece (flat_map change ps)) (piece_unmarked p h.0) (all_unmarked change is ps h.1))
 
-pub unmarked_noline : (t : List ℕ) → NoLine t → NoLine (unmarked t)
+pub unmarked_noline : (t : List ℕ) → NoLine t → NoLine (unmarked_text t)
 unmarked_noline t h = all_unmarked _ (λ p. refl) (pieces outside t) (pieces_noline outside t h)

@@ -1,12 +1,14 @@
 -- Lines one behind the other.
-use Rattle.std.proofs.Common.{◌≡◌, ℕ, ◌+◌, ◌-◌, ◌≤◌, ◌==◌, true, false, List, [], ◌∷◌, ◌++◌, length, take, drop, Some, None, is_some, position, append_assoc, append-nil, refl, sym, ap, ap₂, subst, ◌∙◌, arith, length-drop}
+use Rattle.std.proofs.Common.{◌≡◌, ℕ, ◌+◌, ◌-◌, ◌≤◌, ◌==◌, true, false, List, [], ◌∷◌, ◌++◌, length, take, drop, Some}
+use Rattle.std.proofs.Common.{None, is_some, position, append_assoc, append-nil, refl, sym, ap, ap₂, subst, ◌∙◌, arith}
+use Rattle.std.proofs.Common.{length-drop}
 use Rattle.std.proofs.lemmas.List.{take-append-drop}
 use Rattle.std.proofs.Math.Seq.{take-add}
 use Rattle.ss_device_file.specs.declared.lines.Line.{Line}
 use Rattle.ss_device_file.specs.declared.faults.LinesFault.{LinesFault}
 use Rattle.ss_device_file.specs.declared.faults.LinesFault.TheVariants.{Refused, Cut, Memory as NoRoom}
 use Rattle.ss_device_file.specs.Lines.{AreLines, ComeAfter, IsLine, is_ended, line_text, may_come, text_of}
-use Rattle.ss_device_file.specs.Files.{IsNextLine, IsStoppedBy, IsStopped}
+use Rattle.ss_device_file.specs.Files.{IsNextLine, IsStoppedBy, IsWhyNoFront}
 use Rattle.ss_device_file.proofs.Bodies.{goes_on, has_break}
 use Rattle.ss_text.proofs.Basics.{some_same, none_some}
 
@@ -60,7 +62,7 @@ more_read text lines new used k l h n is = subst (λ ls. AreRead text ls (used +
   text_is = take-add used k text ∙ (ap₂ (λ a b. a ++ b) h.text_is n.text_is ∙ sym (text_more lines l));
 })
 
-pub stopped : (text : List ℕ) (lines : List Line) (used : ℕ) (f : LinesFault) → AreRead text lines used → is_ended lines ≡ false → IsStoppedBy lines (drop used text) f → IsStopped text f
+pub stopped : (text : List ℕ) (lines : List Line) (used : ℕ) (f : LinesFault) → AreRead text lines used → is_ended lines ≡ false → IsStoppedBy lines (drop used text) f → IsWhyNoFront text f
 stopped text lines used (Refused n) h e s = (drop used text, record { lines = lines; are = h.lines_are; unended = e; text_is = sym (ap (λ t. t ++ drop used text) (sym h.text_is) ∙ take-append-drop used text); none = s.0; number = s.1 }, s.2)
 stopped text lines used (Cut n) h e s = (drop used text, record { lines = lines; are = h.lines_are; unended = e; text_is = sym (ap (λ t. t ++ drop used text) (sym h.text_is) ∙ take-append-drop used text); none = s.0; number = s.1 }, s.2)
 stopped text lines used NoRoom h e s = tt

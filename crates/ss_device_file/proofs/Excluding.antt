@@ -1,5 +1,6 @@
 -- Of the answers to a text at most one is possible.
-use Rattle.std.proofs.Common.{◌≡◌, ◌≢◌, ◌⊎◌, ℕ, ◌+◌, true, false, List, [], ◌∷◌, ◌++◌, length, append_assoc, append-nil, refl, sym, ap, subst, ◌∙◌, inl, inr}
+use Rattle.std.proofs.Common.{◌≡◌, ◌≢◌, ◌⊎◌, ℕ, ◌+◌, true, false, List, [], ◌∷◌, ◌++◌, length, append_assoc, append-nil}
+use Rattle.std.proofs.Common.{refl, sym, ap, subst, ◌∙◌, inl, inr}
 use Rattle.std.proofs.lemmas.Bool.{false≢true}
 use Rattle.ss_tree.specs.Entries.{tree}
 use Rattle.ss_device.specs.Device.{DeviceView, IsSameDevice}
@@ -9,7 +10,7 @@ use Rattle.ss_device_file.specs.declared.faults.DeviceFault.{DeviceFault}
 use Rattle.ss_device_file.specs.declared.faults.DeviceFault.TheVariants.{BadLine, BadTree, Memory}
 use Rattle.ss_device_file.specs.Lines.{is_ended, text_of}
 use Rattle.ss_device_file.specs.Places.{ArePlaced, IsAstray, IsShort, PlacedAfter, has_place, seats_left}
-use Rattle.ss_device_file.specs.Files.{AreAll, IsBadLine, IsFileOf, IsRefused, IsTold, IsUnseated, items_in}
+use Rattle.ss_device_file.specs.Files.{AreAll, IsBadLine, IsFileOf, IsWhyNoDevice, TellsDevice, IsUnseated, items_in}
 use Rattle.ss_device_file.proofs.Unique.{LinesGoOn, each_line, meet, no_further, no_more}
 use Rattle.ss_text.proofs.Basics.{some_same, none_some}
 
@@ -110,19 +111,19 @@ one_unseated ls x y (inr (inr a)) (inl b) = absurd (none_astray (items_in ls) y 
 one_unseated ls x y (inr (inr a)) (inr (inl b)) = absurd (none_short (items_in ls) y a.0.left b)
 one_unseated ls x y (inr (inr a)) (inr (inr b)) = some_same (sym a.1 ∙ b.1)
 
-none_unseated : (ls : List Line) (d : DeviceView) (x : List ℕ) → IsTold ls d → IsUnseated ls x → ⊥
+none_unseated : (ls : List Line) (d : DeviceView) (x : List ℕ) → TellsDevice ls d → IsUnseated ls x → ⊥
 none_unseated ls d x t (inl a) = none_astray (items_in ls) x t.whole.placed a
 none_unseated ls d x t (inr (inl a)) = none_short (items_in ls) x t.whole.left a
 none_unseated ls d x t (inr (inr a)) = none_some (sym t.found ∙ a.1)
 
 -- ---- answers
 
-pub not_refused : (text : List ℕ) (d : DeviceView) (fault : DeviceFault) → IsFileOf text d → IsRefused text fault → fault ≡ Memory
+pub not_refused : (text : List ℕ) (d : DeviceView) (fault : DeviceFault) → IsFileOf text d → IsWhyNoDevice text fault → fault ≡ Memory
 not_refused text d (BadLine n) f r = absurd (none_bad text n f.lines r f.all)
 not_refused text d (BadTree x) f r = absurd (none_unseated f.lines d x f.told (subst (λ ls. IsUnseated ls x) (all_same text r.lines f.lines r.all f.all) r.unseated))
 not_refused text d Memory f r = refl
 
-pub refused_once : (text : List ℕ) (one other : DeviceFault) → IsRefused text one → IsRefused text other → one ≢ Memory → other ≢ Memory → one ≡ other
+pub refused_once : (text : List ℕ) (one other : DeviceFault) → IsWhyNoDevice text one → IsWhyNoDevice text other → one ≢ Memory → other ≢ Memory → one ≡ other
 refused_once text (BadLine n) (BadLine m) a b p q = ap BadLine (one_bad text n m a b)
 refused_once text (BadLine n) (BadTree y) a b p q = absurd (none_bad text n b.lines a b.all)
 refused_once text (BadTree x) (BadLine m) a b p q = absurd (none_bad text m a.lines b a.all)
@@ -133,7 +134,7 @@ refused_once text (BadTree x) Memory a b p q = absurd (q refl)
 
 pub told_once : (text : List ℕ) (d e : DeviceView) → IsFileOf text d → IsFileOf text e → IsSameDevice d e
 told_once text d e f g =
-    let t : IsTold g.lines d = subst (λ ls. IsTold ls d) (all_same text f.lines g.lines f.all g.all) f.told in
+    let t : TellsDevice g.lines d = subst (λ ls. TellsDevice ls d) (all_same text f.lines g.lines f.all g.all) f.told in
     record {
       tree = λ x. t.tells.items x ∙ sym (g.told.tells.items x);
       dead = t.tells.dead ∙ sym g.told.tells.dead;

@@ -1,5 +1,6 @@
 -- Which ids a device knows.
-use Rattle.std.proofs.Common.{◌≡◌, ℕ, ◌&&◌, ◌||◌, Bool, true, false, not, cond, List, [], ◌∷◌, map, filter_map, find, bytes_eq, Some, None, is_some, refl, sym, ap, ap₂, ◌∙◌}
+use Rattle.std.proofs.Common.{◌≡◌, ℕ, ◌&&◌, ◌||◌, Bool, true, false, not, cond, List, [], ◌∷◌, map, filter_map, find}
+use Rattle.std.proofs.Common.{bytes_eq, Some, None, is_some, refl, sym, ap, ap₂, ◌∙◌}
 use Rattle.std.specs.Map.{lookup}
 use Rattle.std.specs.BTreeMap.{is_at}
 use Rattle.std.proofs.lemmas.Bool.{false≢true}
@@ -9,7 +10,7 @@ use Rattle.ss_record.specs.Ids.{has, places, roots}
 use Rattle.ss_record.proofs.IdLists.{has-cons, has-nil, has-tail}
 use Rattle.ss_tree.specs.declared.entries.Entry.{Entry}
 use Rattle.ss_tree.specs.Entries.{entry_ids, node_of, placed, tree}
-use Rattle.ss_tree.specs.Trees.{IsSame, Placed, node_ids}
+use Rattle.ss_tree.specs.Trees.{IsSame, PlacedItem, node_ids}
 use Rattle.ss_tree.proofs.Ids.{has_node}
 use Rattle.ss_record.specs.declared.readings.Reading.{Reading}
 use Rattle.ss_record.specs.declared.readings.Reading.TheVariants.{Item, Tombstone, Skipped}
@@ -26,7 +27,7 @@ use Rattle.ss_device_file.specs.Files.{is_lost}
 use Rattle.ss_device_file.specs.Joining.{HasRoots, lost_of}
 use Rattle.ss_text.proofs.Basics.{same_text}
 
-tree_ids : (all es : List Entry) → map (λ (n : Placed). n.id) (map (placed all) es) ≡ map (λ (e : Entry). e.item.id) es
+tree_ids : (all es : List Entry) → map (λ (n : PlacedItem). n.id) (map (placed all) es) ≡ map (λ (e : Entry). e.item.id) es
 unfolding placed
 tree_ids all [] = refl
 tree_ids all (e ∷ es) = ap (λ t. e.item.id ∷ t) (tree_ids all es)
@@ -39,7 +40,7 @@ pub dead_is : (x : List ℕ) (dead : Dead) → is_some (lookup (is_at (text_cmp 
 dead_is x dead = ap is_some (as_lookup x dead) ∙ sym (has_dead x dead)
 
 -- the same trees lose the same
-pub same_lost : (b c t u : List Placed) (dead : Dead) (x : List ℕ) → IsSame b c → IsSame t u → is_lost b t dead x ≡ is_lost c u dead x
+pub same_lost : (b c t u : List PlacedItem) (dead : Dead) (x : List ℕ) → IsSame b c → IsSame t u → is_lost b t dead x ≡ is_lost c u dead x
 same_lost b c t u dead x s r = ap₂ (λ p q. p && not (q || has x (dead_ids dead))) (same_ids x b c s) (same_ids x t u r)
 
 pub find_same : (p q : List ℕ → Bool) (xs : List (List ℕ)) → ((x : List ℕ) → p x ≡ q x) → find p xs ≡ find q xs

@@ -1,12 +1,13 @@
 -- Of the answers to the front of a text at most one is possible.
-use Rattle.std.proofs.Common.{◌≡◌, ◌≢◌, ℕ, ◌+◌, true, false, List, ◌++◌, length, take, drop, refl, sym, ap, ◌∙◌, arith, inl, inr, length-take}
+use Rattle.std.proofs.Common.{◌≡◌, ◌≢◌, ℕ, ◌+◌, true, false, List, ◌++◌, length, take, drop, refl, sym, ap, ◌∙◌, arith}
+use Rattle.std.proofs.Common.{inl, inr, length-take}
 use Rattle.std.proofs.lemmas.Bool.{false≢true}
 use Rattle.std.proofs.lemmas.List.{take-append-drop}
 use Rattle.ss_device_file.specs.declared.front.Front.{Front}
 use Rattle.ss_device_file.specs.declared.faults.LinesFault.{LinesFault}
 use Rattle.ss_device_file.specs.declared.faults.LinesFault.TheVariants.{Refused, Cut, Memory as NoRoom}
 use Rattle.ss_device_file.specs.Lines.{is_ended, text_of}
-use Rattle.ss_device_file.specs.Files.{IsFront, IsStopped, IsStoppedAt, has_line}
+use Rattle.ss_device_file.specs.Files.{IsFront, IsWhyNoFront, IsStoppedAt, has_line}
 use Rattle.ss_device_file.proofs.Behind.{none_behind}
 use Rattle.ss_device_file.proofs.Unique.{each_line, meet, no_further}
 
@@ -38,7 +39,7 @@ front_stopped text f n rest a s = false≢true (sym s.unended ∙ (ap is_ended s
           | inr on ↦ sym (no_further f.lines.items s.lines (drop f.used text) rest (none_behind f.lines.items (drop f.used text) a.ended) s.are on).0
         ]
 
-pub not_stopped : (text : List ℕ) (f : Front) (fault : LinesFault) → IsFront text f → IsStopped text fault → fault ≡ NoRoom
+pub not_stopped : (text : List ℕ) (f : Front) (fault : LinesFault) → IsFront text f → IsWhyNoFront text fault → fault ≡ NoRoom
 not_stopped text f (Refused n) a s = absurd (front_stopped text f n s.0 a s.1)
 not_stopped text f (Cut n) a s = absurd (front_stopped text f n s.0 a s.1)
 not_stopped text f NoRoom a s = refl
@@ -54,7 +55,7 @@ one_stop text n m rest tail a b = (a.number ∙ (ap (λ ls. length ls + 1) both.
           | inr on ↦ let r = no_further b.lines a.lines tail rest b.none a.are on in (sym r.0, sym r.1)
         ]
 
-pub stopped_once : (text : List ℕ) (one other : LinesFault) → IsStopped text one → IsStopped text other → one ≢ NoRoom → other ≢ NoRoom → one ≡ other
+pub stopped_once : (text : List ℕ) (one other : LinesFault) → IsWhyNoFront text one → IsWhyNoFront text other → one ≢ NoRoom → other ≢ NoRoom → one ≡ other
 stopped_once text (Refused n) (Refused m) a b p q = ap Refused (one_stop text n m a.0 b.0 a.1 b.1).0
 stopped_once text (Refused n) (Cut m) a b p q = absurd (false≢true (sym b.2 ∙ (ap has_line (sym (one_stop text n m a.0 b.0 a.1 b.1).1) ∙ a.2)))
 stopped_once text (Cut n) (Refused m) a b p q = absurd (false≢true (sym a.2 ∙ (ap has_line (one_stop text n m a.0 b.0 a.1 b.1).1 ∙ b.2)))

@@ -1,5 +1,7 @@
 -- A device of the lines' parts.
-use Rattle.std.proofs.Common.{◌≡◌, ℕ, ◌==◌, ◌||◌, Bool, true, false, cond, List, [], ◌∷◌, ◌++◌, length, map, filter, filter_map, append_assoc, append-nil, option_map, unwrap_or, None, Result, Ok, Err, refl, sym, ap, ap₂, subst, ◌∙◌, Less, inl, inr}
+use Rattle.std.proofs.Common.{◌≡◌, ℕ, ◌==◌, ◌||◌, Bool, true, false, cond, List, [], ◌∷◌, ◌++◌, length, map, filter}
+use Rattle.std.proofs.Common.{filter_map, append_assoc, append-nil, option_map, unwrap_or, None, Result, Ok, Err, refl}
+use Rattle.std.proofs.Common.{sym, ap, ap₂, subst, ◌∙◌, Less, inl, inr}
 use Rattle.std.specs.List.{AllByRecursion}
 use Rattle.std.specs.List.Sorted.{IsStrictlySortedBy}
 use Rattle.std.specs.Result.{IfOk, IfErr}
@@ -7,7 +9,7 @@ use Rattle.ss_text.specs.Texts.{text_cmp}
 use Rattle.ss_record.specs.declared.readings.Sheet.{Sheet}
 use Rattle.ss_record.specs.Ids.{has, places, roots}
 use Rattle.ss_record.proofs.IdLists.{bytes_eq-refl, has-head, has-tail}
-use Rattle.ss_tree.specs.Trees.{IsSame, Placed, node_ids, places_node}
+use Rattle.ss_tree.specs.Trees.{IsSame, PlacedItem, node_ids, places_node}
 use Rattle.ss_tree.specs.declared.entries.Entry.{Entry}
 use Rattle.ss_tree.specs.Entries.{tree}
 use Rattle.ss_build.specs.Rows.{rows_of}
@@ -23,7 +25,8 @@ use Rattle.ss_device_file.specs.declared.faults.DeviceFault.{DeviceFault}
 use Rattle.ss_device_file.specs.declared.faults.DeviceFault.TheVariants.{BadLine, BadTree, Memory}
 use Rattle.ss_device_file.specs.Lines.{AreLines, ComeAfter, version_in}
 use Rattle.ss_device_file.specs.Places.{AreItemLines, ArePlaced, IsWhole, PlacedAfter, item_ids, tree_of}
-use Rattle.ss_device_file.specs.Files.{IsMisplaced, IsTold, IsUnseatedBy, deaths_in, is_exact, is_lost, item_in, items_in, kept_rows, lost_in, mirror_in, rows_in, stamp_in, synced_in}
+use Rattle.ss_device_file.specs.Files.{IsMisplaced, TellsDevice, IsUnseatedBy, deaths_in, is_exact, is_lost, item_in}
+use Rattle.ss_device_file.specs.Files.{items_in, kept_rows, lost_in, mirror_in, rows_in, stamp_in, synced_in}
 use Rattle.ss_device_file.specs.Joining.{HasRoots, IsLostBy, lost_of, synced_with}
 use Rattle.ss_device_file.proofs.Found.{find_same, same_lost}
 use Rattle.ss_device_file.proofs.Planted.{all_come, come_known}
@@ -87,7 +90,7 @@ told_ids : (is : List ItemLine) → node_ids (tree_of is) ≡ places ∷ item_id
 unfolding node_ids item_ids tree_of places_node places
 told_ids is = ap (λ xs. places ∷ xs) (go is)
   where
-    go : (js : List ItemLine) → map (λ (n : Placed). n.id) (map placed_of js) ≡ map (λ (i : ItemLine). i.item.id) js
+    go : (js : List ItemLine) → map (λ (n : PlacedItem). n.id) (map placed_of js) ≡ map (λ (i : ItemLine). i.item.id) js
     go [] = refl
     go (j ∷ js) = ap (λ xs. j.item.id ∷ xs) (go js)
 
@@ -98,12 +101,12 @@ whole_roots is w f = record {
       (come_known is places r (ap (has r) (all_come is (all_sound is w f) w.left places (ap (λ b. b || has places (item_ids is)) (bytes_eq-refl places)) ∙ told_roots is) ∙ h));
 }
 
-pub roots_same : (t u : List Placed) → IsSame t u → HasRoots u → HasRoots t
+pub roots_same : (t u : List PlacedItem) → IsSame t u → HasRoots u → HasRoots t
 roots_same t u s h = record { top = same_ids places t u s ∙ h.top; all = λ r k. same_ids r t u s ∙ h.all r k }
 
 -- ---- what is lost
 
-same_self : (t : List Placed) → IsSame t t
+same_self : (t : List PlacedItem) → IsSame t t
 same_self t x = refl
 
 pub lost_told : (ls : List Line) (es : List Entry) → IsSame (tree es) (tree_of (items_in ls)) → lost_of (kept_rows (version_in ls) (rows_in ls)) (tree es) (deaths_in ls) ≡ lost_in ls
@@ -120,13 +123,13 @@ joined v rows dead time es = record { tree = es; dead = dead; mirror = kept_rows
 abbrev pub joined_of : List Line → List Entry → DeviceView
 joined_of ls es = joined (version_in ls) (rows_in ls) (deaths_in ls) (stamp_in ls) es
 
-told_one : (ls : List Line) (es : List Entry) → IsWhole (items_in ls) → IsSame (tree es) (tree_of (items_in ls)) → lost_of (kept_rows (version_in ls) (rows_in ls)) (tree es) (deaths_in ls) ≡ None → IsTold ls (joined_of ls es)
+told_one : (ls : List Line) (es : List Entry) → IsWhole (items_in ls) → IsSame (tree es) (tree_of (items_in ls)) → lost_of (kept_rows (version_in ls) (rows_in ls)) (tree es) (deaths_in ls) ≡ None → TellsDevice ls (joined_of ls es)
 unfolding mirror_in synced_in
 told_one ls es w s f = record { whole = w; found = sym (lost_told ls es s) ∙ f; tells = record { items = s; dead = refl; mirror = refl; stamp = refl } }
 
 pub told : (r : Result DeviceView DeviceFault) (ls : List Line) (es : List Entry) → IsWhole (items_in ls) → IsSame (tree es) (tree_of (items_in ls)) → IfOk r (λ d. d ≡ joined_of ls es)
-    → IfOk r (λ d. lost_of (kept_rows (version_in ls) (rows_in ls)) (tree es) (deaths_in ls) ≡ None) → IfOk r (λ d. IsTold ls d)
-told (Ok d) ls es w s e f = subst (IsTold ls) (sym e) (told_one ls es w s f)
+    → IfOk r (λ d. lost_of (kept_rows (version_in ls) (rows_in ls)) (tree es) (deaths_in ls) ≡ None) → IfOk r (λ d. TellsDevice ls d)
+told (Ok d) ls es w s e f = subst (TellsDevice ls) (sym e) (told_one ls es w s f)
 told (Err y) ls es w s e f = tt
 
 pub untold : (r : Result DeviceView DeviceFault) (ls : List Line) (es : List Entry) → IsWhole (items_in ls) → IsSame (tree es) (tree_of (items_in ls))
@@ -149,7 +152,7 @@ pub record ArePartsOf (ls : List Line) (v : Version) (rows : List Sheet) (dead :
   pub dead_are : dead ≡ deaths_in ls
   pub time_is : time ≡ stamp_in ls
 
-lost_by : (ls : List Line) (v : Version) (rows : List Sheet) (dead : Dead) (time : ℕ) (t : List Placed) → ArePartsOf ls v rows dead time
+lost_by : (ls : List Line) (v : Version) (rows : List Sheet) (dead : Dead) (time : ℕ) (t : List PlacedItem) → ArePartsOf ls v rows dead time
     → lost_of (kept_rows v rows) t dead ≡ lost_of (kept_rows (version_in ls) (rows_in ls)) t (deaths_in ls)
 lost_by ls v rows dead time t a = ap₂ (λ m d. lost_of m t d) (ap₂ kept_rows a.version a.rows_are) a.dead_are
 
@@ -159,7 +162,7 @@ joined_by ls v rows dead time es a = ap₂ (λ w rs. joined w rs dead time es) a
 
 pub told_by : (r : Result DeviceView DeviceFault) (ls : List Line) (v : Version) (rows : List Sheet) (dead : Dead) (time : ℕ) (es : List Entry) → ArePartsOf ls v rows dead time
     → IsWhole (items_in ls) → IsSame (tree es) (tree_of (items_in ls)) → IfOk r (λ d. d ≡ joined v rows dead time es)
-    → IfOk r (λ d. lost_of (kept_rows v rows) (tree es) dead ≡ None) → IfOk r (λ d. IsTold ls d)
+    → IfOk r (λ d. lost_of (kept_rows v rows) (tree es) dead ≡ None) → IfOk r (λ d. TellsDevice ls d)
 told_by (Ok d) ls v rows dead time es a w s e f = told (Ok d) ls es w s (e ∙ joined_by ls v rows dead time es a) (sym (lost_by ls v rows dead time (tree es) a) ∙ f)
 told_by (Err y) ls v rows dead time es a w s e f = tt
 

@@ -1,5 +1,6 @@
 -- Numbers and times as text are read back.
-use Rattle.std.proofs.Common.{◌≡◌, ℕ, ◌+◌, ◌-◌, ◌*◌, ◌^◌, ◌<◌, ◌≤◌, List, [], ◌∷◌, length, Bool, true, false, ◌&&◌, cond, leb, Option, Some, None, decimal, refl, sym, ap, ◌∙◌, arith, lit<, le-leb}
+use Rattle.std.proofs.Common.{◌≡◌, ℕ, ◌+◌, ◌-◌, ◌*◌, ◌^◌, ◌<◌, ◌≤◌, List, [], ◌∷◌, length, Bool, true, false, ◌&&◌}
+use Rattle.std.proofs.Common.{cond, leb, Option, Some, None, decimal, refl, sym, ap, ◌∙◌, arith, lit<, le-leb}
 use Rattle.std.proofs.lemmas.Bool.{and_parts, leb-true}
 use Rattle.std.proofs.lemmas.Fmt.{decimal_is_IsNumeral, decimal_nonempty, length-decimal-le}
 use Rattle.std.specs.Option.{SomeIff}

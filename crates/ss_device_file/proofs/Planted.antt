@@ -1,5 +1,7 @@
 -- The tree grows by the items that come.
-use Rattle.std.proofs.Common.{◌≡◌, ℕ, zero, suc, ◌+◌, ◌<◌, ◌≤◌, ◌||◌, Bool, true, false, cond, List, [], ◌∷◌, ◌++◌, length, take, get_or, map, filter, find, bytes_eq, append-nil, append_assoc, refl, sym, ap, ap₂, subst, ◌∙◌, arith, Option, Some, None, option_map, unwrap_or}
+use Rattle.std.proofs.Common.{◌≡◌, ℕ, zero, suc, ◌+◌, ◌<◌, ◌≤◌, ◌||◌, Bool, true, false, cond, List, [], ◌∷◌, ◌++◌}
+use Rattle.std.proofs.Common.{length, take, get_or, map, filter, find, bytes_eq, append-nil, append_assoc, refl, sym}
+use Rattle.std.proofs.Common.{ap, ap₂, subst, ◌∙◌, arith, Option, Some, None, option_map, unwrap_or}
 use Rattle.std.specs.Option.{is_some, option_or}
 use Rattle.std.specs.List.{list_any}
 use Rattle.std.proofs.lemmas.Bool.{false≢true}
@@ -9,14 +11,17 @@ use Rattle.ss_record.specs.declared.kinds.Kind.TheVariants.{Folder}
 use Rattle.ss_record.specs.Ids.{has, places, roots}
 use Rattle.ss_record.proofs.IdLists.{bytes_eq-refl, has-cons, has-tail}
 use Rattle.ss_record.proofs.OfId.{reading_is_read}
-use Rattle.ss_tree.specs.Trees.{IsSame, Placed, empty_node, empty_tree, node, places_node}
+use Rattle.ss_tree.specs.Trees.{IsSame, PlacedItem, empty_node, empty_tree, node, places_node}
 use Rattle.ss_device.specs.Edits.{new_node, revised_node, with_child}
 use Rattle.ss_device_file.specs.declared.lines.ItemLine.{ItemLine}
-use Rattle.ss_device_file.specs.Growing.{MayCome, as_come, come_to, come_under, grown, line_of, not_come, partly}
+use Rattle.ss_device_file.specs.Growing.{MayCome, as_come, come_to, come_under, grown_tree, line_of, not_come, partly}
 use Rattle.ss_device_file.specs.Lines.{IsItemLine, record_in}
-use Rattle.ss_device_file.specs.Places.{AreItemLines, ArePlaced, IsWhole, PlacedAfter, has_place, item_ids, placed_of, seats_left, tree_of}
+use Rattle.ss_device_file.specs.Places.{AreItemLines, ArePlaced, IsWhole, PlacedAfter, has_place, item_ids, placed_of}
+use Rattle.ss_device_file.specs.Places.{seats_left, tree_of}
 use Rattle.ss_device_file.proofs.Recorded.{record_back}
-use Rattle.ss_device_file.proofs.Sound.{IsHere, IsSound, come_more, is_here, kids_told, known_parent, knows, line_more, line_there, no_line, root_only, seated, unknown_come, sound_more, sound_none, unknown_new}
+use Rattle.ss_device_file.proofs.Sound.{IsHere, IsSound, come_more, is_here, kids_told, known_parent, knows, line_more}
+use Rattle.ss_device_file.proofs.Sound.{line_there, no_line, root_only, seated, unknown_come, sound_more, sound_none}
+use Rattle.ss_device_file.proofs.Sound.{unknown_new}
 use Rattle.ss_record.proofs.Fit.{folder_kind}
 use Rattle.ss_text.proofs.Basics.{bytes_eq-sym, same_text}
 
@@ -87,10 +92,10 @@ old_other is i y k far inner (Some j) at =
     go true e = ap (λ cs. Some (record { id = j.item.id; kind = j.item.kind; content = j.item.content; parent = Some j.parent; children = cs; time = j.time })) (sym (come_more is i j.item.id ∙ ap (λ b. come_under is j.item.id ++ cond b (i.item.id ∷ []) []) e))
     go false e = ap (λ cs. Some (record { id = j.item.id; kind = j.item.kind; content = j.item.content; parent = Some j.parent; children = cs; time = j.time })) (sym (come_more is i j.item.id ∙ (ap (λ b. come_under is j.item.id ++ cond b (i.item.id ∷ []) []) e ∙ append-nil (come_under is j.item.id))))
 
-abbrev after_root : ItemLine → Option Placed → Option Placed
+abbrev after_root : ItemLine → Option PlacedItem → Option PlacedItem
 after_root i o = option_map (λ n. cond (bytes_eq n.id i.item.id) (revised_node i.item.content i.time n) n) o
 
-abbrev after_other : ItemLine → List ℕ → Option Placed → Option Placed
+abbrev after_other : ItemLine → List ℕ → Option PlacedItem → Option PlacedItem
 after_other i y o = cond (bytes_eq y i.item.id) (Some (new_node i.time i.parent i.item)) (option_map (λ n. cond (bytes_eq n.id i.parent) (with_child i.item.id n) n) o)
 
 module _ (is : List ItemLine) (i : ItemLine) (s : IsSound is) (here : IsHere is i) (form : IsItemLine i) where
@@ -103,8 +108,8 @@ module _ (is : List ItemLine) (i : ItemLine) (s : IsSound is) (here : IsHere is 
   old_line : (y : List ℕ) → bytes_eq y i.item.id ≡ false → line_of y (is ++ i ∷ []) ≡ line_of y is
   old_line y e = line_more is i y ∙ (ap (λ b. option_or (line_of y is) (cond b (Some i) None)) e ∙ none_none (line_of y is))
 
-  pub root_there : bytes_eq i.parent places ≡ true → grown is i.item.id ≡ Some (empty_node i.item.id)
-  unfolding grown
+  pub root_there : bytes_eq i.parent places ≡ true → grown_tree is i.item.id ≡ Some (empty_node i.item.id)
+  unfolding grown_tree
   root_there p =
       ap₂ (λ b o. cond b (Some places_node) (as_come is i.item.id o)) form.inner fresh_line
       ∙ ap (λ b. cond b (Some (empty_node i.item.id)) None) (root_only is i s here (same_text i.parent places p))
@@ -122,8 +127,8 @@ module _ (is : List ItemLine) (i : ItemLine) (s : IsSound is) (here : IsHere is 
   new_other : Some (new_node i.time i.parent i.item) ≡ Some (partly (is ++ i ∷ []) i)
   new_other = ap (λ cs. Some (record { id = i.item.id; kind = i.item.kind; content = i.item.content; parent = Some i.parent; children = cs; time = i.time })) (sym (new_come is i s here form))
 
-  pub grown_more : (y : List ℕ) → come_to i y (grown is y) ≡ grown (is ++ i ∷ []) y
-  unfolding grown places_node places
+  pub grown_more : (y : List ℕ) → come_to i y (grown_tree is y) ≡ grown_tree (is ++ i ∷ []) y
+  unfolding grown_tree places_node places
   grown_more y = by_parent (bytes_eq i.parent places) refl
     where
       top_apart : bytes_eq y places ≡ true → bytes_eq places i.item.id ≡ false
@@ -175,22 +180,22 @@ form_at [] k d h lt = absurd (omega arith)
 form_at (x ∷ is) zero d h lt = h.0
 form_at (x ∷ is) (suc k) d h lt = form_at is k d h.1 (omega arith)
 
-pub record IsGrown (items : List ItemLine) (k : ℕ) (t : List Placed) : Type 0 where
+pub record IsGrown (items : List ItemLine) (k : ℕ) (t : List PlacedItem) : Type 0 where
   pub sound : IsSound (take k items)
-  pub nodes : (y : List ℕ) → node y t ≡ grown (take k items) y
+  pub nodes : (y : List ℕ) → node y t ≡ grown_tree (take k items) y
 
-find_empty : (y : List ℕ) (rs : List (List ℕ)) → find (λ (n : Placed). bytes_eq y n.id) (map empty_node rs) ≡ cond (has y rs) (Some (empty_node y)) None
+find_empty : (y : List ℕ) (rs : List (List ℕ)) → find (λ (n : PlacedItem). bytes_eq y n.id) (map empty_node rs) ≡ cond (has y rs) (Some (empty_node y)) None
 unfolding has
 find_empty y [] = refl
 find_empty y (r ∷ rs) = go (bytes_eq y r) refl (find_empty y rs)
   where
-    go : (b : Bool) → bytes_eq y r ≡ b → find (λ (n : Placed). bytes_eq y n.id) (map empty_node rs) ≡ cond (list_any (bytes_eq y) rs) (Some (empty_node y)) None
-        → cond b (Some (empty_node r)) (find (λ (n : Placed). bytes_eq y n.id) (map empty_node rs)) ≡ cond (b || list_any (bytes_eq y) rs) (Some (empty_node y)) None
+    go : (b : Bool) → bytes_eq y r ≡ b → find (λ (n : PlacedItem). bytes_eq y n.id) (map empty_node rs) ≡ cond (list_any (bytes_eq y) rs) (Some (empty_node y)) None
+        → cond b (Some (empty_node r)) (find (λ (n : PlacedItem). bytes_eq y n.id) (map empty_node rs)) ≡ cond (b || list_any (bytes_eq y) rs) (Some (empty_node y)) None
     go true e ih = ap (λ x. Some (empty_node x)) (sym (same_text y r e))
     go false e ih = ih
 
-pub grown_none : (items : List ItemLine) (t : List Placed) → IsSame t empty_tree → IsGrown items 0 t
-unfolding node empty_tree grown line_of places_node
+pub grown_none : (items : List ItemLine) (t : List PlacedItem) → IsSame t empty_tree → IsGrown items 0 t
+unfolding node empty_tree grown_tree line_of places_node
 grown_none items t same = record { sound = sound_none; nodes = λ y. same y ∙ ap (λ o. cond (bytes_eq y places) (Some places_node) o) (find_empty y roots) }
 
 here_at : (items : List ItemLine) (k : ℕ) (i : ItemLine) → ArePlaced items → k < length items → i ≡ get_or items k i → IsHere (take k items) i
@@ -199,7 +204,7 @@ here_at items k i h lt at = is_here (take k items) i (ap (has_place (take k item
 formed : (items : List ItemLine) (k : ℕ) (i : ItemLine) → AreItemLines items → k < length items → i ≡ get_or items k i → IsItemLine i
 formed items k i h lt at = subst IsItemLine (sym at) (form_at items k i h lt)
 
-pub may_come_at : (items : List ItemLine) (k : ℕ) (t : List Placed) (i : ItemLine) → IsWhole items → AreItemLines items → k < length items → i ≡ get_or items k i → IsGrown items k t → MayCome t i
+pub may_come_at : (items : List ItemLine) (k : ℕ) (t : List PlacedItem) (i : ItemLine) → IsWhole items → AreItemLines items → k < length items → i ≡ get_or items k i → IsGrown items k t → MayCome t i
 may_come_at items k t i w f lt at g =
     let here = here_at items k i w.placed lt at in
     let form = formed items k i f lt at in
@@ -210,7 +215,7 @@ may_come_at items k t i w f lt at g =
       folder = λ p. root_folder (take k items) i g.sound here form p;
     }
 
-pub grown_on : (items : List ItemLine) (k : ℕ) (t u : List Placed) (i : ItemLine) → IsWhole items → AreItemLines items → k < length items → i ≡ get_or items k i → IsGrown items k t
+pub grown_on : (items : List ItemLine) (k : ℕ) (t u : List PlacedItem) (i : ItemLine) → IsWhole items → AreItemLines items → k < length items → i ≡ get_or items k i → IsGrown items k t
     → ((y : List ℕ) → node y u ≡ come_to i y (node y t)) → IsGrown items (k + 1) u
 grown_on items k t u i w f lt at g n =
     let here = here_at items k i w.placed lt at in
@@ -218,17 +223,17 @@ grown_on items k t u i w f lt at g n =
     let more : take (k + 1) items ≡ take k items ++ i ∷ [] = take_more items k i lt ∙ ap (λ x. take k items ++ x ∷ []) (sym at) in
     record {
       sound = subst IsSound (sym more) (sound_more (take k items) i g.sound (ap (has_place (take k items)) at ∙ place_at items k i w.placed lt) form);
-      nodes = λ y. n y ∙ (ap (come_to i y) (g.nodes y) ∙ (grown_more (take k items) i g.sound here form y ∙ ap (λ js. grown js y) (sym more)));
+      nodes = λ y. n y ∙ (ap (come_to i y) (g.nodes y) ∙ (grown_more (take k items) i g.sound here form y ∙ ap (λ js. grown_tree js y) (sym more)));
     }
 
 -- ---- nothing is left to come
 
-find_placed : (y : List ℕ) (is : List ItemLine) → find (λ (n : Placed). bytes_eq y n.id) (map placed_of is) ≡ option_map placed_of (find (λ (i : ItemLine). bytes_eq y i.item.id) is)
+find_placed : (y : List ℕ) (is : List ItemLine) → find (λ (n : PlacedItem). bytes_eq y n.id) (map placed_of is) ≡ option_map placed_of (find (λ (i : ItemLine). bytes_eq y i.item.id) is)
 find_placed y [] = refl
 find_placed y (i ∷ is) = go (bytes_eq y i.item.id) (find_placed y is)
   where
-    go : (b : Bool) → find (λ (n : Placed). bytes_eq y n.id) (map placed_of is) ≡ option_map placed_of (find (λ (h : ItemLine). bytes_eq y h.item.id) is)
-        → cond b (Some (placed_of i)) (find (λ (n : Placed). bytes_eq y n.id) (map placed_of is)) ≡ option_map placed_of (cond b (Some i) (find (λ (h : ItemLine). bytes_eq y h.item.id) is))
+    go : (b : Bool) → find (λ (n : PlacedItem). bytes_eq y n.id) (map placed_of is) ≡ option_map placed_of (find (λ (h : ItemLine). bytes_eq y h.item.id) is)
+        → cond b (Some (placed_of i)) (find (λ (n : PlacedItem). bytes_eq y n.id) (map placed_of is)) ≡ option_map placed_of (cond b (Some i) (find (λ (h : ItemLine). bytes_eq y h.item.id) is))
     go true ih = refl
     go false ih = ih
 
@@ -268,8 +273,8 @@ kids_are is y i s f none e =
     all_come is s none i.item.id (ap₂ (λ a b. a || b) inner (sym (line_there is i.item.id) ∙ ap is_some there))
     ∙ ap₂ (λ b o. cond b roots (unwrap_or (option_map (λ (h : ItemLine). h.children) o) [])) inner there
 
-pub grown_all : (is : List ItemLine) → IsSound is → AreItemLines is → seats_left is ≡ [] → (y : List ℕ) → grown is y ≡ node y (tree_of is)
-unfolding grown node tree_of line_of places_node kids_told
+pub grown_all : (is : List ItemLine) → IsSound is → AreItemLines is → seats_left is ≡ [] → (y : List ℕ) → grown_tree is y ≡ node y (tree_of is)
+unfolding grown_tree node tree_of line_of places_node kids_told
 grown_all is s f none y = ap (λ o. cond (bytes_eq y places) (Some places_node) o) (go (line_of y is) refl ∙ sym (find_placed y is))
   where
     go : (o : Option ItemLine) → line_of y is ≡ o → as_come is y o ≡ option_map placed_of o
@@ -280,7 +285,7 @@ grown_all is s f none y = ap (λ o. cond (bytes_eq y places) (Some places_node) 
         no_root false r = refl
     go (Some i) e = ap (λ cs. Some (record { id = i.item.id; kind = i.item.kind; content = i.item.content; parent = Some i.parent; children = cs; time = i.time })) (kids_are is y i s f none e)
 
-pub grown_whole : (items : List ItemLine) (k : ℕ) (t : List Placed) → IsWhole items → AreItemLines items → length items ≤ k → IsGrown items k t → IsSame t (tree_of items)
+pub grown_whole : (items : List ItemLine) (k : ℕ) (t : List PlacedItem) → IsWhole items → AreItemLines items → length items ≤ k → IsGrown items k t → IsSame t (tree_of items)
 grown_whole items k t w f le g = λ y.
     let all : take k items ≡ items = take_all k items le in
-    g.nodes y ∙ (ap (λ js. grown js y) all ∙ grown_all items (subst IsSound all g.sound) f w.left y)
+    g.nodes y ∙ (ap (λ js. grown_tree js y) all ∙ grown_all items (subst IsSound all g.sound) f w.left y)

@@ -1,5 +1,7 @@
 -- The items of a tree in preorder have their places.
-use Rattle.std.proofs.Common.{◌≡◌, ◌≢◌, ℕ, zero, suc, ◌+◌, ◌-◌, ◌<◌, ◌≤◌, ◌&&◌, ◌||◌, not, Bool, true, false, cond, List, [], ◌∷◌, ◌++◌, length, map, bytes_eq, append_assoc, append-nil, refl, sym, ap, ap₂, subst, ◌∙◌, arith, inl, inr, Some, option_map, option_and_then, unwrap_or}
+use Rattle.std.proofs.Common.{◌≡◌, ◌≢◌, ℕ, zero, suc, ◌+◌, ◌-◌, ◌<◌, ◌≤◌, ◌&&◌, ◌||◌, not, Bool, true, false, cond}
+use Rattle.std.proofs.Common.{List, [], ◌∷◌, ◌++◌, length, map, bytes_eq, append_assoc, append-nil, refl, sym, ap, ap₂}
+use Rattle.std.proofs.Common.{subst, ◌∙◌, arith, inl, inr, Some, option_map, option_and_then, unwrap_or}
 use Rattle.std.specs.List.{flat_map}
 use Rattle.std.proofs.lemmas.Bool.{false≢true, eqb-true}
 use Rattle.std.proofs.lemmas.List.{map-append}
@@ -8,7 +10,7 @@ use Rattle.ss_record.proofs.IdLists.{bytes_eq-refl}
 use Rattle.ss_list.specs.Chain.{times}
 use Rattle.ss_list.proofs.Times.{times-here, times-append, below-head}
 use Rattle.ss_tree.specs.declared.entries.Entry.{Entry}
-use Rattle.ss_tree.specs.Trees.{Placed}
+use Rattle.ss_tree.specs.Trees.{PlacedItem}
 use Rattle.ss_tree.specs.Entries.{IsTree, entry, is_live, kids, placed, preorder, top_entry}
 use Rattle.ss_tree.proofs.EachMet.{each_met}
 use Rattle.ss_tree.proofs.Kept.{preorder_more}
@@ -19,7 +21,8 @@ use Rattle.ss_device.proofs.ByIds.{idof, name_at, placed_is, same_node}
 use Rattle.ss_device.proofs.Changes.{kid_there, times_in}
 use Rattle.ss_device.proofs.Going.{Full, full_top}
 use Rattle.ss_device_file.specs.declared.lines.ItemLine.{ItemLine}
-use Rattle.ss_device_file.specs.Places.{ArePlaced, IsWhole, PlacedAfter, Seat, has_place, is_next, item_ids, root_seats, seats_behind, seats_left}
+use Rattle.ss_device_file.specs.Places.{ArePlaced, IsWhole, PlacedAfter, Seat, has_place, is_next, item_ids, root_seats}
+use Rattle.ss_device_file.specs.Places.{seats_behind, seats_left}
 use Rattle.ss_device_file.proofs.Walked.{left_more}
 use Rattle.ss_tree.proofs.Looked.{live_entry}
 use Rattle.ss_text.proofs.Basics.{bytes_eq-same}
@@ -46,7 +49,7 @@ pub node_item_is : (es : List Entry) → IsTree es → (k p : ℕ) (e f : Entry)
 node_item_is es t k p e f q up above =
     let parent : option_and_then (idof es) e.parent ≡ Some f.item.id = ap (option_and_then (idof es)) up ∙ ap (option_map (λ (d : Entry). d.item.id)) above in
     ap (λ o. line_of_entry es (unwrap_or o top_entry)) q
-    ∙ (ap (λ (n : Placed). line_under e (unwrap_or n.parent []) n.children) (placed_is es t k e q)
+    ∙ (ap (λ (n : PlacedItem). line_under e (unwrap_or n.parent []) n.children) (placed_is es t k e q)
     ∙ ap (λ o. line_under e (unwrap_or o []) (map (name_at es) (kids k es))) parent)
 
 pub node_id_is : (es : List Entry) (k : ℕ) (e : Entry) → entry k es ≡ Some e → (node_item es k).item.id ≡ e.item.id

@@ -1,5 +1,7 @@
 -- What a record that is written for an item says.
-use Rattle.std.proofs.Common.{◌≡◌, ◌≢◌, ℕ, Bool, true, false, not, cond, ◌&&◌, ◌||◌, leb, ne_eqb, decimal, List, [], ◌∷◌, Option, Some, None, option_map, option_and_then, unwrap_or, codes, bytes_eq, ◌≤◌, refl, sym, ap, ap₂, subst, ◌∙◌, arith}
+use Rattle.std.proofs.Common.{◌≡◌, ◌≢◌, ℕ, Bool, true, false, not, cond, ◌&&◌, ◌||◌, leb, ne_eqb, decimal, List, []}
+use Rattle.std.proofs.Common.{◌∷◌, Option, Some, None, option_map, option_and_then, unwrap_or, codes, bytes_eq, ◌≤◌}
+use Rattle.std.proofs.Common.{refl, sym, ap, ap₂, subst, ◌∙◌, arith}
 use Rattle.std.specs.List.{list_all}
 use Rattle.std.proofs.lemmas.Bool.{and_parts, false≢true, leb-true}
 use Rattle.serde_json.specs.Data.{Data, Members, object}
@@ -24,7 +26,8 @@ use Rattle.ss_record.proofs.Fit.{fit_reads_back, read_is_content, differ}
 use Rattle.ss_record.proofs.OfId.{reading_is_read}
 use Rattle.ss_device_file.specs.declared.lines.ItemLine.{ItemLine}
 use Rattle.ss_device_file.specs.Lines.{IsItemLine, record_in}
-use Rattle.ss_device_file.specs.Records.{all_ids, id_told, in_place, item_from, item_line_of, read_item, record_id, record_parts}
+use Rattle.ss_device_file.specs.Records.{all_ids, id_told, in_place, item_from, item_line_of, read_item, record_id}
+use Rattle.ss_device_file.specs.Records.{record_parts}
 use Rattle.ss_device_file.specs.Values.{id_of}
 use Rattle.ss_text.proofs.Basics.{same_text, and_then_some, map_some}
 use Rattle.ss_text.proofs.StampTexts.{decimal_digits}

@@ -1,5 +1,7 @@
 -- Of items that have their places: what is to come stands under items that have come.
-use Rattle.std.proofs.Common.{◌≡◌, ◌≢◌, ℕ, ◌||◌, Bool, true, false, not, cond, if◌then◌else◌, List, [], ◌∷◌, ◌++◌, map, filter, find, bytes_eq, append_assoc, append-nil, refl, sym, ap, ap₂, subst, ◌∙◌, Option, Some, None, option_map, unwrap_or}
+use Rattle.std.proofs.Common.{◌≡◌, ◌≢◌, ℕ, ◌||◌, Bool, true, false, not, cond, if◌then◌else◌, List, [], ◌∷◌, ◌++◌, map}
+use Rattle.std.proofs.Common.{filter, find, bytes_eq, append_assoc, append-nil, refl, sym, ap, ap₂, subst, ◌∙◌, Option}
+use Rattle.std.proofs.Common.{Some, None, option_map, unwrap_or}
 use Rattle.std.proofs.lemmas.Bool.{and_parts, false≢true, not-true}
 use Rattle.std.specs.Option.{is_some, option_or}
 use Rattle.std.specs.List.{list_any}
@@ -11,7 +13,8 @@ use Rattle.ss_record.proofs.IdLists.{bytes_eq-refl, has-append, has-cons, has-he
 use Rattle.ss_device_file.specs.declared.lines.ItemLine.{ItemLine}
 use Rattle.ss_device_file.specs.Growing.{come_under, line_of}
 use Rattle.ss_device_file.specs.Lines.{IsItemLine}
-use Rattle.ss_device_file.specs.Places.{Seat, child_seats, has_place, is_next, item_ids, root_seats, seats_behind, seats_left}
+use Rattle.ss_device_file.specs.Places.{Seat, child_seats, has_place, is_next, item_ids, root_seats, seats_behind}
+use Rattle.ss_device_file.specs.Places.{seats_left}
 use Rattle.ss_device_file.proofs.Walked.{ids_more, left_more}
 use Rattle.ss_record.proofs.Fit.{differ}
 use Rattle.ss_text.proofs.Basics.{same_text, is_none}

@@ -1,5 +1,7 @@
 -- The items of a tree in preorder are those of the tree, each in form.
-use Rattle.std.proofs.Common.{◌≡◌, ◌≢◌, ℕ, ◌==◌, Bool, true, false, cond, List, [], ◌∷◌, map, find, bytes_eq, refl, sym, ap, ap₂, subst, ◌∙◌, ◌&&◌, inl, inr, Option, Some, None, option_map, option_and_then, unwrap_or, is_some}
+use Rattle.std.proofs.Common.{◌≡◌, ◌≢◌, ℕ, ◌==◌, Bool, true, false, cond, List, [], ◌∷◌, map, find, bytes_eq, refl, sym}
+use Rattle.std.proofs.Common.{ap, ap₂, subst, ◌∙◌, ◌&&◌, inl, inr, Option, Some, None, option_map, option_and_then}
+use Rattle.std.proofs.Common.{unwrap_or, is_some}
 use Rattle.std.specs.List.{list_all}
 use Rattle.std.specs.Str.{IsUtf8}
 use Rattle.std.proofs.lemmas.Bool.{false≢true, eqb-true, eqb-false}
@@ -9,7 +11,7 @@ use Rattle.ss_record.specs.Kinds.{is_folder}
 use Rattle.ss_record.specs.Records.{record_of}
 use Rattle.ss_record.proofs.IdLists.{bytes_eq-apart}
 use Rattle.ss_tree.specs.declared.entries.Entry.{Entry}
-use Rattle.ss_tree.specs.Trees.{IsSame, Placed, node, places_node}
+use Rattle.ss_tree.specs.Trees.{IsSame, PlacedItem, node, places_node}
 use Rattle.ss_tree.specs.Entries.{IsTree, entry, is_live, kids, placed, top_entry, tree}
 use Rattle.ss_tree.proofs.Valid.{In, valid_tree}
 use Rattle.ss_device.specs.Forms.{AreItems}
@@ -19,7 +21,8 @@ use Rattle.ss_device.proofs.Changes.{kid_there}
 use Rattle.ss_device_file.specs.declared.lines.ItemLine.{ItemLine}
 use Rattle.ss_device_file.specs.Lines.{IsItemLine, record_in}
 use Rattle.ss_device_file.specs.Places.{placed_of, tree_of}
-use Rattle.ss_device_file.proofs.Preorder.{inner, inner_all, inner_below, inner_live, line_under, name_is, node_id_is, node_item, node_item_is, node_items, one_node}
+use Rattle.ss_device_file.proofs.Preorder.{inner, inner_all, inner_below, inner_live, line_under, name_is, node_id_is}
+use Rattle.ss_device_file.proofs.Preorder.{node_item, node_item_is, node_items, one_node}
 use Rattle.ss_tree.proofs.Looked.{live_entry}
 use Rattle.ss_text.proofs.Basics.{bytes_eq-sym, bytes_eq-same, some_same, none_some}
 
@@ -61,13 +64,13 @@ unfolding record_in record_at
 record_same es t k h =
     let parent : option_and_then (idof es) h.item.parent ≡ Some h.folder.item.id = ap (option_and_then (idof es)) h.up_is ∙ ap (option_map (λ (d : Entry). d.item.id)) h.above in
     ap record_in (line_is es t k h)
-    ∙ sym (ap (λ (n : Placed). record_of h.item.item (unwrap_or n.parent []) n.children) (placed_is es t k h.item h.at)
+    ∙ sym (ap (λ (n : PlacedItem). record_of h.item.item (unwrap_or n.parent []) n.children) (placed_is es t k h.item h.at)
     ∙ ap (λ o. record_of h.item.item (unwrap_or o []) (map (name_at es) (kids k es))) parent)
 
 -- ---- the same items
 
-abbrev found : List Entry → List ℕ → List ℕ → Option Placed
-found es x ks = find (λ (n : Placed). bytes_eq x n.id) (map placed_of (node_items es ks))
+abbrev found : List Entry → List ℕ → List ℕ → Option PlacedItem
+found es x ks = find (λ (n : PlacedItem). bytes_eq x n.id) (map placed_of (node_items es ks))
 
 find_first : (es : List Entry) (x : List ℕ) (ks : List ℕ) (k : ℕ) → In k ks → bytes_eq x (node_item es k).item.id ≡ true
     → ((j : ℕ) → In j ks → bytes_eq x (node_item es j).item.id ≡ true → j ≡ k) → found es x ks ≡ Some (placed_of (node_item es k))

@@ -1,5 +1,7 @@
 -- Which lines begin as an item's does, and that the record in one is a text.
-use Rattle.std.proofs.Common.{◌≡◌, ◌≢◌, ℕ, ◌+◌, ◌<◌, Bool, true, false, List, [], ◌∷◌, ◌++◌, length, Option, Some, option_map, codes, decimal, append_assoc, refl, sym, ap, ap₂, subst, ◌∙◌, arith, lit<, length-append}
+use Rattle.std.proofs.Common.{◌≡◌, ◌≢◌, ℕ, ◌+◌, ◌<◌, Bool, true, false, List, [], ◌∷◌, ◌++◌, length, Option, Some}
+use Rattle.std.proofs.Common.{option_map, codes, decimal, append_assoc, refl, sym, ap, ap₂, subst, ◌∙◌, arith, lit<}
+use Rattle.std.proofs.Common.{length-append}
 use Rattle.std.specs.Str.{IsUtf8}
 use Rattle.std.proofs.lemmas.Bool.{false≢true}
 use Rattle.serde_json.specs.Data.{array}

@@ -1,12 +1,15 @@
 -- Items that have their places, one behind the other.
-use Rattle.std.proofs.Common.{◌≡◌, inl, inr, ℕ, suc, ◌+◌, ◌<◌, ◌≤◌, ◌&&◌, Bool, true, false, not, List, [], ◌∷◌, ◌++◌, length, take, drop, get_or, reverse, ◌==◌, append_assoc, append-nil, refl, sym, ap, ap₂, subst, ◌∙◌, arith}
+use Rattle.std.proofs.Common.{◌≡◌, inl, inr, ℕ, suc, ◌+◌, ◌<◌, ◌≤◌, ◌&&◌, Bool, true, false, not, List, [], ◌∷◌, ◌++◌}
+use Rattle.std.proofs.Common.{length, take, drop, get_or, reverse, ◌==◌, append_assoc, append-nil, refl, sym, ap, ap₂}
+use Rattle.std.proofs.Common.{subst, ◌∙◌, arith}
 use Rattle.std.proofs.lemmas.List.{length-map, length-reverse, take_more, take_all, take-append-drop, map-append}
 use Rattle.std.proofs.Math.Seq.{drop-cons}
 use Rattle.ss_record.specs.Ids.{has}
 use Rattle.ss_device_file.specs.declared.lines.ItemLine.{ItemLine}
 use Rattle.ss_device_file.specs.declared.faults.DeviceFault.TheVariants.{BadTree}
 use Rattle.ss_device_file.specs.Files.{IsMisplaced}
-use Rattle.ss_device_file.specs.Places.{ArePlaced, IsWhole, PlacedAfter, Seat, has_place, is_next, item_ids, last_id, root_seats, seats_after, seats_behind, seats_left}
+use Rattle.ss_device_file.specs.Places.{ArePlaced, IsWhole, PlacedAfter, Seat, has_place, is_next, item_ids, last_id}
+use Rattle.ss_device_file.specs.Places.{root_seats, seats_after, seats_behind, seats_left}
 use Rattle.ss_device_file.specs.declared.walk.Waiting.{Waiting}
 use Rattle.ss_device_file.specs.Walking.{comes_next, seat_of, seats_on}
 use Rattle.std.specs.Bool.{OnTrue}

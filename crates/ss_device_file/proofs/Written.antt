@@ -1,5 +1,7 @@
 -- Lines as JSON values: what is written for a line reads back as it.
-use Rattle.std.proofs.Common.{◌≡◌, ℕ, ◌/◌, ◌%◌, ◌≤◌, leb, Bool, true, false, cond, List, [], ◌∷◌, ◌++◌, Option, Some, None, option_map, option_and_then, codes, decimal, append_assoc, refl, sym, ap, ap₂, subst, ◌∙◌, arith, le-leb, lt-ltb, lit≤, bytes_eq}
+use Rattle.std.proofs.Common.{◌≡◌, ℕ, ◌/◌, ◌%◌, ◌≤◌, leb, Bool, true, false, cond, List, [], ◌∷◌, ◌++◌, Option, Some}
+use Rattle.std.proofs.Common.{None, option_map, option_and_then, codes, decimal, append_assoc, refl, sym, ap, ap₂}
+use Rattle.std.proofs.Common.{subst, ◌∙◌, arith, le-leb, lt-ltb, lit≤, bytes_eq}
 use Rattle.std.specs.List.{list_all}
 use Rattle.std.proofs.lemmas.Bool.{and_parts, false≢true, leb-true}
 use Rattle.std.specs.Char.{is_ascii_digit}
@@ -21,7 +23,9 @@ use Rattle.ss_device_file.specs.declared.lines.Version.TheVariants.{First, Secon
 use Rattle.ss_device_file.specs.declared.lines.Line.{Line}
 use Rattle.ss_device_file.specs.declared.lines.Line.TheVariants.{Head, Synced, Row, Item, Dead, End}
 use Rattle.ss_device_file.specs.Lines.{HasForm, line_text}
-use Rattle.ss_device_file.specs.Values.{parts_of, is_item, line_in, line_from, head_from, synced_from, row_from, dead_from, row_with, tagged, id_of, time_of, version_of, text_at, number_at, stamp_at, id_at, time_at}
+use Rattle.ss_device_file.specs.Values.{parts_of, is_item, line_in, line_from, head_from, synced_from, row_from}
+use Rattle.ss_device_file.specs.Values.{dead_from, row_with, tagged, id_of, time_of, version_of, text_at, number_at}
+use Rattle.ss_device_file.specs.Values.{stamp_at, id_at, time_at}
 use Rattle.ss_device_file.proofs.Numbers.{stamp_small}
 use Rattle.ss_text.proofs.StampTexts.{two_are_digits, decimal_digits, stamp_again}
 use Rattle.ss_text.proofs.Basics.{and_then_some, map_some, some_same}

@@ -1,10 +1,11 @@
 -- The file of a device as a whole, and how it is refused (the format is this project's).
-use Rattle.std.specs.Prelude.{◌≡◌, ◌≢◌, ◌==◌, ◌+◌, ◌<◌, ◌≤◌, ◌||◌, ◌&&◌, ◌⊎◌, ℕ, List, [], ◌++◌, Bool, true, false, not, if◌then◌else◌, Option, Some, None, filter, filter_map, find, length, take}
+use Rattle.std.specs.Prelude.{◌≡◌, ◌≢◌, ◌==◌, ◌+◌, ◌<◌, ◌≤◌, ◌||◌, ◌&&◌, ◌⊎◌, ℕ, List, [], ◌++◌, Bool, true, false, not}
+use Rattle.std.specs.Prelude.{if◌then◌else◌, Option, Some, None, filter, filter_map, find, length, take}
 use Rattle.ss_text.specs.Decimals.{count_of}
 use Rattle.ss_record.specs.declared.readings.Sheet.{Sheet}
 use Rattle.ss_record.specs.Ids.{has}
 use Rattle.ss_tree.specs.Entries.{tree}
-use Rattle.ss_tree.specs.Trees.{IsSame, Placed, node_ids}
+use Rattle.ss_tree.specs.Trees.{IsSame, PlacedItem, node_ids}
 use Rattle.ss_build.specs.Rows.{rows_of}
 use Rattle.ss_build.specs.Built.{built}
 use Rattle.ss_device.specs.Device.{Dead, DeviceView, dead_ids, row_ids}
@@ -72,7 +73,7 @@ synced_in ls = if length (mirror_in ls) == length (rows_in ls) then stamp_in ls 
 -- ---- items of the mirror
 
 -- an item of the first tree that is neither in the second one nor among the deleted
-abbrev pub is_lost : List Placed → List Placed → Dead → List ℕ → Bool
+abbrev pub is_lost : List PlacedItem → List PlacedItem → Dead → List ℕ → Bool
 is_lost b t dead x = has x (node_ids b) && not (has x (node_ids t) || has x (dead_ids dead))
 
 -- the first item, in the order of the rows, that the mirror's rows are built to and that is neither in the tree nor among
@@ -96,7 +97,7 @@ pub record Tells (ls : List Line) (d : DeviceView) : Type 0 where
   pub stamp : d.stamp ≡ synced_in ls
 
 -- lines of a whole file tell a device: all items have their places, and none of the mirror is lost
-pub record IsTold (ls : List Line) (d : DeviceView) : Type 0 where
+pub record TellsDevice (ls : List Line) (d : DeviceView) : Type 0 where
   pub whole : IsWhole (items_in ls)
   pub found : lost_in ls ≡ None
   pub tells : Tells ls d
@@ -105,7 +106,7 @@ pub record IsTold (ls : List Line) (d : DeviceView) : Type 0 where
 pub record IsFileOf (text : List ℕ) (d : DeviceView) : Type 0 where
   pub lines : List Line
   pub all : AreAll text lines
-  pub told : IsTold lines d
+  pub told : TellsDevice lines d
 
 -- ---- lines at the front of a text
 
@@ -138,10 +139,10 @@ abbrev pub has_line : List ℕ → Bool
 has_line text = list_any (λ b. b == 10) text
 
 -- what is there is another line, or none at all
-abbrev pub IsStopped : List ℕ → LinesFault → Type 0
-IsStopped text (Refused n) = (rest : List ℕ) × IsStoppedAt text n rest × (has_line rest ≡ true)
-IsStopped text (Cut n) = (rest : List ℕ) × IsStoppedAt text n rest × (has_line rest ≡ false)
-IsStopped text NoRoom = Unit {0}
+abbrev pub IsWhyNoFront : List ℕ → LinesFault → Type 0
+IsWhyNoFront text (Refused n) = (rest : List ℕ) × IsStoppedAt text n rest × (has_line rest ≡ true)
+IsWhyNoFront text (Cut n) = (rest : List ℕ) × IsStoppedAt text n rest × (has_line rest ≡ false)
+IsWhyNoFront text NoRoom = Unit {0}
 
 -- the text goes on with no line that may come next, for this reason
 abbrev pub IsStoppedBy : List Line → List ℕ → LinesFault → Type 0
@@ -190,7 +191,7 @@ pub record IsBadTree (text : List ℕ) (id : List ℕ) : Type 0 where
   pub all : AreAll text lines
   pub unseated : IsUnseated lines id
 
-abbrev pub IsRefused : List ℕ → DeviceFault → Type 0
-IsRefused text (BadLine n) = IsBadLine text n
-IsRefused text (BadTree id) = IsBadTree text id
-IsRefused text Memory = Unit {0}
+abbrev pub IsWhyNoDevice : List ℕ → DeviceFault → Type 0
+IsWhyNoDevice text (BadLine n) = IsBadLine text n
+IsWhyNoDevice text (BadTree id) = IsBadTree text id
+IsWhyNoDevice text Memory = Unit {0}

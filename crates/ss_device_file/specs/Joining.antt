@@ -2,7 +2,7 @@
 use Rattle.std.specs.Prelude.{◌≡◌, ◌==◌, ℕ, List, true, Option, Some, find, length, if◌then◌else◌}
 use Rattle.ss_record.specs.declared.readings.Sheet.{Sheet}
 use Rattle.ss_record.specs.Ids.{has, places, roots}
-use Rattle.ss_tree.specs.Trees.{Placed, node_ids}
+use Rattle.ss_tree.specs.Trees.{PlacedItem, node_ids}
 use Rattle.ss_build.specs.Rows.{rows_of}
 use Rattle.ss_build.specs.Built.{built}
 use Rattle.ss_device.specs.Device.{Dead, row_ids}
@@ -12,12 +12,12 @@ use Rattle.ss_device_file.specs.declared.faults.DeviceFault.TheVariants.{BadLine
 use Rattle.ss_device_file.specs.Files.{is_lost, kept_rows}
 
 -- `places` and the roots are in the tree
-pub record HasRoots (t : List Placed) : Type 0 where
+pub record HasRoots (t : List PlacedItem) : Type 0 where
   pub top : has places (node_ids t) ≡ true
   pub all : (r : List ℕ) → has r roots ≡ true → has r (node_ids t) ≡ true
 
 -- the first of the mirror's items that is neither in the tree nor among the deleted
-unfoldable pub lost_of : List Sheet → List Placed → Dead → Option (List ℕ)
+unfoldable pub lost_of : List Sheet → List PlacedItem → Dead → Option (List ℕ)
 lost_of mirror t dead = find (is_lost (built (rows_of mirror)) t dead) (row_ids mirror)
 
 abbrev pub IsLostBy : Option (List ℕ) → DeviceFault → Type 0

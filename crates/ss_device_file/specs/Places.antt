@@ -1,9 +1,10 @@
 -- The places of items in a device's file: its item lines stand in preorder, by the four roots and the children that the
 -- lines in front name.
-use Rattle.std.specs.Prelude.{◌≡◌, ◌&&◌, ℕ, List, [], ◌∷◌, ◌++◌, ◌-◌, length, Bool, true, false, not, Some, map, bytes_eq, codes, unwrap_or, option_map}
+use Rattle.std.specs.Prelude.{◌≡◌, ◌&&◌, ℕ, List, [], ◌∷◌, ◌++◌, ◌-◌, length, Bool, true, false, not, Some, map}
+use Rattle.std.specs.Prelude.{bytes_eq, codes, unwrap_or, option_map}
 use Rattle.std.specs.List.{slice_get}
 use Rattle.ss_record.specs.Ids.{has, places, roots}
-use Rattle.ss_tree.specs.Trees.{Placed, places_node}
+use Rattle.ss_tree.specs.Trees.{PlacedItem, places_node}
 use Rattle.ss_device_file.specs.declared.lines.ItemLine.{ItemLine}
 use Rattle.ss_device_file.specs.Lines.{IsItemLine}
 
@@ -80,10 +81,10 @@ pub record IsWhole (is : List ItemLine) : Type 0 where
   pub left : seats_left is ≡ []
 
 -- the tree that they make, with the times on their lines
-abbrev pub placed_of : ItemLine → Placed
+abbrev pub placed_of : ItemLine → PlacedItem
 placed_of i = record { id = i.item.id; kind = i.item.kind; content = i.item.content; parent = Some i.parent; children = i.children; time = i.time }
 
-unfoldable pub tree_of : List ItemLine → List Placed
+unfoldable pub tree_of : List ItemLine → List PlacedItem
 tree_of is = places_node ∷ map placed_of is
 
 -- the items are in form

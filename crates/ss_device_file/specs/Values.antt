@@ -1,5 +1,6 @@
 -- Lines as JSON values, for private clauses.
-use Rattle.std.specs.Prelude.{◌==◌, ℕ, nat_le, List, Bool, true, false, if◌then◌else◌, Option, Some, None, option_map, option_and_then, bytes_eq, codes}
+use Rattle.std.specs.Prelude.{◌==◌, ℕ, nat_le, List, Bool, true, false, if◌then◌else◌, Option, Some, None, option_map}
+use Rattle.std.specs.Prelude.{option_and_then, bytes_eq, codes}
 use Rattle.serde_json.specs.Data.{unsigned, Data, null, boolean, number, string, array, object, Items, no_items, item}
 use Rattle.serde_json.specs.Find.{as_number, as_str, as_u64, get_item}
 use Rattle.ss_text.specs.Names.{is_id}

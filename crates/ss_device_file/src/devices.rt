@@ -3,7 +3,7 @@
 ghost use Rattle.std.specs.Prelude.{◌≡◌, None, true, IfOk, IfErr, OnOk};
 ghost use Rattle.ss_tree.specs.Entries.{tree as tree_of};
 ghost use Rattle.ss_device.specs.Device.{AreById, dead_ids, row_ids};
-ghost use Rattle.ss_device_file.specs.Files.{IsTold, IsUnseatedBy, kept_rows};
+ghost use Rattle.ss_device_file.specs.Files.{TellsDevice, IsUnseatedBy, kept_rows};
 ghost use Rattle.ss_device_file.specs.Joining.{HasRoots, IsLostBy, lost_of, synced_with};
 ghost use Rattle.ss_device_file.specs.Lines.{AreLines, is_ended};
 
@@ -86,7 +86,7 @@ fn put_together(
 pub fn device_of(alloc: Global, lines: Vec<Line>) -> Result<Device, DeviceFault>
     requires lines { AreLines lines.items }
     requires ended { is_ended lines.items ≡ true }
-    ensures told { IfOk result (λ d. IsTold lines.items d) }
+    ensures told { IfOk result (λ d. TellsDevice lines.items d) }
     ensures unseated { IfErr result (λ fault. IsUnseatedBy lines.items fault) }
 {
     let version = version_in(&lines);

@@ -1,7 +1,7 @@
 //! The lines of a device's file at the front of a text.
 
 ghost use Rattle.std.specs.Prelude.{◌≡◌, ◌∷◌, ◌++◌, [], IfOk, IfErr, OnOk};
-ghost use Rattle.ss_device_file.specs.Files.{IsFront, IsNextLine, IsStopped, IsStoppedBy};
+ghost use Rattle.ss_device_file.specs.Files.{IsFront, IsNextLine, IsWhyNoFront, IsStoppedBy};
 
 use crate::cuts::place_of;
 use crate::faults::LinesFault;
@@ -51,7 +51,7 @@ fn keep(lines: &mut Vec<Line>, line: Line) -> Result<(), AllocError>
 /// Reads the lines of a device's file at the front of a text, up to the end's.
 pub fn read_front(alloc: Global, text: &[u8]) -> Result<Front, LinesFault>
     ensures front { IfOk result (λ f. IsFront text.now f) }
-    ensures stopped { IfErr result (λ fault. IsStopped text.now fault) }
+    ensures stopped { IfErr result (λ fault. IsWhyNoFront text.now fault) }
 {
     let mut lines = Vec::new(alloc);
     let mut used = 0;

@@ -5,7 +5,8 @@ ghost use Rattle.std.specs.Str.{IsUtf8};
 ghost use Rattle.serde_json.specs.View.{members_view};
 ghost use Rattle.ss_device.specs.Writing.{item_line};
 ghost use Rattle.ss_device_file.specs.Lines.{IsItemLine, record_in};
-ghost use Rattle.ss_device_file.specs.Records.{all_ids, id_told, in_place, item_from, read_item, record_id, record_parts};
+ghost use Rattle.ss_device_file.specs.Records.{all_ids, id_told, in_place, item_from, read_item, record_id};
+ghost use Rattle.ss_device_file.specs.Records.{record_parts};
 ghost use Rattle.ss_device_file.specs.declared.lines.ItemLine.{ItemLine as ItemLineView};
 
 use crate::cuts::{cut_item, time_of};

@@ -3,7 +3,8 @@
 ghost use Rattle.std.specs.Prelude.{◌≡◌, ◌++◌, ◌∷◌, [], IfOk, OnOk, filter_map, map};
 ghost use Rattle.std.specs.Option.{option_to_list};
 ghost use Rattle.ss_device.specs.Device.{AreById, dead_ids};
-ghost use Rattle.ss_device_file.specs.Files.{death_in, deaths_in, item_in, items_in, kept_rows, row_in, rows_in, stamp_in};
+ghost use Rattle.ss_device_file.specs.Files.{death_in, deaths_in, item_in, items_in, kept_rows, row_in, rows_in};
+ghost use Rattle.ss_device_file.specs.Files.{stamp_in};
 
 use crate::lines::{ItemLine, Line, Version};
 use ss_record::Sheet;

@@ -2,7 +2,7 @@
 
 ghost use Rattle.std.specs.Prelude.{◌≡◌, true, IfOk, IfErr};
 ghost use Rattle.ss_device.specs.Device.{IsSameDevice};
-ghost use Rattle.ss_device_file.specs.Files.{AreAll, IsFileOf, IsRefused, IsRefusedFront};
+ghost use Rattle.ss_device_file.specs.Files.{AreAll, IsFileOf, IsWhyNoDevice, IsRefusedFront};
 ghost use Rattle.ss_device_file.specs.declared.faults.DeviceFault.TheVariants.{Memory};
 
 use crate::devices::device_of;
@@ -36,7 +36,7 @@ fn lines_of(alloc: Global, bytes: &[u8]) -> Result<Vec<Line>, DeviceFault>
 /// exactly where it is what would be written for its values.
 pub fn read_device(alloc: Global, bytes: &[u8]) -> Result<Device, DeviceFault>
     ensures read { IfOk result (λ d. IsFileOf bytes.now d) }
-    ensures refused { IfErr result (λ fault. IsRefused bytes.now fault) }
+    ensures refused { IfErr result (λ fault. IsWhyNoDevice bytes.now fault) }
 {
     let lines = lines_of(alloc, bytes)?;
     device_of(alloc, lines)

@@ -5,7 +5,8 @@ ghost use Rattle.std.specs.Str.{IsUtf8};
 ghost use Rattle.serde_json.specs.Read.{read};
 ghost use Rattle.serde_json.specs.Find.{get_item};
 ghost use Rattle.serde_json.specs.View.{items_view, view};
-ghost use Rattle.ss_device_file.specs.Values.{dead_from, head_from, id_at, line_from, line_in, number_at, row_from, stamp_at, synced_from, tagged, text_at, time_at};
+ghost use Rattle.ss_device_file.specs.Values.{dead_from, head_from, id_at, line_from, line_in, number_at, row_from};
+ghost use Rattle.ss_device_file.specs.Values.{stamp_at, synced_from, tagged, text_at, time_at};
 
 use crate::lines::{Line, Version};
 use serde_json::Value;

@@ -1,10 +1,11 @@
 -- Lists in order, as they grow at their end.
-use Rattle.std.proofs.Common.{◌≡◌, suc, ◌-◌, Bool, true, false, not, cond, List, [], ◌∷◌, ◌++◌, length, map, refl, sym, ap, ap₂, ◌∙◌, arith}
+use Rattle.std.proofs.Common.{◌≡◌, suc, ◌-◌, Bool, true, false, not, cond, List, [], ◌∷◌, ◌++◌, length, map, refl, sym}
+use Rattle.std.proofs.Common.{ap, ap₂, ◌∙◌, arith}
 use Rattle.std.specs.List.{slice_get}
 use Rattle.std.specs.Option.{option_map_or}
 use Rattle.std.specs.Ordering.{is_lt, nat_cmp}
 use Rattle.std.proofs.lemmas.Bool.{not-true}
-use Rattle.ss_text.specs.Texts.{placed, sorted}
+use Rattle.ss_text.specs.Texts.{list_with, sorted}
 use Rattle.ss_bso.specs.declared.account.Staged.{Staged}
 use Rattle.ss_dump.specs.Dumps.{comes_before, number_cmp}
 use Rattle.ss_dump.specs.Telling.{may_end}
@@ -20,7 +21,7 @@ pub ascending_sorted : {X : Type 0} (before : X → X → Bool) (xs : List X) �
 ascending_sorted before [] h = refl
 ascending_sorted before (x ∷ []) h = refl
 ascending_sorted before (x ∷ y ∷ ys) h =
-    ap (placed before x) (ascending_sorted before (y ∷ ys) h.1) ∙ ap (λ b. cond b (y ∷ placed before x ys) (x ∷ y ∷ ys)) h.0
+    ap (list_with before x) (ascending_sorted before (y ∷ ys) h.1) ∙ ap (λ b. cond b (y ∷ list_with before x ys) (x ∷ y ∷ ys)) h.0
 
 pub last_step : {X : Type 0} (y z : X) (zs : List X) → slice_get (y ∷ z ∷ zs) (length (y ∷ z ∷ zs) - 1) ≡ slice_get (z ∷ zs) (length (z ∷ zs) - 1)
 last_step y z zs =

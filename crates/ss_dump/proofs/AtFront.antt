@@ -1,5 +1,6 @@
 -- Dumps at the fronts of texts: their lines, which of them may follow which, and where a text doesn't begin with a dump.
-use Rattle.std.proofs.Common.{◌≡◌, ℕ, ◌+◌, ◌<◌, ◌≤◌, Bool, true, false, List, [], ◌∷◌, ◌++◌, length, take, drop, Some, append_assoc, append-nil, refl, sym, ap, ◌∙◌, subst, arith, length-append, bytes_eq}
+use Rattle.std.proofs.Common.{◌≡◌, ℕ, ◌+◌, ◌<◌, ◌≤◌, Bool, true, false, List, [], ◌∷◌, ◌++◌, length, take, drop, Some}
+use Rattle.std.proofs.Common.{append_assoc, append-nil, refl, sym, ap, ◌∙◌, subst, arith, length-append, bytes_eq}
 use Rattle.std.proofs.lemmas.Bool.{false≢true}
 use Rattle.std.proofs.lemmas.List.{length-take-le, take-append-drop}
 use Rattle.std.specs.List.{AllByRecursion}
@@ -12,14 +13,16 @@ use Rattle.ss_lines.proofs.Fronts.{some_text, told_apart}
 use Rattle.ss_dump.specs.declared.faults.LineFault.{LineFault}
 use Rattle.ss_dump.specs.declared.faults.LineFault.TheVariants.{BadLine, Memory}
 use Rattle.ss_dump.specs.Dumps.{account_lines, body_text, digest_of, dump_text, in_order, text_of}
-use Rattle.ss_dump.specs.Fronts.{GoesOn, IsBadFront, IsDumpFront, IsFrontFault, IsTold, dump_lines}
+use Rattle.ss_dump.specs.Fronts.{GoesOn, IsBadFront, IsDumpFront, IsFrontFault, IsFormedInOrder, dump_lines}
 use Rattle.ss_dump.specs.Stages.{Comes, HasBody, IsReadTo, IsStop, IsStopBefore, IsStopOf, is_closed, states}
-use Rattle.ss_dump.specs.Telling.{State, account, begun, closed, is_whole, next, nothing, timed, told, told_from, whole}
+use Rattle.ss_dump.specs.Telling.{State, account, begun, closed, is_whole, next, nothing, kept_with_times, told}
+use Rattle.ss_dump.specs.Telling.{told_from, whole}
 use Rattle.ss_dump.proofs.ByLines.{closed_next, whole_next}
 use Rattle.ss_dump.proofs.Complete.{account_told, is_ordered, told_account}
 use Rattle.ss_dump.proofs.Digests.{digest_form}
 use Rattle.ss_dump.proofs.Exact.{all_append}
-use Rattle.ss_dump.proofs.Told.{AreOrdered, all_back, all_front, lines_of, ordered_is, text_append, text_more, to_whole, told_lines}
+use Rattle.ss_dump.proofs.Told.{AreOrdered, all_back, all_front, lines_of, ordered_is, text_append, text_more, to_whole}
+use Rattle.ss_dump.proofs.Told.{told_lines}
 
 -- ---- the lines of a dump
 
@@ -27,11 +30,11 @@ abbrev tail : Kept → List Line
 tail kept = Digest (digest_of (body_text kept)) ∷ End ∷ []
 
 -- they tell what is kept, with its digest, to the end
-pub dump_told : (kept : Kept) → IsTold kept → told (dump_lines kept) ≡ Some (whole kept (digest_of (body_text kept)))
+pub dump_told : (kept : Kept) → IsFormedInOrder kept → told (dump_lines kept) ≡ Some (whole kept (digest_of (body_text kept)))
 dump_told kept h =
     ap (λ k. told (account_lines k ++ Digest (digest_of (body_text kept)) ∷ End ∷ [])) h.ordered ∙ told_account kept (digest_of (body_text kept)) (is_ordered kept h.ordered)
 
-pub dump_formed : (kept : Kept) → IsTold kept → AllByRecursion IsLine (dump_lines kept)
+pub dump_formed : (kept : Kept) → IsFormedInOrder kept → AllByRecursion IsLine (dump_lines kept)
 dump_formed kept h =
     all_append (account_lines (in_order kept)) (Digest (digest_of (body_text kept)) ∷ End ∷ [])
     (subst (λ k. AllByRecursion IsLine (account_lines k)) (sym h.ordered) h.formed) (digest_form (body_text kept), (tt, tt))
@@ -69,7 +72,7 @@ may_come lines l state e g =
     record { formed = formed.0; then = r.0; next = r.1; rest = r.2 }
 
 -- nothing follows a dump
-pub whole_goes_on : (kept : Kept) (l : Line) → IsTold kept → GoesOn (dump_lines kept) l → ⊥
+pub whole_goes_on : (kept : Kept) (l : Line) → IsFormedInOrder kept → GoesOn (dump_lines kept) l → ⊥
 whole_goes_on kept l h g =
     let m = may_come (dump_lines kept) l (whole kept (digest_of (body_text kept))) (dump_told kept h) g in
     whole_next kept (digest_of (body_text kept)) l m.then m.next
@@ -78,7 +81,7 @@ same_whole : (k m : Kept) (d e : List ℕ) → whole k d ≡ whole m e → (k �
 same_whole k m d e h = (cc, cc)
 
 -- lines are of one dump
-pub one_dump_lines : (kept other : Kept) → IsTold kept → IsTold other → dump_lines kept ≡ dump_lines other → kept ≡ other
+pub one_dump_lines : (kept other : Kept) → IsFormedInOrder kept → IsFormedInOrder other → dump_lines kept ≡ dump_lines other → kept ≡ other
 one_dump_lines kept other h g e =
     (same_whole kept other (digest_of (body_text kept)) (digest_of (body_text other))
     (some_same (sym (dump_told kept h) ∙ (ap told e ∙ dump_told other g)))).0
@@ -112,19 +115,19 @@ IsRight (account kept) = Unit {0}
 IsRight (closed kept digest) = digest ≡ digest_of (body_text kept)
 IsRight (whole kept digest) = Unit {0}
 
-pub fresh_told : IsTold (timed 0 0 0)
+pub fresh_told : IsFormedInOrder (kept_with_times 0 0 0)
 unfolding account_lines
 fresh_told = record { formed = (tt, ((omega arith, omega arith, omega arith), tt)); ordered = refl }
 
 begins : GoesOn [] Account
 unfolding account_lines
-begins = record { kept = timed 0 0 0; behind = Times 0 0 0 ∷ tail (timed 0 0 0); told = fresh_told; lines_are = refl }
+begins = record { kept = kept_with_times 0 0 0; behind = Times 0 0 0 ∷ tail (kept_with_times 0 0 0); told = fresh_told; lines_are = refl }
 
 goes_begun : GoesOn (Account ∷ []) (Times 0 0 0)
 unfolding account_lines
-goes_begun = record { kept = timed 0 0 0; behind = tail (timed 0 0 0); told = fresh_told; lines_are = refl }
+goes_begun = record { kept = kept_with_times 0 0 0; behind = tail (kept_with_times 0 0 0); told = fresh_told; lines_are = refl }
 
-goes_account : (kept : Kept) → IsTold kept → GoesOn (account_lines kept) (Digest (digest_of (body_text kept)))
+goes_account : (kept : Kept) → IsFormedInOrder kept → GoesOn (account_lines kept) (Digest (digest_of (body_text kept)))
 goes_account kept h = record {
   kept = kept;
   behind = End ∷ [];
@@ -132,7 +135,7 @@ goes_account kept h = record {
   lines_are = ap (λ k. account_lines k ++ Digest (digest_of (body_text kept)) ∷ End ∷ []) h.ordered;
 }
 
-goes_closed : (kept : Kept) (d : List ℕ) → IsTold kept → d ≡ digest_of (body_text kept) → GoesOn (account_lines kept ++ Digest d ∷ []) End
+goes_closed : (kept : Kept) (d : List ℕ) → IsFormedInOrder kept → d ≡ digest_of (body_text kept) → GoesOn (account_lines kept ++ Digest d ∷ []) End
 goes_closed kept d h e = record {
   kept = kept;
   behind = [];
@@ -209,7 +212,7 @@ fault_at_end text state found used body count (BadLine n) h c f e s = bad_of_sto
 fault_at_end text state found used body count Memory h c f e s = tt
 
 -- the lines of an account tell it
-lines_told : (kept : Kept) → IsTold kept → told (account_lines kept) ≡ Some (account kept)
+lines_told : (kept : Kept) → IsFormedInOrder kept → told (account_lines kept) ≡ Some (account kept)
 lines_told kept h = ap told (sym (append-nil (account_lines kept))) ∙ account_told kept [] (is_ordered kept h.ordered)
 
 wrong_digest : (text : List ℕ) (kept : Kept) (d found : List ℕ) (used body count : ℕ) → IsReadTo text (closed kept d) used body count → found ≡ digest_of (take body text) → bytes_eq d found ≡ false
@@ -217,7 +220,7 @@ wrong_digest : (text : List ℕ) (kept : Kept) (d found : List ℕ) (used body c
 wrong_digest text kept d found used body count h f e =
     let t = told_lines h.lines (closed kept d) h.tell in
     let formed = subst (AllByRecursion IsLine) t.0 h.are in
-    let is : IsTold kept = record { formed = all_front (account_lines kept) (Digest d ∷ []) formed; ordered = ordered_is kept t.1 } in
+    let is : IsFormedInOrder kept = record { formed = all_front (account_lines kept) (Digest d ∷ []) formed; ordered = ordered_is kept t.1 } in
     let digest_formed = (all_back (account_lines kept) (Digest d ∷ []) formed).0 in
     let front : take used text ≡ text_of (account_lines kept) ++ line_text (Digest d) = h.text_is ∙ (ap text_of t.0 ∙ text_more (account_lines kept) (Digest d)) in
     record {

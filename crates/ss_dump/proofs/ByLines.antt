@@ -1,5 +1,6 @@
 -- Reading a text line by line.
-use Rattle.std.proofs.Common.{◌≡◌, ℕ, ◌+◌, ◌-◌, ◌<◌, ◌≤◌, true, false, cond, List, [], ◌∷◌, ◌++◌, length, take, drop, Some, None, refl, sym, ap, ap₂, ◌∙◌, subst, arith, length-append, length-drop}
+use Rattle.std.proofs.Common.{◌≡◌, ℕ, ◌+◌, ◌-◌, ◌<◌, ◌≤◌, true, false, cond, List, [], ◌∷◌, ◌++◌, length, take, drop}
+use Rattle.std.proofs.Common.{Some, None, refl, sym, ap, ap₂, ◌∙◌, subst, arith, length-append, length-drop}
 use Rattle.std.proofs.lemmas.Bool.{false≢true, true≢false}
 use Rattle.std.proofs.lemmas.List.{take_all, take-append-drop}
 use Rattle.std.proofs.Math.Seq.{take-add}
@@ -7,13 +8,16 @@ use Rattle.ss_text.proofs.Basics.{none_some, some_same}
 use Rattle.ss_bso.specs.declared.changes.Kept.{Kept}
 use Rattle.ss_lines.specs.Lines.{IsFront, NoneBegins, line_text}
 use Rattle.ss_lines.specs.declared.lines.Line.{Line}
-use Rattle.ss_lines.specs.declared.lines.Line.TheVariants.{Account, Times, Collection, Row as RowLine, Batch, Part as PartLine, Digest, End}
+use Rattle.ss_lines.specs.declared.lines.Line.TheVariants.{Account, Times, Collection, Row as RowLine, Batch}
+use Rattle.ss_lines.specs.declared.lines.Line.TheVariants.{Part as PartLine, Digest, End}
 use Rattle.ss_lines.proofs.Fronts.{told_apart}
 use Rattle.ss_dump.specs.Dumps.{text_of}
 use Rattle.ss_dump.specs.declared.faults.LineFault.{LineFault}
 use Rattle.ss_dump.specs.declared.faults.LineFault.TheVariants.{BadLine, Memory}
-use Rattle.ss_dump.specs.Stages.{HasBody, IsLineFault, IsReadTo, IsStop, IsStopBefore, IsStopOf, is_closed, is_digest_line}
-use Rattle.ss_dump.specs.Telling.{IsBadLine, IsToldWith, NoneComes, State, account, begun, closed, is_whole, next, nothing, told, whole}
+use Rattle.ss_dump.specs.Stages.{HasBody, IsLineFault, IsReadTo, IsStop, IsStopBefore, IsStopOf, is_closed}
+use Rattle.ss_dump.specs.Stages.{is_digest_line}
+use Rattle.ss_dump.specs.Telling.{IsBadLine, IsToldWith, NoneComes, State, account, begun, closed, is_whole, next}
+use Rattle.ss_dump.specs.Telling.{nothing, told, whole}
 use Rattle.ss_dump.proofs.Told.{all_more, lines_of, text_more, to_closed, to_whole, told_lines, told_more}
 
 pub start : (text : List ℕ) → IsReadTo text nothing 0 0 0

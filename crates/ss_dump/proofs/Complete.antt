@@ -1,26 +1,28 @@
 -- The lines of an account whose lists are in order tell it.
-use Rattle.std.proofs.Common.{◌≡◌, ℕ, Bool, true, false, not, cond, List, [], ◌∷◌, ◌++◌, map, Some, None, option_map, option_and_then, append_assoc, append-nil, refl, sym, ap, ◌∙◌, subst}
+use Rattle.std.proofs.Common.{◌≡◌, ℕ, Bool, true, false, not, cond, List, [], ◌∷◌, ◌++◌, map, Some, None, option_map}
+use Rattle.std.proofs.Common.{option_and_then, append_assoc, append-nil, refl, sym, ap, ◌∙◌, subst}
 use Rattle.std.specs.List.{flat_map}
 use Rattle.std.specs.Option.{option_map_or}
 use Rattle.std.specs.Cmp.{IsTotalOrder, nat_cmp_total, on_total, then_total}
 use Rattle.std.specs.Cmp.Lexicographic.{nat_list_cmp_total}
 use Rattle.std.specs.declared.cmp.Ordering.{Ordering}
 use Rattle.std.proofs.lemmas.List.Sorted.{ranks_by}
-use Rattle.ss_text.specs.Texts.{placed, sorted}
+use Rattle.ss_text.specs.Texts.{list_with, sorted}
 use Rattle.ss_bso.specs.declared.rows.Row.{Row}
 use Rattle.ss_bso.specs.declared.parts.Part.{Part}
 use Rattle.ss_bso.specs.declared.account.Staged.{Staged}
 use Rattle.ss_bso.specs.declared.changes.Kept.{Kept}
 use Rattle.ss_lines.specs.declared.lines.Line.{Line}
 use Rattle.ss_lines.specs.declared.lines.Line.TheVariants.{Row as RowLine, Part as PartLine, Digest, End}
-use Rattle.ss_dump.specs.Dumps.{account_lines, batch_lines, collection_line, comes_before, in_order, name_cmp, number_cmp, place_cmp}
+use Rattle.ss_dump.specs.Dumps.{account_lines, batch_lines, collection_line, comes_before, in_order, name_cmp}
+use Rattle.ss_dump.specs.Dumps.{number_cmp, place_cmp}
 use Rattle.ss_dump.specs.Telling.{State, account, may_end, next, told, told_from, whole}
 use Rattle.ss_dump.proofs.Ascending.{IsAscending, last_step}
 use Rattle.ss_dump.proofs.Told.{IsOrdered, with_last}
 
 -- ---- sorted lists ascend
 
-placed_ascending : {X : Type 0} (before : X → X → Bool) → ((x y : X) → before x y ≡ true → before y x ≡ false) → (x : X) (ys : List X) → IsAscending before ys → IsAscending before (placed before x ys)
+placed_ascending : {X : Type 0} (before : X → X → Bool) → ((x y : X) → before x y ≡ true → before y x ≡ false) → (x : X) (ys : List X) → IsAscending before ys → IsAscending before (list_with before x ys)
 placed_ascending before one_way x [] h = tt
 placed_ascending before one_way x (y ∷ []) h = go (before y x) refl
   where
@@ -29,8 +31,8 @@ placed_ascending before one_way x (y ∷ []) h = go (before y x) refl
     go false q = (q, tt)
 placed_ascending before one_way x (y ∷ z ∷ zs) h = go (before y x) refl (before z x) (placed_ascending before one_way x (z ∷ zs) h.1)
   where
-    go : (b : Bool) → before y x ≡ b → (c : Bool) → IsAscending before (cond c (z ∷ placed before x zs) (x ∷ z ∷ zs))
-        → IsAscending before (cond b (y ∷ cond c (z ∷ placed before x zs) (x ∷ z ∷ zs)) (x ∷ y ∷ z ∷ zs))
+    go : (b : Bool) → before y x ≡ b → (c : Bool) → IsAscending before (cond c (z ∷ list_with before x zs) (x ∷ z ∷ zs))
+        → IsAscending before (cond b (y ∷ cond c (z ∷ list_with before x zs) (x ∷ z ∷ zs)) (x ∷ y ∷ z ∷ zs))
     go true q true k = (h.0, k)
     go true q false k = (one_way y x q, k)
     go false q c k = (q, h)

@@ -1,5 +1,6 @@
 -- A text tells one account, and a dump is not refused.
-use Rattle.std.proofs.Common.{◌≡◌, ◌≢◌, ℕ, true, List, [], ◌∷◌, ◌++◌, Some, append_assoc, append-nil, refl, sym, ap, ap₂, ◌∙◌}
+use Rattle.std.proofs.Common.{◌≡◌, ◌≢◌, ℕ, true, List, [], ◌∷◌, ◌++◌, Some, append_assoc, append-nil, refl, sym, ap}
+use Rattle.std.proofs.Common.{ap₂, ◌∙◌}
 use Rattle.std.specs.List.{AllByRecursion}
 use Rattle.ss_text.proofs.Basics.{and_then_some, none_some, some_same}
 use Rattle.ss_bso.specs.declared.changes.Kept.{Kept}
@@ -10,10 +11,11 @@ use Rattle.ss_lines.specs.declared.lines.Line.TheVariants.{Digest, End}
 use Rattle.ss_lines.proofs.Fronts.{some_text, told_apart}
 use Rattle.ss_account.specs.Opening.{first_bad_batch, first_bad_collection, first_bad_row}
 use Rattle.ss_dump.specs.declared.faults.DumpFault.{DumpFault}
-use Rattle.ss_dump.specs.declared.faults.DumpFault.TheVariants.{BadLine, BadDigest, BadCollection, BadRow, BadBatch, Memory}
+use Rattle.ss_dump.specs.declared.faults.DumpFault.TheVariants.{BadLine, BadDigest, BadCollection, BadRow, BadBatch}
+use Rattle.ss_dump.specs.declared.faults.DumpFault.TheVariants.{Memory}
 use Rattle.ss_dump.specs.Dumps.{account_lines, body_text, closed_by, digest_of, dump_text, in_order, text_of}
 use Rattle.ss_dump.specs.Telling.{IsToldWith, NoneComes, State, is_whole, next, nothing, told, told_from, whole}
-use Rattle.ss_dump.specs.Undumped.{IsDumpOf, IsRefused, WouldBeDump}
+use Rattle.ss_dump.specs.Undumped.{IsDumpOf, IsWhyNoDump, WouldBeDump}
 use Rattle.ss_dump.proofs.Complete.{is_ordered, told_account}
 use Rattle.ss_dump.proofs.Digests.{digest_form}
 use Rattle.ss_dump.proofs.Told.{text_append}
@@ -100,7 +102,7 @@ one_dump text kept other h g = (one_told text kept other _ _ (dump_told text kep
 same_would : (text : List ℕ) (kept other : Kept) → IsDumpOf text kept → WouldBeDump text other → other ≡ kept
 same_would text kept other h g = (one_told text other kept _ _ (dump_told text other g) (dump_told text kept (would text kept h))).0
 
-pub not_refused : (text : List ℕ) (kept : Kept) (fault : DumpFault) → IsDumpOf text kept → IsRefused text fault → fault ≡ Memory
+pub not_refused : (text : List ℕ) (kept : Kept) (fault : DumpFault) → IsDumpOf text kept → IsWhyNoDump text fault → fault ≡ Memory
 unfolding told
 not_refused text kept (BadLine n) h r =
     let t = dump_told text kept (would text kept h) in

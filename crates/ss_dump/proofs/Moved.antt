@@ -20,9 +20,10 @@ use Rattle.ss_account.specs.Opening.{IsGood}
 use Rattle.ss_account.proofs.Opened.{good-kept, valid-plain_of}
 use Rattle.ss_dump.specs.declared.faults.DumpFault.{DumpFault}
 use Rattle.ss_dump.specs.declared.faults.DumpFault.TheVariants.{Memory}
-use Rattle.ss_dump.specs.Dumps.{account_lines, batch_lines, body_text, closed_by, collection_line, digest_of, dump_text, in_order, text_of}
+use Rattle.ss_dump.specs.Dumps.{account_lines, batch_lines, body_text, closed_by, collection_line, digest_of, dump_text}
+use Rattle.ss_dump.specs.Dumps.{in_order, text_of}
 use Rattle.ss_dump.specs.Same.{SameKept}
-use Rattle.ss_dump.specs.Undumped.{IsDumpOf, IsRefused}
+use Rattle.ss_dump.specs.Undumped.{IsDumpOf, IsWhyNoDump}
 use Rattle.ss_dump.proofs.Exact.{all_append, not_refused, one_dump}
 use Rattle.ss_dump.proofs.Orders.{in_order_again, in_order_same, same_in_order}
 use Rattle.ss_dump.proofs.Told.{all_back, all_front}
@@ -155,7 +156,7 @@ read_is text kept (Ok read) formed good is h = dump_of_one kept read formed good
 read_is text kept (Err fault) formed good is h = tt
 
 pub refused_for_memory : (text : List ℕ) (kept : Kept) (r : Result Kept DumpFault) → AllByRecursion IsLine (account_lines kept) → IsGood kept → text ≡ dump_text kept
-    → IfErr r (λ fault. IsRefused text fault) → IfErr r (λ fault. fault ≡ Memory)
+    → IfErr r (λ fault. IsWhyNoDump text fault) → IfErr r (λ fault. fault ≡ Memory)
 refused_for_memory text kept (Ok read) formed good is h = tt
 refused_for_memory text kept (Err fault) formed good is h =
     not_refused text (in_order kept) fault (subst (λ t. IsDumpOf t (in_order kept)) (sym is) (dump_of kept formed good)) h

@@ -1,5 +1,7 @@
 -- What changes make of nothing.
-use Rattle.std.proofs.Common.{◌≡◌, ℕ, suc, ◌==◌, ◌+◌, ◌&&◌, ◌||◌, Bool, true, false, not, cond, List, [], ◌∷◌, ◌++◌, length, map, filter, filter_map, Option, Some, None, option_map, refl, sym, ap, ap₂, ◌∙◌, subst, arith, append_assoc, append-nil, bytes_eq}
+use Rattle.std.proofs.Common.{◌≡◌, ℕ, suc, ◌==◌, ◌+◌, ◌&&◌, ◌||◌, Bool, true, false, not, cond, List, [], ◌∷◌, ◌++◌}
+use Rattle.std.proofs.Common.{length, map, filter, filter_map, Option, Some, None, option_map, refl, sym, ap, ap₂, ◌∙◌}
+use Rattle.std.proofs.Common.{subst, arith, append_assoc, append-nil, bytes_eq}
 use Rattle.std.proofs.lemmas.Bool.{and_parts, eqb-true}
 use Rattle.std.specs.List.{list_any}
 use Rattle.std.specs.Prelude.{fold}
@@ -14,7 +16,7 @@ use Rattle.ss_bso.specs.declared.changes.CollectionChange.TheVariants.{Set}
 use Rattle.ss_bso.specs.declared.changes.BatchChange.TheVariants.{Begin}
 use Rattle.ss_bso.specs.Account.{is_at}
 use Rattle.ss_bso.specs.Changes.{batch_grown, begun_by, changed, fresh_kept, row_changed, time_changed}
-use Rattle.ss_keeper.specs.Keeping.{IsTold, changed_by}
+use Rattle.ss_keeper.specs.Keeping.{TellsKept, changed_by}
 use Rattle.ss_account.specs.Opening.{IsGood, first_bad, is_bad_collection, is_bad_row}
 use Rattle.ss_dump.specs.Refilled.{filling, is_fresh}
 use Rattle.ss_dump.specs.Telling.{is_empty}
@@ -126,15 +128,15 @@ filled kept h =
 -- ---- what the keeper tells
 
 -- what was loaded is what is told
-pub told_is : (P : Kept → Type 0) (held : Kept) (told : Option Kept) → IsTold held told → P held → IfSome told P
+pub told_is : (P : Kept → Type 0) (held : Kept) (told : Option Kept) → TellsKept held told → P held → IfSome told P
 told_is P held None h p = tt
 told_is P held (Some k) h p = subst P (h k refl) p
 
-pub told_filled : (kept held : Kept) (before after : Option Kept) (changes : Changes) → IsGood kept → IsTold held before → is_fresh held ≡ true → changes ≡ filling kept → after ≡ changed_by changes before
+pub told_filled : (kept held : Kept) (before after : Option Kept) (changes : Changes) → IsGood kept → TellsKept held before → is_fresh held ≡ true → changes ≡ filling kept → after ≡ changed_by changes before
     → IfSome after (λ k. k ≡ kept)
 told_filled kept held before after changes g t fresh c e = subst (λ o. IfSome o (λ k. k ≡ kept)) (sym e) (go before t)
   where
-    go : (told : Option Kept) → IsTold held told → IfSome (changed_by changes told) (λ k. k ≡ kept)
+    go : (told : Option Kept) → TellsKept held told → IfSome (changed_by changes told) (λ k. k ≡ kept)
     go None h = tt
     go (Some k) h =
         let same : k ≡ fresh_kept = sym (h k refl) ∙ fresh_is held fresh in

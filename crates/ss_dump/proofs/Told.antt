@@ -1,5 +1,7 @@
 -- What lines tell: they are the lines of the account that is told, whose lists are in order.
-use Rattle.std.proofs.Common.{◌≡◌, ℕ, suc, ◌&&◌, Bool, true, false, cond, List, [], ◌∷◌, ◌++◌, length, map, Some, None, option_map, option_and_then, append_assoc, append-nil, refl, sym, ap, ap₂, ◌∙◌, subst, arith}
+use Rattle.std.proofs.Common.{◌≡◌, ℕ, suc, ◌&&◌, Bool, true, false, cond, List, [], ◌∷◌, ◌++◌, length, map, Some, None}
+use Rattle.std.proofs.Common.{option_map, option_and_then, append_assoc, append-nil, refl, sym, ap, ap₂, ◌∙◌, subst}
+use Rattle.std.proofs.Common.{arith}
 use Rattle.std.proofs.lemmas.Bool.{and_parts, eqb-true}
 use Rattle.std.specs.List.{AllByRecursion, flat_map}
 use Rattle.ss_text.specs.Texts.{sorted}
@@ -10,9 +12,13 @@ use Rattle.ss_bso.specs.declared.account.Staged.{Staged}
 use Rattle.ss_bso.specs.declared.changes.Kept.{Kept}
 use Rattle.ss_lines.specs.Lines.{IsLine, line_text}
 use Rattle.ss_lines.specs.declared.lines.Line.{Line}
-use Rattle.ss_lines.specs.declared.lines.Line.TheVariants.{Account, Times, Collection, Row as RowLine, Batch, Part as PartLine, Digest, End}
-use Rattle.ss_dump.specs.Dumps.{account_lines, batch_lines, body_text, closed_by, collection_line, comes_before, in_order, name_cmp, number_cmp, place_cmp, text_of}
-use Rattle.ss_dump.specs.Telling.{IsToldWith, State, account, begun, closed, is_empty, may_end, next, nothing, timed, told, told_from, whole, with_batch, with_collection, with_part, with_part_last, with_row}
+use Rattle.ss_lines.specs.declared.lines.Line.TheVariants.{Account, Times, Collection, Row as RowLine, Batch}
+use Rattle.ss_lines.specs.declared.lines.Line.TheVariants.{Part as PartLine, Digest, End}
+use Rattle.ss_dump.specs.Dumps.{account_lines, batch_lines, body_text, closed_by, collection_line, comes_before}
+use Rattle.ss_dump.specs.Dumps.{in_order, name_cmp, number_cmp, place_cmp, text_of}
+use Rattle.ss_dump.specs.Telling.{IsToldWith, State, account, begun, closed, is_empty, may_end, next, nothing}
+use Rattle.ss_dump.specs.Telling.{kept_with_times, told, told_from, whole, with_batch, with_collection, with_part}
+use Rattle.ss_dump.specs.Telling.{with_part_last, with_row}
 use Rattle.ss_dump.proofs.Ascending.{IsAscending, ascending_more, ascending_sorted, same_numbers}
 
 -- ---- the last batch grows
@@ -172,7 +178,7 @@ with_part_grows kept part s e =
       ordered = λ o. record { collections = o.collections; rows = o.rows; batches = same_numbers kept.batches r.0 (part_numbers kept.batches r.0 part r.1) o.batches };
     })
 
-first_lines : (a b n : ℕ) → Grows begun (Times a b n) (account (timed a b n))
+first_lines : (a b n : ℕ) → Grows begun (Times a b n) (account (kept_with_times a b n))
 unfolding account_lines
 first_lines a b n = record { lines = refl; ordered = λ o. record { collections = tt; rows = tt; batches = tt } }
 

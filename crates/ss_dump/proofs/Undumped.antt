@@ -4,13 +4,15 @@ use Rattle.std.specs.Option.{IfNone, IfSome}
 use Rattle.ss_bso.specs.declared.changes.Kept.{Kept}
 use Rattle.ss_account.specs.Opening.{IsGood}
 use Rattle.ss_dump.specs.declared.faults.DumpFault.{DumpFault}
-use Rattle.ss_dump.specs.declared.faults.DumpFault.TheVariants.{BadLine, BadDigest, BadCollection, BadRow, BadBatch, Memory}
+use Rattle.ss_dump.specs.declared.faults.DumpFault.TheVariants.{BadLine, BadDigest, BadCollection, BadRow, BadBatch}
+use Rattle.ss_dump.specs.declared.faults.DumpFault.TheVariants.{Memory}
 use Rattle.ss_dump.specs.declared.faults.LineFault.{LineFault}
 use Rattle.ss_dump.specs.declared.faults.LineFault.TheVariants as line
 use Rattle.ss_dump.specs.Dumps.{account_lines, body_text, closed_by, digest_of, dump_text, text_of}
 use Rattle.ss_dump.specs.Telling.{IsToldWith}
 use Rattle.ss_dump.specs.Stages.{IsLineFault}
-use Rattle.ss_dump.specs.Undumped.{IsBadDigest, IsDumpOf, IsOtherDigest, IsRefused, IsStated, IsUnfit, WouldBeDump, of_line}
+use Rattle.ss_dump.specs.Undumped.{IsBadDigest, IsDumpOf, IsOtherDigest, IsWhyNoDump, IsStated, IsUnfit, WouldBeDump}
+use Rattle.ss_dump.specs.Undumped.{of_line}
 use Rattle.ss_dump.proofs.Told.{text_told}
 
 pub absent : {X : Type 0} (P : Type 0) (o : Option X) → ((x : X) → o ≡ Some x → ⊥) → IfNone o P → P
@@ -47,7 +49,7 @@ would_be text kept digest found body t b f same =
 pub is_dump : (text : List ℕ) (kept : Kept) → WouldBeDump text kept → IsGood kept → IsDumpOf text kept
 is_dump text kept w g = record { formed = w.formed; ordered = w.ordered; good = g; text_is = w.text_is }
 
-pub unfit : (text : List ℕ) (kept : Kept) → WouldBeDump text kept → (fault : DumpFault) → IsUnfit kept fault → IsRefused text fault
+pub unfit : (text : List ℕ) (kept : Kept) → WouldBeDump text kept → (fault : DumpFault) → IsUnfit kept fault → IsWhyNoDump text fault
 unfit text kept w (BadLine n) h = absurd h
 unfit text kept w (BadDigest stated found) h = absurd h
 unfit text kept w (BadCollection n) h = (kept, w, h)
@@ -56,7 +58,7 @@ unfit text kept w (BadBatch n) h = (kept, w, h)
 unfit text kept w Memory h = tt
 
 pub other : (text : List ℕ) (kept : Kept) (digest found : List ℕ) (body : ℕ) → IsToldWith text kept digest → take body text ≡ text_of (account_lines kept) → found ≡ digest_of (take body text)
-    → (fault : DumpFault) → IsOtherDigest digest found fault → IsRefused text fault
+    → (fault : DumpFault) → IsOtherDigest digest found fault → IsWhyNoDump text fault
 other text kept digest found body t b f (BadLine n) h = absurd h
 other text kept digest found body t b f (BadDigest stated told) h = other_digest text kept digest found stated told body t b f h.0 h.1 h.2
 other text kept digest found body t b f (BadCollection n) h = absurd h
@@ -64,6 +66,6 @@ other text kept digest found body t b f (BadRow n) h = absurd h
 other text kept digest found body t b f (BadBatch n) h = absurd h
 other text kept digest found body t b f Memory h = tt
 
-pub bad_line : (text : List ℕ) (fault : LineFault) → IsLineFault text fault → IsRefused text (of_line fault)
+pub bad_line : (text : List ℕ) (fault : LineFault) → IsLineFault text fault → IsWhyNoDump text (of_line fault)
 bad_line text (line.BadLine n) h = h
 bad_line text line.Memory h = tt

@@ -14,13 +14,13 @@ abbrev pub dump_lines : Kept → List Line
 dump_lines kept = account_lines (in_order kept) ++ Digest (digest_of (body_text kept)) ∷ End ∷ []
 
 -- the values of what is kept have their forms, and its lists are in order
-pub record IsTold (kept : Kept) : Type 0 where
+pub record IsFormedInOrder (kept : Kept) : Type 0 where
   pub formed : AllByRecursion IsLine (account_lines kept)
   pub ordered : in_order kept ≡ kept
 
 -- so many bytes at the front of the text, and so many lines, are the dump of this; an account need not be opened from it
 pub record IsDumpFront (text : List ℕ) (kept : Kept) (used lines : ℕ) : Type 0 where
-  pub told : IsTold kept
+  pub told : IsFormedInOrder kept
   pub inside : used ≤ length text
   pub text_is : take used text ≡ dump_text kept
   pub counted : lines ≡ length (dump_lines kept)
@@ -29,7 +29,7 @@ pub record IsDumpFront (text : List ℕ) (kept : Kept) (used lines : ℕ) : Type
 pub record GoesOn (lines : List Line) (l : Line) : Type 0 where
   pub kept : Kept
   pub behind : List Line
-  pub told : IsTold kept
+  pub told : IsFormedInOrder kept
   pub lines_are : dump_lines kept ≡ lines ++ l ∷ behind
 
 -- The first line, from 1, that isn't the next one of a dump: the lines in front of it are those with which a dump begins,

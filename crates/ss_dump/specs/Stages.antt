@@ -11,7 +11,8 @@ use Rattle.ss_dump.specs.declared.telling.Stage.TheVariants.{Nothing, Begun, Acc
 use Rattle.ss_dump.specs.declared.faults.LineFault.{LineFault}
 use Rattle.ss_dump.specs.declared.faults.LineFault.TheVariants.{BadLine, Memory}
 use Rattle.ss_dump.specs.Dumps.{account_lines, text_of}
-use Rattle.ss_dump.specs.Telling.{State, nothing, begun, account, closed, whole, is_whole, IsBadLine, next, NoneComes, told}
+use Rattle.ss_dump.specs.Telling.{State, nothing, begun, account, closed, whole, is_whole, IsBadLine, next, NoneComes}
+use Rattle.ss_dump.specs.Telling.{told}
 
 abbrev pub kept_in : Draft → Kept
 kept_in d = record {
@@ -23,12 +24,12 @@ kept_in d = record {
   batches = d.batches.items;
 }
 
-abbrev pub seen : Stage → State
-seen Nothing = nothing
-seen Begun = begun
-seen (Account d) = account (kept_in d)
-seen (Closed d digest) = closed (kept_in d) digest
-seen (Whole d digest) = whole (kept_in d) digest
+abbrev pub stage_state : Stage → State
+stage_state Nothing = nothing
+stage_state Begun = begun
+stage_state (Account d) = account (kept_in d)
+stage_state (Closed d digest) = closed (kept_in d) digest
+stage_state (Whole d digest) = whole (kept_in d) digest
 
 abbrev pub is_digest_line : Line → Bool
 is_digest_line (Digest digest) = true

@@ -1,5 +1,6 @@
 -- What a text has told of an account, line by line, what it may tell next, and how a text that tells none is refused.
-use Rattle.std.specs.Prelude.{◌≡◌, ◌≢◌, ◌==◌, ◌&&◌, ◌+◌, ◌-◌, ◌++◌, ◌∷◌, [], ℕ, List, Bool, false, true, not, if◌then◌else◌, length, Option, Some, None, option_map, option_and_then}
+use Rattle.std.specs.Prelude.{◌≡◌, ◌≢◌, ◌==◌, ◌&&◌, ◌+◌, ◌-◌, ◌++◌, ◌∷◌, [], ℕ, List, Bool, false, true, not}
+use Rattle.std.specs.Prelude.{if◌then◌else◌, length, Option, Some, None, option_map, option_and_then}
 use Rattle.std.specs.List.{AllByRecursion, slice_get}
 use Rattle.std.specs.Option.{option_map_or}
 use Rattle.ss_bso.specs.declared.rows.Row.{Row}
@@ -8,7 +9,8 @@ use Rattle.ss_bso.specs.declared.account.Staged.{Staged}
 use Rattle.ss_bso.specs.declared.changes.Kept.{Kept}
 use Rattle.ss_lines.specs.Lines.{IsLine, line_text}
 use Rattle.ss_lines.specs.declared.lines.Line.{Line}
-use Rattle.ss_lines.specs.declared.lines.Line.TheVariants.{Account, Times, Collection, Row as RowLine, Batch, Part as PartLine, Digest, End}
+use Rattle.ss_lines.specs.declared.lines.Line.TheVariants.{Account, Times, Collection, Row as RowLine, Batch}
+use Rattle.ss_lines.specs.declared.lines.Line.TheVariants.{Part as PartLine, Digest, End}
 use Rattle.ss_dump.specs.Dumps.{comes_before, name_cmp, number_cmp, place_cmp, text_of}
 
 -- ---- line by line
@@ -66,14 +68,14 @@ more kept (Digest digest) = Some (closed kept digest)
 more kept End = None
 
 -- an account with these times, and nothing else
-abbrev pub timed : ℕ → ℕ → ℕ → Kept
-timed store last_delete counter = record { rows = []; collections = []; store = store; last_delete = last_delete; counter = counter; batches = [] }
+abbrev pub kept_with_times : ℕ → ℕ → ℕ → Kept
+kept_with_times store last_delete counter = record { rows = []; collections = []; store = store; last_delete = last_delete; counter = counter; batches = [] }
 
 -- what the next line makes of what is told; None where that line may not come next
 unfoldable pub next : State → Line → Option State
 next nothing Account = Some begun
 next nothing _ = None
-next begun (Times store last_delete counter) = Some (account (timed store last_delete counter))
+next begun (Times store last_delete counter) = Some (account (kept_with_times store last_delete counter))
 next begun _ = None
 next (account kept) line = more kept line
 next (closed kept digest) End = Some (whole kept digest)

@@ -7,7 +7,8 @@ use Rattle.ss_lines.specs.Lines.{IsLine}
 use Rattle.ss_account.specs.Opening.{IsFaultOf, IsGood}
 use Rattle.ss_account.specs.declared.faults.OpenFault.TheVariants as opening
 use Rattle.ss_dump.specs.declared.faults.DumpFault.{DumpFault}
-use Rattle.ss_dump.specs.declared.faults.DumpFault.TheVariants.{BadLine, BadDigest, BadCollection, BadRow, BadBatch, Memory}
+use Rattle.ss_dump.specs.declared.faults.DumpFault.TheVariants.{BadLine, BadDigest, BadCollection, BadRow, BadBatch}
+use Rattle.ss_dump.specs.declared.faults.DumpFault.TheVariants.{Memory}
 use Rattle.ss_dump.specs.declared.faults.LineFault.{LineFault}
 use Rattle.ss_dump.specs.declared.faults.LineFault.TheVariants as line
 use Rattle.ss_dump.specs.Dumps.{account_lines, body_text, closed_by, digest_of, dump_text, in_order}
@@ -39,13 +40,13 @@ pub record WouldBeDump (text : List ℕ) (kept : Kept) : Type 0 where
 
 -- why a text is no dump: its first bad line; else its digest; else the collection, row or batch for which no account can be
 -- opened from what it tells
-abbrev pub IsRefused : List ℕ → DumpFault → Type 0
-IsRefused text (BadLine n) = IsBadLine text n
-IsRefused text (BadDigest stated found) = IsBadDigest text stated found
-IsRefused text (BadCollection n) = (kept : Kept) × WouldBeDump text kept × IsFaultOf kept (opening.BadCollection n)
-IsRefused text (BadRow n) = (kept : Kept) × WouldBeDump text kept × IsFaultOf kept (opening.BadRow n)
-IsRefused text (BadBatch n) = (kept : Kept) × WouldBeDump text kept × IsFaultOf kept (opening.BadBatch n)
-IsRefused text Memory = ⊤
+abbrev pub IsWhyNoDump : List ℕ → DumpFault → Type 0
+IsWhyNoDump text (BadLine n) = IsBadLine text n
+IsWhyNoDump text (BadDigest stated found) = IsBadDigest text stated found
+IsWhyNoDump text (BadCollection n) = (kept : Kept) × WouldBeDump text kept × IsFaultOf kept (opening.BadCollection n)
+IsWhyNoDump text (BadRow n) = (kept : Kept) × WouldBeDump text kept × IsFaultOf kept (opening.BadRow n)
+IsWhyNoDump text (BadBatch n) = (kept : Kept) × WouldBeDump text kept × IsFaultOf kept (opening.BadBatch n)
+IsWhyNoDump text Memory = ⊤
 
 -- why a text's lines aren't those of a dump, as why the text is none
 abbrev pub of_line : LineFault → DumpFault

@@ -5,7 +5,8 @@ ghost use Rattle.std.specs.List.{flat_map};
 ghost use Rattle.ss_text.specs.Texts.{sorted};
 ghost use Rattle.ss_lines.specs.declared.lines.Line.TheVariants.{Row as RowLine};
 ghost use Rattle.ss_bso.specs.Changes.{kept_of};
-ghost use Rattle.ss_dump.specs.Dumps.{batch_lines, body_text, closed_by, collection_line, comes_before, digest_of, dump_text, list_lines, name_cmp, number_cmp, place_cmp, text_of};
+ghost use Rattle.ss_dump.specs.Dumps.{batch_lines, body_text, closed_by, collection_line, comes_before, digest_of};
+ghost use Rattle.ss_dump.specs.Dumps.{dump_text, list_lines, name_cmp, number_cmp, place_cmp, text_of};
 
 use crate::hashing::digest_of;
 use ss_bso::{Kept, Plain, Row, Staged};

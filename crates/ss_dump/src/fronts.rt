@@ -2,7 +2,7 @@
 
 ghost use Rattle.std.specs.Prelude.{◌≡◌, ◌≤◌, true, length, IfOk, IfErr};
 ghost use Rattle.ss_dump.specs.Fronts.{IsDumpFront, IsFrontFault};
-ghost use Rattle.ss_dump.specs.Stages.{IsReadTo, is_closed, seen};
+ghost use Rattle.ss_dump.specs.Stages.{IsReadTo, is_closed, stage_state};
 
 use crate::faults::LineFault;
 use crate::hashing::digest_of;

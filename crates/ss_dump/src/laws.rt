@@ -11,7 +11,7 @@ ghost use Rattle.ss_lines.specs.declared.lines.Line.TheVariants.{Row as RowLine}
 ghost use Rattle.ss_account.specs.Opening.{IsGood};
 ghost use Rattle.ss_dump.specs.Dumps.{account_lines, batch_lines, collection_line, dump_text, in_order};
 ghost use Rattle.ss_dump.specs.Same.{SameKept};
-ghost use Rattle.ss_dump.specs.Undumped.{IsDumpOf, IsRefused};
+ghost use Rattle.ss_dump.specs.Undumped.{IsDumpOf, IsWhyNoDump};
 ghost use Rattle.ss_dump.specs.declared.faults.DumpFault.{DumpFault as FaultView};
 ghost use Rattle.ss_dump.specs.declared.faults.DumpFault.TheVariants.{Memory};
 
@@ -30,7 +30,7 @@ pub fn one_account()
 
 /// A dump is refused for no cause but want of memory: so exactly the dumps are read.
 pub fn a_dump_is_not_refused()
-    ensures { (text : List ℕ) (kept : KeptView) (fault : FaultView) → IsDumpOf text kept → IsRefused text fault → fault ≡ Memory }
+    ensures { (text : List ℕ) (kept : KeptView) (fault : FaultView) → IsDumpOf text kept → IsWhyNoDump text fault → fault ≡ Memory }
 {}
 
 /// Accounts that are the same, whatever the order of their rows, collections and batches, have one dump.

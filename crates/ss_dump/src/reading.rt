@@ -2,7 +2,8 @@
 
 ghost use Rattle.std.specs.Prelude.{◌≡◌, ◌<◌, ◌≤◌, true, if◌then◌else◌, length, take, IfOk, IfErr};
 ghost use Rattle.ss_dump.specs.Dumps.{account_lines, text_of};
-ghost use Rattle.ss_dump.specs.Stages.{Comes, IsLineFault, IsReadTo, IsStopBefore, IsStopOf, is_closed, is_digest_line, kept_in, seen};
+ghost use Rattle.ss_dump.specs.Stages.{Comes, IsLineFault, IsReadTo, IsStopBefore, IsStopOf, is_closed, is_digest_line};
+ghost use Rattle.ss_dump.specs.Stages.{kept_in, stage_state};
 ghost use Rattle.ss_dump.specs.Telling.{IsToldWith, is_whole, whole};
 
 use crate::faults::LineFault;
@@ -42,12 +43,12 @@ fn body_with(line: &Line, used: usize, body: usize) -> usize
 
 /// Reads the next line.
 pub(crate) fn step(alloc: Global, bytes: &[u8], reading: Reading) -> Result<Reading, LineFault>
-    requires { IsReadTo bytes.now (seen reading.stage) reading.used reading.body reading.count }
-    ensures read { IfOk result (λ r. IsReadTo bytes.now (seen r.stage) r.used r.body r.count) }
+    requires { IsReadTo bytes.now (stage_state reading.stage) reading.used reading.body reading.count }
+    ensures read { IfOk result (λ r. IsReadTo bytes.now (stage_state r.stage) r.used r.body r.count) }
     ensures nearer { IfOk result (λ r. reading.used < r.used) }
-    ensures next { IfOk result (λ r. Comes (seen reading.stage) (seen r.stage)) }
-    ensures end { IfOk result (λ r. is_whole (seen r.stage) ≡ is_closed (seen reading.stage)) }
-    ensures bad { IfErr result (λ fault. IsStopOf bytes.now (seen reading.stage) fault) }
+    ensures next { IfOk result (λ r. Comes (stage_state reading.stage) (stage_state r.stage)) }
+    ensures end { IfOk result (λ r. is_whole (stage_state r.stage) ≡ is_closed (stage_state reading.stage)) }
+    ensures bad { IfErr result (λ fault. IsStopOf bytes.now (stage_state reading.stage) fault) }
 {
     let n = reading.count + 1;
     let Some(front) = next_line(alloc, &bytes[reading.used..])? else {
@@ -68,8 +69,8 @@ pub(crate) fn step(alloc: Global, bytes: &[u8], reading: Reading) -> Result<Read
 
 /// Reads lines up to the digest's.
 pub(crate) fn read_body(alloc: Global, bytes: &[u8]) -> Result<Reading, LineFault>
-    ensures read { IfOk result (λ r. IsReadTo bytes.now (seen r.stage) r.used r.body r.count) }
-    ensures closed { IfOk result (λ r. is_closed (seen r.stage) ≡ true) }
+    ensures read { IfOk result (λ r. IsReadTo bytes.now (stage_state r.stage) r.used r.body r.count) }
+    ensures closed { IfOk result (λ r. is_closed (stage_state r.stage) ≡ true) }
     ensures bad { IfErr result (λ fault. IsStopBefore bytes.now fault) }
 {
     let mut reading = Reading {
@@ -86,8 +87,8 @@ pub(crate) fn read_body(alloc: Global, bytes: &[u8]) -> Result<Reading, LineFaul
 
 /// What is told at the end.
 pub(crate) fn at_end(stage: Stage, body: usize) -> Told
-    requires { is_whole (seen stage) ≡ true }
-    ensures told { seen stage ≡ whole (kept_in result.draft) result.digest }
+    requires { is_whole (stage_state stage) ≡ true }
+    ensures told { stage_state stage ≡ whole (kept_in result.draft) result.digest }
     ensures body { result.body ≡ body }
 {
     match stage {

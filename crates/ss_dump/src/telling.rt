@@ -2,8 +2,9 @@
 
 ghost use Rattle.std.specs.Prelude.{◌≡◌, ◌++◌, ◌∷◌, [], IfOk, option_map};
 ghost use Rattle.ss_dump.specs.Dumps.{comes_before, name_cmp, number_cmp, place_cmp};
-ghost use Rattle.ss_dump.specs.Stages.{is_closed, kept_in, seen, states};
-ghost use Rattle.ss_dump.specs.Telling.{begun, is_whole, may_end, more, next, with_batch, with_collection, with_part, with_row};
+ghost use Rattle.ss_dump.specs.Stages.{is_closed, kept_in, stage_state, states};
+ghost use Rattle.ss_dump.specs.Telling.{begun, is_whole, may_end, more, next, with_batch, with_collection, with_part};
+ghost use Rattle.ss_dump.specs.Telling.{with_row};
 
 use crate::dumping::place_order;
 use crate::hashing::is_same;
@@ -94,7 +95,7 @@ fn with_collection(
     name: Name,
     modified: Stamp,
 ) -> Result<Option<Stage>, AllocError>
-    ensures { IfOk result (λ o. option_map seen o ≡ with_collection (kept_in draft) (name, modified)) }
+    ensures { IfOk result (λ o. option_map stage_state o ≡ with_collection (kept_in draft) (name, modified)) }
 {
     if draft.rows.is_empty()
         && draft.batches.is_empty()
@@ -108,7 +109,7 @@ fn with_collection(
 }
 
 fn with_row(mut draft: Draft, row: Row) -> Result<Option<Stage>, AllocError>
-    ensures { IfOk result (λ o. option_map seen o ≡ with_row (kept_in draft) row) }
+    ensures { IfOk result (λ o. option_map stage_state o ≡ with_row (kept_in draft) row) }
 {
     if draft.batches.is_empty() && may_end_rows(&draft.rows, &row) {
         draft.rows.push(row)?;
@@ -119,7 +120,7 @@ fn with_row(mut draft: Draft, row: Row) -> Result<Option<Stage>, AllocError>
 }
 
 fn with_batch(mut draft: Draft, batch: Staged) -> Result<Option<Stage>, AllocError>
-    ensures { IfOk result (λ o. option_map seen o ≡ with_batch (kept_in draft) batch) }
+    ensures { IfOk result (λ o. option_map stage_state o ≡ with_batch (kept_in draft) batch) }
 {
     if may_end_batches(&draft.batches, &batch) {
         draft.batches.push(batch)?;
@@ -140,7 +141,7 @@ fn grown(alloc: Global, mut batch: Staged, part: Part) -> Result<Staged, AllocEr
 }
 
 fn with_part(alloc: Global, mut draft: Draft, part: Part) -> Result<Option<Stage>, AllocError>
-    ensures { IfOk result (λ o. option_map seen o ≡ with_part (kept_in draft) part) }
+    ensures { IfOk result (λ o. option_map stage_state o ≡ with_part (kept_in draft) part) }
 {
     match draft.batches.pop() {
         Some(batch) => {
@@ -153,7 +154,7 @@ fn with_part(alloc: Global, mut draft: Draft, part: Part) -> Result<Option<Stage
 
 /// What a line adds to what is told of an account.
 fn more(alloc: Global, draft: Draft, line: Line) -> Result<Option<Stage>, AllocError>
-    ensures { IfOk result (λ o. option_map seen o ≡ more (kept_in draft) line) }
+    ensures { IfOk result (λ o. option_map stage_state o ≡ more (kept_in draft) line) }
 {
     match line {
         Line::Collection { name, modified } => with_collection(draft, name, modified),
@@ -180,7 +181,7 @@ fn more(alloc: Global, draft: Draft, line: Line) -> Result<Option<Stage>, AllocE
 /// What follows once it is told that an account follows: its times, and nothing else.
 #[tactic(auto, unfolding(crate::specs::Telling::next))]
 fn timed(alloc: Global, line: Line) -> Option<Stage>
-    ensures { option_map seen result ≡ next begun line }
+    ensures { option_map stage_state result ≡ next begun line }
 {
     match line {
         Line::Times {
@@ -203,7 +204,7 @@ impl Stage {
     /// What the next line makes of what is told; None exactly where that line may not come next.
     #[tactic(auto, unfolding(crate::specs::Telling::next))]
     pub(crate) fn next(self, alloc: Global, line: Line) -> Result<Option<Stage>, AllocError>
-        ensures { IfOk result (λ o. option_map seen o ≡ next (seen self) line) }
+        ensures { IfOk result (λ o. option_map stage_state o ≡ next (stage_state self) line) }
     {
         match self {
             Stage::Nothing => match line {
@@ -222,14 +223,14 @@ impl Stage {
 
     /// Whether the digest is told, and the end isn't.
     pub(crate) fn is_closed(&self) -> bool
-        ensures { result ≡ is_closed (seen self.now) }
+        ensures { result ≡ is_closed (stage_state self.now) }
     {
         matches!(self, Stage::Closed(_, _))
     }
 
     /// Whether this is the digest that is told.
     pub(crate) fn states(&self, digest: &Digest) -> bool
-        ensures { result ≡ states (seen self.now) digest.now }
+        ensures { result ≡ states (stage_state self.now) digest.now }
     {
         match self {
             Stage::Closed(_, stated) | Stage::Whole(_, stated) => is_same(stated, digest),
@@ -239,7 +240,7 @@ impl Stage {
 
     /// Whether the end is told.
     pub(crate) fn is_whole(&self) -> bool
-        ensures { result ≡ is_whole (seen self.now) }
+        ensures { result ≡ is_whole (stage_state self.now) }
     {
         matches!(self, Stage::Whole(_, _))
     }

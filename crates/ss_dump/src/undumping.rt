@@ -2,7 +2,7 @@
 
 ghost use Rattle.std.specs.Prelude.{◌≡◌, Some, IfOk, IfErr, OnOk, bytes_eq};
 ghost use Rattle.ss_account.specs.Opening.{IsGood};
-ghost use Rattle.ss_dump.specs.Undumped.{IsDumpOf, IsOtherDigest, IsRefused, IsUnfit};
+ghost use Rattle.ss_dump.specs.Undumped.{IsDumpOf, IsOtherDigest, IsWhyNoDump, IsUnfit};
 
 use crate::faults::DumpFault;
 use crate::hashing::{digest_of, is_same};
@@ -85,7 +85,7 @@ fn same_digests(alloc: Global, stated: &Digest, found: &Digest) -> Result<(), Du
 /// digest, then the first collection, row or batch for which no account can be opened from it.
 pub fn undump(alloc: Global, bytes: &[u8]) -> Result<Kept, DumpFault>
     ensures account { IfOk result (λ kept. IsDumpOf bytes.now kept) }
-    ensures refused { IfErr result (λ fault. IsRefused bytes.now fault) }
+    ensures refused { IfErr result (λ fault. IsWhyNoDump bytes.now fault) }
 {
     let told = read_told(alloc, bytes)?;
     let found = digest_of(alloc, &bytes[..told.body])?;

@@ -1,5 +1,6 @@
 -- The new children of two items that are alike.
-use Rattle.std.proofs.Common.{◌≡◌, ◌↔◌, ◌⊎◌, ◌&&◌, ◌||◌, Bool, true, false, cond, List, [], ◌∷◌, ◌++◌, map, filter, bytes_eq, Option, Some, None, is_some, refl, sym, ap, ◌∙◌, inl, inr}
+use Rattle.std.proofs.Common.{◌≡◌, ◌↔◌, ◌⊎◌, ◌&&◌, ◌||◌, Bool, true, false, cond, List, [], ◌∷◌, ◌++◌, map, filter}
+use Rattle.std.proofs.Common.{bytes_eq, Option, Some, None, is_some, refl, sym, ap, ◌∙◌, inl, inr}
 use Rattle.std.proofs.lemmas.Bool.{eqb-true, cases_Bool, and_from, eq-eqb}
 use Rattle.ss_record.specs.Ids.{has, Apart}
 use Rattle.ss_dupe.specs.declared.sides.Side.{Side}
@@ -12,7 +13,8 @@ use Rattle.ss_dupe.specs.Sides.{Sides, tree_of, is_new}
 use Rattle.ss_dupe.specs.Pairs.{AreAlike}
 use Rattle.ss_dupe.specs.News.{new_at, news_of, AreApart, HasNew, same_mark, has_pair}
 use Rattle.ss_dupe.proofs.Basics.{same-is, same-true, has-head, has-tail, has-cases, has-nil, false_from}
-use Rattle.ss_dupe.proofs.Lists.{has-filter, has-filter_list, has-filter_test, has-append_left, has-append_right, has-append_cases}
+use Rattle.ss_dupe.proofs.Lists.{has-filter, has-filter_list, has-filter_test, has-append_left, has-append_right}
+use Rattle.ss_dupe.proofs.Lists.{has-append_cases}
 use Rattle.ss_dupe.proofs.Shapes.{apart-from_counts}
 use Rattle.ss_dupe.proofs.OneEach.{parent-lists, one_remote_of}
 use Rattle.ss_text.proofs.Basics.{both_left, both_right, no_way}

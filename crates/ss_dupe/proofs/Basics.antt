@@ -1,5 +1,6 @@
 -- Laws of tests, and of the test of two ids.
-use Rattle.std.proofs.Common.{◌≡◌, ◌⊎◌, Bool, true, false, ◌||◌, List, [], ◌∷◌, Option, Some, None, bytes_eq, refl, sym, subst, ◌∙◌, inl, inr, true≢false, Decides}
+use Rattle.std.proofs.Common.{◌≡◌, ◌⊎◌, Bool, true, false, ◌||◌, List, [], ◌∷◌, Option, Some, None, bytes_eq, refl, sym}
+use Rattle.std.proofs.Common.{subst, ◌∙◌, inl, inr, true≢false, Decides}
 use Rattle.std.specs.Cmp.Lexicographic.{bytes_decides}
 use Rattle.ss_record.specs.Ids.{has}
 use Rattle.ss_dupe.specs.Looks.{Id}

@@ -1,5 +1,6 @@
 -- A walk inside a list that comes to a goal comes to it in as many steps as the list is long.
-use Rattle.std.proofs.Common.{◌≡◌, ◌⊎◌, ℕ, zero, suc, ◌<◌, ◌≤◌, Bool, true, false, cond, not, List, [], ◌∷◌, length, filter, Option, Some, refl, sym, ap, subst, ◌∙◌, inl, inr, arith, Decides, true≢false}
+use Rattle.std.proofs.Common.{◌≡◌, ◌⊎◌, ℕ, zero, suc, ◌<◌, ◌≤◌, Bool, true, false, cond, not, List, [], ◌∷◌, length}
+use Rattle.std.proofs.Common.{filter, Option, Some, refl, sym, ap, subst, ◌∙◌, inl, inr, arith, Decides, true≢false}
 use Rattle.std.specs.List.{list_any}
 use Rattle.ss_dupe.specs.Walks.{meets}
 use Rattle.ss_dupe.proofs.Basics.{or_rest, some_from_passes}

@@ -1,12 +1,15 @@
 -- Keys are equal exactly where the kinds are, and the members that tell.
-use Rattle.std.proofs.Common.{◌≡◌, ◌≢◌, ◌↔◌, ℕ, ◌+◌, ◌<◌, ◌≤◌, ◌^◌, ◌&&◌, max, pos, negsuc, true, false, List, [], ◌∷◌, ◌++◌, Option, Some, None, option_map, unwrap_or, codes, decimal, length, append_assoc, refl, sym, ap, ap₂, subst, ◌∙◌, arith, inl, inr, Ordering, Less, Equal, Greater, nat_cmp}
+use Rattle.std.proofs.Common.{◌≡◌, ◌≢◌, ◌↔◌, ℕ, ◌+◌, ◌<◌, ◌≤◌, ◌^◌, ◌&&◌, max, pos, negsuc, true, false, List, [], ◌∷◌}
+use Rattle.std.proofs.Common.{◌++◌, Option, Some, None, option_map, unwrap_or, codes, decimal, length, append_assoc}
+use Rattle.std.proofs.Common.{refl, sym, ap, ap₂, subst, ◌∙◌, arith, inl, inr, Ordering, Less, Equal, Greater, nat_cmp}
 use Rattle.std.specs.List.{flat_map}
 use Rattle.std.specs.Ordering.{match_ordering}
 use Rattle.std.specs.Cmp.Lexicographic.{slice_cmp}
 use Rattle.std.proofs.lemmas.Bool.{and_parts, false≢true}
 use Rattle.std.proofs.lemmas.Fmt.{decimal_is_IsNumeral}
 use Rattle.json.specs.Tree as tree
-use Rattle.serde_json.specs.Data.{Num, unsigned, negative, float, Data, null, boolean, number, string, array, object, Members, no_members, member, depth, members_depth}
+use Rattle.serde_json.specs.Data.{Num, unsigned, negative, float, Data, null, boolean, number, string, array, object}
+use Rattle.serde_json.specs.Data.{Members, no_members, member, depth, members_depth}
 use Rattle.serde_json.specs.Find.{get_member}
 use Rattle.serde_json.specs.Read.{read, max_depth}
 use Rattle.serde_json.specs.Written.{number_text, outline, compact_text}
@@ -21,7 +24,8 @@ use Rattle.ss_record.proofs.IdLists.{has-nil, has-head, has-tail}
 use Rattle.ss_record.proofs.OfId.{kind_of-name}
 use Rattle.ss_record.proofs.Texts.{read_compact}
 use Rattle.ss_record.proofs.Exact.{payload_parts}
-use Rattle.ss_record.proofs.Sorted.{IsSorted, MembersSorted, Sorted-read, plain_below, no_positive, HasNumbers-outline, depth-outline, of_json-outline}
+use Rattle.ss_record.proofs.Sorted.{IsSorted, MembersSorted, Sorted-read, plain_below, no_positive, HasNumbers-outline}
+use Rattle.ss_record.proofs.Sorted.{depth-outline, of_json-outline}
 use Rattle.ss_dupe.specs.Keys.{telling, member_line, key_of}
 use Rattle.ss_dupe.proofs.Basics.{has-cases}
 use Rattle.ss_record.proofs.OneLine.{NoLine, noline_by, cut, value_noline}

@@ -1,10 +1,12 @@
 -- The new items under a parent, one after the other.
-use Rattle.std.proofs.Common.{◌≡◌, ◌⊎◌, ℕ, zero, suc, ◌+◌, ◌<◌, ◌≤◌, ◌&&◌, Bool, true, false, cond, List, [], ◌∷◌, ◌++◌, length, take, get_or, map, filter, count_by, bytes_eq, Option, Some, unwrap_or, refl, sym, ap, subst, ◌∙◌, inl, inr, arith}
+use Rattle.std.proofs.Common.{◌≡◌, ◌⊎◌, ℕ, zero, suc, ◌+◌, ◌<◌, ◌≤◌, ◌&&◌, Bool, true, false, cond, List, [], ◌∷◌, ◌++◌}
+use Rattle.std.proofs.Common.{length, take, get_or, map, filter, count_by, bytes_eq, Option, Some, unwrap_or, refl, sym}
+use Rattle.std.proofs.Common.{ap, subst, ◌∙◌, inl, inr, arith}
 use Rattle.std.proofs.lemmas.List.{take_more}
 use Rattle.std.proofs.lemmas.List.Sums.{count_by-le-length, count_by_more_yes, count_by_more_no}
 use Rattle.std.specs.List.{before_first}
 use Rattle.ss_record.specs.Ids.{has, Apart}
-use Rattle.ss_tree.specs.Trees.{Placed}
+use Rattle.ss_tree.specs.Trees.{PlacedItem}
 use Rattle.ss_dupe.specs.declared.sides.Side.{Side}
 use Rattle.ss_dupe.specs.declared.news.New.{New}
 use Rattle.ss_dupe.specs.Looks.{Id, is_in, children_of}
@@ -18,8 +20,8 @@ use Rattle.ss_dupe.proofs.OneEach.{before-hit, before-miss}
 use Rattle.std.proofs.lemmas.Bool.{cases_Bool}
 use Rattle.ss_text.proofs.Basics.{both_left, same_text, no_way}
 
-pub key-is : (s : Sides) (side : Side) (x : Id) (n : Placed) → tree_of s side x ≡ Some n → key_of n.kind n.content ≡ key_on s side x
-key-is s side x n e = ap (λ (m : Placed). key_of m.kind m.content) (sym (at-of (tree_of s side) x n e))
+pub key-is : (s : Sides) (side : Side) (x : Id) (n : PlacedItem) → tree_of s side x ≡ Some n → key_of n.kind n.content ≡ key_on s side x
+key-is s side x n e = ap (λ (m : PlacedItem). key_of m.kind m.content) (sym (at-of (tree_of s side) x n e))
 
 pub has-at : (xs : List Id) (i : ℕ) (y : Id) → i < length xs → y ≡ get_or xs i y → has y xs ≡ true
 has-at [] i y lt e = absurd (omega arith)

@@ -1,9 +1,10 @@
 -- No id stands in two duplicate pairs.
-use Rattle.std.proofs.Common.{◌≡◌, ◌⊎◌, ℕ, ◌+◌, Bool, true, false, cond, not, List, [], ◌∷◌, count_by, take, Option, Some, None, bytes_eq, refl, sym, ap, subst, ◌∙◌, inl, inr, arith, one-add}
+use Rattle.std.proofs.Common.{◌≡◌, ◌⊎◌, ℕ, ◌+◌, Bool, true, false, cond, not, List, [], ◌∷◌, count_by, take, Option}
+use Rattle.std.proofs.Common.{Some, None, bytes_eq, refl, sym, ap, subst, ◌∙◌, inl, inr, arith, one-add}
 use Rattle.std.specs.List.{before_first, prefix_len}
 use Rattle.std.proofs.lemmas.List.Sums.{sum_by-cons}
 use Rattle.ss_record.specs.Ids.{has}
-use Rattle.ss_tree.specs.Trees.{Placed}
+use Rattle.ss_tree.specs.Trees.{PlacedItem}
 use Rattle.ss_dupe.specs.declared.sides.Side.{Side}
 use Rattle.ss_dupe.specs.declared.sides.Side.TheVariants.{Local, Remote}
 use Rattle.ss_dupe.specs.Looks.{Id, Look, is_in, parent_of, children_of}
@@ -64,8 +65,8 @@ parent-lists t v x p e = has_from_once x (children_of t p) (v.once x p e)
 pub children-inside : (t : Look) (x p : Id) → has x (children_of t p) ≡ true → is_in t p ≡ true
 children-inside t x p h = cases (t p) refl
   where
-    cases : (o : Option Placed) → t p ≡ o → is_in t p ≡ true
-    cases None e = no_way (has x []) (subst (λ l. has x l ≡ true) (ap (λ (n : Placed). n.children) (at-of_none t p e)) h) (has-nil x)
+    cases : (o : Option PlacedItem) → t p ≡ o → is_in t p ≡ true
+    cases None e = no_way (has x []) (subst (λ l. has x l ≡ true) (ap (λ (n : PlacedItem). n.children) (at-of_none t p e)) h) (has-nil x)
     cases (Some n) e = in-of t p n e
 
 module _ (s : Sides) (vl : HasShape s.local) (vr : HasShape s.remote) where

@@ -1,12 +1,15 @@
 -- Reading a tree out.
-use Rattle.std.proofs.Common.{◌≡◌, ◌⊎◌, ◌+◌, ◌<◌, Bool, true, false, cond, ◌||◌, List, [], ◌∷◌, ◌++◌, length, take, take_all, get_or, ◌≤◌, map, filter, bytes_eq, Option, Some, None, is_some, unwrap_or, option_map, option_and_then, refl, sym, ap, subst, ◌∙◌, inl, inr, ℕ, zero, suc, arith}
+use Rattle.std.proofs.Common.{◌≡◌, ◌⊎◌, ◌+◌, ◌<◌, Bool, true, false, cond, ◌||◌, List, [], ◌∷◌, ◌++◌, length, take}
+use Rattle.std.proofs.Common.{take_all, get_or, ◌≤◌, map, filter, bytes_eq, Option, Some, None, is_some, unwrap_or}
+use Rattle.std.proofs.Common.{option_map, option_and_then, refl, sym, ap, subst, ◌∙◌, inl, inr, ℕ, zero, suc, arith}
 use Rattle.std.proofs.lemmas.List.{take_more}
 use Rattle.ss_list.specs.Chain.{times}
 use Rattle.ss_record.specs.Items.{ItemView}
 use Rattle.ss_record.specs.Ids.{has}
 use Rattle.ss_tree.specs.declared.entries.Entry.{Entry}
-use Rattle.ss_tree.specs.Trees.{Placed}
-use Rattle.ss_tree.specs.Entries.{entry, is_live, above, kids, kid_ids, stands_under, placed, tree, preorder, NodesApart, IsTree, top_entry}
+use Rattle.ss_tree.specs.Trees.{PlacedItem}
+use Rattle.ss_tree.specs.Entries.{entry, is_live, above, kids, kid_ids, stands_under, placed, tree, preorder}
+use Rattle.ss_tree.specs.Entries.{NodesApart, IsTree, top_entry}
 use Rattle.ss_tree.proofs.Valid.{In, entry_in, in_entry, node_found, node_at}
 use Rattle.ss_tree.proofs.Settled.{kid_ids_are}
 use Rattle.ss_tree.proofs.EachMet.{each_met}
@@ -33,7 +36,7 @@ look_put g h key seat e x = ap (option_map placed_at) (e x) ∙ mapped (bytes_eq
     mapped true = refl
     mapped false = refl
 
-module _ (g h : Look) (key : Id) (n : Placed) (is : (x : Id) → h x ≡ cond (bytes_eq key x) (Some n) (g x)) where
+module _ (g h : Look) (key : Id) (n : PlacedItem) (is : (x : Id) → h x ≡ cond (bytes_eq key x) (Some n) (g x)) where
   in_put : (x : Id) → is_in h x ≡ (bytes_eq key x || is_in g x)
   unfolding is_in
   in_put x = ap is_some (is x) ∙ cases (bytes_eq key x)
@@ -76,7 +79,7 @@ in_append x (z ∷ zs) ys (inr i) = elim (in_append x zs ys i) [ inl a ↦ inl (
 
 -- what the nodes so far have given
 pub record SoFar (es : List Entry) (nodes : List ℕ) (p : PlainTree) : Type 0 where
-  pub sound : (x : Id) (n : Placed) → look_of p x ≡ Some n → look (tree es) x ≡ Some n
+  pub sound : (x : Id) (n : PlacedItem) → look_of p x ≡ Some n → look (tree es) x ≡ Some n
   pub met : (k : ℕ) → In k nodes → is_in (look_of p) (id_at es k) ≡ true
   pub ids : AreIds p
 
@@ -101,9 +104,9 @@ one_more es t nodes k p q seat s at is ids = record { sound = sound; met = met; 
     own = found (entry k es) refl
 
     id_is : own.0.item.id ≡ seat.id
-    id_is = placed_id es own.0 ∙ ap (λ (m : Placed). m.id) own.2
+    id_is = placed_id es own.0 ∙ ap (λ (m : PlacedItem). m.id) own.2
 
-    sound : (x : Id) (n : Placed) → look_of q x ≡ Some n → look (tree es) x ≡ Some n
+    sound : (x : Id) (n : PlacedItem) → look_of q x ≡ Some n → look (tree es) x ≡ Some n
     sound x n e = elim (cases_Bool (bytes_eq seat.id x)) [
       | inl hit ↦
           let there : Some (placed_at seat) ≡ Some n = sym (is x ∙ ap (λ b. cond b (Some (placed_at seat)) (look_of p x)) hit) ∙ e in
@@ -125,7 +128,7 @@ one_more es t nodes k p q seat s at is ids = record { sound = sound; met = met; 
 pub all_read : (es : List Entry) → IsTree es → (nodes : List ℕ) → ((k : ℕ) → is_live k es ≡ true → In k nodes) → (p : PlainTree) → SoFar es nodes p → (x : Id) → look_of p x ≡ look (tree es) x
 all_read es t nodes each p s x = cases (look_of p x) refl (look (tree es) x) refl
   where
-    cases : (o : Option Placed) → look_of p x ≡ o → (r : Option Placed) → look (tree es) x ≡ r → look_of p x ≡ look (tree es) x
+    cases : (o : Option PlacedItem) → look_of p x ≡ o → (r : Option PlacedItem) → look (tree es) x ≡ r → look_of p x ≡ look (tree es) x
     cases (Some n) h r k = h ∙ sym (s.sound x n h)
     cases None h None k = h ∙ sym k
     cases None h (Some m) k =

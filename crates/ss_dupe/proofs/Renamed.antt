@@ -1,24 +1,29 @@
 -- A valid tree with other ids is valid, where no two of its ids get one name and `places` and the roots keep theirs.
-use Rattle.std.proofs.Common.{◌≡◌, ◌⊎◌, ℕ, zero, suc, ◌+◌, true, false, cond, List, [], ◌∷◌, map, find, count_by, Option, Some, None, unwrap_or, option_map, ◌||◌, refl, sym, ap, subst, ◌∙◌, inl, inr, is_some, codes, bytes_eq}
+use Rattle.std.proofs.Common.{◌≡◌, ◌⊎◌, ℕ, zero, suc, ◌+◌, true, false, cond, List, [], ◌∷◌, map, find, count_by}
+use Rattle.std.proofs.Common.{Option, Some, None, unwrap_or, option_map, ◌||◌, refl, sym, ap, subst, ◌∙◌, inl, inr}
+use Rattle.std.proofs.Common.{is_some, codes, bytes_eq}
 use Rattle.std.specs.Map.{lookup}
 use Rattle.ss_record.specs.declared.kinds.Kind.TheVariants.{Folder}
 use Rattle.ss_record.specs.Ids.{has, Apart, places, roots}
-use Rattle.ss_tree.specs.Trees.{Placed, node, node_ids, places_node, IsValidTree}
+use Rattle.ss_tree.specs.Trees.{PlacedItem, node, node_ids, places_node, IsValidTree}
 use Rattle.ss_dupe.specs.declared.sides.Side.TheVariants.{Local, Remote}
 use Rattle.ss_dupe.specs.Looks.{Id, Look, look, is_in, at, parent_of, children_of, is_places, is_root}
 use Rattle.ss_dupe.specs.Walks.{meets, Meets}
 use Rattle.ss_dupe.specs.Sides.{Sides, sides}
 use Rattle.ss_dupe.specs.Pairs.{ArePairs}
-use Rattle.ss_dupe.specs.Renaming.{named, renamed_item, renamed}
-use Rattle.ss_dupe.proofs.Basics.{same-is, same-true, same-apart, has-cases, has-nil, has-head, has-tail, or_rest, some_from_passes, false_from}
+use Rattle.ss_dupe.specs.Renaming.{named, renamed_item, tree_renamed}
+use Rattle.ss_dupe.proofs.Basics.{same-is, same-true, same-apart, has-cases, has-nil, has-head, has-tail, or_rest}
+use Rattle.ss_dupe.proofs.Basics.{some_from_passes, false_from}
 use Rattle.ss_dupe.proofs.Walks.{meets_stepped}
 use Rattle.ss_dupe.specs.Shapes.{HasShape}
-use Rattle.ss_dupe.proofs.Shapes.{shape, valid-from_shape, at-of, in-of, look-in, with_parent-in, places_is, is_places-is, has-roots}
-use Rattle.ss_dupe.proofs.OneEach.{count_test-cons, parent-lists, children-inside, one_local, pair_local_new, pair_remote_new, new-not_other}
+use Rattle.ss_dupe.proofs.Shapes.{shape, valid-from_shape, at-of, in-of, look-in, with_parent-in, places_is}
+use Rattle.ss_dupe.proofs.Shapes.{is_places-is, has-roots}
+use Rattle.ss_dupe.proofs.OneEach.{count_test-cons, parent-lists, children-inside, one_local, pair_local_new}
+use Rattle.ss_dupe.proofs.OneEach.{pair_remote_new, new-not_other}
 use Rattle.std.proofs.lemmas.Bool.{cases_Bool, or_left}
 use Rattle.ss_text.proofs.Basics.{no_way, map_some}
 
-pub node_ids-has : (t : List Placed) (x : Id) → is_in (look t) x ≡ has x (node_ids t)
+pub node_ids-has : (t : List PlacedItem) (x : Id) → is_in (look t) x ≡ has x (node_ids t)
 unfolding is_in node node_ids has
 node_ids-has [] x = refl
 node_ids-has (n ∷ ns) x = cases (cases_Bool (bytes_eq x n.id)) (node_ids-has ns x)
@@ -28,13 +33,13 @@ node_ids-has (n ∷ ns) x = cases (cases_Bool (bytes_eq x n.id)) (node_ids-has n
     cases (inr h) more = ap (λ b. is_some (cond b (Some n) (find (λ m. bytes_eq x m.id) ns))) h ∙ more ∙ sym (ap (λ b. b || has x (map (λ n. n.id) ns)) h)
 
 module _ (name : Id → Id) where
-  find-renamed : (x : Id) (ns : List Placed) → ((y : Id) → has y (node_ids ns) ≡ true → name x ≡ name y → x ≡ y) →
+  find-renamed : (x : Id) (ns : List PlacedItem) → ((y : Id) → has y (node_ids ns) ≡ true → name x ≡ name y → x ≡ y) →
       find (λ m. bytes_eq (name x) m.id) (map (renamed_item name) ns) ≡ option_map (renamed_item name) (find (λ m. bytes_eq x m.id) ns)
   unfolding node_ids
   find-renamed x [] one = refl
   find-renamed x (n ∷ ns) one = cases (cases_Bool (bytes_eq x n.id)) (find-renamed x ns (λ y k. one y (has-tail y n.id _ k)))
     where
-      rest : Option Placed
+      rest : Option PlacedItem
       rest = find (λ m. bytes_eq (name x) m.id) (map (renamed_item name) ns)
 
       cases : (bytes_eq x n.id ≡ true) ⊎ (bytes_eq x n.id ≡ false) → rest ≡ option_map (renamed_item name) (find (λ m. bytes_eq x m.id) ns) →
@@ -65,8 +70,8 @@ module _ (name : Id → Id) where
       cases (inl e) more = (y, has-head y y ys refl, e)
       cases (inr k) more = let f = more k in (f.0, has-tail f.0 y ys f.1, f.2)
 
-  pub ids-renamed : (t : List Placed) → node_ids (renamed name t) ≡ map name (node_ids t)
-  unfolding node_ids renamed
+  pub ids-renamed : (t : List PlacedItem) → node_ids (tree_renamed name t) ≡ map name (node_ids t)
+  unfolding node_ids tree_renamed
   ids-renamed [] = refl
   ids-renamed (n ∷ ns) = ap (λ l. name n.id ∷ l) (ids-renamed ns)
 
@@ -80,30 +85,30 @@ module _ (name : Id → Id) where
     apart-renamed xs a.1 (λ y z k m. one y z (has-tail y x xs k) (has-tail z x xs m)),
   )
 
-module _ (t : List Placed) (name : Id → Id) (one : (x y : Id) → is_in (look t) x ≡ true → is_in (look t) y ≡ true → name x ≡ name y → x ≡ y) where
+module _ (t : List PlacedItem) (name : Id → Id) (one : (x y : Id) → is_in (look t) x ≡ true → is_in (look t) y ≡ true → name x ≡ name y → x ≡ y) where
   abbrev old : Look
   old = look t
 
   abbrev new : Look
-  new = look (renamed name t)
+  new = look (tree_renamed name t)
 
   pub look-renamed : (x : Id) → is_in old x ≡ true → new (name x) ≡ option_map (renamed_item name) (old x)
-  unfolding node renamed
+  unfolding node tree_renamed
   look-renamed x h = find-renamed name x t (λ y k. one x y h (node_ids-has t y ∙ k))
 
   -- each id of the renamed tree is the name of one of the tree
   pub from-renamed : (q : Id) → is_in new q ≡ true → (x : Id) × (is_in old x ≡ true) × (q ≡ name x)
   from-renamed q h =
-      let f = has-renamed name q (node_ids t) (subst (λ l. has q l ≡ true) (ids-renamed name t) (sym (node_ids-has (renamed name t) q) ∙ h)) in
+      let f = has-renamed name q (node_ids t) (subst (λ l. has q l ≡ true) (ids-renamed name t) (sym (node_ids-has (tree_renamed name t) q) ∙ h)) in
       (f.0, node_ids-has t f.0 ∙ f.1, f.2)
 
-module _ (t : List Placed) (valid : IsValidTree t) (name : Id → Id) (one : (x y : Id) → is_in (look t) x ≡ true → is_in (look t) y ≡ true → name x ≡ name y → x ≡ y)
+module _ (t : List PlacedItem) (valid : IsValidTree t) (name : Id → Id) (one : (x y : Id) → is_in (look t) x ≡ true → is_in (look t) y ≡ true → name x ≡ name y → x ≡ y)
     (places_stays : name places ≡ places) (roots_stay : (x : Id) → is_root x ≡ true → name x ≡ x) where
   abbrev g : Look
   g = look t
 
   abbrev r : Look
-  r = look (renamed name t)
+  r = look (tree_renamed name t)
 
   v : HasShape g
   v = shape t valid
@@ -124,10 +129,10 @@ module _ (t : List Placed) (valid : IsValidTree t) (name : Id → Id) (one : (x 
   from q h = from-renamed t name one q h
 
   parent-renamed : (x p : Id) → is_in g x ≡ true → parent_of g x ≡ Some p → parent_of r (name x) ≡ Some (name p)
-  parent-renamed x p h e = ap (λ (y : Placed). y.parent) (at-renamed x h) ∙ ap (option_map name) e
+  parent-renamed x p h e = ap (λ (y : PlacedItem). y.parent) (at-renamed x h) ∙ ap (option_map name) e
 
   children-renamed : (x : Id) → is_in g x ≡ true → children_of r (name x) ≡ map name (children_of g x)
-  children-renamed x h = ap (λ (y : Placed). y.children) (at-renamed x h)
+  children-renamed x h = ap (λ (y : PlacedItem). y.children) (at-renamed x h)
 
   map-roots : (xs : List Id) → ((x : Id) → has x xs ≡ true → name x ≡ x) → map name xs ≡ xs
   map-roots [] stay = refl
@@ -154,13 +159,13 @@ module _ (t : List Placed) (valid : IsValidTree t) (name : Id → Id) (one : (x 
       let f = from q h in
       let x = f.0 in
       let above = v.parents x f.1 (from_top x (ap is_places (sym f.2) ∙ out)) (from_root x (ap is_root (sym f.2) ∙ miss)) in
-      (name above.0, ap (parent_of r) f.2 ∙ parent-renamed x above.0 f.1 above.1, in-renamed above.0 above.2, ap (λ (y : Placed). y.kind) (at-renamed above.0 above.2) ∙ above.3, not_top above.0 above.2 above.4)
+      (name above.0, ap (parent_of r) f.2 ∙ parent-renamed x above.0 f.1 above.1, in-renamed above.0 above.2, ap (λ (y : PlacedItem). y.kind) (at-renamed above.0 above.2) ∙ above.3, not_top above.0 above.2 above.4)
 
   once_in : (q p : Id) → parent_of r q ≡ Some p → count_by (bytes_eq q) (children_of r p) ≡ 1
   once_in q p e =
       let f = from q (with_parent-in r q p e) in
       let x = f.0 in
-      let own = map_some name (parent_of g x) p (sym (ap (λ (y : Placed). y.parent) (at-renamed x f.1)) ∙ ap (parent_of r) (sym f.2) ∙ e) in
+      let own = map_some name (parent_of g x) p (sym (ap (λ (y : PlacedItem). y.parent) (at-renamed x f.1)) ∙ ap (parent_of r) (sym f.2) ∙ e) in
       let above = children-inside g x own.0 (parent-lists g v x own.0 own.1) in
       ap (λ z. count_by (bytes_eq z) (children_of r p)) f.2
       ∙ ap (λ z. count_by (bytes_eq (name x)) (children_of r z)) (sym own.2)
@@ -206,7 +211,7 @@ module _ (t : List Placed) (valid : IsValidTree t) (name : Id → Id) (one : (x 
       root_fact x e =
           let own = v.roots_in x e in
           let stay = sym (roots_stay x e) in
-          (ap (is_in r) stay ∙ in-renamed x own.0, ap (λ z. (at r z).kind) stay ∙ ap (λ (y : Placed). y.kind) (at-renamed x own.0) ∙ own.1, ap (parent_of r) stay ∙ parent-renamed x places own.0 own.2 ∙ ap Some places_stays)
+          (ap (is_in r) stay ∙ in-renamed x own.0, ap (λ z. (at r z).kind) stay ∙ ap (λ (y : PlacedItem). y.kind) (at-renamed x own.0) ∙ own.1, ap (parent_of r) stay ∙ parent-renamed x places own.0 own.2 ∙ ap Some places_stays)
 
       below_fact : (q : Id) → is_in r q ≡ true → Meets (parent_of r) is_places q
       below_fact q h =
@@ -214,9 +219,9 @@ module _ (t : List Placed) (valid : IsValidTree t) (name : Id → Id) (one : (x 
           let b = v.below f.0 f.1 in
           (b.0, ap (meets (parent_of r) is_places b.0) f.2 ∙ below_in b.0 f.0 f.1 b.1)
 
-  pub renamed_is_valid : IsValidTree (renamed name t)
+  pub renamed_is_valid : IsValidTree (tree_renamed name t)
   renamed_is_valid =
-      valid-from_shape (renamed name t)
+      valid-from_shape (tree_renamed name t)
       (subst Apart (sym (ids-renamed name t)) (apart-renamed name (node_ids t) valid.apart (λ x y h k. one x y (node_ids-has t x ∙ h) (node_ids-has t y ∙ k))))
       renamed_shape
 
@@ -249,7 +254,7 @@ module _ (s : Sides) (vl : HasShape s.local) (vr : HasShape s.remote) (pairs : L
       cases None f (Some q) g = absurd (clash y x q hx g (sym (of_pair y q g) ∙ sym e ∙ of_none x f))
       cases (Some r) f (Some q) g = one_local s vl vr (a.each x r f) (sym (of_pair x r f) ∙ e ∙ of_pair y q g) (a.each y q g)
 
-pub paired_is_valid : (m l r : List Placed) (x y : List Id) (pairs : List (Id × Id)) → IsValidTree l → IsValidTree r → ArePairs (sides m l r x y) pairs → IsValidTree (renamed (named pairs) l)
+pub paired_is_valid : (m l r : List PlacedItem) (x y : List Id) (pairs : List (Id × Id)) → IsValidTree l → IsValidTree r → ArePairs (sides m l r x y) pairs → IsValidTree (tree_renamed (named pairs) l)
 paired_is_valid m l r x y pairs vl vr a =
     let s = sides m l r x y in
     let hl = shape l vl in

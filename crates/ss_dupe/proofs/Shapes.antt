@@ -1,13 +1,16 @@
 -- What a valid tree gives, by look-ups alone, and back.
-use Rattle.std.proofs.Common.{◌≡◌, ◌≢◌, ◌↔◌, ◌⊎◌, ℕ, zero, suc, true, false, List, [], ◌∷◌, length, count_by, Option, Some, None, is_some, bytes_eq, unwrap_or, option_and_then, refl, sym, ap, subst, ◌∙◌, inl, inr, arith, ◌+◌}
+use Rattle.std.proofs.Common.{◌≡◌, ◌≢◌, ◌↔◌, ◌⊎◌, ℕ, zero, suc, true, false, List, [], ◌∷◌, length, count_by, Option}
+use Rattle.std.proofs.Common.{Some, None, is_some, bytes_eq, unwrap_or, option_and_then, refl, sym, ap, subst, ◌∙◌, inl}
+use Rattle.std.proofs.Common.{inr, arith, ◌+◌}
 use Rattle.ss_record.specs.declared.kinds.Kind.TheVariants.{Folder}
 use Rattle.ss_record.specs.Kinds.{is_folder}
 use Rattle.ss_record.specs.Ids.{has, Apart, places, roots}
-use Rattle.ss_tree.specs.Trees.{Placed, node, node_ids, parent_in, places_node, IsUnder, steps, IsValidTree}
+use Rattle.ss_tree.specs.Trees.{PlacedItem, node, node_ids, parent_in, places_node, IsUnder, steps, IsValidTree}
 use Rattle.ss_dupe.specs.Looks.{Id, Look, look, blank, is_in, at, parent_of, children_of, is_places, is_root}
 use Rattle.ss_dupe.specs.Walks.{meets}
 use Rattle.ss_dupe.specs.Shapes.{HasShape}
-use Rattle.ss_dupe.proofs.Basics.{same-tells, or_rest, some_from_passes, same-true, same-is, same-self, false_from, has-head, has-tail, has-cases, has-nil}
+use Rattle.ss_dupe.proofs.Basics.{same-tells, or_rest, some_from_passes, same-true, same-is, same-self, false_from}
+use Rattle.ss_dupe.proofs.Basics.{has-head, has-tail, has-cases, has-nil}
 use Rattle.ss_dupe.proofs.Walks.{meets_stepped}
 use Rattle.ss_dupe.proofs.Bounds.{meets_within}
 use Rattle.ss_dupe.proofs.Lists.{count-cons}
@@ -27,7 +30,7 @@ count-none x (y ∷ ys) h = cases (cases_Bool (bytes_eq x y)) (cases_Bool (has x
 
 -- ---- look-ups
 
-pub at-of : (t : Look) (x : Id) (n : Placed) → t x ≡ Some n → at t x ≡ n
+pub at-of : (t : Look) (x : Id) (n : PlacedItem) → t x ≡ Some n → at t x ≡ n
 unfolding at
 at-of t x n h = ap (λ o. unwrap_or o blank) h
 
@@ -35,7 +38,7 @@ pub at-of_none : (t : Look) (x : Id) → t x ≡ None → at t x ≡ blank
 unfolding at
 at-of_none t x h = ap (λ o. unwrap_or o blank) h
 
-pub in-of : (t : Look) (x : Id) (n : Placed) → t x ≡ Some n → is_in t x ≡ true
+pub in-of : (t : Look) (x : Id) (n : PlacedItem) → t x ≡ Some n → is_in t x ≡ true
 unfolding is_in
 in-of t x n h = ap is_some h
 
@@ -43,7 +46,7 @@ pub in-of_none : (t : Look) (x : Id) → t x ≡ None → is_in t x ≡ false
 unfolding is_in
 in-of_none t x h = ap is_some h
 
-pub of-in : (t : Look) (x : Id) → is_in t x ≡ true → (n : Placed) × (t x ≡ Some n)
+pub of-in : (t : Look) (x : Id) → is_in t x ≡ true → (n : PlacedItem) × (t x ≡ Some n)
 unfolding is_in
 of-in t x h = is_one (t x) h
 
@@ -53,8 +56,8 @@ look-in t x h = let n = of-in t x h in n.1 ∙ ap Some (sym (at-of t x n.0 n.1))
 pub with_parent-in : (t : Look) (x p : Id) → parent_of t x ≡ Some p → is_in t x ≡ true
 with_parent-in t x p e = cases (t x) refl
   where
-    cases : (o : Option Placed) → t x ≡ o → is_in t x ≡ true
-    cases None h = let none : parent_of t x ≡ None = ap (λ (n : Placed). n.parent) (at-of_none t x h) in cc
+    cases : (o : Option PlacedItem) → t x ≡ o → is_in t x ≡ true
+    cases None h = let none : parent_of t x ≡ None = ap (λ (n : PlacedItem). n.parent) (at-of_none t x h) in cc
     cases (Some n) h = in-of t x n h
 
 pub places_is : is_places places ≡ true
@@ -130,7 +133,7 @@ apart-from_counts (y ∷ ys) h = (alone, apart-from_counts ys rest)
 
 -- ---- a valid tree has the shape
 
-module _ (t : List Placed) (v : IsValidTree t) where
+module _ (t : List PlacedItem) (v : IsValidTree t) where
   abbrev g : Look
   g = look t
 
@@ -139,35 +142,35 @@ module _ (t : List Placed) (v : IsValidTree t) where
 
   above_top : parent_of g places ≡ None
   unfolding places_node
-  above_top = ap (λ (n : Placed). n.parent) (at-of g places _ v.top_is)
+  above_top = ap (λ (n : PlacedItem). n.parent) (at-of g places _ v.top_is)
 
   top_children : children_of g places ≡ roots
   unfolding places_node
-  top_children = ap (λ (n : Placed). n.children) (at-of g places _ v.top_is)
+  top_children = ap (λ (n : PlacedItem). n.children) (at-of g places _ v.top_is)
 
   under-of : (x y : Id) → IsUnder t y x → (is_in g x ≡ true) × (parent_of g x ≡ Some y)
   unfolding IsUnder
-  under-of x y u = (in-of g x u.0 u.1, ap (λ (n : Placed). n.parent) (at-of g x u.0 u.1) ∙ u.2)
+  under-of x y u = (in-of g x u.0 u.1, ap (λ (n : PlacedItem). n.parent) (at-of g x u.0 u.1) ∙ u.2)
 
   of-under : (x y : Id) → parent_of g x ≡ Some y → IsUnder t y x
   unfolding IsUnder
   of-under x y e =
       let n = of-in g x (with_parent-in g x y e) in
-      (n.0, n.1, sym (ap (λ (m : Placed). m.parent) (at-of g x n.0 n.1)) ∙ e)
+      (n.0, n.1, sym (ap (λ (m : PlacedItem). m.parent) (at-of g x n.0 n.1)) ∙ e)
 
   root_fact : (x : Id) → is_root x ≡ true → (is_in g x ≡ true) × ((at g x).kind ≡ Folder) × (parent_of g x ≡ Some places)
   unfolding places_node
   root_fact x r =
       let u = under-of x places ((v.stands places places_node v.top_is x).0 (roots-has x r)) in
       let n = of-in g x u.0 in
-      (u.0, ap (λ (m : Placed). m.kind) (at-of g x n.0 n.1) ∙ folder_kind n.0.kind (v.root_folder x n.0 (roots-has x r) n.1), u.1)
+      (u.0, ap (λ (m : PlacedItem). m.kind) (at-of g x n.0 n.1) ∙ folder_kind n.0.kind (v.root_folder x n.0 (roots-has x r) n.1), u.1)
 
   -- each item but `places` has its parent in the tree
-  above : (x : Id) → is_in g x ≡ true → is_places x ≡ false → (p : Id) × (parent_of g x ≡ Some p) × (m : Placed) × (g p ≡ Some m) × (m.kind ≡ Folder)
+  above : (x : Id) → is_in g x ≡ true → is_places x ≡ false → (p : Id) × (parent_of g x ≡ Some p) × (m : PlacedItem) × (g p ≡ Some m) × (m.kind ≡ Folder)
   above x h out =
       let n = of-in g x h in
       let f = v.folder x n.0 n.1 (λ e. no_way (is_places x) (ap is_places e ∙ places_is) out) in
-      (f.0, ap (λ (m : Placed). m.parent) (at-of g x n.0 n.1) ∙ f.1, f.2, f.3, folder_kind f.2.kind f.4)
+      (f.0, ap (λ (m : PlacedItem). m.parent) (at-of g x n.0 n.1) ∙ f.1, f.2, f.3, folder_kind f.2.kind f.4)
 
   parent_fact : (x : Id) → is_in g x ≡ true → is_places x ≡ false → is_root x ≡ false →
       (p : Id) × (parent_of g x ≡ Some p) × (is_in g p ≡ true) × ((at g p).kind ≡ Folder) × (is_places p ≡ false)
@@ -177,7 +180,7 @@ module _ (t : List Placed) (v : IsValidTree t) where
         f.0,
         f.1,
         in-of g f.0 f.2 f.3,
-        ap (λ (m : Placed). m.kind) (at-of g f.0 f.2 f.3) ∙ f.4,
+        ap (λ (m : PlacedItem). m.kind) (at-of g f.0 f.2 f.3) ∙ f.4,
         false_from (is_places f.0) (λ e.
             no_way (is_root x) (has-roots x ((v.stands places places_node v.top_is x).1 (of-under x places (f.1 ∙ ap Some (is_places-is f.0 e))))) miss),
       )
@@ -190,14 +193,14 @@ module _ (t : List Placed) (v : IsValidTree t) where
       let f = above x (with_parent-in g x p e) (not_top x p e) in
       let same : f.0 ≡ p = cc (f.1, e) in
       let m : g p ≡ Some f.2 = ap g (sym same) ∙ f.3 in
-      ap (λ (n : Placed). count_by (bytes_eq x) n.children) (at-of g p f.2 m) ∙ count-apart x f.2.children (v.once p f.2 m) ((v.stands p f.2 m x).1 (of-under x p e))
+      ap (λ (n : PlacedItem). count_by (bytes_eq x) n.children) (at-of g p f.2 m) ∙ count-apart x f.2.children (v.once p f.2 m) ((v.stands p f.2 m x).1 (of-under x p e))
 
   listed_fact : (x p : Id) → has x (children_of g p) ≡ true → (is_in g x ≡ true) × (parent_of g x ≡ Some p)
   listed_fact x p h = cases (g p) refl
     where
-      cases : (o : Option Placed) → g p ≡ o → (is_in g x ≡ true) × (parent_of g x ≡ Some p)
-      cases None e = no_way (has x []) (subst (λ l. has x l ≡ true) (ap (λ (n : Placed). n.children) (at-of_none g p e)) h) (has-nil x)
-      cases (Some m) e = under-of x p ((v.stands p m e x).0 (subst (λ l. has x l ≡ true) (ap (λ (n : Placed). n.children) (at-of g p m e)) h))
+      cases : (o : Option PlacedItem) → g p ≡ o → (is_in g x ≡ true) × (parent_of g x ≡ Some p)
+      cases None e = no_way (has x []) (subst (λ l. has x l ≡ true) (ap (λ (n : PlacedItem). n.children) (at-of_none g p e)) h) (has-nil x)
+      cases (Some m) e = under-of x p ((v.stands p m e x).0 (subst (λ l. has x l ≡ true) (ap (λ (n : PlacedItem). n.children) (at-of g p m e)) h))
 
   step-is : (x p : Id) → parent_of g x ≡ Some p → parent_in t x ≡ p
   unfolding parent_in IsUnder
@@ -227,18 +230,18 @@ module _ (t : List Placed) (v : IsValidTree t) where
 
 -- ---- what has the shape is a valid tree
 
-module _ (t : List Placed) (apart : Apart (node_ids t)) (s : HasShape (look t)) where
+module _ (t : List PlacedItem) (apart : Apart (node_ids t)) (s : HasShape (look t)) where
   abbrev h : Look
   h = look t
 
-  at-is : (x : Id) (n : Placed) → node x t ≡ Some n → at h x ≡ n
+  at-is : (x : Id) (n : PlacedItem) → node x t ≡ Some n → at h x ≡ n
   at-is x n e = at-of h x n e
 
   step_up : (x p : Id) → parent_of h x ≡ Some p → parent_in t x ≡ p
   unfolding parent_in
   step_up x p e =
       let n = of-in h x (with_parent-in h x p e) in
-      ap (λ o. unwrap_or (option_and_then (λ n. n.parent) o) places) n.1 ∙ ap (λ o. unwrap_or o places) (sym (ap (λ (m : Placed). m.parent) (at-of h x n.0 n.1)) ∙ e)
+      ap (λ o. unwrap_or (option_and_then (λ n. n.parent) o) places) n.1 ∙ ap (λ o. unwrap_or o places) (sym (ap (λ (m : PlacedItem). m.parent) (at-of h x n.0 n.1)) ∙ e)
 
   top_stays : (k : ℕ) → steps (parent_in t) k places ≡ places
   unfolding steps parent_in places_node
@@ -258,34 +261,34 @@ module _ (t : List Placed) (apart : Apart (node_ids t)) (s : HasShape (look t)) 
         ap (steps (parent_in t) k) (step_up x next.0 next.1) ∙ climbs k next.0 next.2
   ]
 
-  stands_fact : (y : Id) (m : Placed) → node y t ≡ Some m → (x : Id) → (has x m.children ≡ true) ↔ IsUnder t y x
+  stands_fact : (y : Id) (m : PlacedItem) → node y t ≡ Some m → (x : Id) → (has x m.children ≡ true) ↔ IsUnder t y x
   unfolding IsUnder
   stands_fact y m e x = (there, back)
     where
-      there : has x m.children ≡ true → (n : Placed) × (node x t ≡ Some n) × (n.parent ≡ Some y)
+      there : has x m.children ≡ true → (n : PlacedItem) × (node x t ≡ Some n) × (n.parent ≡ Some y)
       there k =
-          let l = s.listed x y (subst (λ (n : Placed). has x n.children ≡ true) (sym (at-is y m e)) k) in
+          let l = s.listed x y (subst (λ (n : PlacedItem). has x n.children ≡ true) (sym (at-is y m e)) k) in
           let n = of-in h x l.0 in
-          (n.0, n.1, sym (ap (λ (o : Placed). o.parent) (at-of h x n.0 n.1)) ∙ l.1)
+          (n.0, n.1, sym (ap (λ (o : PlacedItem). o.parent) (at-of h x n.0 n.1)) ∙ l.1)
 
-      back : (n : Placed) × (node x t ≡ Some n) × (n.parent ≡ Some y) → has x m.children ≡ true
+      back : (n : PlacedItem) × (node x t ≡ Some n) × (n.parent ≡ Some y) → has x m.children ≡ true
       back u =
-          let p : parent_of h x ≡ Some y = ap (λ (o : Placed). o.parent) (at-of h x u.0 u.1) ∙ u.2 in
-          counted x m.children (ap (λ (n : Placed). count_by (bytes_eq x) n.children) (sym (at-is y m e)) ∙ s.once x y p)
+          let p : parent_of h x ≡ Some y = ap (λ (o : PlacedItem). o.parent) (at-of h x u.0 u.1) ∙ u.2 in
+          counted x m.children (ap (λ (n : PlacedItem). count_by (bytes_eq x) n.children) (sym (at-is y m e)) ∙ s.once x y p)
         where
           counted : (x : Id) (xs : List Id) → count_by (bytes_eq x) xs ≡ 1 → has x xs ≡ true
           counted x xs e = elim (cases_Bool (has x xs)) [ inl k ↦ k | inr k ↦ let none = count-none x xs k in absurd (omega arith) ]
 
-  folder_fact : (x : Id) (n : Placed) → node x t ≡ Some n → x ≢ places → (y : Id) × (n.parent ≡ Some y) × (m : Placed) × (node y t ≡ Some m) × (is_folder m.kind ≡ true)
+  folder_fact : (x : Id) (n : PlacedItem) → node x t ≡ Some n → x ≢ places → (y : Id) × (n.parent ≡ Some y) × (m : PlacedItem) × (node y t ≡ Some m) × (is_folder m.kind ≡ true)
   unfolding places_node
   folder_fact x n e out = elim (cases_Bool (is_root x)) [
     | inl r ↦
         let f = s.roots_in x r in
-        (places, sym (ap (λ (o : Placed). o.parent) (at-is x n e)) ∙ f.2, places_node, s.top, top_folder)
+        (places, sym (ap (λ (o : PlacedItem). o.parent) (at-is x n e)) ∙ f.2, places_node, s.top, top_folder)
     | inr miss ↦
         let f = s.parents x (in-of h x n e) (false_from (is_places x) (λ q. out (is_places-is x q))) miss in
         let m = of-in h f.0 f.2 in
-        (f.0, sym (ap (λ (o : Placed). o.parent) (at-is x n e)) ∙ f.1, m.0, m.1, ap is_folder (sym (ap (λ (o : Placed). o.kind) (at-of h f.0 m.0 m.1)) ∙ f.3))
+        (f.0, sym (ap (λ (o : PlacedItem). o.parent) (at-is x n e)) ∙ f.1, m.0, m.1, ap is_folder (sym (ap (λ (o : PlacedItem). o.kind) (at-of h f.0 m.0 m.1)) ∙ f.3))
   ]
     where
       top_folder : is_folder places_node.kind ≡ true
@@ -296,9 +299,9 @@ module _ (t : List Placed) (apart : Apart (node_ids t)) (s : HasShape (look t)) 
     apart = apart;
     top_is = s.top;
     stands = stands_fact;
-    once = λ y m e. apart-from_counts m.children (λ x k. ap (λ (n : Placed). count_by (bytes_eq x) n.children) (sym (at-is y m e)) ∙ s.once x y (s.listed x y (subst (λ (n : Placed). has x n.children ≡ true) (sym (at-is y m e)) k)).1);
+    once = λ y m e. apart-from_counts m.children (λ x k. ap (λ (n : PlacedItem). count_by (bytes_eq x) n.children) (sym (at-is y m e)) ∙ s.once x y (s.listed x y (subst (λ (n : PlacedItem). has x n.children ≡ true) (sym (at-is y m e)) k)).1);
     folder = folder_fact;
-    root_folder = λ r n k e. ap is_folder (sym (ap (λ (o : Placed). o.kind) (at-is r n e)) ∙ (s.roots_in r (has-roots r k)).1);
+    root_folder = λ r n k e. ap is_folder (sym (ap (λ (o : PlacedItem). o.kind) (at-is r n e)) ∙ (s.roots_in r (has-roots r k)).1);
     reaches = λ x n e. let m = s.below x (in-of h x n e) in (m.0, climbs m.0 x m.1);
   }
 
@@ -312,7 +315,7 @@ pub record IsItem (t : Look) (x : Id) : Type 0 where
 module _ (t : Look) (v : HasShape t) where
   pub top_parent : parent_of t places ≡ None
   unfolding places_node
-  top_parent = ap (λ (n : Placed). n.parent) (at-of t places _ v.top)
+  top_parent = ap (λ (n : PlacedItem). n.parent) (at-of t places _ v.top)
 
   pub item_up : (x p : Id) → IsItem t x → is_root x ≡ false → parent_of t x ≡ Some p → IsItem t p
   item_up x p it miss e =

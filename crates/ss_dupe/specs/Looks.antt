@@ -3,26 +3,26 @@ use Rattle.std.specs.Prelude.{ℕ, List, [], Bool, Option, None, is_some, bytes_
 use Rattle.std.specs.Option.{unwrap_or}
 use Rattle.ss_record.specs.declared.kinds.Kind.TheVariants.{Separator}
 use Rattle.ss_record.specs.Ids.{has, places, roots}
-use Rattle.ss_tree.specs.Trees.{Placed, node}
+use Rattle.ss_tree.specs.Trees.{PlacedItem, node}
 
 abbrev pub Id : Type 0
 Id = List ℕ
 
 -- the item of an id, where the tree has one
 abbrev pub Look : Type 0
-Look = Id → Option Placed
+Look = Id → Option PlacedItem
 
-abbrev pub look : List Placed → Look
+abbrev pub look : List PlacedItem → Look
 look t x = node x t
 
 unfoldable pub is_in : Look → Id → Bool
 is_in t x = is_some (t x)
 
 -- read for an id that isn't in the tree
-abbrev pub blank : Placed
+abbrev pub blank : PlacedItem
 blank = record { id = []; kind = Separator; content = []; parent = None; children = []; time = 0 }
 
-unfoldable pub at : Look → Id → Placed
+unfoldable pub at : Look → Id → PlacedItem
 at t x = unwrap_or (t x) blank
 
 abbrev pub parent_of : Look → Id → Option Id

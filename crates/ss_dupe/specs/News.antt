@@ -1,5 +1,6 @@
 -- New items with what tells them apart.
-use Rattle.std.specs.Prelude.{◌≡◌, ◌⊎◌, ◌==◌, ℕ, zero, suc, true, is_some, List, [], ◌∷◌, Bool, Some, ◌&&◌, map, filter, bytes_eq}
+use Rattle.std.specs.Prelude.{◌≡◌, ◌⊎◌, ◌==◌, ℕ, zero, suc, true, is_some, List, [], ◌∷◌, Bool, Some, ◌&&◌, map, filter}
+use Rattle.std.specs.Prelude.{bytes_eq}
 use Rattle.std.specs.List.{list_any}
 use Rattle.std.specs.BTreeMap as tree
 use Rattle.std.specs.BTreeMap.{BTreeMap}

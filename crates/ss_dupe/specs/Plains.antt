@@ -3,7 +3,7 @@ use Rattle.std.specs.Prelude.{◌≡◌, bytes_eq, option_map}
 use Rattle.std.specs.HashMap.{get}
 use Rattle.std.specs.HashSet.{contains_by}
 use Rattle.ss_record.specs.Ids.{has}
-use Rattle.ss_tree.specs.Trees.{Placed}
+use Rattle.ss_tree.specs.Trees.{PlacedItem}
 use Rattle.ss_dupe.specs.declared.plain.Seat.{Seat}
 use Rattle.ss_dupe.specs.declared.plain.PlainTree.{PlainTree}
 use Rattle.ss_dupe.specs.declared.plains.Plains.{Plains}
@@ -11,7 +11,7 @@ use Rattle.ss_dupe.specs.Looks.{Id, Look, is_in}
 use Rattle.ss_dupe.specs.Sides.{Sides}
 
 -- an item in its place
-abbrev pub placed_at : Seat → Placed
+abbrev pub placed_at : Seat → PlacedItem
 placed_at s = record { id = s.id; kind = s.item.now.kind; content = s.item.now.content; parent = s.parent; children = s.children.items; time = s.time }
 
 abbrev pub look_of : PlainTree → Look

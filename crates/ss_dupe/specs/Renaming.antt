@@ -1,7 +1,7 @@
 -- The local tree after its paired items took the remote ids.
 use Rattle.std.specs.Prelude.{List, bytes_eq, unwrap_or, map, option_map}
 use Rattle.std.specs.Map.{lookup}
-use Rattle.ss_tree.specs.Trees.{Placed}
+use Rattle.ss_tree.specs.Trees.{PlacedItem}
 use Rattle.ss_tree.specs.Entries.{tree}
 use Rattle.ss_tree.specs.declared.sides.Sides.{Sides as Asked}
 use Rattle.ss_dupe.specs.Looks.{Id}
@@ -11,7 +11,7 @@ use Rattle.ss_dupe.specs.Sides.{Sides, sides}
 abbrev pub named : List (Id × Id) → Id → Id
 named pairs x = unwrap_or (lookup (bytes_eq x) pairs) x
 
-abbrev pub renamed_item : (Id → Id) → Placed → Placed
+abbrev pub renamed_item : (Id → Id) → PlacedItem → PlacedItem
 renamed_item name n = record {
   id = name n.id;
   kind = n.kind;
@@ -22,9 +22,9 @@ renamed_item name n = record {
 }
 
 -- a tree with other ids
-unfoldable pub renamed : (Id → Id) → List Placed → List Placed
-renamed name t = map (renamed_item name) t
+unfoldable pub tree_renamed : (Id → Id) → List PlacedItem → List PlacedItem
+tree_renamed name t = map (renamed_item name) t
 
 -- what a merge is asked of, after the renaming
 abbrev pub paired : List (Id × Id) → Asked → Sides
-paired pairs s = sides (tree s.mirror.now) (renamed (named pairs) (tree s.local.now)) (tree s.remote.now) s.local_dead.now s.remote_dead.now
+paired pairs s = sides (tree s.mirror.now) (tree_renamed (named pairs) (tree s.local.now)) (tree s.remote.now) s.local_dead.now s.remote_dead.now

@@ -1,7 +1,7 @@
 -- The sides of a merge, and what is new on a side.
 use Rattle.std.specs.Prelude.{List, Bool, not, ◌||◌, ◌&&◌}
 use Rattle.ss_record.specs.Ids.{has}
-use Rattle.ss_tree.specs.Trees.{Placed}
+use Rattle.ss_tree.specs.Trees.{PlacedItem}
 use Rattle.ss_tree.specs.Entries.{tree}
 use Rattle.ss_tree.specs.declared.sides.Sides.{Sides as Asked}
 use Rattle.ss_dupe.specs.declared.sides.Side.{Side}
@@ -16,7 +16,7 @@ pub record Sides : Type 0 where
   pub local_dead : Id → Bool
   pub remote_dead : Id → Bool
 
-abbrev pub sides : List Placed → List Placed → List Placed → List Id → List Id → Sides
+abbrev pub sides : List PlacedItem → List PlacedItem → List PlacedItem → List Id → List Id → Sides
 sides mirror local remote local_dead remote_dead = record {
   mirror = look mirror;
   local = look local;
@@ -26,8 +26,8 @@ sides mirror local remote local_dead remote_dead = record {
 }
 
 -- what a merge is asked of
-abbrev pub asked : Asked → Sides
-asked s = sides (tree s.mirror.now) (tree s.local.now) (tree s.remote.now) s.local_dead.now s.remote_dead.now
+abbrev pub sides_asked : Asked → Sides
+sides_asked s = sides (tree s.mirror.now) (tree s.local.now) (tree s.remote.now) s.local_dead.now s.remote_dead.now
 
 abbrev pub other : Side → Side
 other Local = Remote

@@ -1,6 +1,7 @@
 //! A tree that was read out, for look-ups by id.
 
-ghost use Rattle.std.specs.Prelude.{◌≡◌, Some, None, [], true, IfOk, OnOk, All, option_map, option_and_then, bytes_eq, if◌then◌else◌};
+ghost use Rattle.std.specs.Prelude.{◌≡◌, Some, None, [], true, IfOk, OnOk, All, option_map, option_and_then, bytes_eq};
+ghost use Rattle.std.specs.Prelude.{if◌then◌else◌};
 ghost use Rattle.ss_tree.specs.Trees.{IsValidTree};
 ghost use Rattle.ss_tree.specs.Entries.{IsTree, above, entry, is_live, placed, tree};
 ghost use Rattle.ss_dupe.specs.Looks.{Id as Text, is_in, look};

@@ -6,7 +6,7 @@ ghost use Rattle.ss_record.specs.Ids.{has};
 ghost use Rattle.ss_tree.specs.Trees.{IsValidTree};
 ghost use Rattle.ss_tree.specs.Entries.{tree};
 ghost use Rattle.ss_dupe.specs.Looks.{Id as Text};
-ghost use Rattle.ss_dupe.specs.Sides.{asked, is_new, tree_of, deleted_on, other};
+ghost use Rattle.ss_dupe.specs.Sides.{sides_asked, is_new, tree_of, deleted_on, other};
 ghost use Rattle.ss_dupe.specs.Plains.{AreIds, look_of, view};
 ghost use Rattle.ss_dupe.specs.Shapes.{AreShaped};
 
@@ -43,7 +43,7 @@ fn set_of(alloc: Global, ids: &Ids) -> Result<HashSet<Id, Seed>, AllocError>
 impl<'a> Plains<'a> {
     /// Reads the trees out.
     pub fn read(alloc: Global, sides: &Sides<'a>) -> Result<Plains<'a>, AllocError>
-        ensures same { IfOk result (λ p. view p ≡ asked sides.now) }
+        ensures same { IfOk result (λ p. view p ≡ sides_asked sides.now) }
         ensures local_ids { IfOk result (λ p. AreIds p.local) }
         ensures remote_ids { IfOk result (λ p. AreIds p.remote) }
         ensures local_tree { OnOk result (IsValidTree (tree sides.now.local.now)) }

@@ -6,7 +6,7 @@ ghost use Rattle.std.specs.BTreeMap.{IsOrdered};
 ghost use Rattle.ss_text.specs.Texts.{text_cmp};
 ghost use Rattle.ss_dupe.specs.declared.news.Mark.{Mark as Sign};
 ghost use Rattle.ss_dupe.specs.Looks.{Id as Text};
-ghost use Rattle.ss_dupe.specs.Sides.{asked};
+ghost use Rattle.ss_dupe.specs.Sides.{sides_asked};
 ghost use Rattle.ss_dupe.specs.Pairs.{AreAlike, ArePairs};
 ghost use Rattle.ss_dupe.specs.Plains.{AreIds, view};
 ghost use Rattle.ss_dupe.specs.Shapes.{AreShaped};
@@ -150,7 +150,7 @@ pub fn pair_read(alloc: Global, plains: &Plains) -> Result<Vec<(Id, Id)>, AllocE
 
 /// Pairs the new items that are the same on both sides: a local id and a remote id, by local id.
 pub fn pair_dupes(alloc: Global, sides: &Sides) -> Result<Vec<(Id, Id)>, AllocError>
-    ensures { IfOk result (λ pairs. ArePairs (asked sides.now) pairs.items) }
+    ensures { IfOk result (λ pairs. ArePairs (sides_asked sides.now) pairs.items) }
 {
     let plains = Plains::read(alloc, sides)?;
     pair_read(alloc, &plains)

@@ -1,6 +1,7 @@
 -- What a list contains.
 use Rattle.std.proofs.Common.{◌≡◌, ◌<◌, List, [], ◌∷◌, Contains, ◌⊎◌, inl, inr, ⊎_elim, subst, arith}
-use Rattle.std.proofs.lemmas.List.Elements.{Contains-append_left, Contains-append_right, Contains-append_cases, Contains-push, Contains-push_cases, All-contains}
+use Rattle.std.proofs.lemmas.List.Elements.{Contains-append_left, Contains-append_right, Contains-append_cases}
+use Rattle.std.proofs.lemmas.List.Elements.{Contains-push, Contains-push_cases, All-contains}
 use Rattle.ss_text.specs.Texts.{Reordered, nothing, head, swapped, chain}
 use Rattle.ss_bso.proofs.Lists.{Each, All-from_Each}
 

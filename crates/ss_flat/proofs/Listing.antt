@@ -1,5 +1,7 @@
 -- The lists that a state tells are those of its rows.
-use Rattle.std.proofs.Common.{◌≡◌, ◌≢◌, ℕ, ◌<◌, ◌≤◌, List, [], ◌∷◌, Bool, true, false, cond, Option, Some, None, option_map, option_and_then, filter_map, Contains, nat_lt, refl, sym, ap, subst, ◌∙◌, bytes_eq, arith}
+use Rattle.std.proofs.Common.{◌≡◌, ◌≢◌, ℕ, ◌<◌, ◌≤◌, List, [], ◌∷◌, Bool, true, false, cond, Option, Some, None}
+use Rattle.std.proofs.Common.{option_map, option_and_then, filter_map, Contains, nat_lt, refl, sym, ap, subst, ◌∙◌}
+use Rattle.std.proofs.Common.{bytes_eq, arith}
 use Rattle.std.proofs.lemmas.Bool.{le-ltb, lt-ltb, ltb-false, ltb-true}
 use Rattle.std.proofs.lemmas.Cmp.{ranked, nat_cmp_total, nat_list_cmp_total, on_total}
 use Rattle.std.proofs.lemmas.Map.Lookups.{exact_unsigned}
@@ -20,9 +22,12 @@ use Rattle.ss_flat.specs.declared.lists.Shown.{Shown}
 use Rattle.ss_flat.specs.Greatest.{IsAllInOrder, IsGreatestOf}
 use Rattle.ss_flat.specs.Joining.{OtherKey}
 use Rattle.ss_flat.specs.Lists.{AreGone, AreShown, AreSkipped, IsAlive, IsGone, IsShown, IsShownVisit, visit_cmp}
-use Rattle.ss_flat.specs.States.{Heard, Held, IsFace, IsFlatState, IsSkipped, IsStateOf, IsTombstone, IsVisit, OtherVisit, State, face_cmp, heard_in, held_of, nothing as unheard, same_visit, time_of}
+use Rattle.ss_flat.specs.States.{IdView, RoomedId, IsFace, IsFlatState, IsSkipped, IsStateOf, IsTombstone, IsVisit}
+use Rattle.ss_flat.specs.States.{OtherVisit, State, face_cmp, heard_in, held_of, nothing as unheard, same_visit}
+use Rattle.ss_flat.specs.States.{time_of}
 use Rattle.ss_flat.specs.Texts.{record_text}
-use Rattle.ss_flat.specs.Told.{gone_list, gone_of, gone_unless, is_above, shown_face, shown_list, shown_of, shown_visit, shown_visits, skipped_list, skipped_of}
+use Rattle.ss_flat.specs.Told.{gone_list, gone_of, gone_unless, is_above, shown_face, shown_list, shown_of, shown_visit}
+use Rattle.ss_flat.specs.Told.{shown_visits, skipped_list, skipped_of}
 use Rattle.ss_flat.proofs.Contained.{contains_here, contains_there}
 use Rattle.ss_flat.proofs.Greatest.{same_greatest}
 use Rattle.ss_flat.proofs.Keeping.{found_each}
@@ -91,13 +96,13 @@ kept_if : {X : Type 0} (b : Bool) (x y : X) → cond b (Some x) None ≡ Some y 
 kept_if true x y e = (refl, some_same e)
 kept_if false x y e = cc
 
-shown_face-is : (heard : Heard) (f : Face) → shown_face heard ≡ Some f → (heard.face ≡ Some f) × (is_above heard.gone f.time ≡ true)
+shown_face-is : (heard : IdView) (f : Face) → shown_face heard ≡ Some f → (heard.face ≡ Some f) × (is_above heard.gone f.time ≡ true)
 shown_face-is heard f e =
     let found = and_then_some (λ (face : Face). cond (is_above heard.gone face.time) (Some face) None) heard.face f e in
     let kept = kept_if (is_above heard.gone found.0.time) found.0 f found.2 in
     (found.1 ∙ ap (λ x. Some x) kept.1, subst (λ (x : Face). is_above heard.gone x.time ≡ true) kept.1 kept.0)
 
-module _ (kind : FlatKind) (rows : List Row) (id : List ℕ) (heard : Heard) (s : IsStateOf kind rows id heard) where
+module _ (kind : FlatKind) (rows : List Row) (id : List ℕ) (heard : IdView) (s : IsStateOf kind rows id heard) where
   visit_kept : (e : Visit × ℕ) (v : Visit) → time_of e.0 heard.visits ≡ Some e.1 → shown_visit heard.gone e ≡ Some v → IsShownVisit kind rows id v
   visit_kept e v found shown =
       let kept = kept_if (is_above heard.gone e.1) e.0 v shown in
@@ -197,33 +202,33 @@ ids_unlike k l x z apart e f tie =
     cc
 
 module _ (rows : List Row) (state : State) (apart : Pairs OtherKey state.entries) (is : IsFlatState rows state) where
-  abbrev Own : List ℕ × Held → Type 0
+  abbrev Own : List ℕ × RoomedId → Type 0
   Own e = held_of e.0 state ≡ Some e.1
 
   own : Each Own state.entries
   own = found_each bytes_eq (λ k. bytes_eq-same k k refl) bytes_eq-flip state.entries apart
 
-  own_state : (id : List ℕ) (held : Held) → held_of id state ≡ Some held → IsStateOf state.kind rows id held.heard
+  own_state : (id : List ℕ) (held : RoomedId) → held_of id state ≡ Some held → IsStateOf state.kind rows id held.heard
   own_state id held e = subst (λ h. IsStateOf state.kind rows id h) (ap heard_in e) (is id)
 
   no_state : (id : List ℕ) → held_of id state ≡ None → IsStateOf state.kind rows id unheard
   no_state id e = subst (λ h. IsStateOf state.kind rows id h) (ap heard_in e) (is id)
 
-  shown_each : (e : List ℕ × Held) (y : Shown) → Own e → shown_of state.kind e ≡ Some y → IsShown state.kind rows y.id y.text
+  shown_each : (e : List ℕ × RoomedId) (y : Shown) → Own e → shown_of state.kind e ≡ Some y → IsShown state.kind rows y.id y.text
   unfolding shown_of
   shown_each e y found shown =
       let make : Face → Shown = λ face. record { id = e.0; text = record_text state.kind e.0 face (shown_visits e.1.heard) } in
       let o = map_some make (shown_face e.1.heard) y shown in
       subst (λ (s : Shown). IsShown state.kind rows s.id s.text) o.2 (face_shown state.kind rows e.0 e.1.heard (own_state e.0 e.1 found) o.0 o.1)
 
-  shown_id : (e : List ℕ × Held) (y : Shown) → shown_of state.kind e ≡ Some y → e.0 ≡ y.id
+  shown_id : (e : List ℕ × RoomedId) (y : Shown) → shown_of state.kind e ≡ Some y → e.0 ≡ y.id
   unfolding shown_of
   shown_id e y shown =
       let make : Face → Shown = λ face. record { id = e.0; text = record_text state.kind e.0 face (shown_visits e.1.heard) } in
       let o = map_some make (shown_face e.1.heard) y shown in
       ap (λ (s : Shown). s.id) o.2
 
-  shown_made : (y : Shown) (held : Held) → IsStateOf state.kind rows y.id held.heard → IsShown state.kind rows y.id y.text → shown_of state.kind (y.id, held) ≡ Some y
+  shown_made : (y : Shown) (held : RoomedId) → IsStateOf state.kind rows y.id held.heard → IsShown state.kind rows y.id y.text → shown_of state.kind (y.id, held) ≡ Some y
   unfolding shown_of
   shown_made y held s shown =
       let f = shown_found state.kind rows y.id held.heard s y.text shown in
@@ -234,7 +239,7 @@ module _ (rows : List Row) (state : State) (apart : Pairs OtherKey state.entries
   shown_all : (y : Shown) → IsShown state.kind rows y.id y.text → Contains (filter_map (shown_of state.kind) state.entries) y
   shown_all y shown = by (held_of y.id state) refl
     where
-      by : (o : Option Held) → held_of y.id state ≡ o → Contains (filter_map (shown_of state.kind) state.entries) y
+      by : (o : Option RoomedId) → held_of y.id state ≡ o → Contains (filter_map (shown_of state.kind) state.entries) y
       by None e = absurd ((no_state y.id e).face shown.face shown.greatest.holds)
       by (Some held) e = found_kept bytes_eq same_text (shown_of state.kind) y.id held y (shown_made y held (own_state y.id held e) shown) state.entries e
 
@@ -244,7 +249,7 @@ module _ (rows : List Row) (state : State) (apart : Pairs OtherKey state.entries
       (Each-filter_map Own (λ (s : Shown). IsShown state.kind rows s.id s.text) (shown_of state.kind) shown_each state.entries own) shown_all
       (Pairs-filter_map OtherKey (λ (a b : Shown). text_cmp a.id b.id ≢ Equal) (shown_of state.kind) (λ x z y w other e f. ids_unlike x.0 z.0 y.id w.id other (shown_id x y e) (shown_id z w f)) state.entries apart)
 
-  gone_each : (e : List ℕ × Held) (y : List ℕ × ℕ) → Own e → gone_of e ≡ Some y → IsGone state.kind rows y.0 y.1
+  gone_each : (e : List ℕ × RoomedId) (y : List ℕ × ℕ) → Own e → gone_of e ≡ Some y → IsGone state.kind rows y.0 y.1
   unfolding gone_of
   gone_each e y found gone =
       let o = map_some (λ (time : ℕ). (e.0, time)) (gone_unless (shown_face e.1.heard) e.1.heard.gone) y gone in
@@ -255,13 +260,13 @@ module _ (rows : List Row) (state : State) (apart : Pairs OtherKey state.entries
         over = face_over state.kind rows e.0 e.1.heard s o.0 g.1 g.0;
       })
 
-  gone_id : (e : List ℕ × Held) (y : List ℕ × ℕ) → gone_of e ≡ Some y → e.0 ≡ y.0
+  gone_id : (e : List ℕ × RoomedId) (y : List ℕ × ℕ) → gone_of e ≡ Some y → e.0 ≡ y.0
   unfolding gone_of
   gone_id e y gone =
       let o = map_some (λ (time : ℕ). (e.0, time)) (gone_unless (shown_face e.1.heard) e.1.heard.gone) y gone in
       ap (λ (p : List ℕ × ℕ). p.0) o.2
 
-  gone_made : (y : List ℕ × ℕ) (held : Held) → IsStateOf state.kind rows y.0 held.heard → IsGone state.kind rows y.0 y.1 → gone_of (y.0, held) ≡ Some y
+  gone_made : (y : List ℕ × ℕ) (held : RoomedId) → IsStateOf state.kind rows y.0 held.heard → IsGone state.kind rows y.0 y.1 → gone_of (y.0, held) ≡ Some y
   unfolding gone_of
   gone_made y held s gone =
       let time : held.heard.gone ≡ Some y.1 = same_greatest nat_cmp nat_cmp_total exact_unsigned (IsTombstone state.kind rows y.0) (IsTombstone state.kind rows y.0) (λ t h. h) (λ t h. h) held.heard.gone (Some y.1) s.gone gone.greatest in
@@ -271,7 +276,7 @@ module _ (rows : List Row) (state : State) (apart : Pairs OtherKey state.entries
   gone_all : (y : List ℕ × ℕ) → IsGone state.kind rows y.0 y.1 → Contains (filter_map gone_of state.entries) y
   gone_all y gone = by (held_of y.0 state) refl
     where
-      by : (o : Option Held) → held_of y.0 state ≡ o → Contains (filter_map gone_of state.entries) y
+      by : (o : Option RoomedId) → held_of y.0 state ≡ o → Contains (filter_map gone_of state.entries) y
       by None e = absurd ((no_state y.0 e).gone y.1 gone.greatest.holds)
       by (Some held) e = found_kept bytes_eq same_text gone_of y.0 held y (gone_made y held (own_state y.0 held e) gone) state.entries e
 
@@ -281,24 +286,24 @@ module _ (rows : List Row) (state : State) (apart : Pairs OtherKey state.entries
       (Each-filter_map Own (λ (g : List ℕ × ℕ). IsGone state.kind rows g.0 g.1) gone_of gone_each state.entries own) gone_all
       (Pairs-filter_map OtherKey (λ (a b : List ℕ × ℕ). text_cmp a.0 b.0 ≢ Equal) gone_of (λ x z y w other e f. ids_unlike x.0 z.0 y.0 w.0 other (gone_id x y e) (gone_id z w f)) state.entries apart)
 
-  skipped_each : (e : List ℕ × Held) (y : List ℕ) → Own e → skipped_of e ≡ Some y → IsSkipped state.kind rows y
+  skipped_each : (e : List ℕ × RoomedId) (y : List ℕ) → Own e → skipped_of e ≡ Some y → IsSkipped state.kind rows y
   unfolding skipped_of
   skipped_each e y found skipped =
       let kept = kept_if e.1.heard.skipped e.0 y skipped in
       subst (λ id. IsSkipped state.kind rows id) kept.1 ((own_state e.0 e.1 found).skipped kept.0)
 
-  skipped_id : (e : List ℕ × Held) (y : List ℕ) → skipped_of e ≡ Some y → e.0 ≡ y
+  skipped_id : (e : List ℕ × RoomedId) (y : List ℕ) → skipped_of e ≡ Some y → e.0 ≡ y
   unfolding skipped_of
   skipped_id e y skipped = (kept_if e.1.heard.skipped e.0 y skipped).1
 
-  skipped_made : (y : List ℕ) (held : Held) → IsStateOf state.kind rows y held.heard → IsSkipped state.kind rows y → skipped_of (y, held) ≡ Some y
+  skipped_made : (y : List ℕ) (held : RoomedId) → IsStateOf state.kind rows y held.heard → IsSkipped state.kind rows y → skipped_of (y, held) ≡ Some y
   unfolding skipped_of
   skipped_made y held s skipped = ap (λ b. cond b (Some y) None) (true_then held.heard.skipped (λ e. s.unskipped e skipped))
 
   skipped_all : (y : List ℕ) → IsSkipped state.kind rows y → Contains (filter_map skipped_of state.entries) y
   skipped_all y skipped = by (held_of y state) refl
     where
-      by : (o : Option Held) → held_of y state ≡ o → Contains (filter_map skipped_of state.entries) y
+      by : (o : Option RoomedId) → held_of y state ≡ o → Contains (filter_map skipped_of state.entries) y
       by None e = absurd ((no_state y e).unskipped refl skipped)
       by (Some held) e = found_kept bytes_eq same_text skipped_of y held y (skipped_made y held (own_state y held e) skipped) state.entries e
 

@@ -1,5 +1,6 @@
 -- Order and repeats of rows don't matter, and joining is a join.
-use Rattle.std.proofs.Common.{◌≡◌, ℕ, List, ◌++◌, Bool, true, false, Contains, ⊎_elim, refl, sym, subst, append_assoc, Some}
+use Rattle.std.proofs.Common.{◌≡◌, ℕ, List, ◌++◌, Bool, true, false, Contains, ⊎_elim, refl, sym, subst, append_assoc}
+use Rattle.std.proofs.Common.{Some}
 use Rattle.std.proofs.lemmas.Cmp.{nat_cmp_total, nat_list_cmp_total, on_total}
 use Rattle.std.proofs.lemmas.List.Elements.{Contains-append_left, Contains-append_right, Contains-append_cases}
 use Rattle.std.proofs.lemmas.Map.Lookups.{exact_unsigned}
@@ -12,7 +13,8 @@ use Rattle.ss_flat.specs.declared.visits.Visit.{Visit}
 use Rattle.ss_flat.specs.declared.lists.Shown.{Shown}
 use Rattle.ss_flat.specs.Laws.{Associates, Commutes, IsIdempotent, SameSet}
 use Rattle.ss_flat.specs.Lists.{AreGone, AreShown, AreSkipped, IsAlive, IsGone, IsShown, IsShownVisit}
-use Rattle.ss_flat.specs.States.{IsFace, IsFlatState, IsSkipped, IsStateOf, IsTombstone, IsVisit, State, TellsSame, face_cmp, heard_of, time_of}
+use Rattle.ss_flat.specs.States.{IsFace, IsFlatState, IsSkipped, IsStateOf, IsTombstone, IsVisit, State, TellsSame}
+use Rattle.ss_flat.specs.States.{face_cmp, heard_of, time_of}
 use Rattle.ss_flat.proofs.Greatest.{greatest_moved, same_greatest}
 use Rattle.ss_flat.proofs.Orders.{face_exact, face_total}
 use Rattle.ss_flat.proofs.Sorted.{same_in_order}

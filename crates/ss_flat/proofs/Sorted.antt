@@ -1,15 +1,17 @@
 -- A sorted list is all of something in order, and such a list is one.
-use Rattle.std.proofs.Common.{◌≡◌, ◌≢◌, List, [], ◌∷◌, Bool, true, false, cond, Contains, ⊎_elim, refl, sym, ap, subst, ◌∙◌}
+use Rattle.std.proofs.Common.{◌≡◌, ◌≢◌, List, [], ◌∷◌, Bool, true, false, cond, Contains, ⊎_elim, refl, sym, ap, subst}
+use Rattle.std.proofs.Common.{◌∙◌}
 use Rattle.std.specs.Cmp.{IsTotalOrder}
 use Rattle.std.specs.declared.cmp.Ordering.{Ordering}
 use Rattle.std.specs.declared.cmp.Ordering.TheVariants.{Less, Equal, Greater}
 use Rattle.std.specs.Ordering.{is_lt, ordering_reverse}
-use Rattle.ss_text.specs.Texts.{Reordered, nothing, head, swapped, chain, placed, sorted}
+use Rattle.ss_text.specs.Texts.{Reordered, nothing, head, swapped, chain, list_with, sorted}
 use Rattle.ss_text.proofs.Basics.{is_less}
 use Rattle.ss_bso.proofs.Lists.{Each, Pairs, Each-imp}
 use Rattle.ss_bso.proofs.Reordering.{reordered-refl, Each-reordered}
 use Rattle.ss_flat.specs.Greatest.{IsAllInOrder}
-use Rattle.ss_flat.proofs.Contained.{contains_nothing, contains_here, contains_there, contains_cases, contains_each, contains-reordered}
+use Rattle.ss_flat.proofs.Contained.{contains_nothing, contains_here, contains_there, contains_cases, contains_each}
+use Rattle.ss_flat.proofs.Contained.{contains-reordered}
 
 not_turned : (o p : Ordering) → p ≡ ordering_reverse o → is_lt o ≡ false → o ≢ Equal → is_lt p ≡ true
 not_turned Less p e f g = let clash : true ≡ false = f in cc
@@ -40,11 +42,11 @@ module _ {X : Type 0} (cmp : X → X → Ordering) (total : IsTotalOrder cmp) wh
   lt_once : (x y : X) → Lt x y → Lt y x → ⊥
   lt_once x y e f = not_both (cmp x y) (cmp y x) (total.antisymm y x) e f
 
-  reordered_step : (b : Bool) (x y : X) (ys : List X) → Reordered (x ∷ ys) (placed lt x ys) → Reordered (x ∷ y ∷ ys) (cond b (y ∷ placed lt x ys) (x ∷ y ∷ ys))
+  reordered_step : (b : Bool) (x y : X) (ys : List X) → Reordered (x ∷ ys) (list_with lt x ys) → Reordered (x ∷ y ∷ ys) (cond b (y ∷ list_with lt x ys) (x ∷ y ∷ ys))
   reordered_step true x y ys r = chain (swapped x y ys) (head y r)
   reordered_step false x y ys r = reordered-refl (x ∷ y ∷ ys)
 
-  reordered-placed : (x : X) (ys : List X) → Reordered (x ∷ ys) (placed lt x ys)
+  reordered-placed : (x : X) (ys : List X) → Reordered (x ∷ ys) (list_with lt x ys)
   reordered-placed x [] = reordered-refl (x ∷ [])
   reordered-placed x (y ∷ ys) = reordered_step (lt y x) x y ys (reordered-placed x ys)
 
@@ -52,13 +54,13 @@ module _ {X : Type 0} (cmp : X → X → Ordering) (total : IsTotalOrder cmp) wh
   reordered-sorted [] = nothing
   reordered-sorted (x ∷ xs) = chain (head x (reordered-sorted xs)) (reordered-placed x (sorted lt xs))
 
-  order_step : (b : Bool) (x y : X) (ys : List X) → lt y x ≡ b → Unlike x y → Pairs Lt (y ∷ ys) → Pairs Lt (placed lt x ys) → Pairs Lt (cond b (y ∷ placed lt x ys) (x ∷ y ∷ ys))
+  order_step : (b : Bool) (x y : X) (ys : List X) → lt y x ≡ b → Unlike x y → Pairs Lt (y ∷ ys) → Pairs Lt (list_with lt x ys) → Pairs Lt (cond b (y ∷ list_with lt x ys) (x ∷ y ∷ ys))
   order_step true x y ys e apart o later = (Each-reordered (Lt y) (reordered-placed x ys) (e, o.0), later)
   order_step false x y ys e apart o later =
       let here : Lt x y = lt_turned x y e apart in
       ((here, Each-imp (Lt y) (Lt x) (λ z f. lt_through x y z here f) ys o.0), o)
 
-  order-placed : (x : X) (ys : List X) → Each (Unlike x) ys → Pairs Lt ys → Pairs Lt (placed lt x ys)
+  order-placed : (x : X) (ys : List X) → Each (Unlike x) ys → Pairs Lt ys → Pairs Lt (list_with lt x ys)
   order-placed x [] e o = (tt, tt)
   order-placed x (y ∷ ys) e o = order_step (lt y x) x y ys refl e.0 o (order-placed x ys e.1 o.1)
 

@@ -1,5 +1,6 @@
 -- The state of a row, of a union, and of one set told in two ways.
-use Rattle.std.proofs.Common.{◌≡◌, ℕ, List, [], ◌∷◌, ◌++◌, Bool, true, false, cond, Some, None, Contains, ◌⊎◌, inl, inr, ⊎_elim, refl, sym, ap, subst, ◌∙◌}
+use Rattle.std.proofs.Common.{◌≡◌, ℕ, List, [], ◌∷◌, ◌++◌, Bool, true, false, cond, Some, None, Contains, ◌⊎◌, inl, inr}
+use Rattle.std.proofs.Common.{⊎_elim, refl, sym, ap, subst, ◌∙◌}
 use Rattle.std.proofs.lemmas.Cmp.{nat_cmp_total}
 use Rattle.std.proofs.lemmas.List.Elements.{Contains-append_left, Contains-append_right, Contains-append_cases}
 use Rattle.std.proofs.lemmas.Map.Lookups.{exact_unsigned}
@@ -16,7 +17,8 @@ use Rattle.ss_flat.specs.Greatest.{IsGreatestOf}
 use Rattle.ss_flat.specs.Joining.{Joins, Makes, MakesRecord}
 use Rattle.ss_flat.specs.Laws.{SameSet}
 use Rattle.ss_flat.specs.Readings.{reading}
-use Rattle.ss_flat.specs.States.{Heard, IsFace, IsStateOf, IsTombstone, IsVisit, OnRecord, Tells, face_cmp, nothing as unheard, same_visit, time_of}
+use Rattle.ss_flat.specs.States.{IdView, IsFace, IsStateOf, IsTombstone, IsVisit, OnRecord, Tells, face_cmp}
+use Rattle.ss_flat.specs.States.{nothing as unheard, same_visit, time_of}
 use Rattle.ss_flat.proofs.Contained.{contains_here, contains_nothing, contains_one}
 use Rattle.ss_flat.proofs.Greatest.{greatest_moved, greatest_of_both, greatest_one}
 use Rattle.ss_flat.proofs.VisitLemmas.{visited, unvisited}
@@ -112,7 +114,7 @@ module _ (kind : FlatKind) (row : Row) (said : Said) (e : reading kind row ≡ R
       (λ t h. sym (of_record (λ s. Contains s.visits v × (row.modified ≡ t)) (one_says kind row.id _ row h)).1)
   visit_state v false none = λ t h. unvisited v said.visits none (of_record (λ s. Contains s.visits v × (row.modified ≡ t)) (one_says kind row.id _ row h)).0
 
-  record_state : (heard : Heard) → MakesRecord row.modified said heard → IsStateOf kind (row ∷ []) row.id heard
+  record_state : (heard : IdView) → MakesRecord row.modified said heard → IsStateOf kind (row ∷ []) row.id heard
   record_state heard m =
       let face : Face = record { time = row.modified; first = said.first; second = said.second } in
       record {
@@ -127,7 +129,7 @@ module _ (kind : FlatKind) (row : Row) (said : Said) (e : reading kind row ≡ R
         unskipped = λ _ h. let clash : Record said ≡ Skipped = sym e ∙ one_says kind row.id _ row h in cc;
       }
 
-pub state_of_row : (kind : FlatKind) (row : Row) (heard : Heard) → Makes row.modified (reading kind row) heard → IsStateOf kind (row ∷ []) row.id heard
+pub state_of_row : (kind : FlatKind) (row : Row) (heard : IdView) → Makes row.modified (reading kind row) heard → IsStateOf kind (row ∷ []) row.id heard
 state_of_row kind row heard m = by (reading kind row) refl m
   where
     by : (r : Reading) → reading kind row ≡ r → Makes row.modified r heard → IsStateOf kind (row ∷ []) row.id heard
@@ -145,7 +147,7 @@ skipped_none : (a b c : Bool) → c ≡ (cond a true b) → c ≡ false → (a �
 skipped_none true b c e f = let clash : true ≡ false = sym e ∙ f in cc
 skipped_none false b c e f = (refl, sym e ∙ f)
 
-pub state_of_union : (kind : FlatKind) (rows others : List Row) (id : List ℕ) (one other both : Heard) → IsStateOf kind rows id one → IsStateOf kind others id other → Joins one other both
+pub state_of_union : (kind : FlatKind) (rows others : List Row) (id : List ℕ) (one other both : IdView) → IsStateOf kind rows id one → IsStateOf kind others id other → Joins one other both
     → IsStateOf kind (rows ++ others) id both
 state_of_union kind rows others id one other both a b j = record {
   gone = subst (λ g. IsGreatestOf nat_cmp (IsTombstone kind (rows ++ others) id) g) (sym j.gone)
@@ -166,7 +168,7 @@ state_of_union kind rows others id one other both a b j = record {
 
 -- ---- a state of one set, told in two ways
 
-pub state_moved : (kind : FlatKind) (rows others : List Row) → SameSet rows others → (id : List ℕ) (heard : Heard) → IsStateOf kind rows id heard → IsStateOf kind others id heard
+pub state_moved : (kind : FlatKind) (rows others : List Row) → SameSet rows others → (id : List ℕ) (heard : IdView) → IsStateOf kind rows id heard → IsStateOf kind others id heard
 state_moved kind rows others same id heard s = record {
   gone = greatest_moved nat_cmp nat_cmp_total exact_unsigned (IsTombstone kind rows id) (IsTombstone kind others id) (λ t h. tells_moved kind id _ rows others same.there h) (λ t h. tells_moved kind id _ others rows same.back h) heard.gone s.gone;
   face = greatest_moved face_cmp face_total face_exact (IsFace kind rows id) (IsFace kind others id) (λ t h. tells_moved kind id _ rows others same.there h) (λ t h. tells_moved kind id _ others rows same.back h) heard.face s.face;

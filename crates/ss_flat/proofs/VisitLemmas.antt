@@ -1,5 +1,6 @@
 -- Visits that are told apart, and the times that are kept with them.
-use Rattle.std.proofs.Common.{◌≡◌, ℕ, ◌+◌, List, [], ◌∷◌, ◌++◌, Bool, true, false, ◌&&◌, ◌||◌, ◌==◌, cond, Contains, Option, Some, None, take, drop, slice_get, refl, sym, ap, ap₂, subst, ◌∙◌, ⊎_elim}
+use Rattle.std.proofs.Common.{◌≡◌, ℕ, ◌+◌, List, [], ◌∷◌, ◌++◌, Bool, true, false, ◌&&◌, ◌||◌, ◌==◌, cond, Contains}
+use Rattle.std.proofs.Common.{Option, Some, None, take, drop, slice_get, refl, sym, ap, ap₂, subst, ◌∙◌, ⊎_elim}
 use Rattle.std.proofs.lemmas.Bool.{eqb-true}
 use Rattle.std.specs.List.{list_any}
 use Rattle.ss_text.proofs.Basics.{both_left, both_right, neither_left, neither_right, number_turned, own_number}

@@ -1,5 +1,6 @@
 -- What a row of a collection without a tree says (the records are this project's profile of Firefox's history and forms).
-use Rattle.std.specs.Prelude.{ℕ, ◌==◌, List, [], ◌∷◌, Bool, false, not, if◌then◌else◌, nat_lt, Option, Some, None, is_some, option_map, option_and_then, unwrap_or, bytes_eq, codes}
+use Rattle.std.specs.Prelude.{ℕ, ◌==◌, List, [], ◌∷◌, Bool, false, not, if◌then◌else◌, nat_lt, Option, Some, None}
+use Rattle.std.specs.Prelude.{is_some, option_map, option_and_then, unwrap_or, bytes_eq, codes}
 use Rattle.serde_json.specs.Data.{Data, Items, no_items, item}
 use Rattle.serde_json.specs.Find.{get, as_null, as_bool, as_str, as_number, as_u64, as_array, as_object}
 use Rattle.ss_text.specs.Decimals.{count_of}

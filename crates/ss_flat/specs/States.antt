@@ -1,6 +1,7 @@
 -- The state of a set of rows, by greatest values over the set. A row stands in a list of rows or not: how often, and
 -- where, is nothing to these definitions.
-use Rattle.std.specs.Prelude.{◌≡◌, ℕ, ◌==◌, ◌&&◌, ◌++◌, List, [], Bool, true, false, Option, Some, None, bytes_eq, Contains}
+use Rattle.std.specs.Prelude.{◌≡◌, ℕ, ◌==◌, ◌&&◌, ◌++◌, List, [], Bool, true, false, Option, Some, None, bytes_eq}
+use Rattle.std.specs.Prelude.{Contains}
 use Rattle.std.specs.declared.cmp.Ordering.{Ordering}
 use Rattle.std.specs.Ordering.{nat_cmp, ordering_then}
 use Rattle.std.specs.Map.{lookup}
@@ -54,13 +55,13 @@ abbrev pub face_cmp : Face → Face → Ordering
 face_cmp a b = ordering_then (nat_cmp a.time b.time) (ordering_then (text_cmp a.first b.first) (text_cmp a.second b.second))
 
 -- what is kept of an id: the time of its last tombstone, its face, each visit with a time, and whether a row of it was skipped
-pub record Heard : Type 0 where
+pub record IdView : Type 0 where
   pub gone : Option ℕ
   pub face : Option Face
   pub visits : List (Visit × ℕ)
   pub skipped : Bool
 
-abbrev pub nothing : Heard
+abbrev pub nothing : IdView
 nothing = record { gone = None; face = None; visits = []; skipped = false }
 
 abbrev pub same_visit : Visit → Visit → Bool
@@ -76,7 +77,7 @@ OtherVisit entry other = same_visit entry.0 other.0 ≡ false
 
 -- The state of an id: `gone` is the greatest time of its tombstones, `face` the greatest face of its records, and each
 -- visit, kept once, has the greatest time of a record that has it
-pub record IsStateOf (kind : FlatKind) (rows : List Row) (id : List ℕ) (heard : Heard) : Type 0 where
+pub record IsStateOf (kind : FlatKind) (rows : List Row) (id : List ℕ) (heard : IdView) : Type 0 where
   pub gone : IsGreatestOf nat_cmp (IsTombstone kind rows id) heard.gone
   pub face : IsGreatestOf face_cmp (IsFace kind rows id) heard.face
   pub visits : (visit : Visit) → IsGreatestOf nat_cmp (IsVisit kind rows id visit) (time_of visit heard.visits)
@@ -85,25 +86,25 @@ pub record IsStateOf (kind : FlatKind) (rows : List Row) (id : List ℕ) (heard 
   pub unskipped : heard.skipped ≡ false → IsSkipped kind rows id → ⊥
 
 -- what is kept of an id, and how many more visits fit without memory
-pub record Held : Type 0 where
-  pub heard : Heard
+pub record RoomedId : Type 0 where
+  pub heard : IdView
   pub room : ℕ
 
 -- a state: what is kept of each id, and how many more ids fit without memory
 pub record State : Type 0 where
   pub kind : FlatKind
-  pub entries : List (List ℕ × Held)
+  pub entries : List (List ℕ × RoomedId)
   pub spare : ℕ
 
 -- what is kept of an id
-abbrev pub held_of : List ℕ → State → Option Held
+abbrev pub held_of : List ℕ → State → Option RoomedId
 held_of id state = lookup (bytes_eq id) state.entries
 
-abbrev pub heard_in : Option Held → Heard
+abbrev pub heard_in : Option RoomedId → IdView
 heard_in None = nothing
 heard_in (Some held) = held.heard
 
-abbrev pub heard_of : List ℕ → State → Heard
+abbrev pub heard_of : List ℕ → State → IdView
 heard_of id state = heard_in (held_of id state)
 
 -- flat_state: it is the state of this set of rows

@@ -26,10 +26,10 @@ pub(crate) struct Entry {
 }
 
 impl Model for Entry {
-    ghost use Rattle.ss_flat.specs.States.{Held};
+    ghost use Rattle.ss_flat.specs.States.{RoomedId};
     ghost use Rattle.indexmap.specs.IndexMap.{spare};
 
-    ghost Value = { Held };
+    ghost Value = { RoomedId };
 
     ghost view = { λ e. record { heard = record { gone = e.gone; face = e.face; visits = e.times.entries; skipped = e.skipped }; room = spare e.times } };
 

@@ -1,11 +1,12 @@
 //! A state: what the rows that were seen come to.
 
-ghost use Rattle.std.specs.Prelude.{◌≡◌, ◌+◌, ◌≤◌, ◌<◌, ◌++◌, ◌∷◌, [], ℕ, List, false, bytes_eq, length, map, slice_get, IfOk, OnOk, OnErr};
+ghost use Rattle.std.specs.Prelude.{◌≡◌, ◌+◌, ◌≤◌, ◌<◌, ◌++◌, ◌∷◌, [], ℕ, List, false, bytes_eq, length, map};
+ghost use Rattle.std.specs.Prelude.{slice_get, IfOk, OnOk, OnErr};
 ghost use Rattle.std.specs.Option.{option_to_list};
 ghost use Rattle.ss_bso.specs.declared.rows.Row.{Row as RowView};
 ghost use Rattle.ss_bso.specs.Lists.{Each, Pairs};
 ghost use Rattle.ss_flat.specs.Readings.{reading};
-ghost use Rattle.ss_flat.specs.Joining.{HasRoom, Joins, OtherKey, heard_among, sight_of, told};
+ghost use Rattle.ss_flat.specs.Joining.{HasRoom, Joins, OtherKey, heard_among, sight_of, entry_heard};
 ghost use Rattle.ss_flat.specs.States.{IsFlatState, IsJoin, KeepsSame, heard_of, held_of};
 
 use crate::entry::Entry;
@@ -129,8 +130,8 @@ impl Flat {
         i: usize,
         copies: &mut Vec<(Id, Entry)>,
     ) -> Result<(), AllocError>
-        ensures { OnOk result (map told copies.new.items ≡ map told copies.old.items
-            ++ map told (option_to_list (slice_get self.now.entries i))) }
+        ensures { OnOk result (map entry_heard copies.new.items ≡ map entry_heard copies.old.items
+            ++ map entry_heard (option_to_list (slice_get self.now.entries i))) }
     {
         if let Some((id, entry)) = self.entries.get_index(i) {
             copies.push((id.copy(alloc)?, entry.copy(alloc)?))?;
@@ -140,7 +141,7 @@ impl Flat {
 
     /// A copy of each entry.
     fn copies(&self, alloc: Global) -> Result<Vec<(Id, Entry)>, AllocError>
-        ensures same { IfOk result (λ copies. map told copies.items ≡ map told self.now.entries) }
+        ensures same { IfOk result (λ copies. map entry_heard copies.items ≡ map entry_heard self.now.entries) }
         ensures apart { IfOk result (λ copies. Pairs OtherKey copies.items) }
     {
         let mut copies = Vec::new(alloc);

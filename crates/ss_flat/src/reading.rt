@@ -1,11 +1,13 @@
 //! What a row says of its id.
 
-ghost use Rattle.std.specs.Prelude.{◌≡◌, ◌<◌, ℕ, List, not, if◌then◌else◌, Some, option_map, option_and_then, IfOk, IfSome, is_some};
+ghost use Rattle.std.specs.Prelude.{◌≡◌, ◌<◌, ℕ, List, not, if◌then◌else◌, Some, option_map, option_and_then, IfOk};
+ghost use Rattle.std.specs.Prelude.{IfSome, is_some};
 ghost use Rattle.serde_json.specs.Find.{as_object};
 ghost use Rattle.serde_json.specs.View.{view, items_view};
 ghost use Rattle.ss_bso.specs.Members.{json_of};
 ghost use Rattle.ss_flat.specs.Joining.{sight_of};
-ghost use Rattle.ss_flat.specs.Readings.{form_of, history_of, is_text, is_true, number_below, object_reading, reading, said_of, string_of, title_of, value_reading, visit_of, visits_in, visits_of};
+ghost use Rattle.ss_flat.specs.Readings.{form_of, history_of, is_text, is_true, number_below, object_reading, reading};
+ghost use Rattle.ss_flat.specs.Readings.{said_of, string_of, title_of, value_reading, visit_of, visits_in, visits_of};
 
 use crate::kinds::{FlatKind, Sight};
 use crate::visits::{Visit, Visits};

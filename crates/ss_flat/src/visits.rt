@@ -1,6 +1,7 @@
 //! Visits of a page, and the times at which they were told.
 
-ghost use Rattle.std.specs.Prelude.{◌≡◌, ◌+◌, ◌≤◌, ◌<◌, ◌++◌, Some, if◌then◌else◌, filter_map, slice_get, OnOk, OnErr, IsOk, IfOk};
+ghost use Rattle.std.specs.Prelude.{◌≡◌, ◌+◌, ◌≤◌, ◌<◌, ◌++◌, Some, if◌then◌else◌, filter_map, slice_get, OnOk, OnErr};
+ghost use Rattle.std.specs.Prelude.{IsOk, IfOk};
 ghost use Rattle.std.specs.Option.{option_to_list};
 ghost use Rattle.std.specs.Ordering.{is_lt};
 ghost use Rattle.ss_bso.specs.Lists.{Pairs};

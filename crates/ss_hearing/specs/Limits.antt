@@ -2,7 +2,8 @@
 use Rattle.std.specs.Prelude.{ℕ, min, List, Option, Some, option_map, option_and_then, codes}
 use Rattle.json.specs.Json.{Json}
 use Rattle.ss_text.specs.Numbers.{number_of}
-use Rattle.ss_bso.specs.Limits.{most_record_payload_bytes, most_post_records, most_post_bytes, most_batch_records, most_batch_bytes}
+use Rattle.ss_bso.specs.Limits.{most_record_payload_bytes, most_post_records, most_post_bytes, most_batch_records}
+use Rattle.ss_bso.specs.Limits.{most_batch_bytes}
 use Rattle.ss_http.specs.Limits.{most_body_bytes}
 use Rattle.ss_plan.specs.declared.limits.Limits.{Limits}
 use Rattle.ss_hearing.specs.Bodies.{number_in, ◌>>=◌}

@@ -1,5 +1,6 @@
 -- What a POST is told of its records (SyncStorage API 1.5).
-use Rattle.std.specs.Prelude.{ℕ, Bool, true, ◌&&◌, is_some, if◌then◌else◌, List, Option, Some, None, option_and_then, codes}
+use Rattle.std.specs.Prelude.{ℕ, Bool, true, ◌&&◌, is_some, if◌then◌else◌, List, Option, Some, None, option_and_then}
+use Rattle.std.specs.Prelude.{codes}
 use Rattle.json.specs.Json.{Json, Members, no_members, member}
 use Rattle.json.specs.Find.{get, as_str, as_array, as_object}
 use Rattle.ss_text.specs.Names.{is_id}

@@ -2,7 +2,8 @@
 
 ghost use Rattle.std.specs.Prelude.{◌≡◌, IfOk, OnErr, Some, None, option_map};
 ghost use Rattle.json.specs.Value.{value_view};
-ghost use Rattle.ss_hearing.specs.Hearing.{status_of, time_of, unawaited, page_of, told, held_of, written_of, understood, answer_of};
+ghost use Rattle.ss_hearing.specs.Hearing.{status_of, time_of, unawaited, page_of, told, held_of, written_of};
+ghost use Rattle.ss_hearing.specs.Hearing.{understood, answer_of};
 
 use crate::answer::{Answer, Awaited};
 use crate::bodies::{read, stamp_in};

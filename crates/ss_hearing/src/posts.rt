@@ -5,7 +5,8 @@ ghost use Rattle.json.specs.Find.{get, as_str};
 ghost use Rattle.json.specs.Value.{value_view, items_view, members_view};
 ghost use Rattle.ss_hearing.specs.Bodies.{each};
 ghost use Rattle.ss_hearing.specs.Lists.{ids_of};
-ghost use Rattle.ss_hearing.specs.Posts.{are_words, are_failures, first_name, failure_among, failure_of, failure_in, batch_in};
+ghost use Rattle.ss_hearing.specs.Posts.{are_words, are_failures, first_name, failure_among, failure_of, failure_in};
+ghost use Rattle.ss_hearing.specs.Posts.{batch_in};
 
 use crate::batches::batch_of;
 use crate::bodies::string_in;

@@ -1,5 +1,7 @@
 -- What follows of responses from the grammar of heads.
-use Rattle.std.proofs.Common.{◌≡◌, ◌≤◌, ◌<◌, ◌⊎◌, inl, inr, ℕ, ◌+◌, List, [], ◌∷◌, ◌++◌, length, take, drop, Bool, true, false, Option, Some, None, option_map, is_some, sym, ◌∙◌, ap, ap₂, subst, append_assoc, length-append, length-take, arith}
+use Rattle.std.proofs.Common.{◌≡◌, ◌≤◌, ◌<◌, ◌⊎◌, inl, inr, ℕ, ◌+◌, List, [], ◌∷◌, ◌++◌, length, take, drop, Bool, true}
+use Rattle.std.proofs.Common.{false, Option, Some, None, option_map, is_some, sym, ◌∙◌, ap, ap₂, subst, append_assoc}
+use Rattle.std.proofs.Common.{length-append, length-take, arith}
 use Rattle.std.proofs.lemmas.Bool.{true≢false}
 use Rattle.std.proofs.lemmas.List.{take-append-le, take-append-drop, append-nil, length-map}
 use Rattle.std.proofs.lemmas.Option.{same_Some, none-some}
@@ -14,7 +16,9 @@ use Rattle.ss_http.specs.declared.answer.Answer.{Answer}
 use Rattle.ss_http.specs.declared.heard.Heard.{Heard}
 use Rattle.ss_http.specs.declared.heard.HeardFault.{HeardFault}
 use Rattle.ss_http.specs.declared.heard.HeardFault.TheVariants as faults
-use Rattle.ss_http.specs.Hearing.{AnswersWith, HasBody, Hears, heard_from, size_of, values_of, NoAnswerHead, NeverAnswers, LacksHead, LacksBody, HasLarge, IsBad, headless, endless, coded, unsized, IsHeardFault, AfterAll}
+use Rattle.ss_http.specs.Hearing.{AnswersWith, HasBody, Hears, heard_from, size_of, values_of, NoAnswerHead}
+use Rattle.ss_http.specs.Hearing.{NeverAnswers, LacksHead, LacksBody, HasLarge, IsBad, headless, endless, coded}
+use Rattle.ss_http.specs.Hearing.{unsized, IsHeardFault, AfterAll}
 use Rattle.ss_http.specs.Listening.{IsAnswerAt, IsNoLonger, IsShortBody}
 use Rattle.ss_http.proofs.HeadLemmas.{whole_front, some_none}
 use Rattle.ss_http.proofs.MessageLemmas.{same_fronts}

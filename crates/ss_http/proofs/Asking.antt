@@ -1,5 +1,7 @@
 -- A written request is a head of the grammar with its body, and is read as its message.
-use Rattle.std.proofs.Common.{eq-eqb, ◌≡◌, ℕ, ◌^◌, ◌<◌, ◌≤◌, List, [], ◌∷◌, ◌++◌, length, map, Bool, true, false, ◌&&◌, cond, Option, Some, None, option_map, IfSome, decimal, codes, refl, sym, ap, ◌∙◌, arith, lit≤, append_assoc, length-append}
+use Rattle.std.proofs.Common.{eq-eqb, ◌≡◌, ℕ, ◌^◌, ◌<◌, ◌≤◌, List, [], ◌∷◌, ◌++◌, length, map, Bool, true, false, ◌&&◌}
+use Rattle.std.proofs.Common.{cond, Option, Some, None, option_map, IfSome, decimal, codes, refl, sym, ap, ◌∙◌, arith}
+use Rattle.std.proofs.Common.{lit≤, append_assoc, length-append}
 use Rattle.std.proofs.lemmas.Bool.{and_parts, ltb-true}
 use Rattle.std.proofs.lemmas.List.{length-map}
 use Rattle.std.proofs.lemmas.List.Sums.{AllPass-from_list_all}
@@ -11,10 +13,13 @@ use Rattle.ss_text.specs.Time.{stamp_text}
 use Rattle.ss_text.specs.declared.stamps.Cond.{Cond}
 use Rattle.ss_text.specs.declared.stamps.Cond.TheVariants.{Free, IfModified, IfUnmodified, IfAbsent}
 use Rattle.ss_http.specs.declared.message.Message.{Message}
-use Rattle.ss_http.specs.Fields.{Line, lines, first_named, announced, announced_by, agreed, agrees, is_number, closes, ends}
+use Rattle.ss_http.specs.Fields.{Line, lines, first_named, announced, announced_by, agreed_length, agrees, is_number}
+use Rattle.ss_http.specs.Fields.{closes, ends}
 use Rattle.ss_http.specs.Messages.{ReadsMessage, fields_of}
-use Rattle.ss_http.specs.Requests.{cond_fields, content_fields, request_fields, body_bytes, request_text, message_sent, IsCond, IsSendable}
-use Rattle.ss_http.proofs.Written.{field_of, lines_print, Fit, fit-append, are_fields, values_are, if_long, lines_length, decimal_long, stamp_long}
+use Rattle.ss_http.specs.Requests.{cond_fields, content_fields, request_fields, body_bytes, request_text, message_sent}
+use Rattle.ss_http.specs.Requests.{IsCond, IsSendable}
+use Rattle.ss_http.proofs.Written.{field_of, lines_print, Fit, fit-append, are_fields, values_are, if_long}
+use Rattle.ss_http.proofs.Written.{lines_length, decimal_long, stamp_long}
 use Rattle.ss_http.proofs.Values.{decimal_is_bare, stamp_is_bare, visible_is_bare, number_again}
 use Rattle.ss_http.specs.Limits.{most_host_bytes}
 use Rattle.ss_http.specs.declared.limits.TheConstants.{BODY_ROOM, HEAD_ROOM}
@@ -106,7 +111,7 @@ unfolding announced
 announces_body host cond None few = ap (λ o. announced_by o (request_fields host cond None)) (length_said host cond None)
 announces_body host cond (Some b) few =
     ap (λ o. announced_by o (request_fields host cond (Some b))) (length_said host cond (Some b))
-    ∙ ap (λ o. agreed o (request_fields host cond (Some b))) (number_again (length b) (omega arith))
+    ∙ ap (λ o. agreed_length o (request_fields host cond (Some b))) (number_again (length b) (omega arith))
     ∙ ap (λ t. if_said t (length b)) (all_said host cond b few)
 
 stays_open : (host : List ℕ) (cond : Cond) (body : Option (List ℕ)) → list_any closes (request_fields host cond body) ≡ false

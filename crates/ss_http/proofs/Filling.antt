@@ -1,13 +1,14 @@
 -- What a read to the bytes behind a range makes of the range.
-use Rattle.std.proofs.Common.{◌≡◌, ◌≤◌, ◌<◌, ℕ, ◌+◌, List, [], ◌∷◌, ◌++◌, length, take, refl, sym, ◌∙◌, ap, append_assoc, length-append, arith, slice_range, Result, Ok, Err, IfOk, OnErr}
+use Rattle.std.proofs.Common.{◌≡◌, ◌≤◌, ◌<◌, ℕ, ◌+◌, List, [], ◌∷◌, ◌++◌, length, take, refl, sym, ◌∙◌, ap}
+use Rattle.std.proofs.Common.{append_assoc, length-append, arith, slice_range, Result, Ok, Err, IfOk, OnErr}
 use Rattle.std.proofs.lemmas.List.{take-append-le, append-nil}
-use Rattle.ss_outside.specs.Told.{Meanings, HasRead, received, EndsAt}
+use Rattle.ss_outside.specs.Told.{Meanings, HasRead, bytes_received, EndsAt}
 use Rattle.ss_outside.proofs.Telling.{HasRead-none, HasRead-append}
 use Rattle.ss_http.specs.Buffers.{Brings, count_of}
 use Rattle.ss_http.proofs.Ranges.{range_behind}
 
 pub behind_kept : {E : Type 0} (r : Result ℕ E) (old new into post : List ℕ) (start end : ℕ) (a b : Meanings) → new ≡ take end old ++ (into ++ post)
-    → start ≤ end → end ≤ length old → IfOk r (λ n. n ≤ length into) → HasRead (received r into) a b
+    → start ≤ end → end ≤ length old → IfOk r (λ n. n ≤ length into) → HasRead (bytes_received r into) a b
     → Brings (slice_range old start end) (slice_range new start (end + count_of r)) a b
 behind_kept (Ok n) old new into post start end a b is ordered within bound read = record {
   got = take n into;

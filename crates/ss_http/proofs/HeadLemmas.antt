@@ -1,5 +1,7 @@
 -- What a parse of the front says of the messages.
-use Rattle.std.proofs.Common.{◌≡◌, ◌≤◌, ◌<◌, inl, inr, Result, Ok, Err, IfOk, ℕ, ◌+◌, ◌-◌, List, [], ◌∷◌, ◌++◌, length, take, drop, Option, Some, None, sym, refl, ◌∙◌, ap, subst, append_assoc, length-append, length-drop, length-take, length-take-le, arith}
+use Rattle.std.proofs.Common.{◌≡◌, ◌≤◌, ◌<◌, inl, inr, Result, Ok, Err, IfOk, ℕ, ◌+◌, ◌-◌, List, [], ◌∷◌, ◌++◌, length}
+use Rattle.std.proofs.Common.{take, drop, Option, Some, None, sym, refl, ◌∙◌, ap, subst, append_assoc, length-append}
+use Rattle.std.proofs.Common.{length-drop, length-take, length-take-le, arith}
 use Rattle.std.proofs.lemmas.List.{take-append-le, take-append-drop, drop-drop, append-nil, length-map}
 use Rattle.std.proofs.lemmas.Bool.{true≢false}
 use Rattle.std.proofs.lemmas.Option.{same_Some, none-some}

@@ -1,8 +1,11 @@
 -- A head ends in a line end, so bytes without one make no head whole.
-use Rattle.std.proofs.Common.{◌≡◌, ◌≤◌, ◌<◌, ◌⊎◌, inl, inr, ℕ, ◌+◌, List, [], ◌∷◌, ◌++◌, length, true, false, ◌||◌, ◌==◌, refl, sym, ◌∙◌, ap, append_assoc, length-append, arith}
+use Rattle.std.proofs.Common.{◌≡◌, ◌≤◌, ◌<◌, ◌⊎◌, inl, inr, ℕ, ◌+◌, List, [], ◌∷◌, ◌++◌, length, true, false, ◌||◌}
+use Rattle.std.proofs.Common.{◌==◌, refl, sym, ◌∙◌, ap, append_assoc, length-append, arith}
 use Rattle.std.proofs.lemmas.Bool.{cases_lt, true≢false, ne_eqb, or_right}
 use Rattle.std.specs.List.{list_any, flat_map}
-use Rattle.httparse.specs.Grammar.{LineEnd, crlf, lf, print_end, print_blank, print_version, print_field, print_reason, RequestHead, print_request, ResponseHead, print_response, HasNoRequest, HasNoResponse}
+use Rattle.httparse.specs.Grammar.{LineEnd, crlf, lf, print_end, print_blank, print_version, print_field, print_reason}
+use Rattle.httparse.specs.Grammar.{RequestHead, print_request, ResponseHead, print_response, HasNoRequest}
+use Rattle.httparse.specs.Grammar.{HasNoResponse}
 use Rattle.ss_http.specs.Listening.{IsNoLonger}
 
 -- one of two equal lists begins with a front of the other

@@ -1,5 +1,7 @@
 -- The pieces of the response that is there without memory.
-use Rattle.std.proofs.Common.{◌≡◌, ◌≤◌, ℕ, ◌+◌, ◌/◌, ◌%◌, List, ◌∷◌, ◌++◌, length, take, Bool, true, false, cond, Some, None, codes, decimal, append_assoc, length-append, length-take-le, sym, ◌∙◌, ap, ap₂, arith}
+use Rattle.std.proofs.Common.{◌≡◌, ◌≤◌, ℕ, ◌+◌, ◌/◌, ◌%◌, List, ◌∷◌, ◌++◌, length, take, Bool, true, false, cond, Some}
+use Rattle.std.proofs.Common.{None, codes, decimal, append_assoc, length-append, length-take-le, sym, ◌∙◌, ap, ap₂}
+use Rattle.std.proofs.Common.{arith}
 use Rattle.std.specs.Fmt.{digits}
 use Rattle.ss_text.specs.Time.{stamp_text, two_digits}
 use Rattle.ss_http.specs.Fields.{Line, lines, field_if}

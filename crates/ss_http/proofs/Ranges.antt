@@ -1,5 +1,6 @@
 -- Ranges of a list that is moved or written behind.
-use Rattle.std.proofs.Common.{◌≡◌, ◌≤◌, ℕ, ◌+◌, ◌-◌, List, ◌++◌, length, take, drop, sym, ◌∙◌, ap, append_assoc, length-drop, length-take-le, arith, slice_range}
+use Rattle.std.proofs.Common.{◌≡◌, ◌≤◌, ℕ, ◌+◌, ◌-◌, List, ◌++◌, length, take, drop, sym, ◌∙◌, ap, append_assoc}
+use Rattle.std.proofs.Common.{length-drop, length-take-le, arith, slice_range}
 use Rattle.std.proofs.lemmas.List.{drop-take, drop-drop}
 use Rattle.std.proofs.Math.Seq.{take-add, drop-append_seam, take-append_seam, take-append-add, take-length}
 

@@ -1,5 +1,7 @@
 -- A written response is a head of the grammar with its body, and is heard as it was meant.
-use Rattle.std.proofs.Common.{◌≡◌, ℕ, ◌^◌, ◌<◌, ◌≤◌, List, [], ◌∷◌, ◌++◌, length, map, Bool, true, false, ◌==◌, cond, Option, Some, None, option_map, option_and_then, IfSome, decimal, codes, refl, sym, ap, ap₂, ◌∙◌, arith, lit<, lit≤, append_assoc, append-nil, length-append, inl, inr, ◌⊎◌}
+use Rattle.std.proofs.Common.{◌≡◌, ℕ, ◌^◌, ◌<◌, ◌≤◌, List, [], ◌∷◌, ◌++◌, length, map, Bool, true, false, ◌==◌, cond}
+use Rattle.std.proofs.Common.{Option, Some, None, option_map, option_and_then, IfSome, decimal, codes, refl, sym, ap}
+use Rattle.std.proofs.Common.{ap₂, ◌∙◌, arith, lit<, lit≤, append_assoc, append-nil, length-append, inl, inr, ◌⊎◌}
 use Rattle.std.proofs.lemmas.Bool.{cases_lt, eqb-true}
 use Rattle.std.proofs.lemmas.Fmt.{decimal_is_IsNumeral, length-decimal-le}
 use Rattle.std.proofs.lemmas.Int.Digits.{digits_value-lt}
@@ -11,7 +13,8 @@ use Rattle.std.specs.List.{list_all, list_any}
 use Rattle.std.specs.Char.{is_ascii_digit}
 use Rattle.std.specs.Str.Parse.{digits_value, IsNumeral}
 use Rattle.httparse.specs.Grammar as grammar
-use Rattle.httparse.specs.Grammar.{IsField, crlf, print_response, IsResponseHead, status_code, is_token_byte, is_value_byte}
+use Rattle.httparse.specs.Grammar.{IsField, crlf, print_response, IsResponseHead, status_code, is_token_byte}
+use Rattle.httparse.specs.Grammar.{is_value_byte}
 use Rattle.httparse.proofs.GrammarLemmas.{print_response-append}
 use Rattle.ss_text.specs.Numbers.{number_of}
 use Rattle.ss_text.specs.Time.{stamp_text, stamp_of, last_stamp}
@@ -21,7 +24,9 @@ use Rattle.ss_http.specs.Fields.{Line, lines, field_if, same_name, first_named, 
 use Rattle.ss_http.specs.Responses.{type_of, body_fields, fields, reason_of, head_text, response}
 use Rattle.ss_http.specs.Hearing.{Hears, size_of, said, IsBare, IsAllow, IsSound}
 use Rattle.ss_http.proofs.LineLemmas.{lines-append}
-use Rattle.ss_http.proofs.Written.{field_of, lines_print, Fit, fit-append, fit_if, bare_map, are_fields, values_are, none_named, named_here, or_none, none_closing, if_count, if_long, map_long, decimal_long, stamp_long, lines_length}
+use Rattle.ss_http.proofs.Written.{field_of, lines_print, Fit, fit-append, fit_if, bare_map, are_fields, values_are}
+use Rattle.ss_http.proofs.Written.{none_named, named_here, or_none, none_closing, if_count, if_long, map_long}
+use Rattle.ss_http.proofs.Written.{decimal_long, stamp_long, lines_length}
 use Rattle.ss_http.proofs.Values.{decimal_is_bare, stamp_is_bare, visible_is_bare, number_again}
 use Rattle.ss_http.specs.declared.limits.TheConstants.{HEAD_ROOM, LENGTH_DIGITS}
 use Rattle.ss_text.proofs.StampTexts.{decimal_digits, stamp_again}

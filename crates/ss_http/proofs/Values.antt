@@ -1,5 +1,7 @@
 -- Numbers and stamps as values of fields, and read back.
-use Rattle.std.proofs.Common.{◌≡◌, ℕ, ◌/◌, ◌%◌, ◌^◌, ◌<◌, ◌≤◌, List, [], ◌∷◌, ◌++◌, reverse, Bool, true, false, ◌&&◌, ◌||◌, not, ◌==◌, cond, leb, Some, decimal, refl, ap, ap₂, ◌∙◌, arith, lit<, le-leb, ne_eqb}
+use Rattle.std.proofs.Common.{◌≡◌, ℕ, ◌/◌, ◌%◌, ◌^◌, ◌<◌, ◌≤◌, List, [], ◌∷◌, ◌++◌, reverse, Bool, true, false, ◌&&◌}
+use Rattle.std.proofs.Common.{◌||◌, not, ◌==◌, cond, leb, Some, decimal, refl, ap, ap₂, ◌∙◌, arith, lit<, le-leb}
+use Rattle.std.proofs.Common.{ne_eqb}
 use Rattle.std.proofs.lemmas.Bool.{and_parts, leb-true}
 use Rattle.std.proofs.lemmas.Fmt.{decimal_is_IsNumeral, decimal_nonempty, length-decimal-le}
 use Rattle.std.proofs.lemmas.List.Folds.{list_all-append}

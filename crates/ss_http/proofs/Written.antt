@@ -1,5 +1,7 @@
 -- Written fields: they are fields of the grammar, they are looked up again, and they are short.
-use Rattle.std.proofs.Common.{◌≡◌, ℕ, ◌+◌, ◌/◌, ◌%◌, ◌^◌, ◌<◌, ◌≤◌, List, [], ◌∷◌, ◌++◌, length, map, true, false, ◌&&◌, ◌||◌, cond, ltb, Option, Some, None, option_map, IfSome, decimal, codes, refl, sym, ap, ap₂, ◌∙◌, arith, lit<, lit≤, append_assoc, length-append}
+use Rattle.std.proofs.Common.{◌≡◌, ℕ, ◌+◌, ◌/◌, ◌%◌, ◌^◌, ◌<◌, ◌≤◌, List, [], ◌∷◌, ◌++◌, length, map, true, false, ◌&&◌}
+use Rattle.std.proofs.Common.{◌||◌, cond, ltb, Option, Some, None, option_map, IfSome, decimal, codes, refl, sym, ap}
+use Rattle.std.proofs.Common.{ap₂, ◌∙◌, arith, lit<, lit≤, append_assoc, length-append}
 use Rattle.std.proofs.lemmas.Bool.{and_parts, ltb-true}
 use Rattle.std.proofs.lemmas.Fmt.{length-decimal-le}
 use Rattle.std.proofs.lemmas.List.Sums.{AllPass-from_list_all}

@@ -1,5 +1,6 @@
 -- The fields of a head (RFC 9112): how they are written, looked up and understood.
-use Rattle.std.specs.Prelude.{ℕ, List, [], ◌∷◌, ◌++◌, reverse, Bool, false, not, ◌&&◌, ◌||◌, ◌==◌, if◌then◌else◌, Option, Some, None, codes}
+use Rattle.std.specs.Prelude.{ℕ, List, [], ◌∷◌, ◌++◌, reverse, Bool, false, not, ◌&&◌, ◌||◌, ◌==◌, if◌then◌else◌}
+use Rattle.std.specs.Prelude.{Option, Some, None, codes}
 use Rattle.std.specs.List.{flat_map, list_all, list_any, slice_split}
 use Rattle.std.specs.Str.{str_eq_ignore_ascii_case}
 use Rattle.ss_text.specs.Numbers.{number_of}
@@ -41,14 +42,14 @@ abbrev pub agrees : ℕ → Line → Bool
 agrees n f = not (same_name f.0 (codes "Content-Length")) || is_number n (number_of most_length_digits f.1)
 
 -- the length that the first says, if all say it
-abbrev pub agreed : Option ℕ → List Line → Option ℕ
-agreed None fields = None
-agreed (Some n) fields = if list_all (agrees n) fields then Some n else None
+abbrev pub agreed_length : Option ℕ → List Line → Option ℕ
+agreed_length None fields = None
+agreed_length (Some n) fields = if list_all (agrees n) fields then Some n else None
 
 -- of what the first Content-Length says, where there is one
 abbrev pub announced_by : Option (List ℕ) → List Line → Option ℕ
 announced_by None fields = Some 0
-announced_by (Some text) fields = agreed (number_of most_length_digits text) fields
+announced_by (Some text) fields = agreed_length (number_of most_length_digits text) fields
 
 -- the length of the body that fields announce: 0 without a Content-Length; none where one isn't 1 to 18 digits, or where
 -- two differ as numbers

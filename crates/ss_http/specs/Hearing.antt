@@ -1,5 +1,7 @@
 -- What a client hears of a response (RFC 9112), over httparse's grammar of heads.
-use Rattle.std.specs.Prelude.{◌≡◌, ◌≤◌, ◌<◌, ◌^◌, ◌⊎◌, ℕ, ◌+◌, List, [], ◌++◌, length, map, ◌∷◌, true, ◌==◌, if◌then◌else◌, Option, Some, None, option_map, option_and_then, codes, decimal, IfSome, IsSome, Result, Ok, Err, ⊤}
+use Rattle.std.specs.Prelude.{◌≡◌, ◌≤◌, ◌<◌, ◌^◌, ◌⊎◌, ℕ, ◌+◌, List, [], ◌++◌, length, map, ◌∷◌, true, ◌==◌}
+use Rattle.std.specs.Prelude.{if◌then◌else◌, Option, Some, None, option_map, option_and_then, codes, decimal, IfSome}
+use Rattle.std.specs.Prelude.{IsSome, Result, Ok, Err, ⊤}
 use Rattle.std.specs.List.{list_all}
 use Rattle.httparse.specs.Grammar as grammar
 use Rattle.httparse.specs.Grammar.{IsResponseHead, print_response, ReadsResponse, status_code, trim_ows, is_value_byte}

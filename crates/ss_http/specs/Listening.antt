@@ -1,5 +1,6 @@
 -- What the steps of reading a response find.
-use Rattle.std.specs.Prelude.{◌≡◌, ◌<◌, ◌≤◌, ℕ, List, [], ◌∷◌, length, Option, Some, None, option_and_then, codes, Result, Ok, Err, ⊤}
+use Rattle.std.specs.Prelude.{◌≡◌, ◌<◌, ◌≤◌, ℕ, List, [], ◌∷◌, length, Option, Some, None, option_and_then, codes}
+use Rattle.std.specs.Prelude.{Result, Ok, Err, ⊤}
 use Rattle.httparse.specs.Grammar as grammar
 use Rattle.httparse.specs.Grammar.{status_code, ReadsResponse, HasNoResponse}
 use Rattle.ss_outside.specs.Told.{Meanings, IsUsedUp}

@@ -1,5 +1,6 @@
 -- The bytes of a response (RFC 9112), with the fields of the SyncStorage API 1.5.
-use Rattle.std.specs.Prelude.{ℕ, List, [], ◌∷◌, ◌++◌, length, Bool, false, ◌==◌, if◌then◌else◌, Some, None, option_map, codes, decimal}
+use Rattle.std.specs.Prelude.{ℕ, List, [], ◌∷◌, ◌++◌, length, Bool, false, ◌==◌, if◌then◌else◌, Some, None, option_map}
+use Rattle.std.specs.Prelude.{codes, decimal}
 use Rattle.ss_text.specs.Time.{stamp_text}
 use Rattle.ss_http.specs.declared.response.ResponseHead.{ResponseHead}
 use Rattle.ss_http.specs.Fields.{Line, lines, field_if}

@@ -1,6 +1,7 @@
 //! The bytes between a source and its messages.
 
-ghost use Rattle.std.specs.Prelude.{◌≡◌, ◌≤◌, ◌<◌, ◌+◌, ◌-◌, slice_range, [], None, Some, length, drop, vec_capacity, IfOk, OnErr};
+ghost use Rattle.std.specs.Prelude.{◌≡◌, ◌≤◌, ◌<◌, ◌+◌, ◌-◌, slice_range, [], None, Some, length, drop, vec_capacity};
+ghost use Rattle.std.specs.Prelude.{IfOk, OnErr};
 ghost use Rattle.ss_http.specs.declared.limits.TheConstants.{ROOM};
 ghost use Rattle.ss_outside.specs.Causes.{RisesOnErr};
 ghost use Rattle.ss_outside.specs.Told.{EndsAt};

@@ -4,7 +4,8 @@ ghost use Rattle.std.specs.Prelude.{◌≡◌, ◌≤◌, length, map, reverse, 
 ghost use Rattle.std.specs.List.{list_all, list_any};
 ghost use Rattle.httparse.specs.Spans.{IsHeaderWithin, IsWithin, header_bytes, span_bytes};
 ghost use Rattle.ss_text.specs.Numbers.{number_of};
-ghost use Rattle.ss_http.specs.Fields.{agrees, announced, closes, ends, first_named, holds_close, is_close, is_number, same_name, skip_spaces, without_spaces};
+ghost use Rattle.ss_http.specs.Fields.{agrees, announced, closes, ends, first_named, holds_close, is_close, is_number};
+ghost use Rattle.ss_http.specs.Fields.{same_name, skip_spaces, without_spaces};
 
 use crate::limits::LENGTH_DIGITS;
 use httparse::spans::{HeaderSpan, Span};

@@ -1,6 +1,7 @@
 //! The next message of a source.
 
-ghost use Rattle.std.specs.Prelude.{◌≡◌, ◌≤◌, ◌<◌, ◌+◌, ℕ, List, ◌++◌, Some, length, IfOk, OnOk, drop, Err, IfErr, IfSome, IfNone, MatchResult};
+ghost use Rattle.std.specs.Prelude.{◌≡◌, ◌≤◌, ◌<◌, ◌+◌, ℕ, List, ◌++◌, Some, length, IfOk, OnOk, drop, Err, IfErr};
+ghost use Rattle.std.specs.Prelude.{IfSome, IfNone, MatchResult};
 ghost use Rattle.httparse.specs.Grammar.{HasNoRequest};
 ghost use Rattle.ss_outside.specs.Told.{HasRead};
 ghost use Rattle.ss_http.specs.Buffers.{Brings};

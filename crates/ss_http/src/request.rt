@@ -2,7 +2,8 @@
 
 ghost use Rattle.std.specs.Prelude.{◌≡◌, ◌++◌, codes, option_map, IfOk, OnOk, OnErr};
 ghost use Rattle.ss_http.specs.Fields.{field_if, lines};
-ghost use Rattle.ss_http.specs.Requests.{body_bytes, cond_fields, content_fields, request_fields, request_line, request_text};
+ghost use Rattle.ss_http.specs.Requests.{body_bytes, cond_fields, content_fields, request_fields, request_line};
+ghost use Rattle.ss_http.specs.Requests.{request_text};
 
 use crate::lines::{push_line, push_number_line, push_stamp_line, push_text};
 use ss_text::{Cond, Stamp};

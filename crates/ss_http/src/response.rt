@@ -1,6 +1,7 @@
 //! The bytes of a response.
 
-ghost use Rattle.std.specs.Prelude.{◌≡◌, ◌++◌, Some, None, codes, decimal, option_map, if◌then◌else◌, IfOk, OnOk, OnErr};
+ghost use Rattle.std.specs.Prelude.{◌≡◌, ◌++◌, Some, None, codes, decimal, option_map, if◌then◌else◌, IfOk, OnOk};
+ghost use Rattle.std.specs.Prelude.{OnErr};
 ghost use Rattle.ss_http.specs.Fields.{field_if, lines};
 ghost use Rattle.ss_http.specs.Responses.{body_fields, fields, head_text, reason_of, response, status_line, type_of};
 ghost use Rattle.ss_text.specs.Time.{stamp_text};

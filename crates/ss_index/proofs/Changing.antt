@@ -1,5 +1,6 @@
 -- Changes of rows, one after the other.
-use Rattle.std.specs.Prelude.{◌≡◌, ℕ, zero, suc, take, get_or, IsFalse, ◌+◌, ◌<◌, ◌≤◌, Bool, true, false, not, cond, List, [], ◌∷◌, ◌++◌, length, fold, Some, None, bytes_eq, refl}
+use Rattle.std.specs.Prelude.{◌≡◌, ℕ, zero, suc, take, get_or, IsFalse, ◌+◌, ◌<◌, ◌≤◌, Bool, true, false, not, cond}
+use Rattle.std.specs.Prelude.{List, [], ◌∷◌, ◌++◌, length, fold, Some, None, bytes_eq, refl}
 use Rattle.std.proofs.Common.{sym, ap, subst, ◌∙◌, arith, length-append}
 use Rattle.std.proofs.lemmas.List.{take_all}
 use Rattle.std.specs.Map.{lookup, set_value, keys_of}
@@ -12,13 +13,14 @@ use Rattle.ss_bso.specs.Account.{is_at}
 use Rattle.ss_bso.specs.Changes.{row_changed, rows_but}
 use Rattle.ss_bso.specs.Limits.{row_bytes}
 use Rattle.ss_index.specs.Held.{Held, IsSized}
-use Rattle.ss_index.specs.Shelved.{rows_in, Named, NamesApart, IsShelf}
+use Rattle.ss_index.specs.Shelved.{rows_in, NamesDrawers, NamesApart, IsShelf}
 use Rattle.ss_index.specs.declared.ready.ReadyRow.{ReadyRow}
 use Rattle.ss_index.specs.Ready.{change_of, changes_of, spare_of, puts_in, IsLast, InTime, CanChange}
 use Rattle.ss_index.specs.Sweep.{Outlives}
 use Rattle.ss_bso.proofs.Lists.{Each, Each-append, Each-imp, Pairs-append}
 use Rattle.ss_index.proofs.Shelves.{named-edited, held_named}
-use Rattle.ss_bso.proofs.Reordering.{reordered-sym, reordered-append_right, reordered-filter, length-reordered, Each-reordered}
+use Rattle.ss_bso.proofs.Reordering.{reordered-sym, reordered-append_right, reordered-filter, length-reordered}
+use Rattle.ss_bso.proofs.Reordering.{Each-reordered}
 use Rattle.ss_text.proofs.Basics.{bytes_eq-flip, same_text, bytes_eq-same, take_push, length-filter_le}
 
 pub row_changed-reordered : (change : RowChange) {rows others : List Row} → Reordered rows others → Reordered (row_changed rows change) (row_changed others change)
@@ -186,7 +188,7 @@ module _ {drawers : List (List ℕ × Held)} {len total ends : ℕ} (shelf : IsS
   touched collection held now after same e set keys =
       let rows : rows_in after ≡ rows_in drawers = ap (λ l. rows_in l) set ∙ same_in collection held now same drawers e in
       record {
-        named = subst (λ l. Named l) (sym set) (named-edited collection now drawers shelf.named
+        named = subst (λ l. NamesDrawers l) (sym set) (named-edited collection now drawers shelf.named
             (subst (λ l. Each (λ (row : Row). row.collection ≡ collection) l) (sym same) (held_named collection held drawers shelf.named e)));
         names = subst (λ l. NamesApart l) (sym keys) shelf.names;
         len_counts = shelf.len_counts ∙ ap (λ l. length l) (sym rows);
@@ -234,7 +236,7 @@ module _ {drawers : List (List ℕ × Held)} {len total ends : ℕ} (shelf : IsS
 
   pub new_shelf : IsShelf after len total ends
   new_shelf = record {
-    named = subst (λ l. Named l) (sym push)
+    named = subst (λ l. NamesDrawers l) (sym push)
         (Each-append (λ (drawer : List ℕ × Held). Each (λ (row : Row). row.collection ≡ drawer.0) drawer.1.rows) drawers ((new, held) ∷ []) shelf.named
         (subst (λ l. Each (λ (row : Row). row.collection ≡ new) l) (sym empty) tt, tt));
     names = subst (λ l. NamesApart l) (sym (ap (λ l. keys_of l) push ∙ keys_of-push drawers new held))

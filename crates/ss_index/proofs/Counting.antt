@@ -1,5 +1,6 @@
 -- What is counted of each collection, drawer after drawer.
-use Rattle.std.specs.Prelude.{◌≡◌, ℕ, zero, suc, ◌+◌, ◌≤◌, true, false, not, cond, List, [], ◌∷◌, ◌++◌, length, take, filter, map, slice_get, bytes_eq, refl}
+use Rattle.std.specs.Prelude.{◌≡◌, ℕ, zero, suc, ◌+◌, ◌≤◌, true, false, not, cond, List, [], ◌∷◌, ◌++◌, length, take}
+use Rattle.std.specs.Prelude.{filter, map, slice_get, bytes_eq, refl}
 use Rattle.std.proofs.Common.{sym, ap, ◌∙◌, arith, append_assoc, append-nil}
 use Rattle.std.proofs.lemmas.List.{take_all}
 use Rattle.std.proofs.lemmas.List.Elements.{filter-append}
@@ -14,8 +15,8 @@ use Rattle.ss_bso.proofs.Lists.{Each-and, Each-filter, Each-imp}
 use Rattle.ss_query.specs.Told.{by_name}
 use Rattle.ss_index.specs.declared.numbers.Measure.{Measure}
 use Rattle.ss_index.specs.Held.{Held, some_rows}
-use Rattle.ss_index.specs.Numbers.{names_of, per_name, measured, entry_of, entries_of}
-use Rattle.ss_index.specs.Shelved.{rows_in, Named, NamesApart}
+use Rattle.ss_index.specs.Numbers.{names_of, per_name, measured_rows, entry_of, entries_of}
+use Rattle.ss_index.specs.Shelved.{rows_in, NamesDrawers, NamesApart}
 use Rattle.ss_index.proofs.Shelves.{filter-every, filter-none, of_collection, of_another, others_named}
 use Rattle.ss_text.proofs.Basics.{bytes_eq-same}
 
@@ -63,7 +64,7 @@ keys-each P [] e = tt
 keys-each P (drawer ∷ drawers) e = (e.0, keys-each P drawers e.1)
 
 -- a drawer has the rows of its collection
-own_rows : (drawers : List (List ℕ × Held)) → Named drawers → NamesApart (keys_of drawers) → Each (λ (drawer : List ℕ × Held). rows_of drawer.0 (rows_in drawers) ≡ drawer.1.rows) drawers
+own_rows : (drawers : List (List ℕ × Held)) → NamesDrawers drawers → NamesApart (keys_of drawers) → Each (λ (drawer : List ℕ × Held). rows_of drawer.0 (rows_in drawers) ≡ drawer.1.rows) drawers
 own_rows [] n a = tt
 own_rows (drawer ∷ drawers) n a = (
   filter-append (λ row. bytes_eq row.collection drawer.0) drawer.1.rows (rows_in drawers)
@@ -81,16 +82,16 @@ own_rows (drawer ∷ drawers) n a = (
 
 module _ (measure : Measure) (all : List Row) where
   abbrev numbered : List ℕ → List ℕ × ℕ
-  numbered name = (name, measured measure (rows_of name all))
+  numbered name = (name, measured_rows measure (rows_of name all))
 
   one_drawer : (name : List ℕ) (rows more : List Row) → Each (λ (row : Row). row.collection ≡ name) rows → Each (λ (row : Row). bytes_eq row.collection name ≡ false) more → rows_of name all ≡ rows
-      → cond (some_rows rows) ((name, measured measure rows) ∷ []) [] ++ map numbered (names_of more) ≡ map numbered (names_of (rows ++ more))
+      → cond (some_rows rows) ((name, measured_rows measure rows) ∷ []) [] ++ map numbered (names_of more) ≡ map numbered (names_of (rows ++ more))
   one_drawer name [] more n o own = refl
   one_drawer name (row ∷ rows) more n o own =
-      ap (λ (number : ℕ). (name, number) ∷ map numbered (names_of more)) (ap (λ (l : List Row). measured measure l) (sym own))
+      ap (λ (number : ℕ). (name, number) ∷ map numbered (names_of more)) (ap (λ (l : List Row). measured_rows measure l) (sym own))
       ∙ ap (λ l. map numbered l) (sym (names_run name row rows more n.0 n.1 o))
 
-  all_drawers : (drawers : List (List ℕ × Held)) → Named drawers → NamesApart (keys_of drawers) → Each (λ (drawer : List ℕ × Held). rows_of drawer.0 all ≡ drawer.1.rows) drawers
+  all_drawers : (drawers : List (List ℕ × Held)) → NamesDrawers drawers → NamesApart (keys_of drawers) → Each (λ (drawer : List ℕ × Held). rows_of drawer.0 all ≡ drawer.1.rows) drawers
       → entries_of measure drawers ≡ map numbered (names_of (rows_in drawers))
   all_drawers [] n a own = refl
   all_drawers (drawer ∷ drawers) n a own =
@@ -98,8 +99,8 @@ module _ (measure : Measure) (all : List Row) where
       ∙ one_drawer drawer.0 drawer.1.rows (rows_in drawers) n.0 (others_named drawer.0 drawers a.0 n.1) own.0
 
 -- the drawers with rows, with what is counted of each, are the collections of the rows
-pub entries_are : (measure : Measure) (drawers : List (List ℕ × Held)) (i : ℕ) → Named drawers → NamesApart (keys_of drawers) → length drawers ≤ i
-    → by_name (entries_of measure (take i drawers)) ≡ per_name (measured measure) (rows_in drawers)
+pub entries_are : (measure : Measure) (drawers : List (List ℕ × Held)) (i : ℕ) → NamesDrawers drawers → NamesApart (keys_of drawers) → length drawers ≤ i
+    → by_name (entries_of measure (take i drawers)) ≡ per_name (measured_rows measure) (rows_in drawers)
 entries_are measure drawers i n a past =
     ap (λ l. by_name (entries_of measure l)) (take_all i drawers past) ∙ ap by_name (all_drawers measure (rows_in drawers) drawers n a (own_rows drawers n a))
 

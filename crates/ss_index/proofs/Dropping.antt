@@ -1,5 +1,6 @@
 -- Collections that are dropped.
-use Rattle.std.specs.Prelude.{◌≡◌, ℕ, ◌+◌, ◌-◌, ◌<◌, ◌≤◌, Bool, true, false, not, ◌||◌, cond, List, [], ◌∷◌, ◌++◌, length, take, get_or, fold, filter, Some, None, bytes_eq, refl}
+use Rattle.std.specs.Prelude.{◌≡◌, ℕ, ◌+◌, ◌-◌, ◌<◌, ◌≤◌, Bool, true, false, not, ◌||◌, cond, List, [], ◌∷◌, ◌++◌}
+use Rattle.std.specs.Prelude.{length, take, get_or, fold, filter, Some, None, bytes_eq, refl}
 use Rattle.std.proofs.Common.{sym, ap, subst, ◌∙◌, arith}
 use Rattle.std.proofs.lemmas.List.{take_more}
 use Rattle.std.proofs.lemmas.List.Elements.{filter-append}
@@ -16,14 +17,16 @@ use Rattle.ss_bso.specs.declared.changes.Kept.{Kept}
 use Rattle.ss_index.specs.declared.ready.Ready.{Ready}
 use Rattle.ss_bso.specs.Limits.{row_bytes}
 use Rattle.ss_index.specs.Held.{Held, IsSized}
-use Rattle.ss_index.specs.Shelved.{rows_in, rows_without, dropped_name, dropped_names, Named, NamesApart, IsShelf}
+use Rattle.ss_index.specs.Shelved.{rows_in, rows_without, dropped_name, dropped_names, NamesDrawers, NamesApart}
+use Rattle.ss_index.specs.Shelved.{IsShelf}
 use Rattle.ss_index.specs.Ready.{applied, changes_of, rows_left, IsReady}
 use Rattle.ss_index.specs.Sweep.{Outlives}
 use Rattle.ss_bso.proofs.Lists.{Each, Each-filter, Each-imp}
-use Rattle.ss_index.proofs.Shelves.{filter-none, filter-every, of_collection, of_another, others_named, names_beside, named-edited, counted, len-adds, bytes-adds, none_named}
+use Rattle.ss_index.proofs.Shelves.{filter-none, filter-every, of_collection, of_another, others_named, names_beside}
+use Rattle.ss_index.proofs.Shelves.{named-edited, counted, len-adds, bytes-adds, none_named}
 use Rattle.ss_text.proofs.Basics.{bytes_eq-sym, length-filter_le, filter_map-push}
 
-pub without_in : (name : List ℕ) (held now : Held) → now.rows ≡ [] → (drawers : List (List ℕ × Held)) → Named drawers → NamesApart (keys_of drawers) → lookup (bytes_eq name) drawers ≡ Some held
+pub without_in : (name : List ℕ) (held now : Held) → now.rows ≡ [] → (drawers : List (List ℕ × Held)) → NamesDrawers drawers → NamesApart (keys_of drawers) → lookup (bytes_eq name) drawers ≡ Some held
     → rows_in (set_value (bytes_eq name) drawers now) ≡ rows_without (rows_in drawers) name
 without_in name held now none [] n a e = cc
 without_in name held now none (drawer ∷ drawers) n a e =
@@ -43,7 +46,7 @@ without_in name held now none (drawer ∷ drawers) n a e =
     ] refl e
     ∙ sym (filter-append other drawer.1.rows (rows_in drawers))
 
-pub without_none : (name : List ℕ) (drawers : List (List ℕ × Held)) → Named drawers → lookup (bytes_eq name) drawers ≡ None → rows_in drawers ≡ rows_without (rows_in drawers) name
+pub without_none : (name : List ℕ) (drawers : List (List ℕ × Held)) → NamesDrawers drawers → lookup (bytes_eq name) drawers ≡ None → rows_in drawers ≡ rows_without (rows_in drawers) name
 without_none name drawers n e =
     sym (filter-every (λ row. not (bytes_eq row.collection name)) (rows_in drawers)
     (Each-imp (λ (row : Row). bytes_eq row.collection name ≡ false) (λ (row : Row). not (bytes_eq row.collection name) ≡ true) (λ row k. ap not k) (rows_in drawers) (none_named name drawers n e)))
@@ -54,7 +57,7 @@ cleared {drawers} {len} {total} {ends} shelf name held now after e set keys none
     let no_rows : ◌≡◌ {A = ℕ} (length now.rows) 0 = ap (λ l. length l) none in
     let no_bytes : ◌≡◌ {A = ℕ} (row_bytes now.rows) 0 = ap (λ l. row_bytes l) none in
     record {
-      named = subst (λ l. Named l) (sym set) (named-edited name now drawers shelf.named (subst (λ l. Each (λ (row : Row). row.collection ≡ name) l) (sym none) tt));
+      named = subst (λ l. NamesDrawers l) (sym set) (named-edited name now drawers shelf.named (subst (λ l. Each (λ (row : Row). row.collection ≡ name) l) (sym none) tt));
       names = subst (λ l. NamesApart l) (sym keys) shelf.names;
       len_counts = omega (arith, no_rows, shelf.len_counts, ap (λ l. length (rows_in l)) set, counted (λ l. length l) len-adds name held now drawers e);
       total_counts = omega (arith, no_bytes, shelf.total_counts, ap (λ l. row_bytes (rows_in l)) set, counted row_bytes bytes-adds name held now drawers e);

@@ -1,5 +1,6 @@
 -- A shelf that is filled with rows in the order of time.
-use Rattle.std.specs.Prelude.{◌≡◌, ℕ, zero, suc, ◌+◌, ◌≤◌, true, not, List, [], ◌∷◌, ◌++◌, length, get_or, drop, bytes_eq, IsSortedBy, refl}
+use Rattle.std.specs.Prelude.{◌≡◌, ℕ, zero, suc, ◌+◌, ◌≤◌, true, not, List, [], ◌∷◌, ◌++◌, length, get_or, drop}
+use Rattle.std.specs.Prelude.{bytes_eq, IsSortedBy, refl}
 use Rattle.std.proofs.Common.{sym, ap, subst, ◌∙◌, arith, append_assoc, append-nil, length-append}
 use Rattle.std.proofs.lemmas.List.Sorted.{sorted_far, ranks_by}
 use Rattle.std.proofs.Math.Seq.{drop-nil}
@@ -20,7 +21,8 @@ use Rattle.ss_bso.specs.Limits.{rows_of}
 use Rattle.ss_index.specs.Layout.{NoLater}
 use Rattle.ss_bso.specs.Lists.{Apart}
 use Rattle.ss_bso.proofs.Lists.{Each, Each-append, Each-imp, Each-filter, Pairs, Pairs-from_AllPairs}
-use Rattle.ss_bso.proofs.Reordering.{reordered-refl, reordered-sym, reordered-append_right, Each-reordered, Pairs-reordered, length-reordered}
+use Rattle.ss_bso.proofs.Reordering.{reordered-refl, reordered-sym, reordered-append_right, Each-reordered}
+use Rattle.ss_bso.proofs.Reordering.{Pairs-reordered, length-reordered}
 use Rattle.ss_index.proofs.Shelves.{filter-every}
 use Rattle.std.proofs.lemmas.Bool.{and_from}
 use Rattle.ss_bso.proofs.Places.{apart_flip}

@@ -1,12 +1,13 @@
 -- A page needs no more than the rows that come first.
-use Rattle.std.specs.Prelude.{◌≡◌, ℕ, ◌+◌, ◌-◌, ◌≤◌, ◌<◌, nat_lt, Bool, true, false, cond, List, [], ◌∷◌, ◌++◌, length, take, drop, filter, reverse, Option, Some, None, option_map, refl}
+use Rattle.std.specs.Prelude.{◌≡◌, ℕ, ◌+◌, ◌-◌, ◌≤◌, ◌<◌, nat_lt, Bool, true, false, cond, List, [], ◌∷◌, ◌++◌, length}
+use Rattle.std.specs.Prelude.{take, drop, filter, reverse, Option, Some, None, option_map, refl}
 use Rattle.std.proofs.Common.{sym, ap, subst, inl, inr, ◌∙◌, arith, append-nil, length-append}
 use Rattle.std.proofs.lemmas.Bool.Decides.{Decides-ltb}
 use Rattle.std.proofs.lemmas.List.{take-append-le, drop-append-le, length-drop}
 use Rattle.std.specs.declared.cmp.Ordering.TheVariants.{Greater}
 use Rattle.std.specs.Ordering.{nat_cmp, ordering_then, is_lt}
 use Rattle.std.specs.Cmp.{nat_cmp_is}
-use Rattle.ss_text.specs.Texts.{placed, sorted, text_cmp}
+use Rattle.ss_text.specs.Texts.{list_with, sorted, text_cmp}
 use Rattle.ss_bso.specs.declared.rows.Row.{Row}
 use Rattle.ss_bso.specs.Lists.{OtherId}
 use Rattle.ss_bso.proofs.Lists.{Each, Each-imp, Pairs, Pairs-filter}
@@ -14,7 +15,7 @@ use Rattle.ss_bso.proofs.Reordering.{reordered-filter}
 use Rattle.ss_query.specs.declared.requests.Query.{Query}
 use Rattle.ss_query.specs.declared.requests.Sort.TheVariants.{Newest, Oldest}
 use Rattle.ss_query.specs.declared.replies.Picked.{Picked}
-use Rattle.ss_query.specs.Answer.{answer, answer_of, comes_before, is_asked, limited, next_offset}
+use Rattle.ss_query.specs.Answer.{answer, answer_of, comes_before, is_asked, limited_list, next_offset}
 use Rattle.ss_query.proofs.Orders.{answer_of-reordered}
 use Rattle.ss_index.specs.Walk.{Enough, Later, Earlier, is_past, page_end}
 use Rattle.ss_index.proofs.Shelves.{reordered-reverse}
@@ -24,18 +25,18 @@ module _ {X : Type 0} (before : X → X → Bool) where
   abbrev First : List X → X → Type 0
   First ys x = Each (λ (y : X). before y x ≡ false) ys
 
-  placed-front : (x : X) (xs ys : List X) → First ys x → placed before x (xs ++ ys) ≡ placed before x xs ++ ys
+  placed-front : (x : X) (xs ys : List X) → First ys x → list_with before x (xs ++ ys) ≡ list_with before x xs ++ ys
   placed-front x [] [] e = refl
-  placed-front x [] (y ∷ ys) e = ap (λ v. cond v (y ∷ placed before x ys) (x ∷ y ∷ ys)) e.0
+  placed-front x [] (y ∷ ys) e = ap (λ v. cond v (y ∷ list_with before x ys) (x ∷ y ∷ ys)) e.0
   placed-front x (z ∷ xs) ys e =
-      elim (before z x) as (λ v. cond v (z ∷ placed before x (xs ++ ys)) (x ∷ z ∷ xs ++ ys) ≡ cond v (z ∷ placed before x xs) (x ∷ z ∷ xs) ++ ys) [
+      elim (before z x) as (λ v. cond v (z ∷ list_with before x (xs ++ ys)) (x ∷ z ∷ xs ++ ys) ≡ cond v (z ∷ list_with before x xs) (x ∷ z ∷ xs) ++ ys) [
         | true ↦ ap (λ rest. z ∷ rest) (placed-front x xs ys e)
         | false ↦ refl
       ]
 
-  Each-placed : (P : X → Type 0) (x : X) (ys : List X) → P x → Each P ys → Each P (placed before x ys)
+  Each-placed : (P : X → Type 0) (x : X) (ys : List X) → P x → Each P ys → Each P (list_with before x ys)
   Each-placed P x [] p e = (p, tt)
-  Each-placed P x (y ∷ ys) p e = elim (before y x) as (λ v. Each P (cond v (y ∷ placed before x ys) (x ∷ y ∷ ys))) [ true ↦ (e.0, Each-placed P x ys p e.1) | false ↦ (p, e) ]
+  Each-placed P x (y ∷ ys) p e = elim (before y x) as (λ v. Each P (cond v (y ∷ list_with before x ys) (x ∷ y ∷ ys))) [ true ↦ (e.0, Each-placed P x ys p e.1) | false ↦ (p, e) ]
 
   Each-sorted : (P : X → Type 0) (xs : List X) → Each P xs → Each P (sorted before xs)
   Each-sorted P [] e = tt
@@ -44,17 +45,17 @@ module _ {X : Type 0} (before : X → X → Bool) where
   sorted-front : (xs ys : List X) → Each (First ys) xs → sorted before (xs ++ ys) ≡ sorted before xs ++ sorted before ys
   sorted-front [] ys e = refl
   sorted-front (x ∷ xs) ys e =
-      ap (placed before x) (sorted-front xs ys e.1) ∙ placed-front x (sorted before xs) (sorted before ys) (Each-sorted (λ (y : X). before y x ≡ false) ys e.0)
+      ap (list_with before x) (sorted-front xs ys e.1) ∙ placed-front x (sorted before xs) (sorted before ys) (Each-sorted (λ (y : X). before y x ≡ false) ys e.0)
 
-  length-placed : (x : X) (ys : List X) → length (placed before x ys) ≡ length ys + 1
+  length-placed : (x : X) (ys : List X) → length (list_with before x ys) ≡ length ys + 1
   length-placed x [] = refl
   length-placed x (y ∷ ys) =
-      elim (before y x) as (λ v. length (cond v (y ∷ placed before x ys) (x ∷ y ∷ ys)) ≡ length (y ∷ ys) + 1) [ true ↦ (let rest : length (placed before x ys) ≡ length ys + 1 = length-placed x ys in omega (arith, rest)) | false ↦ omega arith ]
+      elim (before y x) as (λ v. length (cond v (y ∷ list_with before x ys) (x ∷ y ∷ ys)) ≡ length (y ∷ ys) + 1) [ true ↦ (let rest : length (list_with before x ys) ≡ length ys + 1 = length-placed x ys in omega (arith, rest)) | false ↦ omega arith ]
 
   length-sorted : (xs : List X) → length (sorted before xs) ≡ length xs
   length-sorted [] = refl
   length-sorted (x ∷ xs) =
-      let one : length (placed before x (sorted before xs)) ≡ length (sorted before xs) + 1 = length-placed x (sorted before xs) in
+      let one : length (list_with before x (sorted before xs)) ≡ length (sorted before xs) + 1 = length-placed x (sorted before xs) in
       let rest : length (sorted before xs) ≡ length xs = length-sorted xs in
       omega (arith, one, rest)
 
@@ -81,7 +82,7 @@ cut-answer query limit found rest is long first =
     ap (λ o. picked_at o query.offset one) is ∙ at_limit ∙ ap (λ o. picked_at o query.offset (one ++ other)) (sym is) ∙ ap (picked_at query.limit query.offset) (sym whole)
   where
     picked_at : Option ℕ → ℕ → List Row → Picked
-    picked_at limit offset found = record { rows = limited limit (drop offset found); next = next_offset limit offset (length found) }
+    picked_at limit offset found = record { rows = limited_list limit (drop offset found); next = next_offset limit offset (length found) }
 
 -- a row of a later time doesn't come after, where the newest come first; nor one of an earlier time, where the oldest do
 later-first : (row other : Row) → Later row other → comes_before Newest other row ≡ false

@@ -1,5 +1,6 @@
 -- The rows that ids name, one id after the other.
-use Rattle.std.specs.Prelude.{◌≡◌, ℕ, ◌+◌, ◌<◌, nat_lt, Bool, true, false, ◌&&◌, ◌||◌, cond, List, [], ◌∷◌, ◌++◌, length, take, get_or, Option, Some, None, find, filter, bytes_eq, refl}
+use Rattle.std.specs.Prelude.{◌≡◌, ℕ, ◌+◌, ◌<◌, nat_lt, Bool, true, false, ◌&&◌, ◌||◌, cond, List, [], ◌∷◌, ◌++◌}
+use Rattle.std.specs.Prelude.{length, take, get_or, Option, Some, None, find, filter, bytes_eq, refl}
 use Rattle.std.proofs.Common.{sym, ap, subst, ◌∙◌, append-nil}
 use Rattle.std.proofs.lemmas.List.Elements.{filter-append}
 use Rattle.std.proofs.lemmas.List.Folds.{list_any_more}
@@ -9,7 +10,7 @@ use Rattle.ss_bso.specs.declared.rows.Row.{Row}
 use Rattle.ss_bso.specs.Write.{is_among}
 use Rattle.ss_query.specs.declared.requests.Query.{Query}
 use Rattle.ss_query.specs.Answer.{is_asked}
-use Rattle.ss_index.specs.Held.{has_id, picked}
+use Rattle.ss_index.specs.Held.{has_id, picked_row}
 use Rattle.ss_bso.specs.Lists.{OtherId}
 use Rattle.ss_bso.proofs.Lists.{Each, Each-imp, Pairs}
 use Rattle.ss_bso.proofs.Lists.{Each-any}
@@ -81,7 +82,7 @@ module _ (query : Query) (rows : List Row) (distinct : Pairs OtherId rows) (ids 
       ] refl) rows (Each-any rows))
 
   -- one id more
-  pub picked_more : (old new : List Row) → Reordered (filter (is_asked query) (filter (λ row. is_among (take i ids) row.id) rows)) old → new ≡ old ++ picked query rows (take i ids) id
+  pub picked_more : (old new : List Row) → Reordered (filter (is_asked query) (filter (λ row. is_among (take i ids) row.id) rows)) old → new ≡ old ++ picked_row query rows (take i ids) id
       → Reordered (filter (is_asked query) (filter (λ row. is_among (take (i + 1) ids) row.id) rows)) new
   picked_more old new r e =
       subst (λ l. Reordered (filter (is_asked query) l) new) (sym more_rows)

@@ -1,5 +1,6 @@
 -- What a shelf's drawers say of all its rows, and what an edit of one drawer leaves.
-use Rattle.std.specs.Prelude.{◌≡◌, ℕ, ◌+◌, ◌*◌, ◌^◌, ◌≤◌, Bool, true, false, not, ◌&&◌, cond, List, [], ◌∷◌, ◌++◌, length, reverse, Some, None, find, filter, bytes_eq, refl}
+use Rattle.std.specs.Prelude.{◌≡◌, ℕ, ◌+◌, ◌*◌, ◌^◌, ◌≤◌, Bool, true, false, not, ◌&&◌, cond, List, [], ◌∷◌, ◌++◌}
+use Rattle.std.specs.Prelude.{length, reverse, Some, None, find, filter, bytes_eq, refl}
 use Rattle.std.proofs.Common.{sym, ap, subst, ◌∙◌, arith, append_assoc, append-nil, length-append}
 use Rattle.std.proofs.lemmas.List.{reverse-append}
 use Rattle.std.proofs.lemmas.List.Elements.{filter-append}
@@ -11,7 +12,7 @@ use Rattle.ss_bso.specs.Account.{is_at, row_at}
 use Rattle.ss_bso.specs.Changes.{rows_but}
 use Rattle.ss_bso.specs.Limits.{rows_of, row_bytes}
 use Rattle.ss_index.specs.Held.{Held, has_id, rows_but_id, IsSized}
-use Rattle.ss_index.specs.Shelved.{rows_in, Named, NamesApart, IsShelf}
+use Rattle.ss_index.specs.Shelved.{rows_in, NamesDrawers, NamesApart, IsShelf}
 use Rattle.ss_bso.proofs.Lists.{Each, Each-append, Each-imp, Each-filter}
 use Rattle.ss_index.specs.Sweep.{Outlives}
 use Rattle.ss_bso.proofs.Reordering.{Each-reordered, reordered-refl, reordered-sym, reordered-append_left}
@@ -64,7 +65,7 @@ reordered-reverse {X} (x ∷ xs) =
 
 -- ---- the rows of one collection
 
-pub others_named : (collection : List ℕ) (drawers : List (List ℕ × Held)) → Each (λ (name : List ℕ). bytes_eq name collection ≡ false) (keys_of drawers) → Named drawers
+pub others_named : (collection : List ℕ) (drawers : List (List ℕ × Held)) → Each (λ (name : List ℕ). bytes_eq name collection ≡ false) (keys_of drawers) → NamesDrawers drawers
     → Each (λ (row : Row). bytes_eq row.collection collection ≡ false) (rows_in drawers)
 others_named collection [] e n = tt
 others_named collection (drawer ∷ drawers) e n =
@@ -88,7 +89,7 @@ pub of_another : (collection : List ℕ) (drawer : List ℕ × Held) → bytes_e
 of_another collection drawer e n =
     Each-imp (λ (row : Row). row.collection ≡ drawer.0) (λ (row : Row). bytes_eq row.collection collection ≡ false) (λ row h. ap (λ name. bytes_eq name collection) h ∙ bytes_eq-flip collection drawer.0 e) drawer.1.rows n
 
-pub rows_of-there : (collection : List ℕ) (held : Held) (drawers : List (List ℕ × Held)) → Named drawers → NamesApart (keys_of drawers) → lookup (bytes_eq collection) drawers ≡ Some held
+pub rows_of-there : (collection : List ℕ) (held : Held) (drawers : List (List ℕ × Held)) → NamesDrawers drawers → NamesApart (keys_of drawers) → lookup (bytes_eq collection) drawers ≡ Some held
     → rows_of collection (rows_in drawers) ≡ held.rows
 rows_of-there collection held [] n a e = cc
 rows_of-there collection held (drawer ∷ drawers) n a e =
@@ -105,7 +106,7 @@ rows_of-there collection held (drawer ∷ drawers) n a e =
           ∙ rows_of-there collection held drawers n.1 a.1 h)
     ] refl e
 
-pub rows_of-none : (collection : List ℕ) (drawers : List (List ℕ × Held)) → Named drawers → lookup (bytes_eq collection) drawers ≡ None → rows_of collection (rows_in drawers) ≡ []
+pub rows_of-none : (collection : List ℕ) (drawers : List (List ℕ × Held)) → NamesDrawers drawers → lookup (bytes_eq collection) drawers ≡ None → rows_of collection (rows_in drawers) ≡ []
 rows_of-none collection [] n e = refl
 rows_of-none collection (drawer ∷ drawers) n e =
     filter-append (λ row. bytes_eq row.collection collection) drawer.1.rows (rows_in drawers)
@@ -134,7 +135,7 @@ but_own collection id rows e =
     (Each-imp (λ (row : Row). bytes_eq row.collection collection ≡ true) (λ (row : Row). not (is_at collection id row) ≡ not (has_id id row)) (λ row h. ap (λ v. not (v && has_id id row)) h) rows e)
 
 module _ (collection id : List ℕ) (held now : Held) (extra : List Row) (edit : now.rows ≡ rows_but_id id held.rows ++ extra) where
-  pub edited : (drawers : List (List ℕ × Held)) → Named drawers → NamesApart (keys_of drawers) → lookup (bytes_eq collection) drawers ≡ Some held
+  pub edited : (drawers : List (List ℕ × Held)) → NamesDrawers drawers → NamesApart (keys_of drawers) → lookup (bytes_eq collection) drawers ≡ Some held
       → Reordered (rows_in (set_value (bytes_eq collection) drawers now)) (rows_but collection id (rows_in drawers) ++ extra)
   edited [] n a e = cc
   edited (drawer ∷ drawers) n a e =
@@ -158,7 +159,7 @@ module _ (collection id : List ℕ) (held now : Held) (extra : List Row) (edit :
       ] refl e)
 
 -- where no drawer has the name, no row has it
-pub none_named : (collection : List ℕ) (ds : List (List ℕ × Held)) → Named ds → lookup (bytes_eq collection) ds ≡ None → Each (λ (row : Row). bytes_eq row.collection collection ≡ false) (rows_in ds)
+pub none_named : (collection : List ℕ) (ds : List (List ℕ × Held)) → NamesDrawers ds → lookup (bytes_eq collection) ds ≡ None → Each (λ (row : Row). bytes_eq row.collection collection ≡ false) (rows_in ds)
 none_named collection [] m f = tt
 none_named collection (d ∷ ds) m f =
     elim (bytes_eq collection d.0) as (λ v. bytes_eq collection d.0 ≡ v → cond v (Some d.1) (lookup (bytes_eq collection) ds) ≡ None → Each (λ (row : Row). bytes_eq row.collection collection ≡ false) (d.1.rows ++ rows_in ds)) [
@@ -167,20 +168,20 @@ none_named collection (d ∷ ds) m f =
     ] refl f
 
 -- a drawer that isn't there
-pub edited_none : (collection id : List ℕ) (drawers : List (List ℕ × Held)) → Named drawers → lookup (bytes_eq collection) drawers ≡ None → Reordered (rows_in drawers) (rows_but collection id (rows_in drawers))
+pub edited_none : (collection id : List ℕ) (drawers : List (List ℕ × Held)) → NamesDrawers drawers → lookup (bytes_eq collection) drawers ≡ None → Reordered (rows_in drawers) (rows_but collection id (rows_in drawers))
 edited_none collection id drawers n e =
     subst (λ l. Reordered (rows_in drawers) l) (sym (but_another collection id (rows_in drawers) (none_named collection drawers n e))) (reordered-refl (rows_in drawers))
 
-pub named-edited : (collection : List ℕ) (now : Held) (drawers : List (List ℕ × Held)) → Named drawers → Each (λ (row : Row). row.collection ≡ collection) now.rows → Named (set_value (bytes_eq collection) drawers now)
+pub named-edited : (collection : List ℕ) (now : Held) (drawers : List (List ℕ × Held)) → NamesDrawers drawers → Each (λ (row : Row). row.collection ≡ collection) now.rows → NamesDrawers (set_value (bytes_eq collection) drawers now)
 named-edited collection now [] n e = tt
 named-edited collection now (drawer ∷ drawers) n e =
-    elim (bytes_eq collection drawer.0) as (λ v. bytes_eq collection drawer.0 ≡ v → Named (cond v ((drawer.0, now) ∷ drawers) (drawer ∷ set_value (bytes_eq collection) drawers now))) [
+    elim (bytes_eq collection drawer.0) as (λ v. bytes_eq collection drawer.0 ≡ v → NamesDrawers (cond v ((drawer.0, now) ∷ drawers) (drawer ∷ set_value (bytes_eq collection) drawers now))) [
       | true ↦ (λ t. (Each-imp (λ (row : Row). row.collection ≡ collection) (λ (row : Row). row.collection ≡ drawer.0) (λ row h. h ∙ same_text collection drawer.0 t) now.rows e, n.1))
       | false ↦ (λ t. (n.0, named-edited collection now drawers n.1 e))
     ] refl
 
 -- the rows of a drawer are of its collection
-pub held_named : (collection : List ℕ) (held : Held) (drawers : List (List ℕ × Held)) → Named drawers → lookup (bytes_eq collection) drawers ≡ Some held → Each (λ (row : Row). row.collection ≡ collection) held.rows
+pub held_named : (collection : List ℕ) (held : Held) (drawers : List (List ℕ × Held)) → NamesDrawers drawers → lookup (bytes_eq collection) drawers ≡ Some held → Each (λ (row : Row). row.collection ≡ collection) held.rows
 held_named collection held [] n e = cc
 held_named collection held (drawer ∷ drawers) n e =
     elim (bytes_eq collection drawer.0) as (λ v. bytes_eq collection drawer.0 ≡ v → cond v (Some drawer.1) (lookup (bytes_eq collection) drawers) ≡ Some held → Each (λ (row : Row). row.collection ≡ collection) held.rows) [
@@ -232,7 +233,7 @@ module _ {drawers : List (List ℕ × Held)} {len total ends : ℕ} (shelf : IsS
   pub edit_shelf : (len_now total_now ends_now : ℕ) → keys_of after ≡ keys_of drawers → Each (λ (row : Row). row.collection ≡ collection) extra → len_now + length held.rows ≡ len + length now.rows
       → total_now + row_bytes held.rows ≡ total + row_bytes now.rows → ends_now ≤ ends → Each (Outlives ends_now) extra → Each IsSized extra → IsShelf after len_now total_now ends_now
   edit_shelf len_now total_now ends_now keys own len_is total_is sooner out sized = record {
-    named = subst (λ l. Named l) (sym set) (named-edited collection now drawers shelf.named
+    named = subst (λ l. NamesDrawers l) (sym set) (named-edited collection now drawers shelf.named
         (subst (λ l. Each (λ (row : Row). row.collection ≡ collection) l) (sym edit)
         (Each-append (λ (row : Row). row.collection ≡ collection) (rows_but_id id held.rows) extra
         (Each-filter (λ (row : Row). row.collection ≡ collection) (λ row. not (has_id id row)) held.rows (held_named collection held drawers shelf.named there)) own)));

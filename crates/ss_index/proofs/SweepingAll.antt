@@ -1,5 +1,6 @@
 -- A sweep of all drawers, one after the other.
-use Rattle.std.specs.Prelude.{◌≡◌, ℕ, zero, suc, ◌+◌, ◌≤◌, ◌<◌, Bool, true, false, cond, List, [], ◌∷◌, ◌++◌, length, filter, slice_get, Some, None, bytes_eq, refl}
+use Rattle.std.specs.Prelude.{◌≡◌, ℕ, zero, suc, ◌+◌, ◌≤◌, ◌<◌, Bool, true, false, cond, List, [], ◌∷◌, ◌++◌, length}
+use Rattle.std.specs.Prelude.{filter, slice_get, Some, None, bytes_eq, refl}
 use Rattle.std.proofs.Common.{sym, ap, subst, ◌∙◌, arith}
 use Rattle.std.proofs.lemmas.List.Elements.{filter-append}
 use Rattle.std.specs.Map.{lookup, keys_of, values_of}
@@ -10,7 +11,7 @@ use Rattle.ss_bso.specs.Account.{is_alive}
 use Rattle.ss_bso.specs.Limits.{row_bytes}
 use Rattle.ss_index.specs.Held.{Held, IsSized}
 use Rattle.ss_index.specs.Sweep.{AliveTo, HoldsTo, Outlives}
-use Rattle.ss_index.specs.Shelved.{rows_in, Named, NamesApart, IsShelf}
+use Rattle.ss_index.specs.Shelved.{rows_in, NamesDrawers, NamesApart, IsShelf}
 use Rattle.ss_index.specs.Ready.{spare_of}
 use Rattle.ss_bso.proofs.Lists.{Each, Each-append, Each-imp, Each-filter, Each-passes}
 use Rattle.ss_index.proofs.Shelves.{filter-every, len-adds, bytes-adds}
@@ -50,7 +51,7 @@ module _ (moment : ℕ) (held now : Held) (swept : now.rows ≡ filter (is_alive
   each_swept P (drawer ∷ drawers) (suc i) e all =
       Each-append P drawer.1.rows (rows_in (set_value_at drawers i now)) (each_left P drawer.1.rows (rows_in drawers) all) (each_swept P drawers i e (each_right P drawer.1.rows (rows_in drawers) all))
 
-  pub named_swept : (drawers : List (List ℕ × Held)) (i : ℕ) → slice_get (values_of drawers) i ≡ Some held → Named drawers → Named (set_value_at drawers i now)
+  pub named_swept : (drawers : List (List ℕ × Held)) (i : ℕ) → slice_get (values_of drawers) i ≡ Some held → NamesDrawers drawers → NamesDrawers (set_value_at drawers i now)
   named_swept [] i e n = tt
   named_swept (drawer ∷ drawers) zero e n = (
     subst (λ l. Each (λ (row : Row). row.collection ≡ drawer.0) l) (sym swept)

@@ -1,5 +1,6 @@
 -- The steps of a walk from the back, and from the front.
-use Rattle.std.specs.Prelude.{◌≡◌, ◌⊎◌, ℕ, ◌+◌, ◌-◌, ◌≤◌, ◌<◌, nat_lt, Bool, true, false, ◌&&◌, cond, List, [], ◌∷◌, ◌++◌, length, filter, reverse, count_by, slice_get, Option, Some, None, nat_eq, refl}
+use Rattle.std.specs.Prelude.{◌≡◌, ◌⊎◌, ℕ, ◌+◌, ◌-◌, ◌≤◌, ◌<◌, nat_lt, Bool, true, false, ◌&&◌, cond, List, [], ◌∷◌}
+use Rattle.std.specs.Prelude.{◌++◌, length, filter, reverse, count_by, slice_get, Option, Some, None, nat_eq, refl}
 use Rattle.std.proofs.Common.{sym, ap, subst, inl, inr, ◌∙◌, arith, eq-eqb, append_assoc, append-nil, length-append}
 use Rattle.std.proofs.lemmas.Bool.Decides.{Decides-ltb}
 use Rattle.std.proofs.lemmas.List.{reverse-append}
@@ -13,7 +14,7 @@ use Rattle.ss_query.specs.declared.requests.Query.{Query}
 use Rattle.ss_query.specs.Answer.{is_asked}
 use Rattle.ss_list.specs.Chain.{Chain, times, places, value_of, first_of, last_of, IsWhole, IsBefore, IsAfter}
 use Rattle.ss_index.specs.Layout.{NoLater}
-use Rattle.ss_index.specs.Walk.{is_above, is_past, Ahead, Earlier, Enough, Later, Walked}
+use Rattle.ss_index.specs.Walk.{is_above, is_past, Ahead, Earlier, Enough, Later, WalkView}
 use Rattle.ss_bso.proofs.Lists.{Each, Each-append, Each-filter, Each-imp, Pairs}
 
 -- ---- lists of nodes
@@ -123,12 +124,12 @@ later_ones p row (node ∷ front) after e = later_ones p row front after e.1
 
 -- ---- the walk
 
-pub walk_begun : (query : Query) (nodes : List (ℕ × Row)) (at : Option ℕ) → at ≡ last_of (keys_of nodes) → Walked query nodes at 0 [] 0
+pub walk_begun : (query : Query) (nodes : List (ℕ × Row)) (at : Option ℕ) → at ≡ last_of (keys_of nodes) → WalkView query nodes at 0 [] 0
 walk_begun query nodes at e = record { before = nodes; after = []; split = sym (append-nil nodes); at_is = e; above = tt; later = tt; rows = refl; count = refl }
 
 module _ {query : Query} (c : Chain Row) {time : ℕ} {found : List Row} {passed : ℕ} (whole : IsWhole c) where
   -- the node where the walk stands
-  stands : (here : ℕ) (row : Row) (w : Walked query c.nodes (Some here) time found passed) → value_of c here ≡ Some row → (front : List (ℕ × Row)) × (w.before ≡ front ++ (here, row) ∷ [])
+  stands : (here : ℕ) (row : Row) (w : WalkView query c.nodes (Some here) time found passed) → value_of c here ≡ Some row → (front : List (ℕ × Row)) × (w.before ≡ front ++ (here, row) ∷ [])
   stands here row w v =
       elim (empty_or_ends w.before) [
         | inl none ↦ (let clash : Some here ≡ None = w.at_is ∙ ap (λ l. last_of (keys_of l)) none in cc)
@@ -143,8 +144,8 @@ module _ {query : Query} (c : Chain Row) {time : ℕ} {found : List Row} {passed
             (e.front, e.split ∙ (λ i. e.front ++ (sym same i, sym same_row i) ∷ []))
       ]
 
-  pub walk_on : (here : ℕ) (row : Row) (next : Option ℕ) (more : List Row) → Walked query c.nodes (Some here) time found passed → value_of c here ≡ Some row → is_above query.newer row ≡ true
-      → IsBefore (places c) here next → more ≡ found ++ filter (is_asked query) (row ∷ []) → Pairs NoLater (values_of c.nodes) → Walked query c.nodes next row.modified more (passed + 1)
+  pub walk_on : (here : ℕ) (row : Row) (next : Option ℕ) (more : List Row) → WalkView query c.nodes (Some here) time found passed → value_of c here ≡ Some row → is_above query.newer row ≡ true
+      → IsBefore (places c) here next → more ≡ found ++ filter (is_asked query) (row ∷ []) → Pairs NoLater (values_of c.nodes) → WalkView query c.nodes next row.modified more (passed + 1)
   walk_on here row next more w v above prev noted in_time =
       let s = stands here row w v in
       let whole_list : c.nodes ≡ s.0 ++ (here, row) ∷ w.after = w.split ∙ ap (λ l. l ++ w.after) s.1 ∙ append_assoc s.0 ((here, row) ∷ []) w.after in
@@ -160,7 +161,7 @@ module _ {query : Query} (c : Chain Row) {time : ℕ} {found : List Row} {passed
         count = omega (arith, w.count);
       }
 
-module _ {query : Query} {nodes : List (ℕ × Row)} {at : Option ℕ} {time : ℕ} {found : List Row} {passed : ℕ} (w : Walked query nodes at time found passed) where
+module _ {query : Query} {nodes : List (ℕ × Row)} {at : Option ℕ} {time : ℕ} {found : List Row} {passed : ℕ} (w : WalkView query nodes at time found passed) where
   -- nothing before is above
   pub walk_rows : Each (λ (node : ℕ × Row). is_above query.newer node.1 ≡ false) w.before → found ≡ filter (is_asked query) (reverse (values_of nodes))
   walk_rows below =
@@ -191,7 +192,7 @@ module _ {query : Query} {nodes : List (ℕ × Row)} {at : Option ℕ} {time : �
           omega (arith, one, all_above ns e.1, sum_by-cons (λ x. cond (is_above query.newer x) 1 0) n.1 (values_of ns))
 
 -- three ways to end: at the front, where the count says so, and at a row that is not above
-pub walk_front : {query : Query} {nodes : List (ℕ × Row)} {time : ℕ} {found : List Row} {passed : ℕ} (w : Walked query nodes None time found passed) → found ≡ filter (is_asked query) (reverse (values_of nodes))
+pub walk_front : {query : Query} {nodes : List (ℕ × Row)} {time : ℕ} {found : List Row} {passed : ℕ} (w : WalkView query nodes None time found passed) → found ≡ filter (is_asked query) (reverse (values_of nodes))
 walk_front {query} w =
     elim (empty_or_ends w.before) [
       | inl none ↦ walk_rows w (subst (λ l. Each (λ (node : ℕ × Row). is_above query.newer node.1 ≡ false) l) (sym none) tt)
@@ -200,14 +201,14 @@ walk_front {query} w =
           cc)
     ]
 
-pub walk_all : {query : Query} {nodes : List (ℕ × Row)} {at : Option ℕ} {time : ℕ} {found : List Row} {passed : ℕ} (w : Walked query nodes at time found passed) → passed ≡ length nodes → found ≡ filter (is_asked query) (reverse (values_of nodes))
+pub walk_all : {query : Query} {nodes : List (ℕ × Row)} {at : Option ℕ} {time : ℕ} {found : List Row} {passed : ℕ} (w : WalkView query nodes at time found passed) → passed ≡ length nodes → found ≡ filter (is_asked query) (reverse (values_of nodes))
 walk_all {query} {nodes} w e =
     elim (empty_or_ends w.before) [
       | inl none ↦ walk_rows w (subst (λ l. Each (λ (node : ℕ × Row). is_above query.newer node.1 ≡ false) l) (sym none) tt)
       | inr s ↦ absurd (omega (arith, w.count, ap length w.split, length-append w.before w.after, ap length s.split, length-append s.front (s.last ∷ [])))
     ]
 
-pub walk_below : {query : Query} (c : Chain Row) {time : ℕ} {found : List Row} {passed : ℕ} (whole : IsWhole c) (here : ℕ) (row : Row) (w : Walked query c.nodes (Some here) time found passed) → value_of c here ≡ Some row
+pub walk_below : {query : Query} (c : Chain Row) {time : ℕ} {found : List Row} {passed : ℕ} (whole : IsWhole c) (here : ℕ) (row : Row) (w : WalkView query c.nodes (Some here) time found passed) → value_of c here ≡ Some row
     → is_above query.newer row ≡ false → Pairs NoLater (values_of c.nodes) → found ≡ filter (is_asked query) (reverse (values_of c.nodes))
 walk_below {query} c whole here row w v below in_time =
     let s = stands c whole here row w v in
@@ -223,7 +224,7 @@ pub enough_whole : {R : Row → Row → Type 0} {end : Option ℕ} {all found : 
 enough_whole {R} {end} {all} {found} e = record { rest = []; split = sym e ∙ sym (append-nil found); cut = inl refl }
 
 -- a fourth way: past the page's end, at a row of an earlier time
-pub walk_past : {query : Query} (c : Chain Row) {time : ℕ} {found : List Row} {passed : ℕ} (whole : IsWhole c) (end : Option ℕ) (here : ℕ) (row : Row) (w : Walked query c.nodes (Some here) time found passed) → value_of c here ≡ Some row
+pub walk_past : {query : Query} (c : Chain Row) {time : ℕ} {found : List Row} {passed : ℕ} (whole : IsWhole c) (end : Option ℕ) (here : ℕ) (row : Row) (w : WalkView query c.nodes (Some here) time found passed) → value_of c here ≡ Some row
     → row.modified < time → is_past end (length found) ≡ true → Pairs NoLater (values_of c.nodes) → Enough Later end (filter (is_asked query) (reverse (values_of c.nodes))) found
 walk_past {query} c {time} {found} whole end here row w v sooner past in_time =
     let s = stands c whole here row w v in

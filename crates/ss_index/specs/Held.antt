@@ -29,5 +29,5 @@ abbrev pub rows_but_id : List ℕ → List Row → List Row
 rows_but_id id rows = filter (λ row. not (has_id id row)) rows
 
 -- the row of an id, where a query asks for it and the id is not among those before
-abbrev pub picked : Query → List Row → List (List ℕ) → List ℕ → List Row
-picked query rows before id = cond (is_among before id) [] (filter (is_asked query) (option_to_list (find (has_id id) rows)))
+abbrev pub picked_row : Query → List Row → List (List ℕ) → List ℕ → List Row
+picked_row query rows before id = cond (is_among before id) [] (filter (is_asked query) (option_to_list (find (has_id id) rows)))

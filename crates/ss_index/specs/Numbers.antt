@@ -21,13 +21,13 @@ abbrev pub capped : ℕ → ℕ
 capped number = min number 18446744073709551615
 
 -- what is counted of rows
-abbrev pub measured : Measure → List Row → ℕ
-measured Rows rows = length rows
-measured Bytes rows = capped (row_bytes rows)
+abbrev pub measured_rows : Measure → List Row → ℕ
+measured_rows Rows rows = length rows
+measured_rows Bytes rows = capped (row_bytes rows)
 
 -- a drawer's collection with what is counted of it, where it has a row
 abbrev pub entry_of : Measure → List ℕ × Held → List (List ℕ × ℕ)
-entry_of measure drawer = cond (some_rows drawer.1.rows) ((drawer.0, measured measure drawer.1.rows) ∷ []) []
+entry_of measure drawer = cond (some_rows drawer.1.rows) ((drawer.0, measured_rows measure drawer.1.rows) ∷ []) []
 
 abbrev pub entries_of : Measure → List (List ℕ × Held) → List (List ℕ × ℕ)
 entries_of measure [] = []

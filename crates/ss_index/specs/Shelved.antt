@@ -1,5 +1,6 @@
 -- The rows of a shelf, and how its drawers and counts fit together.
-use Rattle.std.specs.Prelude.{◌≡◌, ℕ, Bool, true, not, filter, filter_map, Option, Some, None, List, [], ◌∷◌, ◌++◌, length, bytes_eq, IsFalse}
+use Rattle.std.specs.Prelude.{◌≡◌, ℕ, Bool, true, not, filter, filter_map, Option, Some, None, List, [], ◌∷◌, ◌++◌}
+use Rattle.std.specs.Prelude.{length, bytes_eq, IsFalse}
 use Rattle.std.specs.Map.{keys_of}
 use Rattle.ss_bso.specs.declared.rows.Row.{Row}
 use Rattle.ss_bso.specs.declared.changes.CollectionChange.{CollectionChange}
@@ -15,8 +16,8 @@ rows_in [] = []
 rows_in (drawer ∷ drawers) = drawer.1.rows ++ rows_in drawers
 
 -- each drawer has the rows of its collection alone
-abbrev pub Named : List (List ℕ × Held) → Type 0
-Named drawers = Each (λ (drawer : List ℕ × Held). Each (λ (row : Row). row.collection ≡ drawer.0) drawer.1.rows) drawers
+abbrev pub NamesDrawers : List (List ℕ × Held) → Type 0
+NamesDrawers drawers = Each (λ (drawer : List ℕ × Held). Each (λ (row : Row). row.collection ≡ drawer.0) drawer.1.rows) drawers
 
 -- no two drawers are of one collection
 abbrev pub NamesApart : List (List ℕ) → Type 0
@@ -24,7 +25,7 @@ NamesApart names = Pairs (λ (name other : List ℕ). IsFalse (bytes_eq other na
 
 -- a drawer for each collection, what the counts count, sizes that can be counted, and a moment before which no row ends
 pub record IsShelf (drawers : List (List ℕ × Held)) (len total ends : ℕ) : Type 0 where
-  pub named : Named drawers
+  pub named : NamesDrawers drawers
   pub names : NamesApart (keys_of drawers)
   pub len_counts : len ≡ length (rows_in drawers)
   pub total_counts : total ≡ row_bytes (rows_in drawers)

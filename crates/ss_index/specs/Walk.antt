@@ -1,5 +1,6 @@
 -- Rows above a time, those that are enough for a page, and how far a walk over rows has come.
-use Rattle.std.specs.Prelude.{◌≡◌, ◌⊎◌, ℕ, ◌+◌, ◌<◌, ◌≤◌, nat_lt, Bool, true, false, List, [], ◌++◌, length, filter, reverse, Option, option_map}
+use Rattle.std.specs.Prelude.{◌≡◌, ◌⊎◌, ℕ, ◌+◌, ◌<◌, ◌≤◌, nat_lt, Bool, true, false, List, [], ◌++◌, length, filter}
+use Rattle.std.specs.Prelude.{reverse, Option, option_map}
 use Rattle.std.specs.Option.{option_map_or}
 use Rattle.std.specs.Map.{keys_of, values_of}
 use Rattle.ss_bso.specs.declared.rows.Row.{Row}
@@ -35,7 +36,7 @@ pub record Enough (R : Row → Row → Type 0) (end : Option ℕ) (all found : L
   pub cut : (rest ≡ []) ⊎ ((is_past end (length found) ≡ true) × Each (λ (row : Row). Each (R row) rest) found)
 
 -- a walk from the back stands at a place, with these rows found, once it has passed so many, the last at this time
-pub record Walked (query : Query) (nodes : List (ℕ × Row)) (at : Option ℕ) (time : ℕ) (found : List Row) (passed : ℕ) : Type 0 where
+pub record WalkView (query : Query) (nodes : List (ℕ × Row)) (at : Option ℕ) (time : ℕ) (found : List Row) (passed : ℕ) : Type 0 where
   pub before : List (ℕ × Row)
   pub after : List (ℕ × Row)
   pub split : nodes ≡ before ++ after

@@ -1,9 +1,10 @@
 //! The rows of one collection: a map from ids to nodes, and a chain in the order of time.
-ghost use Rattle.std.specs.Prelude.{◌≡◌, ◌+◌, ◌-◌, ◌<◌, ◌≤◌, ◌^◌, ◌++◌, [], ◌∷◌, find, filter, map, drop, count_by, length, None, IfOk, OnOk, OnErr, IsOk, IsTrue};
+ghost use Rattle.std.specs.Prelude.{◌≡◌, ◌+◌, ◌-◌, ◌<◌, ◌≤◌, ◌^◌, ◌++◌, [], ◌∷◌, find, filter, map, drop, count_by};
+ghost use Rattle.std.specs.Prelude.{length, None, IfOk, OnOk, OnErr, IsOk, IsTrue};
 ghost use Rattle.std.specs.Option.{option_copied};
 ghost use Rattle.ss_bso.specs.Account.{is_alive};
 ghost use Rattle.ss_bso.specs.Limits.{row_bytes};
-ghost use Rattle.ss_index.specs.Held.{has_id, rows_but_id, picked, some_rows, IsSized};
+ghost use Rattle.ss_index.specs.Held.{has_id, rows_but_id, picked_row, some_rows, IsSized};
 ghost use Rattle.ss_bso.specs.Write.{is_among};
 ghost use Rattle.ss_text.specs.Texts.{Reordered};
 ghost use Rattle.ss_query.specs.Answer.{answer, answer_of, is_asked};
@@ -270,7 +271,7 @@ impl Drawer {
         query: &Query,
     ) -> Result<(), AllocError>
         ensures { OnOk result (map (λ row. row.now) found.new.items ≡ map (λ row. row.now) found.old.items
-            ++ picked query.now self.now.rows before.now id.now) }
+            ++ picked_row query.now self.now.rows before.now id.now) }
     {
         if is_named(before, id) {
             return Ok(());

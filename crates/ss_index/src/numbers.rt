@@ -1,7 +1,7 @@
 //! What is counted of collections.
 ghost use Rattle.std.specs.Prelude.{◌≡◌, ◌++◌, IfOk, OnOk};
 ghost use Rattle.ss_query.specs.Told.{by_name};
-ghost use Rattle.ss_index.specs.Numbers.{capped, entry_of, measured};
+ghost use Rattle.ss_index.specs.Numbers.{capped, entry_of, measured_rows};
 
 use crate::drawer::Drawer;
 use ss_query::Numbers;
@@ -20,7 +20,7 @@ pub(crate) enum Measure {
 
 impl Measure {
     fn of(self, drawer: &Drawer) -> u64
-        ensures { result ≡ measured self drawer.now.rows }
+        ensures { result ≡ measured_rows self drawer.now.rows }
     {
         match self {
             Measure::Rows => u64::from(drawer.len()),

@@ -1,5 +1,7 @@
 //! The shelf: one account's rows, a drawer for each collection.
-ghost use Rattle.std.specs.Prelude.{◌≡◌, ◌+◌, ◌-◌, ◌<◌, ◌≤◌, ◌^◌, ℕ, List, [], ◌∷◌, ◌++◌, length, map, slice_get, AllPairs, IsFalse, None, cond, filter, fold, count_by, IfOk, IfSome, IsTrue, OnErr, OnOk};
+ghost use Rattle.std.specs.Prelude.{◌≡◌, ◌+◌, ◌-◌, ◌<◌, ◌≤◌, ◌^◌, ℕ, List, [], ◌∷◌, ◌++◌, length, map, slice_get};
+ghost use Rattle.std.specs.Prelude.{AllPairs, IsFalse, None, cond, filter, fold, count_by, IfOk, IfSome, IsTrue, OnErr};
+ghost use Rattle.std.specs.Prelude.{OnOk};
 ghost use Rattle.std.specs.Map.{lookup};
 ghost use Rattle.std.specs.Option.{option_copied, option_to_list};
 ghost use Rattle.std.specs.Str.{bytes_eq};
@@ -13,9 +15,10 @@ ghost use Rattle.ss_bso.specs.Limits.{rows_of, row_bytes};
 ghost use Rattle.ss_query.specs.Answer.{answer, answer_of, picked_ids};
 ghost use Rattle.ss_index.specs.Held.{some_rows};
 ghost use Rattle.ss_index.specs.Layout.{NoLater};
-ghost use Rattle.ss_index.specs.Numbers.{capped, entries_of, measured, per_name};
+ghost use Rattle.ss_index.specs.Numbers.{capped, entries_of, measured_rows, per_name};
 ghost use Rattle.ss_bso.specs.Lists.{Apart, Each, Pairs};
-ghost use Rattle.ss_index.specs.Ready.{applied, change_of, changes_of, puts_in, rows_left, spare_of, CanApply, CanChange, HasKey, InTime, IsLast, IsReady, NotEarlier, NotLater};
+ghost use Rattle.ss_index.specs.Ready.{applied, change_of, changes_of, puts_in, rows_left, spare_of, CanApply};
+ghost use Rattle.ss_index.specs.Ready.{CanChange, HasKey, InTime, IsLast, IsReady, NotEarlier, NotLater};
 ghost use Rattle.ss_index.specs.Shelved.{dropped_names, rows_in, rows_without, NoneEmpty};
 ghost use Rattle.ss_index.specs.Sweep.{AliveTo, HoldsTo, Outlives};
 ghost use Rattle.ss_index.specs.Walk.{is_above};
@@ -213,7 +216,7 @@ impl Shelf {
     }
 
     fn numbers(&self, alloc: Global, measure: Measure) -> Result<Numbers, AllocError>
-        ensures { IfOk result (λ numbers. numbers ≡ per_name (measured measure) (rows_in self.now)) }
+        ensures { IfOk result (λ numbers. numbers ≡ per_name (measured_rows measure) (rows_in self.now)) }
     {
         let mut numbers = Vec::new(alloc);
         for i in 0..self.drawers.len() {

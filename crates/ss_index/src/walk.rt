@@ -1,5 +1,6 @@
 //! Walks over rows in the order of time, from either end.
-ghost use Rattle.std.specs.Prelude.{◌≡◌, ◌+◌, ◌≤◌, ◌++◌, ◌&&◌, [], ◌∷◌, filter, map, nat_lt, reverse, count_by, None, OnOk, IfOk};
+ghost use Rattle.std.specs.Prelude.{◌≡◌, ◌+◌, ◌≤◌, ◌++◌, ◌&&◌, [], ◌∷◌, filter, map, nat_lt, reverse, count_by, None};
+ghost use Rattle.std.specs.Prelude.{OnOk, IfOk};
 ghost use Rattle.std.specs.Map.{values_of};
 ghost use Rattle.ss_query.specs.Answer.{answer, answer_of, is_asked};
 ghost use Rattle.ss_bso.specs.Lists.{OtherId, Pairs};

@@ -7,8 +7,8 @@ use Rattle.ss_keep_sql.specs.declared.faults.FileFault.{FileFault}
 use Rattle.ss_keep_sql.specs.declared.faults.FileFault.TheVariants.{Refused}
 
 -- the versions of tables that are taken: the one that this crate writes, the one without commits, and the one without batches
-abbrev pub IsTaken : ℤ → Type 0
-IsTaken found = (found ≡ VERSION) ⊎ ((found ≡ VERSION_WITHOUT_COMMITS) ⊎ (found ≡ VERSION_WITHOUT_BATCHES))
+abbrev pub IsTakenVersion : ℤ → Type 0
+IsTakenVersion found = (found ≡ VERSION) ⊎ ((found ≡ VERSION_WITHOUT_COMMITS) ⊎ (found ≡ VERSION_WITHOUT_BATCHES))
 
 -- the others
 abbrev pub IsOther : ℤ → Type 0

@@ -1,7 +1,7 @@
 //! Why a database isn't taken as an account's, and why what it holds isn't read or written.
 
 ghost use Rattle.std.specs.Prelude.{◌≡◌, ◌≢◌, ◌↔◌, ℤ, IsOkAnd, IsTrue, IfOk, OnOk, Ok, Err};
-ghost use Rattle.ss_keep_sql.specs.Opening.{HasVersion, IsOther, IsTaken, TellsVersion};
+ghost use Rattle.ss_keep_sql.specs.Opening.{HasVersion, IsOther, IsTakenVersion, TellsVersion};
 
 use crate::places::Place;
 use crate::tables::{VERSION, VERSION_WITHOUT_BATCHES, VERSION_WITHOUT_COMMITS};
@@ -117,9 +117,9 @@ pub(crate) fn fault_of_file(fault: FileFault) -> SqlFault
 
 /// Whether a database is taken of which this version was read, or could not be read.
 pub(crate) fn taken(read: Result<i64, Error>) -> Result<(), SqlFault>
-    ensures ok { OnOk result (IsOkAnd read IsTaken) }
+    ensures ok { OnOk result (IsOkAnd read IsTakenVersion) }
     ensures version { (found : ℤ) → result ≡ Err (SqlFault.Version found) → (read ≡ Ok found) × IsOther found }
-    ensures refused { IfOk read (λ found. IsTaken found → result ≡ Ok tt) }
+    ensures refused { IfOk read (λ found. IsTakenVersion found → result ≡ Ok tt) }
 {
     match read {
         Ok(VERSION | VERSION_WITHOUT_COMMITS | VERSION_WITHOUT_BATCHES) => Ok(()),

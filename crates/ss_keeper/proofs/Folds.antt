@@ -1,5 +1,6 @@
 -- Changes made one after the other, and together.
-use Rattle.std.specs.Prelude.{◌≡◌, ℕ, Bool, true, false, not, cond, ◌&&◌, ◌||◌, List, [], ◌∷◌, ◌++◌, filter, fold, bytes_eq, refl}
+use Rattle.std.specs.Prelude.{◌≡◌, ℕ, Bool, true, false, not, cond, ◌&&◌, ◌||◌, List, [], ◌∷◌, ◌++◌, filter, fold}
+use Rattle.std.specs.Prelude.{bytes_eq, refl}
 use Rattle.std.specs.List.{list_any}
 use Rattle.std.proofs.Common.{sym, ap, ◌∙◌, append_assoc}
 use Rattle.std.proofs.lemmas.List.{append-nil}
@@ -16,7 +17,8 @@ use Rattle.ss_bso.specs.Account.{is_alive}
 use Rattle.ss_bso.specs.Changes.{batches_changed, changed, drops, row_changed, rows_but, time_changed}
 use Rattle.ss_bso.specs.Write.{times_without}
 use Rattle.ss_keeper.specs.Memory.{after_commits}
-use Rattle.ss_keeper.specs.Together.{collection_of, id_of, is_set, is_spared, is_time_spared, is_touched, last_puts, last_times, spared_puts, spared_times, spares, spares_time, touches}
+use Rattle.ss_keeper.specs.Together.{collection_of, id_of, is_set, is_spared, is_time_spared, is_touched, last_puts}
+use Rattle.ss_keeper.specs.Together.{last_times, spared_puts, spared_times, spares, spares_time, touches}
 
 -- two filters are one
 pub filter-both : {X : Type 0} (p q r : X → Bool) → ((x : X) → r x ≡ (q x && p x)) → (xs : List X) → filter p (filter q xs) ≡ filter r xs

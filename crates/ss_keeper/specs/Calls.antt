@@ -1,5 +1,5 @@
 -- How often a keeper is called.
-use Rattle.ss_outside.specs.Plans.{raised}
+use Rattle.ss_outside.specs.Plans.{raised_count}
 use Rattle.ss_keeper.specs.declared.calls.KeeperCalls.{KeeperCalls}
 
 -- of a keeper that was never called
@@ -8,8 +8,8 @@ uncalled = record { loads = 0; commits = 0 }
 
 -- calls, and one more for what it holds; a count stops at the greatest u64
 abbrev pub with_load : KeeperCalls → KeeperCalls
-with_load calls = record calls { loads = raised calls.loads }
+with_load calls = record calls { loads = raised_count calls.loads }
 
 -- calls, and one more to make changes
 abbrev pub with_commit : KeeperCalls → KeeperCalls
-with_commit calls = record calls { commits = raised calls.commits }
+with_commit calls = record calls { commits = raised_count calls.commits }

@@ -9,8 +9,8 @@ use Rattle.ss_keeper.specs.declared.faults.KeepFault.{KeepFault}
 use Rattle.ss_keeper.specs.declared.faults.KeepFault.TheVariants.{Fault}
 
 -- where a keeper tells what it holds, it is this
-abbrev pub IsTold : Kept → Option Kept → Type 0
-IsTold kept told = (x : Kept) → told ≡ Some x → kept ≡ x
+abbrev pub TellsKept : Kept → Option Kept → Type 0
+TellsKept kept told = (x : Kept) → told ≡ Some x → kept ≡ x
 
 -- what is told after changes; what isn't told stays untold
 abbrev pub changed_by : Changes → Option Kept → Option Kept

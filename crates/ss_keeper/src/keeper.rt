@@ -4,7 +4,7 @@ ghost use Rattle.std.specs.Prelude.{◌≡◌, ℕ, Option, IfOk, OnOk, OnErr};
 ghost use Rattle.ss_bso.specs.declared.changes.Kept.{Kept};
 ghost use Rattle.ss_keeper.specs.declared.calls.KeeperCalls.{KeeperCalls};
 ghost use Rattle.ss_keeper.specs.Calls.{with_commit, with_load};
-ghost use Rattle.ss_keeper.specs.Keeping.{HasCause, IsTold, changed_by};
+ghost use Rattle.ss_keeper.specs.Keeping.{HasCause, TellsKept, changed_by};
 
 use crate::faults::KeepFault;
 use ss_bso::{Changes, Kept};
@@ -23,7 +23,7 @@ pub trait Keeper {
 
     /// Gives what is held, and leaves it.
     fn load(&mut self, alloc: Global) -> Result<Kept, KeepFault>
-        ensures kept { IfOk result (λ kept. IsTold kept (told self.old)) }
+        ensures kept { IfOk result (λ kept. TellsKept kept (told self.old)) }
         ensures left { told self.new ≡ told self.old }
         ensures cause { HasCause (keep_faults self.old) (keep_faults self.new) result }
         ensures called { calls self.new ≡ with_load (calls self.old) };

@@ -3,7 +3,8 @@
 ghost use Rattle.std.specs.Prelude.{◌≡◌, ◌&&◌, ◌||◌, ◌++◌, max, not, IfOk, OnOk, Some, None, true, [], filter, reverse};
 ghost use Rattle.std.specs.Option.{option_map_or};
 ghost use Rattle.ss_bso.specs.declared.rows.Row.{Row};
-ghost use Rattle.ss_keeper.specs.Together.{collection_of, id_of, is_held, is_spared, is_touched, last_puts, leaves, spared_puts, spares, touches, with_put};
+ghost use Rattle.ss_keeper.specs.Together.{collection_of, id_of, is_held, is_spared, is_touched, last_puts, leaves};
+ghost use Rattle.ss_keeper.specs.Together.{spared_puts, spares, touches, with_put};
 
 use crate::names::{has_name, note_drops};
 use ss_bso::{Changes, Row, RowChange};

@@ -2,7 +2,8 @@
 //! collections.
 
 ghost use Rattle.std.specs.Prelude.{◌≡◌, ◌&&◌, ◌||◌, ◌++◌, not, true, ℕ, List, [], IfOk, OnOk, filter, reverse};
-ghost use Rattle.ss_keeper.specs.Together.{is_named, is_set, is_time_spared, last_times, leaves_time, sets, spared_times, spares_time, with_time};
+ghost use Rattle.ss_keeper.specs.Together.{is_named, is_set, is_time_spared, last_times, leaves_time, sets};
+ghost use Rattle.ss_keeper.specs.Together.{spared_times, spares_time, with_time};
 
 use crate::names::{has_name, note_drops};
 use ss_bso::{Changes, CollectionChange};

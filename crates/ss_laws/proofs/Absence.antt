@@ -1,5 +1,6 @@
 -- The condition that a target isn't there.
-use Rattle.std.specs.Prelude.{◌≡◌, ◌↔◌, ℕ, Bool, true, false, ◌&&◌, nat_le, nat_lt, List, [], ◌∷◌, Option, Some, None, option_map, is_none, is_some, if◌then◌else◌, refl}
+use Rattle.std.specs.Prelude.{◌≡◌, ◌↔◌, ℕ, Bool, true, false, ◌&&◌, nat_le, nat_lt, List, [], ◌∷◌, Option, Some, None}
+use Rattle.std.specs.Prelude.{option_map, is_none, is_some, if◌then◌else◌, refl}
 use Rattle.std.proofs.Common.{ap, arith, sym, cond, ◌∙◌}
 use Rattle.ss_text.specs.Time.{last_stamp, stops}
 use Rattle.ss_text.specs.declared.stamps.Cond.{Cond}
@@ -7,13 +8,17 @@ use Rattle.ss_text.specs.declared.stamps.Cond.TheVariants.{IfAbsent, IfUnmodifie
 use Rattle.ss_bso.specs.declared.account.Plain.{Plain}
 use Rattle.ss_bso.specs.Account.{tick, row_at}
 use Rattle.ss_query.specs.declared.requests.Request.{Request}
-use Rattle.ss_query.specs.declared.requests.Request.TheVariants.{Info, DeleteAll, List as ListOf, Post, DeleteCollection, DeleteIds, Put, Get as GetItem, Delete as DeleteItem}
+use Rattle.ss_query.specs.declared.requests.Request.TheVariants.{Info, DeleteAll, List as ListOf, Post}
+use Rattle.ss_query.specs.declared.requests.Request.TheVariants.{DeleteCollection, DeleteIds, Put, Get as GetItem}
+use Rattle.ss_query.specs.declared.requests.Request.TheVariants.{Delete as DeleteItem}
 use Rattle.ss_query.specs.declared.requests.Mode.{Mode}
 use Rattle.ss_query.specs.declared.requests.Mode.TheVariants.{Plain as PlainPost, Begin, Append, Commit}
-use Rattle.ss_query.specs.Refused.{Refusal, NoItem, NotModified, WasModified, NoMoreBatches, NoBatch, BatchFull, ClockEnded, AccountFull, status_of, is_there, target_time, with_condition}
+use Rattle.ss_query.specs.Refused.{Refusal, NoItem, NotModified, WasModified, NoMoreBatches, NoBatch, BatchFull}
+use Rattle.ss_query.specs.Refused.{ClockEnded, AccountFull, status_of, is_there, target_time, with_condition}
 use Rattle.ss_query.specs.Effect.{effect, is_write, is_over}
 use Rattle.ss_query.specs.Told.{ok_status, post_status}
-use Rattle.ss_query.specs.Api.{Outcome, api, first_some, lacks_room, misses_batch, misses_item, outcome, overfills_batch, refusal, where_so, why_stopped}
+use Rattle.ss_query.specs.Api.{Outcome, api, first_some, lacks_room, misses_batch, misses_item, outcome}
+use Rattle.ss_query.specs.Api.{overfills_batch, refusal, where_so, why_stopped}
 use Rattle.ss_laws.specs.Laws.{AbsenceLaw}
 
 -- the refusals behind that by the condition

@@ -1,5 +1,6 @@
 -- A commit that isn't refused does what one plain POST of its batch's parts and its own does.
-use Rattle.std.specs.Prelude.{◌≡◌, ℕ, Bool, true, false, ◌&&◌, cond, List, [], ◌∷◌, ◌++◌, Option, Some, None, nat_le, refl}
+use Rattle.std.specs.Prelude.{◌≡◌, ℕ, Bool, true, false, ◌&&◌, cond, List, [], ◌∷◌, ◌++◌, Option, Some, None, nat_le}
+use Rattle.std.specs.Prelude.{refl}
 use Rattle.std.proofs.Common.{ap, sym, subst, ◌∙◌}
 use Rattle.ss_text.specs.Time.{last_stamp}
 use Rattle.ss_text.specs.declared.stamps.Cond.{Cond}
@@ -10,9 +11,11 @@ use Rattle.ss_bso.specs.declared.account.Staged.{Staged}
 use Rattle.ss_query.specs.declared.requests.Request.{Request}
 use Rattle.ss_query.specs.declared.requests.Request.TheVariants.{Post}
 use Rattle.ss_query.specs.declared.requests.Mode.TheVariants.{Plain as PlainPost, Commit}
-use Rattle.ss_query.specs.Refused.{Refusal, NoItem, NoMoreBatches, NoBatch, BatchFull, ClockEnded, AccountFull, staged_parts}
+use Rattle.ss_query.specs.Refused.{Refusal, NoItem, NoMoreBatches, NoBatch, BatchFull, ClockEnded, AccountFull}
+use Rattle.ss_query.specs.Refused.{staged_parts}
 use Rattle.ss_query.specs.Effect.{effect, is_write, is_over}
-use Rattle.ss_query.specs.Api.{refusal, first_some, where_so, misses_item, condition_cause, lacks_room, misses_batch, overfills_batch}
+use Rattle.ss_query.specs.Api.{refusal, first_some, where_so, misses_item, condition_cause, lacks_room, misses_batch}
+use Rattle.ss_query.specs.Api.{overfills_batch}
 use Rattle.ss_laws.proofs.Shown.{Shown, shown, account_of, shown-write_some}
 
 -- a list of causes of which none applies

@@ -1,5 +1,6 @@
 -- A commit is answered 200 exactly where nothing stands against it.
-use Rattle.std.specs.Prelude.{◌≡◌, ℕ, ◌<◌, Bool, true, false, ◌&&◌, List, Option, Some, None, option_map, is_none, IsSome, nat_le, refl}
+use Rattle.std.specs.Prelude.{◌≡◌, ℕ, ◌<◌, Bool, true, false, ◌&&◌, List, Option, Some, None, option_map, is_none}
+use Rattle.std.specs.Prelude.{IsSome, nat_le, refl}
 use Rattle.std.proofs.Common.{ap, arith}
 use Rattle.std.proofs.lemmas.Bool.Decides.{nat_tests}
 use Rattle.ss_text.specs.Time.{last_stamp, stops}
@@ -11,7 +12,8 @@ use Rattle.ss_bso.specs.Validity.{IsWithinLimits}
 use Rattle.ss_query.specs.declared.requests.Request.{Request}
 use Rattle.ss_query.specs.declared.requests.Request.TheVariants.{Post}
 use Rattle.ss_query.specs.declared.requests.Mode.TheVariants.{Commit}
-use Rattle.ss_query.specs.Refused.{Refusal, NoItem, NotModified, WasModified, NoMoreBatches, NoBatch, BatchFull, ClockEnded, AccountFull, collection_time, is_listed, batch_of}
+use Rattle.ss_query.specs.Refused.{Refusal, NoItem, NotModified, WasModified, NoMoreBatches, NoBatch, BatchFull}
+use Rattle.ss_query.specs.Refused.{ClockEnded, AccountFull, collection_time, is_listed, batch_of}
 use Rattle.ss_query.specs.Effect.{effect, is_write, is_over}
 use Rattle.ss_query.specs.Api.{refusal, outcome, why_stopped}
 use Rattle.ss_laws.specs.Laws.{MayCommit, CommitLaw}

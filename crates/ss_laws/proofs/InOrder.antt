@@ -1,6 +1,6 @@
 -- The sorted list has the same elements, and they stand in order.
 use Rattle.std.specs.Prelude.{◌≡◌, Bool, true, false, cond, List, [], ◌∷◌, refl}
-use Rattle.ss_text.specs.Texts.{Reordered, nothing, head, swapped, chain, placed, sorted}
+use Rattle.ss_text.specs.Texts.{Reordered, nothing, head, swapped, chain, list_with, sorted}
 use Rattle.ss_bso.specs.declared.rows.Row.{Row}
 use Rattle.ss_query.specs.declared.requests.Sort.{Sort}
 use Rattle.ss_query.specs.Answer.{comes_before}
@@ -13,10 +13,10 @@ use Rattle.std.proofs.lemmas.List.Sorted.{ranks_by}
 use Rattle.std.specs.Prelude.{IsFalse}
 use Rattle.ss_laws.specs.Laws.{SortLaw}
 
-reordered-placed : {X : Type 0} (before : X → X → Bool) (x : X) (ys : List X) → Reordered (x ∷ ys) (placed before x ys)
+reordered-placed : {X : Type 0} (before : X → X → Bool) (x : X) (ys : List X) → Reordered (x ∷ ys) (list_with before x ys)
 reordered-placed before x [] = head x nothing
 reordered-placed before x (y ∷ ys) =
-    elim (before y x) as (λ v. Reordered (x ∷ y ∷ ys) (cond v (y ∷ placed before x ys) (x ∷ y ∷ ys)))
+    elim (before y x) as (λ v. Reordered (x ∷ y ∷ ys) (cond v (y ∷ list_with before x ys) (x ∷ y ∷ ys)))
     [ true ↦ chain (swapped x y ys) (head y (reordered-placed before x ys)) | false ↦ reordered-refl (x ∷ y ∷ ys) ]
 
 pub reordered-sorted : {X : Type 0} (before : X → X → Bool) (xs : List X) → Reordered xs (sorted before xs)
@@ -28,10 +28,10 @@ abbrev pub NotAfter : {X : Type 0} → (X → X → Bool) → X → X → Type 0
 NotAfter before x y = IsFalse (before y x)
 
 module _ {X : Type 0} (before : X → X → Bool) (order : IsStrictWeakOrder before) where
-  in_order-placed : (x : X) (ys : List X) → Pairs (NotAfter before) ys → Pairs (NotAfter before) (placed before x ys)
+  in_order-placed : (x : X) (ys : List X) → Pairs (NotAfter before) ys → Pairs (NotAfter before) (list_with before x ys)
   in_order-placed x [] e = (tt, tt)
   in_order-placed x (y ∷ ys) e =
-      elim (before y x) as (λ v. before y x ≡ v → Pairs (NotAfter before) (cond v (y ∷ placed before x ys) (x ∷ y ∷ ys))) [
+      elim (before y x) as (λ v. before y x ≡ v → Pairs (NotAfter before) (cond v (y ∷ list_with before x ys) (x ∷ y ∷ ys))) [
         | true ↦ (λ t. (Each-reordered (NotAfter before y) (reordered-placed before x ys) (order.one_way y x t, e.0), in_order-placed x ys e.1))
         | false ↦ (λ t. ((t, Each-imp (NotAfter before y) (NotAfter before x) (λ z h. order.chain z y x h t) ys e.0), e))
       ] refl

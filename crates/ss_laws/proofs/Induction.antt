@@ -1,5 +1,6 @@
 -- The batch law, by induction on the list of asks.
-use Rattle.std.specs.Prelude.{◌≡◌, ◌≢◌, ℕ, ◌≤◌, Bool, false, cond, List, [], ◌∷◌, ◌++◌, Option, Some, None, IsTrue, flat_map, refl, if◌then◌else◌, ◌==◌}
+use Rattle.std.specs.Prelude.{◌≡◌, ◌≢◌, ℕ, ◌≤◌, Bool, false, cond, List, [], ◌∷◌, ◌++◌, Option, Some, None, IsTrue}
+use Rattle.std.specs.Prelude.{flat_map, refl, if◌then◌else◌, ◌==◌}
 use Rattle.std.specs.List.{AllZip}
 use Rattle.std.specs.Option.{option_map_or}
 use Rattle.std.proofs.Common.{ap, sym, ◌∙◌, arith}
@@ -12,15 +13,19 @@ use Rattle.ss_bso.specs.declared.account.Staged.{Staged}
 use Rattle.ss_bso.specs.Account.{tick, is_open}
 use Rattle.ss_bso.specs.Validity.{IsValid, IsValidBatch}
 use Rattle.ss_query.specs.declared.requests.Request.{Request}
-use Rattle.ss_query.specs.declared.requests.Request.TheVariants.{Info, DeleteAll, List as ListOf, Post, DeleteCollection, DeleteIds, Get, Put, Delete}
+use Rattle.ss_query.specs.declared.requests.Request.TheVariants.{Info, DeleteAll, List as ListOf, Post}
+use Rattle.ss_query.specs.declared.requests.Request.TheVariants.{DeleteCollection, DeleteIds, Get, Put, Delete}
 use Rattle.ss_query.specs.declared.requests.Mode.TheVariants.{Plain as PlainPost, Begin, Append, Commit}
-use Rattle.ss_query.specs.Refused.{Refusal, NoItem, NotModified, WasModified, NoMoreBatches, NoBatch, BatchFull, ClockEnded, AccountFull, staged_parts}
+use Rattle.ss_query.specs.Refused.{Refusal, NoItem, NotModified, WasModified, NoMoreBatches, NoBatch, BatchFull}
+use Rattle.ss_query.specs.Refused.{ClockEnded, AccountFull, staged_parts}
 use Rattle.ss_query.specs.Api.{refusal, outcome}
-use Rattle.ss_query.specs.Flat.{Ask, Turn, after_ask, reply_to, after_all, turns, gathered, is_answered_200, flat_request, flat_ask, flat_after}
-use Rattle.ss_laws.specs.Laws.{is_of_batch, is_outside, AreCounted, BatchLaw}
+use Rattle.ss_query.specs.Flat.{Ask, Turn, after_ask, reply_to, after_all, turns, gathered_parts, is_answered_200}
+use Rattle.ss_query.specs.Flat.{flat_request, flat_ask, flat_after}
+use Rattle.ss_laws.specs.Laws.{is_of_batch, is_outside, HaveCountedBatches, BatchLaw}
 use Rattle.ss_laws.proofs.Shown.{Shown, shown, api-shown, tick-shown}
 use Rattle.ss_laws.proofs.Commit.{plain_post, commits, passes}
-use Rattle.ss_laws.proofs.Staging.{Gathers, IsGathered, gathers-filter, gathers-quiet, gathers-turned, found, turn_of, differ, agree}
+use Rattle.ss_laws.proofs.Staging.{Gathers, IsGathered, gathers-filter, gathers-quiet, gathers-turned, found, turn_of}
+use Rattle.ss_laws.proofs.Staging.{differ, agree}
 use Rattle.ss_bso.proofs.Lists.{All-from_Each, Each-imp, Each-and, Each-from_All, Pairs-from_AllPairs}
 use Rattle.ss_bso.specs.Lists.{Each, Pairs}
 
@@ -103,8 +108,8 @@ steps-outside parts_for one other now request same outside =
 
 steps-request : (opening : Plain) (past : List Turn) (one other : Plain) (now : ℕ) (request : Request) → shown one ≡ shown other
     → Gathers opening past one.counter one.batches
-    → Steps one other (record { now = now; request = Some request }) (flat_ask (gathered opening past) (turn_at one (record { now = now; request = Some request })))
-steps-request opening past one other now (Post collection records PlainPost cond) same g = steps-outside (gathered opening past) one other now (Post collection records PlainPost cond) same refl
+    → Steps one other (record { now = now; request = Some request }) (flat_ask (gathered_parts opening past) (turn_at one (record { now = now; request = Some request })))
+steps-request opening past one other now (Post collection records PlainPost cond) same g = steps-outside (gathered_parts opening past) one other now (Post collection records PlainPost cond) same refl
 steps-request opening past one other now (Post collection records Begin cond) same g = record {
   account = shown-staging (tick one now) collection records cond (refusal (tick one now) (Post collection records Begin cond)) ∙ tick-shown one other now same;
   reply = λ h. cc;
@@ -114,25 +119,25 @@ steps-request opening past one other now (Post collection records (Append number
   reply = λ h. cc;
 }
 steps-request opening past one other now (Post collection records (Commit number) cond) same g = record {
-  account = shown-committing (gathered opening past) (tick one now) (tick other now) now collection records number cond
+  account = shown-committing (gathered_parts opening past) (tick one now) (tick other now) now collection records number cond
       (refusal (tick one now) (Post collection records (Commit number) cond)) refl (tick-shown one other now same)
       (λ none. (found opening past (tick one now) collection number (passes (tick one now) (Post collection records (Commit number) cond) none).batch
       (gathers-filter opening past one.counter (is_open (tick one now).moment) one.batches g)).are);
   reply = λ h. cc;
 }
-steps-request opening past one other now (Info what cond) same g = steps-outside (gathered opening past) one other now (Info what cond) same refl
-steps-request opening past one other now (DeleteAll cond) same g = steps-outside (gathered opening past) one other now (DeleteAll cond) same refl
-steps-request opening past one other now (ListOf collection query cond) same g = steps-outside (gathered opening past) one other now (ListOf collection query cond) same refl
-steps-request opening past one other now (DeleteCollection collection cond) same g = steps-outside (gathered opening past) one other now (DeleteCollection collection cond) same refl
-steps-request opening past one other now (DeleteIds collection ids cond) same g = steps-outside (gathered opening past) one other now (DeleteIds collection ids cond) same refl
-steps-request opening past one other now (Get collection id cond) same g = steps-outside (gathered opening past) one other now (Get collection id cond) same refl
-steps-request opening past one other now (Put collection id fields cond) same g = steps-outside (gathered opening past) one other now (Put collection id fields cond) same refl
-steps-request opening past one other now (Delete collection id cond) same g = steps-outside (gathered opening past) one other now (Delete collection id cond) same refl
+steps-request opening past one other now (Info what cond) same g = steps-outside (gathered_parts opening past) one other now (Info what cond) same refl
+steps-request opening past one other now (DeleteAll cond) same g = steps-outside (gathered_parts opening past) one other now (DeleteAll cond) same refl
+steps-request opening past one other now (ListOf collection query cond) same g = steps-outside (gathered_parts opening past) one other now (ListOf collection query cond) same refl
+steps-request opening past one other now (DeleteCollection collection cond) same g = steps-outside (gathered_parts opening past) one other now (DeleteCollection collection cond) same refl
+steps-request opening past one other now (DeleteIds collection ids cond) same g = steps-outside (gathered_parts opening past) one other now (DeleteIds collection ids cond) same refl
+steps-request opening past one other now (Get collection id cond) same g = steps-outside (gathered_parts opening past) one other now (Get collection id cond) same refl
+steps-request opening past one other now (Put collection id fields cond) same g = steps-outside (gathered_parts opening past) one other now (Put collection id fields cond) same refl
+steps-request opening past one other now (Delete collection id cond) same g = steps-outside (gathered_parts opening past) one other now (Delete collection id cond) same refl
 
 steps : (opening : Plain) (past : List Turn) (one other : Plain) (ask : Ask) → shown one ≡ shown other → Gathers opening past one.counter one.batches
-    → Steps one other ask (flat_ask (gathered opening past) (turn_at one ask))
+    → Steps one other ask (flat_ask (gathered_parts opening past) (turn_at one ask))
 steps opening past one other ask same g =
-    elim ask.request as (λ request. let at : Ask = record { now = ask.now; request = request } in Steps one other at (flat_ask (gathered opening past) (turn_at one at))) [
+    elim ask.request as (λ request. let at : Ask = record { now = ask.now; request = request } in Steps one other at (flat_ask (gathered_parts opening past) (turn_at one at))) [
       | None ↦ record { account = tick-shown one other ask.now same; reply = λ _. refl }
       | Some request ↦ steps-request opening past one other ask.now request same g
     ]
@@ -146,7 +151,7 @@ runs : (opening : Plain) (past : List Turn) (one other : Plain) (asks : List Ask
 runs opening past one other [] same g = record { account = same; replies = tt }
 runs opening past one other (ask ∷ asks) same g =
     let step = steps opening past one other ask same g in
-    let rest = runs opening (past ++ turn_at one ask ∷ []) (after_ask one ask) (after_ask other (flat_ask (gathered opening past) (turn_at one ask))) asks step.account (gathers-ask opening past one ask g) in
+    let rest = runs opening (past ++ turn_at one ask ∷ []) (after_ask one ask) (after_ask other (flat_ask (gathered_parts opening past) (turn_at one ask))) asks step.account (gathers-ask opening past one ask g) in
     record { account = rest.account; replies = (step.reply, rest.replies) }
 
 -- the parts that a list of batches has for a number
@@ -169,7 +174,7 @@ listed-each (batch ∷ batches) p = (
 )
 
 -- at the opening each batch has what was gathered for it, since numbers are distinct and were given out
-starts : (opening : Plain) → AreCounted opening → Gathers opening [] opening.counter opening.batches
+starts : (opening : Plain) → HaveCountedBatches opening → Gathers opening [] opening.counter opening.batches
 starts opening valid =
     let IsCounted : Staged → Type 0 = λ batch. batch.number ≤ opening.counter in
     let counted : Each IsCounted opening.batches = Each-from_All IsCounted opening.batches valid.counted in
@@ -183,7 +188,7 @@ starts opening valid =
     }
 
 -- the batches of a valid account are so
-pub valid-counted : (account : Plain) → IsValid account → AreCounted account
+pub valid-counted : (account : Plain) → IsValid account → HaveCountedBatches account
 valid-counted account valid = record {
   numbers = valid.numbers;
   counted = All-from_Each (λ (batch : Staged). batch.number ≤ account.counter) account.batches
@@ -191,7 +196,7 @@ valid-counted account valid = record {
       (Each-from_All (IsValidBatch account) account.batches valid.batches));
 }
 
-pub batch_law : (opening : Plain) (asks : List Ask) → AreCounted opening → BatchLaw opening asks
+pub batch_law : (opening : Plain) (asks : List Ask) → HaveCountedBatches opening → BatchLaw opening asks
 batch_law opening asks valid =
     let all = runs opening [] opening opening asks refl (starts opening valid) in
     record {

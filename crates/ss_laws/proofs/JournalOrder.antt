@@ -14,18 +14,18 @@ use Rattle.ss_laws.specs.declared.journal.Entry.{Entry}
 use Rattle.ss_laws.specs.Journal.{Journal}
 use Rattle.ss_query.specs.Fit.{IsFitRequest}
 use Rattle.ss_laws.specs.Laws.{SameOutcome}
-use Rattle.ss_laws.specs.Journals.{failed, marked, entered, account_after, reply_at, IsLegal}
+use Rattle.ss_laws.specs.Journals.{failed_outcome, marked_outcome, entry_outcome, account_after, reply_at, IsLegal}
 use Rattle.ss_bso.proofs.Lists.{Each-from_All}
 use Rattle.ss_bso.specs.Lists.{Each}
 use Rattle.ss_laws.proofs.Journals.{valid-marked, Each-take, valid-account_after}
 use Rattle.ss_laws.proofs.SameApi.{order_law, tick-same}
 
-failed-same : (one other : Plain) (now status : ℕ) (word : Word) → SameAccount one other → SameOutcome (failed one now status word) (failed other now status word)
+failed-same : (one other : Plain) (now status : ℕ) (word : Word) → SameAccount one other → SameOutcome (failed_outcome one now status word) (failed_outcome other now status word)
 failed-same one other now status word s =
     let t = tick-same one other now s in
     record { account = t; reply = λ i. record { status = status; moment = t.moment i; modified = None; count = None; next = None; body = Said word } }
 
-pub marked-same : (one other : Plain) (now : ℕ) (request : Request) (mark : Mark) → IsValid one → SameAccount one other → SameOutcome (marked one now request mark) (marked other now request mark)
+pub marked-same : (one other : Plain) (now : ℕ) (request : Request) (mark : Mark) → IsValid one → SameAccount one other → SameOutcome (marked_outcome one now request mark) (marked_outcome other now request mark)
 marked-same one other now request Done valid s = order_law one other now request valid s
 marked-same one other now request Keeper valid s = failed-same one other now 503 KeeperWord s
 marked-same one other now request Memory valid s = failed-same one other now 507 MemoryWord s
@@ -33,10 +33,10 @@ marked-same one other now request Memory valid s = failed-same one other now 507
 after-same : (one other : Plain) (entries : List Entry) → Each (λ (entry : Entry). IsFitRequest entry.request) entries → IsValid one → SameAccount one other → SameAccount (account_after one entries) (account_after other entries)
 after-same one other [] fit valid s = s
 after-same one other (entry ∷ entries) fit valid s =
-    after-same (entered one entry).account (entered other entry).account entries fit.1 (valid-marked one entry.now entry.request entry.mark fit.0 valid)
+    after-same (entry_outcome one entry).account (entry_outcome other entry).account entries fit.1 (valid-marked one entry.now entry.request entry.mark fit.0 valid)
     (marked-same one other entry.now entry.request entry.mark valid s).account
 
-found-same : (one other : Plain) (found : Option Entry) → IsValid one → SameAccount one other → option_map (λ (entry : Entry). (entered one entry).reply) found ≡ option_map (λ (entry : Entry). (entered other entry).reply) found
+found-same : (one other : Plain) (found : Option Entry) → IsValid one → SameAccount one other → option_map (λ (entry : Entry). (entry_outcome one entry).reply) found ≡ option_map (λ (entry : Entry). (entry_outcome other entry).reply) found
 found-same one other None valid s = refl
 found-same one other (Some entry) valid s = ap (λ (reply : Reply). Some reply) (marked-same one other entry.now entry.request entry.mark valid s).reply
 

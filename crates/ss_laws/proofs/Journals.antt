@@ -10,7 +10,7 @@ use Rattle.ss_query.specs.declared.requests.Request.{Request}
 use Rattle.ss_laws.specs.declared.journal.Entry.{Entry}
 use Rattle.ss_laws.specs.Journal.{Journal}
 use Rattle.ss_query.specs.Fit.{IsFitRequest}
-use Rattle.ss_laws.specs.Journals.{marked, entered, account_after, reply_at, IsLegal}
+use Rattle.ss_laws.specs.Journals.{marked_outcome, entry_outcome, account_after, reply_at, IsLegal}
 use Rattle.ss_bso.proofs.Lists.{Each-from_All}
 use Rattle.ss_bso.specs.Lists.{Each}
 use Rattle.ss_laws.proofs.Valid.{valid-tick, valid-api}
@@ -28,12 +28,12 @@ get-front (x ∷ xs) (suc k) = get-front xs k
 
 -- the reply at a place of a list of entries
 abbrev reply_in : Plain → ℕ → List Entry → List Entry → Option Reply
-reply_in opening place before entries = option_map (λ (entry : Entry). (entered (account_after opening (take place before)) entry).reply) (slice_get entries place)
+reply_in opening place before entries = option_map (λ (entry : Entry). (entry_outcome (account_after opening (take place before)) entry).reply) (slice_get entries place)
 
 reply_at-front : (journal : Journal) (place : ℕ) → reply_in journal.opening place (take (suc place) journal.entries) (take (suc place) journal.entries) ≡ reply_at journal place
 reply_at-front journal place =
-    ap (λ entries. option_map (λ (entry : Entry). (entered (account_after journal.opening entries) entry).reply) (slice_get (take (suc place) journal.entries) place)) (take-front journal.entries place)
-    ∙ ap (λ found. option_map (λ (entry : Entry). (entered (account_after journal.opening (take place journal.entries)) entry).reply) found) (get-front journal.entries place)
+    ap (λ entries. option_map (λ (entry : Entry). (entry_outcome (account_after journal.opening entries) entry).reply) (slice_get (take (suc place) journal.entries) place)) (take-front journal.entries place)
+    ∙ ap (λ found. option_map (λ (entry : Entry). (entry_outcome (account_after journal.opening (take place journal.entries)) entry).reply) found) (get-front journal.entries place)
 
 pub reply_at-alone : (one other : Journal) (place : ℕ) → one.opening ≡ other.opening → take (place + 1) one.entries ≡ take (place + 1) other.entries → reply_at one place ≡ reply_at other place
 reply_at-alone one other place opening front =
@@ -43,14 +43,14 @@ reply_at-alone one other place opening front =
     ∙ ap (λ entries. reply_in other.opening place entries entries) e
     ∙ reply_at-front other place
 
-pub valid-marked : (account : Plain) (now : ℕ) (request : Request) (mark : Mark) → IsFitRequest request → IsValid account → IsValid (marked account now request mark).account
+pub valid-marked : (account : Plain) (now : ℕ) (request : Request) (mark : Mark) → IsFitRequest request → IsValid account → IsValid (marked_outcome account now request mark).account
 valid-marked account now request Done fit valid = valid-api account now request valid fit
 valid-marked account now request Keeper fit valid = valid-tick account now valid
 valid-marked account now request Memory fit valid = valid-tick account now valid
 
 valid-after : (opening : Plain) (entries : List Entry) → Each (λ (entry : Entry). IsFitRequest entry.request) entries → IsValid opening → IsValid (account_after opening entries)
 valid-after opening [] fit valid = valid
-valid-after opening (entry ∷ entries) fit valid = valid-after (entered opening entry).account entries fit.1 (valid-marked opening entry.now entry.request entry.mark fit.0 valid)
+valid-after opening (entry ∷ entries) fit valid = valid-after (entry_outcome opening entry).account entries fit.1 (valid-marked opening entry.now entry.request entry.mark fit.0 valid)
 
 pub Each-take : {X : Type 0} (P : X → Type 0) (k : ℕ) (xs : List X) → Each P xs → Each P (take k xs)
 Each-take P zero [] e = tt

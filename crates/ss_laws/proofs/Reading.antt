@@ -1,5 +1,6 @@
 -- What a write of a list leaves at each place.
-use Rattle.std.specs.Prelude.{◌≡◌, ◌≢◌, ℕ, Bool, true, false, not, ◌&&◌, ◌||◌, cond, List, [], ◌∷◌, ◌++◌, Option, Some, None, find, filter, filter_map, map, bytes_eq, refl}
+use Rattle.std.specs.Prelude.{◌≡◌, ◌≢◌, ℕ, Bool, true, false, not, ◌&&◌, ◌||◌, cond, List, [], ◌∷◌, ◌++◌, Option, Some}
+use Rattle.std.specs.Prelude.{None, find, filter, filter_map, map, bytes_eq, refl}
 use Rattle.std.specs.List.{cons_option}
 use Rattle.std.proofs.Common.{subst, sym, ap, ◌∙◌}
 use Rattle.ss_text.specs.Texts.{Reordered, chain, once_by}
@@ -16,7 +17,8 @@ use Rattle.ss_bso.proofs.Reordering.{reordered-append_right, reordered-filter}
 use Rattle.ss_bso.proofs.SameRows.{same_rows, row-same}
 use Rattle.ss_bso.specs.Lists.{Pairs, Apart}
 use Rattle.ss_laws.proofs.Written.{IsNamed, made, made_named, places-written}
-use Rattle.ss_text.proofs.Basics.{and_false, or_false, both_left, both_right, neither_left, neither_right, bytes_eq-sym, same_text, bytes_eq-same}
+use Rattle.ss_text.proofs.Basics.{and_false, or_false, both_left, both_right, neither_left, neither_right, bytes_eq-sym}
+use Rattle.ss_text.proofs.Basics.{same_text, bytes_eq-same}
 use Rattle.std.proofs.lemmas.Bool.{and_from, not-false, not-true}
 
 -- an id stands among ids as often once as in all of them

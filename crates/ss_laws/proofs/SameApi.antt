@@ -1,5 +1,7 @@
 -- The API over accounts that are the same but for the order of their lists.
-use Rattle.std.specs.Prelude.{◌≡◌, ◌≢◌, ℕ, ◌+◌, max, Bool, true, false, not, ◌&&◌, ◌||◌, cond, nat_le, nat_lt, ◌==◌, List, [], ◌∷◌, ◌++◌, length, map, filter, filter_map, Option, Some, None, is_none, is_some, option_map, unwrap_or, bytes_eq, refl}
+use Rattle.std.specs.Prelude.{◌≡◌, ◌≢◌, ℕ, ◌+◌, max, Bool, true, false, not, ◌&&◌, ◌||◌, cond, nat_le, nat_lt, ◌==◌}
+use Rattle.std.specs.Prelude.{List, [], ◌∷◌, ◌++◌, length, map, filter, filter_map, Option, Some, None, is_none}
+use Rattle.std.specs.Prelude.{is_some, option_map, unwrap_or, bytes_eq, refl}
 use Rattle.std.specs.Option.{option_map_or}
 use Rattle.std.proofs.Common.{subst, sym, ap, ◌∙◌}
 use Rattle.ss_text.specs.Time.{after, last_stamp, stops}
@@ -15,23 +17,31 @@ use Rattle.ss_bso.specs.Limits.{most_live_batches, most_rows_and_collections, mo
 use Rattle.ss_bso.specs.Validity.{IsValid, SameAccount}
 use Rattle.ss_bso.specs.Write.{ids_of, parts_of, is_among, put_all, stamped, write, rows_without, rows_written}
 use Rattle.ss_query.specs.declared.requests.Request.{Request}
-use Rattle.ss_query.specs.declared.requests.Request.TheVariants.{Info, DeleteAll, List as ListOf, Post, DeleteCollection, DeleteIds, Get, Put, Delete}
+use Rattle.ss_query.specs.declared.requests.Request.TheVariants.{Info, DeleteAll, List as ListOf, Post}
+use Rattle.ss_query.specs.declared.requests.Request.TheVariants.{DeleteCollection, DeleteIds, Get, Put, Delete}
 use Rattle.ss_query.specs.declared.requests.Mode.{Mode}
 use Rattle.ss_query.specs.declared.requests.Mode.TheVariants.{Plain as PlainPost, Begin, Append, Commit}
 use Rattle.ss_query.specs.declared.requests.Query.{Query}
 use Rattle.ss_query.specs.declared.requests.Info.{Info as InfoKind}
 use Rattle.ss_query.specs.declared.requests.Info.TheVariants.{Collections, Counts, Usage, Quota, Configuration}
 use Rattle.ss_query.specs.declared.replies.Picked.{Picked}
-use Rattle.ss_query.specs.declared.replies.Body.TheVariants.{Times, Counts as CountsBody, Usage as UsageBody, Quota as QuotaBody, Staged as StagedBody, One, Empty}
+use Rattle.ss_query.specs.declared.replies.Body.TheVariants.{Times, Counts as CountsBody, Usage as UsageBody}
+use Rattle.ss_query.specs.declared.replies.Body.TheVariants.{Quota as QuotaBody, Staged as StagedBody, One, Empty}
 use Rattle.ss_bso.specs.Batches.{fit}
-use Rattle.ss_query.specs.Refused.{Refusal, NoItem, NoMoreBatches, NoBatch, BatchFull, ClockEnded, AccountFull, status_of, said_by, time_shown, condition_of, is_there, is_listed, has_item, target_time, collection_time, item_time, batch_of, staged_parts, continued, begins}
+use Rattle.ss_query.specs.Refused.{Refusal, NoItem, NoMoreBatches, NoBatch, BatchFull, ClockEnded, AccountFull}
+use Rattle.ss_query.specs.Refused.{status_of, said_by, time_shown, condition_of, is_there, is_listed, has_item}
+use Rattle.ss_query.specs.Refused.{target_time, collection_time, item_time, batch_of, staged_parts, continued, begins}
 use Rattle.ss_bso.specs.Batches.{grown}
-use Rattle.ss_query.specs.Effect.{stamp_in, effect, is_write, is_over, is_empty, write_some, parts_to_put, batches_after, counter_after}
-use Rattle.ss_query.specs.Told.{by_name, info_body, first_failures, post_body, picked, rows_body, body_of, ok_status, count_of, next_of}
-use Rattle.ss_query.specs.Api.{why_stopped, refusal, outcome, api, first_some, where_so, misses_item, lacks_room, misses_batch, overfills_batch, time_told}
+use Rattle.ss_query.specs.Effect.{stamp_in, effect, is_write, is_over, is_empty, write_some, parts_to_put}
+use Rattle.ss_query.specs.Effect.{batches_after, counter_after}
+use Rattle.ss_query.specs.Told.{by_name, info_body, first_failures, post_body, picked_rows, rows_body, body_of}
+use Rattle.ss_query.specs.Told.{ok_status, count_of, next_of}
+use Rattle.ss_query.specs.Api.{why_stopped, refusal, outcome, api, first_some, where_so, misses_item, lacks_room}
+use Rattle.ss_query.specs.Api.{misses_batch, overfills_batch, time_told}
 use Rattle.ss_laws.specs.Laws.{SameOutcome}
 use Rattle.ss_bso.proofs.Lists.{Pairs-filter, Pairs-from_AllPairs}
-use Rattle.ss_bso.proofs.Reordering.{reordered-append_right, reordered-map, reordered-filter, length-reordered, sum_by-reordered, find-reordered}
+use Rattle.ss_bso.proofs.Reordering.{reordered-append_right, reordered-map, reordered-filter, length-reordered}
+use Rattle.ss_bso.proofs.Reordering.{sum_by-reordered, find-reordered}
 use Rattle.ss_bso.proofs.SameRows.{row-same, pairs_not_both, clash}
 use Rattle.ss_bso.specs.Lists.{Pairs, Apart}
 use Rattle.ss_query.proofs.Orders.{ids_distinct, answer-reordered, NamedApart, by_name-reordered}
@@ -322,7 +332,7 @@ module _ (one other : Plain) (s : SameAccount one other) (k : Keyed one) where
   info_eq Quota = ap QuotaBody (sum_by-reordered (λ (row : Row). length row.payload) s.rows)
   info_eq Configuration = refl
 
-  picked_eq : (collection : List ℕ) (query : Query) → picked one collection query ≡ picked other collection query
+  picked_eq : (collection : List ℕ) (query : Query) → picked_rows one collection query ≡ picked_rows other collection query
   picked_eq collection query =
       answer-reordered (rows_of collection one.rows) (rows_of collection other.rows) query (reordered-filter (λ row. bytes_eq row.collection collection) s.rows) (ids_distinct collection one.rows k.places)
 

@@ -1,5 +1,6 @@
 -- What an account shows, that is all but its batches and their counter; and that no request outside batches sees more.
-use Rattle.std.specs.Prelude.{◌≡◌, ℕ, Bool, true, false, ◌&&◌, cond, List, [], ◌∷◌, Option, Some, None, is_some, nat_le, refl}
+use Rattle.std.specs.Prelude.{◌≡◌, ℕ, Bool, true, false, ◌&&◌, cond, List, [], ◌∷◌, Option, Some, None, is_some, nat_le}
+use Rattle.std.specs.Prelude.{refl}
 use Rattle.std.proofs.Common.{ap, subst, ◌∙◌}
 use Rattle.ss_text.specs.Time.{last_stamp}
 use Rattle.ss_bso.specs.declared.rows.Row.{Row}
@@ -9,13 +10,15 @@ use Rattle.ss_bso.specs.declared.account.Staged.{Staged}
 use Rattle.ss_bso.specs.Account.{tick, time_of}
 use Rattle.ss_bso.specs.Write.{stamped, rows_without}
 use Rattle.ss_query.specs.declared.requests.Request.{Request}
-use Rattle.ss_query.specs.declared.requests.Request.TheVariants.{Info, DeleteAll, List as ListOf, Post, DeleteCollection, DeleteIds, Get, Put, Delete}
+use Rattle.ss_query.specs.declared.requests.Request.TheVariants.{Info, DeleteAll, List as ListOf, Post}
+use Rattle.ss_query.specs.declared.requests.Request.TheVariants.{DeleteCollection, DeleteIds, Get, Put, Delete}
 use Rattle.ss_query.specs.declared.requests.Mode.TheVariants.{Plain as PlainPost, Begin, Append, Commit}
 use Rattle.ss_query.specs.declared.replies.Reply.{Reply}
 use Rattle.ss_query.specs.Refused.{Refusal, NoItem, NoMoreBatches, NoBatch, BatchFull, ClockEnded, AccountFull}
 use Rattle.ss_query.specs.Effect.{stamp_in, effect, is_write, is_over, write_some}
 use Rattle.ss_query.specs.Told.{body_of, ok_status, count_of, next_of}
-use Rattle.ss_query.specs.Api.{refusal, outcome, refused, done, api, Outcome, first_some, where_so, misses_item, condition_cause, lacks_room, misses_batch, overfills_batch, time_told}
+use Rattle.ss_query.specs.Api.{refusal, outcome, refused_outcome, done_outcome, api, Outcome, first_some, where_so}
+use Rattle.ss_query.specs.Api.{misses_item, condition_cause, lacks_room, misses_batch, overfills_batch, time_told}
 use Rattle.ss_laws.specs.Laws.{is_of_batch}
 
 pub record Shown : Type 0 where
@@ -120,7 +123,7 @@ reply_at-shown s n m bs cs (Get collection id cond) moment e = refl
 reply_at-shown s n m bs cs (Put collection id fields cond) moment e = refl
 reply_at-shown s n m bs cs (Delete collection id cond) moment e = refl
 
-reply-done : (s : Shown) (n m : ℕ) (bs cs : List Staged) (request : Request) → is_of_batch request ≡ false → (done (account_of s n bs) request).reply ≡ (done (account_of s m cs) request).reply
+reply-done : (s : Shown) (n m : ℕ) (bs cs : List Staged) (request : Request) → is_of_batch request ≡ false → (done_outcome (account_of s n bs) request).reply ≡ (done_outcome (account_of s m cs) request).reply
 reply-done s n m bs cs request e =
     reply_at-shown s n m bs cs request (effect (account_of s n bs) request).moment e
     ∙ ap (λ (t : Shown). reply_at (account_of s m cs) request t.moment) (shown-effect s n m bs cs request e)
@@ -130,7 +133,7 @@ pub record Agree (one other : Outcome) : Type 0 where
   pub reply : one.reply ≡ other.reply
   pub account : shown one.account ≡ shown other.account
 
-reply-refused : (s : Shown) (n m : ℕ) (bs cs : List Staged) (request : Request) (why : Refusal) → is_of_batch request ≡ false → (refused (account_of s n bs) request why).reply ≡ (refused (account_of s m cs) request why).reply
+reply-refused : (s : Shown) (n m : ℕ) (bs cs : List Staged) (request : Request) (why : Refusal) → is_of_batch request ≡ false → (refused_outcome (account_of s n bs) request why).reply ≡ (refused_outcome (account_of s m cs) request why).reply
 reply-refused s n m bs cs (Info what cond) why e = refl
 reply-refused s n m bs cs (DeleteAll cond) why e = refl
 reply-refused s n m bs cs (ListOf collection query cond) why e = refl

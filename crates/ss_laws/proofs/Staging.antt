@@ -1,5 +1,7 @@
 -- The parts of each live batch are those that the flat list gathers for it.
-use Rattle.std.specs.Prelude.{◌≡◌, ◌≢◌, ℕ, ◌<◌, ◌≤◌, Bool, true, false, not, ◌&&◌, cond, List, [], ◌∷◌, ◌++◌, Option, Some, None, is_none, is_some, find, filter, map, flat_map, bytes_eq, refl, if◌then◌else◌, ◌+◌, ◌==◌}
+use Rattle.std.specs.Prelude.{◌≡◌, ◌≢◌, ℕ, ◌<◌, ◌≤◌, Bool, true, false, not, ◌&&◌, cond, List, [], ◌∷◌, ◌++◌, Option}
+use Rattle.std.specs.Prelude.{Some, None, is_none, is_some, find, filter, map, flat_map, bytes_eq, refl, if◌then◌else◌}
+use Rattle.std.specs.Prelude.{◌+◌, ◌==◌}
 use Rattle.std.specs.Option.{option_map_or}
 use Rattle.std.proofs.Common.{ap, sym, ◌∙◌, arith}
 use Rattle.std.proofs.lemmas.Bool.Decides.{nat_tests}
@@ -12,18 +14,20 @@ use Rattle.ss_bso.specs.Write.{stamped, rows_without}
 use Rattle.ss_bso.specs.declared.account.Plain.{Plain}
 use Rattle.ss_bso.specs.declared.account.Staged.{Staged}
 use Rattle.ss_query.specs.declared.requests.Request.{Request}
-use Rattle.ss_query.specs.declared.requests.Request.TheVariants.{Info, DeleteAll, List as ListOf, Post, DeleteCollection, DeleteIds, Get, Put, Delete}
+use Rattle.ss_query.specs.declared.requests.Request.TheVariants.{Info, DeleteAll, List as ListOf, Post}
+use Rattle.ss_query.specs.declared.requests.Request.TheVariants.{DeleteCollection, DeleteIds, Get, Put, Delete}
 use Rattle.ss_query.specs.declared.requests.Info.{Info as InfoKind}
 use Rattle.ss_query.specs.declared.requests.Info.TheVariants.{Collections, Counts, Usage, Quota, Configuration}
 use Rattle.ss_query.specs.declared.requests.Mode.TheVariants.{Plain as PlainPost, Begin, Append, Commit}
 use Rattle.ss_query.specs.declared.replies.Body.TheVariants.{Rows, Ids, One, Empty}
 use Rattle.ss_query.specs.declared.replies.Reply.{Reply}
-use Rattle.ss_query.specs.Refused.{Refusal, NoItem, NotModified, WasModified, NoMoreBatches, NoBatch, BatchFull, ClockEnded, AccountFull, said_by, staged_parts, batch_of}
+use Rattle.ss_query.specs.Refused.{Refusal, NoItem, NotModified, WasModified, NoMoreBatches, NoBatch, BatchFull}
+use Rattle.ss_query.specs.Refused.{ClockEnded, AccountFull, said_by, staged_parts, batch_of}
 use Rattle.ss_bso.specs.Batches.{grown}
 use Rattle.ss_query.specs.Effect.{stamp_in, effect}
-use Rattle.ss_query.specs.Told.{info_body, body_of, picked}
-use Rattle.ss_query.specs.Api.{refusal, outcome, done, time_told}
-use Rattle.ss_query.specs.Flat.{Turn, gathered, staged_by, batch_named, parts_sent}
+use Rattle.ss_query.specs.Told.{info_body, body_of, picked_rows}
+use Rattle.ss_query.specs.Api.{refusal, outcome, done_outcome, time_told}
+use Rattle.ss_query.specs.Flat.{Turn, gathered_parts, staged_by, batch_named, parts_sent}
 use Rattle.ss_laws.proofs.Commit.{passes}
 use Rattle.ss_bso.proofs.Lists.{Each-filter, Each-map, Each-imp, Each-append, Each-find, find-passes}
 use Rattle.ss_bso.specs.Lists.{Each}
@@ -31,24 +35,24 @@ use Rattle.ss_text.proofs.Basics.{both_left}
 
 -- a batch has what was gathered for it, and its number was given out
 pub record IsGathered (opening : Plain) (past : List Turn) (counter : ℕ) (batch : Staged) : Type 0 where
-  pub parts : batch.parts ≡ gathered opening past batch.number
+  pub parts : batch.parts ≡ gathered_parts opening past batch.number
   pub counted : batch.number ≤ counter
 
 -- so has each batch, and nothing was gathered yet for a number that wasn't given out
 pub record Gathers (opening : Plain) (past : List Turn) (counter : ℕ) (batches : List Staged) : Type 0 where
   pub staged : Each (IsGathered opening past counter) batches
-  pub fresh : (n : ℕ) → counter < n → gathered opening past n ≡ []
+  pub fresh : (n : ℕ) → counter < n → gathered_parts opening past n ≡ []
 
-pub gathered-more : (opening : Plain) (past : List Turn) (turn : Turn) (n : ℕ) → gathered opening (past ++ turn ∷ []) n ≡ gathered opening past n ++ staged_by n turn
+pub gathered-more : (opening : Plain) (past : List Turn) (turn : Turn) (n : ℕ) → gathered_parts opening (past ++ turn ∷ []) n ≡ gathered_parts opening past n ++ staged_by n turn
 gathered-more opening past turn n =
     let first : List Part = flat_map (λ (batch : Staged). if batch.number == n then batch.parts else []) opening.batches in
     ap (λ more. first ++ more) (flat_map-append (staged_by n) past (turn ∷ []))
     ∙ sym (append_assoc first (flat_map (staged_by n) past) (staged_by n turn ++ []))
     ∙ ap (λ more. (first ++ flat_map (staged_by n) past) ++ more) (append-nil (staged_by n turn))
 
-pub gathered-quiet : (opening : Plain) (past : List Turn) (turn : Turn) (n : ℕ) → staged_by n turn ≡ [] → gathered opening (past ++ turn ∷ []) n ≡ gathered opening past n
+pub gathered-quiet : (opening : Plain) (past : List Turn) (turn : Turn) (n : ℕ) → staged_by n turn ≡ [] → gathered_parts opening (past ++ turn ∷ []) n ≡ gathered_parts opening past n
 gathered-quiet opening past turn n e =
-    gathered-more opening past turn n ∙ ap (λ more. gathered opening past n ++ more) e ∙ append-nil (gathered opening past n)
+    gathered-more opening past turn n ∙ ap (λ more. gathered_parts opening past n ++ more) e ∙ append-nil (gathered_parts opening past n)
 
 -- a turn that stages nothing
 pub gathers-quiet : (opening : Plain) (past : List Turn) (turn : Turn) (counter : ℕ) (batches : List Staged) → ((n : ℕ) → staged_by n turn ≡ [])
@@ -88,7 +92,7 @@ gathers-begin opening past turn counter batches new is stages g = record {
       batches g.staged) (
         record {
           parts = sym (gathered-more opening past turn new.number
-              ∙ ap (λ n. gathered opening past n ++ staged_by n turn) is
+              ∙ ap (λ n. gathered_parts opening past n ++ staged_by n turn) is
               ∙ ap (λ front. front ++ staged_by (counter + 1) turn) (g.fresh (counter + 1) (omega arith))
               ∙ stages (counter + 1) ∙ agree (counter + 1) new.parts);
           counted = omega (arith, is);
@@ -110,7 +114,7 @@ grown-gathered opening past turn counter number parts stages batch h =
           let same : number ≡ batch.number = grind (arith, nat_tests) in
           record {
             parts = ap (λ front. front ++ parts) h.parts
-                ∙ ap (λ more. gathered opening past batch.number ++ more) (sym (stages batch.number ∙ ap (λ n. if n == batch.number then parts else []) same ∙ agree batch.number parts))
+                ∙ ap (λ more. gathered_parts opening past batch.number ++ more) (sym (stages batch.number ∙ ap (λ n. if n == batch.number then parts else []) same ∙ agree batch.number parts))
                 ∙ sym (gathered-more opening past turn batch.number);
             counted = h.counted;
           })
@@ -132,7 +136,7 @@ gathers-append opening past turn counter batches number parts counted stages g =
 
 -- what is known of a batch that is found by number and collection
 pub record IsFound (opening : Plain) (past : List Turn) (counter : ℕ) (number : ℕ) (parts : List Part) : Type 0 where
-  pub are : parts ≡ gathered opening past number
+  pub are : parts ≡ gathered_parts opening past number
   pub counted : number ≤ counter
 
 found_at : (opening : Plain) (past : List Turn) (counter : ℕ) (batches : List Staged) (collection : List ℕ) (number : ℕ) (found : Option Staged)
@@ -144,7 +148,7 @@ found_at opening past counter batches collection number (Some batch) e f g =
     let known = Each-find (IsGathered opening past counter) p batches batch e g.staged in
     let test : (batch.number == number) ≡ true = both_left (batch.number == number) (bytes_eq batch.collection collection) (find-passes p batches batch e) in
     let same : batch.number ≡ number = grind (arith, nat_tests) in
-    record { are = known.parts ∙ ap (λ n. gathered opening past n) same; counted = omega (arith, known.counted) }
+    record { are = known.parts ∙ ap (λ n. gathered_parts opening past n) same; counted = omega (arith, known.counted) }
 
 pub found : (opening : Plain) (past : List Turn) (account : Plain) (collection : List ℕ) (number : ℕ) → is_none (batch_of account collection number) ≡ false
     → Gathers opening past account.counter account.batches → IsFound opening past account.counter number (staged_parts account collection number)
@@ -187,7 +191,7 @@ asks_to_stage _ = false
 named-done : (account : Plain) (request : Request) (time : ℕ) → asks_to_stage request ≡ false → batch_named (body_of account request time) ≡ None
 named-done account (Info what cond) time e = named-info account what
 named-done account (DeleteAll cond) time e = refl
-named-done account (ListOf collection query cond) time e = named-rows query.full (picked account collection query).rows (map (λ row. row.id) (picked account collection query).rows)
+named-done account (ListOf collection query cond) time e = named-rows query.full (picked_rows account collection query).rows (map (λ row. row.id) (picked_rows account collection query).rows)
 named-done account (Post collection records PlainPost cond) time e = refl
 named-done account (Post collection records Begin cond) time e = cc
 named-done account (Post collection records (Append number) cond) time e = cc
@@ -230,10 +234,10 @@ gathers-done opening past account (Delete collection id cond) e g = g
 
 gathers-silent : (opening : Plain) (past : List Turn) (now : ℕ) (account : Plain) (request : Request) → asks_to_stage request ≡ false
     → Gathers opening past account.counter account.batches
-    → Gathers opening (past ++ turn_of now request (done account request).reply ∷ []) (effect account request).counter (effect account request).batches
+    → Gathers opening (past ++ turn_of now request (done_outcome account request).reply ∷ []) (effect account request).counter (effect account request).batches
 gathers-silent opening past now account request e g =
-    gathers-quiet opening past (turn_of now request (done account request).reply) (effect account request).counter (effect account request).batches
-    (λ n. staged_by-unnamed n now request (done account request).reply (named-done account request (time_told account request) e))
+    gathers-quiet opening past (turn_of now request (done_outcome account request).reply) (effect account request).counter (effect account request).batches
+    (λ n. staged_by-unnamed n now request (done_outcome account request).reply (named-done account request (time_told account request) e))
     (gathers-done opening past account request e g)
 
 -- a turn keeps that each batch has what was gathered for it

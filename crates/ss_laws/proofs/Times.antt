@@ -1,10 +1,12 @@
 -- The collections' times, and lists with each key once.
-use Rattle.std.specs.Prelude.{◌≡◌, ℕ, ◌≤◌, Bool, true, false, not, cond, List, [], ◌∷◌, Option, Some, None, option_map, IsSomeAnd, IsFalse, bytes_eq, find, filter, refl}
+use Rattle.std.specs.Prelude.{◌≡◌, ℕ, ◌≤◌, Bool, true, false, not, cond, List, [], ◌∷◌, Option, Some, None, option_map}
+use Rattle.std.specs.Prelude.{IsSomeAnd, IsFalse, bytes_eq, find, filter, refl}
 use Rattle.std.proofs.Common.{ap, ◌∙◌, arith}
 use Rattle.ss_text.specs.Texts.{once_by}
 use Rattle.ss_bso.specs.Account.{time_of}
 use Rattle.ss_bso.specs.Write.{times_without, times_with}
-use Rattle.ss_bso.proofs.Lists.{Each-imp, Each-passes, Each-find, Pairs-filter, Pairs-append, find-skip, find-last_not, find-filter}
+use Rattle.ss_bso.proofs.Lists.{Each-imp, Each-passes, Each-find, Pairs-filter, Pairs-append, find-skip, find-last_not}
+use Rattle.ss_bso.proofs.Lists.{find-filter}
 use Rattle.ss_bso.specs.Lists.{Each, Pairs}
 use Rattle.std.proofs.lemmas.Bool.{not-false, not-true}
 use Rattle.ss_text.proofs.Basics.{bytes_eq-flip, same_text, bytes_eq-same}

@@ -1,5 +1,7 @@
 -- A valid account stays valid.
-use Rattle.std.specs.Prelude.{◌≡◌, ◌≢◌, ℕ, ◌<◌, ◌≤◌, ◌+◌, Bool, true, false, not, ◌&&◌, ◌||◌, cond, nat_le, ◌==◌, List, [], ◌∷◌, ◌++◌, length, map, filter, find, Option, Some, None, is_none, is_some, IsFalse, IsSomeAnd, bytes_eq, refl}
+use Rattle.std.specs.Prelude.{◌≡◌, ◌≢◌, ℕ, ◌<◌, ◌≤◌, ◌+◌, Bool, true, false, not, ◌&&◌, ◌||◌, cond, nat_le, ◌==◌, List}
+use Rattle.std.specs.Prelude.{[], ◌∷◌, ◌++◌, length, map, filter, find, Option, Some, None, is_none, is_some, IsFalse}
+use Rattle.std.specs.Prelude.{IsSomeAnd, bytes_eq, refl}
 use Rattle.std.specs.Option.{option_map_or}
 use Rattle.std.proofs.Common.{subst, sym, ap, ◌∙◌, arith}
 use Rattle.std.proofs.lemmas.Bool.Decides.{nat_tests}
@@ -12,12 +14,14 @@ use Rattle.ss_bso.specs.declared.parts.Part.{Part}
 use Rattle.ss_bso.specs.declared.account.Plain.{Plain}
 use Rattle.ss_bso.specs.declared.account.Staged.{Staged}
 use Rattle.ss_bso.specs.Account.{tick, is_alive, is_open, time_of}
-use Rattle.ss_bso.specs.Limits.{most_live_batches, most_batch_bytes, most_batch_records, most_rows_and_collections, most_account_payload_bytes, row_bytes, part_bytes}
+use Rattle.ss_bso.specs.Limits.{most_live_batches, most_batch_bytes, most_batch_records, most_rows_and_collections}
+use Rattle.ss_bso.specs.Limits.{most_account_payload_bytes, row_bytes, part_bytes}
 use Rattle.ss_bso.specs.Validity.{IsValid, IsValidBatch, IsWithinLimits}
 use Rattle.ss_bso.proofs.Full.{within-both, within-bytes, within-number}
 use Rattle.ss_bso.specs.Write.{stamped, write, rows_without, rows_written, times_without, times_with, is_among}
 use Rattle.ss_query.specs.declared.requests.Request.{Request}
-use Rattle.ss_query.specs.declared.requests.Request.TheVariants.{Info, DeleteAll, List as ListOf, Post, DeleteCollection, DeleteIds, Get, Put, Delete}
+use Rattle.ss_query.specs.declared.requests.Request.TheVariants.{Info, DeleteAll, List as ListOf, Post}
+use Rattle.ss_query.specs.declared.requests.Request.TheVariants.{DeleteCollection, DeleteIds, Get, Put, Delete}
 use Rattle.ss_query.specs.declared.requests.Mode.TheVariants.{Plain as PlainPost, Begin, Append, Commit}
 use Rattle.ss_bso.specs.Batches.{fit}
 use Rattle.ss_query.specs.Refused.{Refusal, batch_of, staged_parts}
@@ -28,7 +32,9 @@ use Rattle.ss_query.specs.Fit.{IsFitRequest}
 use Rattle.ss_laws.proofs.Shown.{Shown, shown}
 use Rattle.ss_laws.proofs.Commit.{Passes, passes}
 use Rattle.ss_laws.proofs.CommitLaw.{clock_from, over_from}
-use Rattle.ss_bso.proofs.Lists.{Each-imp, Each-and, Each-map, Each-filter, Each-append, Each-passes, Each-find, Each-from_All, All-from_Each, Pairs-filter, Pairs-append, Pairs-map, Pairs-from_AllPairs, AllPairs-from_Pairs, find-passes, sum_by-filter_le}
+use Rattle.ss_bso.proofs.Lists.{Each-imp, Each-and, Each-map, Each-filter, Each-append, Each-passes, Each-find}
+use Rattle.ss_bso.proofs.Lists.{Each-from_All, All-from_Each, Pairs-filter, Pairs-append, Pairs-map}
+use Rattle.ss_bso.proofs.Lists.{Pairs-from_AllPairs, AllPairs-from_Pairs, find-passes, sum_by-filter_le}
 use Rattle.ss_bso.specs.Lists.{Each, Pairs, Apart}
 use Rattle.ss_laws.proofs.Times.{names_with, time_of-without}
 use Rattle.ss_laws.proofs.Written.{IsItem, item_kept, items-written, places-written}

@@ -1,15 +1,18 @@
 -- The rows after a write of a list: distinct places, and times that the collections allow.
-use Rattle.std.specs.Prelude.{◌≡◌, ℕ, ◌≤◌, Bool, true, false, not, ◌&&◌, List, [], ◌∷◌, Option, Some, None, IsSomeAnd, IsFalse, bytes_eq, filter_map, map, refl}
+use Rattle.std.specs.Prelude.{◌≡◌, ℕ, ◌≤◌, Bool, true, false, not, ◌&&◌, List, [], ◌∷◌, Option, Some, None, IsSomeAnd}
+use Rattle.std.specs.Prelude.{IsFalse, bytes_eq, filter_map, map, refl}
 use Rattle.std.proofs.Common.{subst, sym, ap, ◌∙◌, arith}
 use Rattle.ss_bso.specs.declared.rows.Row.{Row}
 use Rattle.ss_bso.specs.declared.parts.Part.{Part}
 use Rattle.ss_bso.specs.Account.{is_at, row_at, time_of}
 use Rattle.ss_bso.specs.Put.{put}
 use Rattle.ss_bso.specs.Write.{ids_of, parts_of, is_among, put_all, rows_without, rows_written, times_with}
-use Rattle.ss_bso.proofs.Lists.{Each-any, Each-imp, Each-filter, Each-append, Each-passes, Each-find, Each-filter_map, Pairs-filter, Pairs-append, Pairs-filter_map, find-passes}
+use Rattle.ss_bso.proofs.Lists.{Each-any, Each-imp, Each-filter, Each-append, Each-passes, Each-find, Each-filter_map}
+use Rattle.ss_bso.proofs.Lists.{Pairs-filter, Pairs-append, Pairs-filter_map, find-passes}
 use Rattle.ss_bso.specs.Lists.{Apart, Each, Pairs}
 use Rattle.ss_laws.proofs.Times.{time_of-with_same, time_of-with_other, item_below, once_by-distinct}
-use Rattle.ss_text.proofs.Basics.{and_false, both_left, both_right, neither_left, neither_right, same_text, bytes_eq-same}
+use Rattle.ss_text.proofs.Basics.{and_false, both_left, both_right, neither_left, neither_right, same_text}
+use Rattle.ss_text.proofs.Basics.{bytes_eq-same}
 use Rattle.std.proofs.lemmas.Bool.{and_from, not-true}
 
 -- a row's collection is listed, with no earlier time

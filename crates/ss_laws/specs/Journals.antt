@@ -1,5 +1,6 @@
 -- Legal journals, and the reply at each place of one.
-use Rattle.std.specs.Prelude.{ℕ, ◌≤◌, List, [], ◌∷◌, ◌++◌, length, take, map, fold, slice_get, Option, None, option_map, All}
+use Rattle.std.specs.Prelude.{ℕ, ◌≤◌, List, [], ◌∷◌, ◌++◌, length, take, map, fold, slice_get, Option, None, option_map}
+use Rattle.std.specs.Prelude.{All}
 use Rattle.std.specs.List.Sorted.{IsStrictlyIncreasing}
 use Rattle.ss_bso.specs.declared.account.Plain.{Plain}
 use Rattle.ss_bso.specs.Account.{tick}
@@ -17,29 +18,29 @@ use Rattle.ss_laws.specs.Journal.{Journal}
 use Rattle.ss_query.specs.Fit.{IsFitRequest}
 
 -- a request that ended for want of memory or by its keeper's failure: the clock alone has moved
-abbrev pub failed : Plain → ℕ → ℕ → Word → Outcome
-failed account now status word = record {
+abbrev pub failed_outcome : Plain → ℕ → ℕ → Word → Outcome
+failed_outcome account now status word = record {
   account = tick account now;
   reply = record { status = status; moment = (tick account now).moment; modified = None; count = None; next = None; body = Said word };
 }
 
 -- what a request gives, by its mark
-abbrev pub marked : Plain → ℕ → Request → Mark → Outcome
-marked account now request Done = api account now request
-marked account now request Keeper = failed account now 503 KeeperWord
-marked account now request Memory = failed account now 507 MemoryWord
+abbrev pub marked_outcome : Plain → ℕ → Request → Mark → Outcome
+marked_outcome account now request Done = api account now request
+marked_outcome account now request Keeper = failed_outcome account now 503 KeeperWord
+marked_outcome account now request Memory = failed_outcome account now 507 MemoryWord
 
-abbrev pub entered : Plain → Entry → Outcome
-entered account entry = marked account entry.now entry.request entry.mark
+abbrev pub entry_outcome : Plain → Entry → Outcome
+entry_outcome account entry = marked_outcome account entry.now entry.request entry.mark
 
 -- the account that entries leave
 abbrev pub account_after : Plain → List Entry → Plain
-account_after opening entries = fold (λ account entry. (entered account entry).account) opening entries
+account_after opening entries = fold (λ account entry. (entry_outcome account entry).account) opening entries
 
 -- the reply at a place of a journal
 abbrev pub reply_at : Journal → ℕ → Option Reply
 reply_at journal place =
-    option_map (λ entry. (entered (account_after journal.opening (take place journal.entries)) entry).reply) (slice_get journal.entries place)
+    option_map (λ entry. (entry_outcome (account_after journal.opening (take place journal.entries)) entry).reply) (slice_get journal.entries place)
 
 -- a journal without entries
 abbrev pub begun : Plain → ℕ → Journal

@@ -1,5 +1,6 @@
 -- Laws of the one-account API, over whole lists of requests.
-use Rattle.std.specs.Prelude.{All, AllPairs, IsFalse, ◌≡◌, ◌≢◌, ◌<◌, ◌≤◌, ◌↔◌, ℕ, nat_lt, None, Bool, true, false, not, ◌||◌, is_some, List, IsTrue}
+use Rattle.std.specs.Prelude.{All, AllPairs, IsFalse, ◌≡◌, ◌≢◌, ◌<◌, ◌≤◌, ◌↔◌, ℕ, nat_lt, None, Bool, true, false, not}
+use Rattle.std.specs.Prelude.{◌||◌, is_some, List, IsTrue}
 use Rattle.std.specs.List.{AllZip}
 use Rattle.std.specs.Option.{option_map_or}
 use Rattle.ss_text.specs.Texts.{Reordered, sorted}
@@ -18,7 +19,8 @@ use Rattle.ss_query.specs.declared.requests.Request.TheVariants.{Post}
 use Rattle.ss_query.specs.declared.requests.Mode.TheVariants.{Commit}
 use Rattle.ss_query.specs.declared.requests.Sort.{Sort}
 use Rattle.ss_query.specs.Answer.{comes_before}
-use Rattle.ss_query.specs.Refused.{begins, continued, with_condition, target_time, collection_time, is_there, is_listed, IsLive, Fits}
+use Rattle.ss_query.specs.Refused.{begins, continued, with_condition, target_time, collection_time, is_there, is_listed}
+use Rattle.ss_query.specs.Refused.{IsLive, Fits}
 use Rattle.ss_query.specs.Effect.{effect, is_write}
 use Rattle.ss_query.specs.Api.{api, refusal, Outcome}
 use Rattle.ss_query.specs.Flat.{Ask, Turn, after_all, turns, flat}
@@ -41,7 +43,7 @@ pub record ShowsSame (account other : Plain) : Type 0 where
   pub moment : account.moment ≡ other.moment
 
 -- no two batches have one number, and each number was given out
-pub record AreCounted (account : Plain) : Type 0 where
+pub record HaveCountedBatches (account : Plain) : Type 0 where
   pub numbers : AllPairs (λ batch other. batch.number ≢ other.number) account.batches
   pub counted : All (λ batch. batch.number ≤ account.counter) account.batches
 

@@ -11,7 +11,8 @@ ghost use Rattle.ss_text.specs.Texts.{Reordered};
 ghost use Rattle.ss_query.specs.declared.requests.Sort.{Sort};
 ghost use Rattle.ss_bso.specs.Write.{rows_written};
 ghost use Rattle.ss_query.specs.Fit.{IsFitRequest};
-ghost use Rattle.ss_laws.specs.Laws.{AbsenceLaw, AreCounted, BatchLaw, CommitLaw, QuietLaw, StampLaw, SameOutcome, SortLaw, WriteLaw};
+ghost use Rattle.ss_laws.specs.Laws.{AbsenceLaw, HaveCountedBatches, BatchLaw, CommitLaw, QuietLaw, StampLaw};
+ghost use Rattle.ss_laws.specs.Laws.{SameOutcome, SortLaw, WriteLaw};
 ghost use Rattle.ss_query.specs.declared.requests.Request.{Request};
 ghost use Rattle.ss_query.specs.Api.{api};
 ghost use Rattle.ss_query.specs.Effect.{is_write};
@@ -23,8 +24,8 @@ ghost use Rattle.ss_laws.specs.Journals.{IsLegal, reply_at, account_after};
 /// batches and their counter, the account after the flat list, and every other request has the same reply in both.
 /// The opening's batches have numbers of their own that were given out, as in every valid account.
 pub fn batch_law()
-    ensures flat { (opening : Plain) (asks : List Ask) → AreCounted opening → BatchLaw opening asks }
-    ensures valid { (account : Plain) → IsValid account → AreCounted account }
+    ensures flat { (opening : Plain) (asks : List Ask) → HaveCountedBatches opening → BatchLaw opening asks }
+    ensures valid { (account : Plain) → IsValid account → HaveCountedBatches account }
 {}
 
 /// The stamps of writes rise strictly, and the moment never falls.

@@ -1,5 +1,6 @@
 -- Flat JSON lists: what is written for one is read back as it, is UTF-8, and has no line break.
-use Rattle.std.proofs.Common.{◌≡◌, suc, ◌^◌, ◌<◌, ◌≤◌, pos, negsuc, Bool, true, false, [], ◌∷◌, ◌++◌, Some, option_map, option_and_then, decimal, append-nil, refl, sym, ap, ap₂, ◌∙◌, arith}
+use Rattle.std.proofs.Common.{◌≡◌, suc, ◌^◌, ◌<◌, ◌≤◌, pos, negsuc, Bool, true, false, [], ◌∷◌, ◌++◌, Some, option_map}
+use Rattle.std.proofs.Common.{option_and_then, decimal, append-nil, refl, sym, ap, ap₂, ◌∙◌, arith}
 use Rattle.std.specs.Bool.{⊤}
 use Rattle.std.specs.Str.{IsUtf8}
 use Rattle.std.proofs.lemmas.Str.{IsUtf8-append}
@@ -11,7 +12,8 @@ use Rattle.json.proofs.Printed.Decimals.{IsNumber-decimal, IsNumber-signed_decim
 use Rattle.json.proofs.Printed.Tokens.{tokens-print}
 use Rattle.json.proofs.Printed.Trees.{value-json_tokens, ArePrintable-json_tokens}
 use Rattle.json.proofs.Printed.Utf8.{IsUtf8-are_ascii, IsUtf8-quoted}
-use Rattle.serde_json.specs.Data.{Num, unsigned, negative, float, Data, null, boolean, number, string, array, object, Items, no_items, item}
+use Rattle.serde_json.specs.Data.{Num, unsigned, negative, float, Data, null, boolean, number, string, array, object}
+use Rattle.serde_json.specs.Data.{Items, no_items, item}
 use Rattle.serde_json.specs.Read.{read, number_of, of_items, of_json, max_depth}
 use Rattle.serde_json.specs.Written.{comma_if, compact_text, items_outline, items_text, number_text, outline}
 use Rattle.serde_json.proofs.Numbers.{number_of-decimal, number_of-negative}

@@ -1,5 +1,7 @@
 -- No line break stands in a text that JSON's strings and numbers are written as, and a line ends at its first one.
-use Rattle.std.proofs.Common.{◌≡◌, ◌≢◌, ℕ, suc, ◌+◌, ◌/◌, ◌%◌, ◌<◌, ◌==◌, ◌&&◌, ◌||◌, nat_lt, Bool, true, false, not, cond, List, [], ◌∷◌, ◌++◌, length, Some, None, position, refl, sym, ap, ap₂, ◌∙◌, arith, lt-ltb, ne_eqb, length-append}
+use Rattle.std.proofs.Common.{◌≡◌, ◌≢◌, ℕ, suc, ◌+◌, ◌/◌, ◌%◌, ◌<◌, ◌==◌, ◌&&◌, ◌||◌, nat_lt, Bool, true, false, not}
+use Rattle.std.proofs.Common.{cond, List, [], ◌∷◌, ◌++◌, length, Some, None, position, refl, sym, ap, ap₂, ◌∙◌, arith}
+use Rattle.std.proofs.Common.{lt-ltb, ne_eqb, length-append}
 use Rattle.std.specs.List.{prefix_len}
 use Rattle.std.specs.Bool.{⊤}
 use Rattle.std.proofs.lemmas.Bool.{and_parts, false≢true, not-true}

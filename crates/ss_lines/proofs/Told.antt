@@ -1,5 +1,7 @@
 -- Lines as JSON values: what is written for a line is read back as it.
-use Rattle.std.proofs.Common.{◌≡◌, ℕ, ℤ, pos, negsuc, ◌^◌, ◌<◌, ◌&&◌, Bool, true, cond, List, Option, Some, None, is_some, option_map, option_and_then, codes, refl, sym, ap, ap₂, subst, ◌∙◌, arith, le-leb, lt-ltb, lit<}
+use Rattle.std.proofs.Common.{◌≡◌, ℕ, ℤ, pos, negsuc, ◌^◌, ◌<◌, ◌&&◌, Bool, true, cond, List, Option, Some, None}
+use Rattle.std.proofs.Common.{is_some, option_map, option_and_then, codes, refl, sym, ap, ap₂, subst, ◌∙◌, arith}
+use Rattle.std.proofs.Common.{le-leb, lt-ltb, lit<}
 use Rattle.std.specs.Prelude.{FitsSigned}
 use Rattle.std.specs.Int.{w32}
 use Rattle.std.specs.Str.{IsUtf8}
@@ -22,9 +24,11 @@ use Rattle.ss_bso.specs.declared.parts.Field.{Field}
 use Rattle.ss_bso.specs.declared.parts.Field.TheVariants.{Keep, Clear, Set}
 use Rattle.ss_lines.specs.Digests.{is_digest, is_lower_hex}
 use Rattle.ss_lines.specs.Lines.{IsLine, IsPart, IsRow, OfField, OfOption, field, integer, list_of, natural, optional}
-use Rattle.ss_lines.specs.Values.{batch_from, collection_from, digest_from, field_of, integer_if, integer_of, line_from, natural_of, optional_of, part_from, row_from, seconds_of, times_from}
+use Rattle.ss_lines.specs.Values.{batch_from, collection_from, digest_from, field_of, integer_if, integer_of, line_from}
+use Rattle.ss_lines.specs.Values.{natural_of, optional_of, part_from, row_from, seconds_of, times_from}
 use Rattle.ss_lines.specs.declared.lines.Line.{Line}
-use Rattle.ss_lines.specs.declared.lines.Line.TheVariants.{Account, Times, Collection, Row as RowLine, Batch, Part as PartLine, Digest, End}
+use Rattle.ss_lines.specs.declared.lines.Line.TheVariants.{Account, Times, Collection, Row as RowLine, Batch}
+use Rattle.ss_lines.specs.declared.lines.Line.TheVariants.{Part as PartLine, Digest, End}
 use Rattle.ss_lines.proofs.Flat.{AreFlat, IsFlat, list_back, list_utf8}
 
 -- ---- a line's list is flat

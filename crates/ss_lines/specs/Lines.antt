@@ -1,6 +1,7 @@
 -- The lines of a text that tells an account: what each says, and how it is written (the format is this project's). A line is
 -- a list in compact JSON, and a newline.
-use Rattle.std.specs.Prelude.{◌≡◌, ◌≤◌, ◌<◌, ◌^◌, ◌++◌, ◌∷◌, [], ℕ, ℤ, List, true, Option, Some, None, FitsSigned, codes, length, take, ⊤}
+use Rattle.std.specs.Prelude.{◌≡◌, ◌≤◌, ◌<◌, ◌^◌, ◌++◌, ◌∷◌, [], ℕ, ℤ, List, true, Option, Some, None, FitsSigned}
+use Rattle.std.specs.Prelude.{codes, length, take, ⊤}
 use Rattle.std.specs.Int.{w32}
 use Rattle.std.specs.Str.{IsUtf8}
 use Rattle.serde_json.specs.Data.{Data, Items, array, item, no_items, null, number, string, unsigned}
@@ -14,7 +15,8 @@ use Rattle.ss_bso.specs.declared.parts.Field.{Field}
 use Rattle.ss_bso.specs.declared.parts.Field.TheVariants.{Keep, Clear, Set}
 use Rattle.ss_lines.specs.Digests.{is_digest}
 use Rattle.ss_lines.specs.declared.lines.Line.{Line}
-use Rattle.ss_lines.specs.declared.lines.Line.TheVariants.{Account, Times, Collection, Row as RowLine, Batch, Part as PartLine, Digest, End}
+use Rattle.ss_lines.specs.declared.lines.Line.TheVariants.{Account, Times, Collection, Row as RowLine, Batch}
+use Rattle.ss_lines.specs.declared.lines.Line.TheVariants.{Part as PartLine, Digest, End}
 
 -- ---- what stands in a list
 

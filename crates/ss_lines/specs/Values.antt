@@ -1,5 +1,6 @@
 -- What a JSON value says as a line, for private clauses; a line may be told that isn't written so.
-use Rattle.std.specs.Prelude.{◌&&◌, ℕ, ℤ, negsuc, pos, nat_le, List, Bool, if◌then◌else◌, Option, Some, None, is_some, option_map, option_and_then, bytes_eq, codes}
+use Rattle.std.specs.Prelude.{◌&&◌, ℕ, ℤ, negsuc, pos, nat_le, List, Bool, if◌then◌else◌, Option, Some, None, is_some}
+use Rattle.std.specs.Prelude.{option_map, option_and_then, bytes_eq, codes}
 use Rattle.std.specs.Int.Signed.{le_z}
 use Rattle.serde_json.specs.Data.{Data}
 use Rattle.serde_json.specs.Find.{as_array, as_i64, as_null, as_number, as_str, as_u64, at}
@@ -11,7 +12,8 @@ use Rattle.ss_lines.specs.Digests.{is_digest}
 use Rattle.ss_lines.specs.declared.values.Tag.{Tag}
 use Rattle.ss_lines.specs.declared.values.Tag.TheVariants as tag
 use Rattle.ss_lines.specs.declared.lines.Line.{Line}
-use Rattle.ss_lines.specs.declared.lines.Line.TheVariants.{Account, Times, Collection, Row as RowLine, Batch, Part as PartLine, Digest, End}
+use Rattle.ss_lines.specs.declared.lines.Line.TheVariants.{Account, Times, Collection, Row as RowLine, Batch}
+use Rattle.ss_lines.specs.declared.lines.Line.TheVariants.{Part as PartLine, Digest, End}
 
 -- ---- what a value says
 

@@ -3,7 +3,9 @@
 ghost use Rattle.std.specs.Prelude.{◌≡◌, IfOk, option_map, option_and_then};
 ghost use Rattle.serde_json.specs.Find.{as_str};
 ghost use Rattle.serde_json.specs.View.{view};
-ghost use Rattle.ss_lines.specs.Values.{batch_from, collection_from, digest_from, field_of, id_at, integer_of, line_from, name_at, natural_at, natural_of, optional_of, part_from, row_from, seconds_of, tag_of, tagged, text_at, time_at, times_from};
+ghost use Rattle.ss_lines.specs.Values.{batch_from, collection_from, digest_from, field_of, id_at, integer_of};
+ghost use Rattle.ss_lines.specs.Values.{line_from, name_at, natural_at, natural_of, optional_of, part_from, row_from};
+ghost use Rattle.ss_lines.specs.Values.{seconds_of, tag_of, tagged, text_at, time_at, times_from};
 
 use crate::digests::Digest;
 use crate::lines::Line;

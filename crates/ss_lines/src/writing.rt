@@ -2,7 +2,8 @@
 
 ghost use Rattle.std.specs.Prelude.{◌≡◌, ◌++◌, OnOk};
 ghost use Rattle.ss_lines.specs.Lines.{line_text};
-ghost use Rattle.ss_lines.specs.declared.lines.Line.TheVariants.{Account, Times, Collection, Row as RowLine, Batch, Part as PartLine, Digest as DigestLine, End};
+ghost use Rattle.ss_lines.specs.declared.lines.Line.TheVariants.{Account, Times, Collection, Row as RowLine, Batch};
+ghost use Rattle.ss_lines.specs.declared.lines.Line.TheVariants.{Part as PartLine, Digest as DigestLine, End};
 
 use crate::cells::{
     Cell, integer_field, natural_field, optional_integer, optional_natural, payload_field,

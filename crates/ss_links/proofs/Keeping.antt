@@ -1,5 +1,7 @@
 -- What files stand under their names once one of them was saved.
-use Rattle.std.proofs.Common.{◌≡◌, ◌≢◌, ◌<◌, ◌≤◌, ◌+◌, ℕ, zero, suc, List, [], ◌∷◌, ◌++◌, length, get_or, set, cond, Bool, true, false, Option, None, Some, find, bytes_eq, option_map, String, string_bytes, refl, sym, ◌∙◌, ap, subst, arith}
+use Rattle.std.proofs.Common.{◌≡◌, ◌≢◌, ◌<◌, ◌≤◌, ◌+◌, ℕ, zero, suc, List, [], ◌∷◌, ◌++◌, length, get_or, set, cond}
+use Rattle.std.proofs.Common.{Bool, true, false, Option, None, Some, find, bytes_eq, option_map, String, string_bytes}
+use Rattle.std.proofs.Common.{refl, sym, ◌∙◌, ap, subst, arith}
 use Rattle.std.specs.Global.{Vec, Global}
 use Rattle.std.proofs.lemmas.Slice.Eq.{bytes_eq-Decides}
 use Rattle.ss_links.specs.Stores.{files_of, IsWith, IsPlace, HasSaved}

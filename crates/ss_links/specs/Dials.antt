@@ -1,16 +1,17 @@
 -- Dials, and those in memory.
-use Rattle.std.specs.Prelude.{◌≡◌, ◌≢◌, ◌⊎◌, ℕ, nat_lt, ◌&&◌, List, [], ◌∷◌, ◌++◌, length, Bool, true, false, Option, Some, None, is_some, Result, Ok, Err, if◌then◌else◌}
+use Rattle.std.specs.Prelude.{◌≡◌, ◌≢◌, ◌⊎◌, ℕ, nat_lt, ◌&&◌, List, [], ◌∷◌, ◌++◌, length, Bool, true, false, Option}
+use Rattle.std.specs.Prelude.{Some, None, is_some, Result, Ok, Err, if◌then◌else◌}
 use Rattle.std.specs.Option.{unwrap_or}
 use Rattle.ss_outside.specs.Told.{Meanings}
 use Rattle.ss_outside.specs.Causes.{Rose}
-use Rattle.ss_outside.specs.Plans.{Plan, raised, is_failing, after_call}
+use Rattle.ss_outside.specs.Plans.{Plan, raised_count, is_failing, after_call}
 use Rattle.ss_outside.specs.Memory.{flat}
 use Rattle.ss_links.specs.Links.{Link}
 use Rattle.ss_links.specs.declared.dial.DialFault.{DialFault}
 use Rattle.ss_links.specs.declared.dial.DialFault.TheVariants.{Fault, Memory}
 
 -- what a link that was hung up told: the bytes that were taken from it, that were left in it and that were written to it
-pub record Hung : Type 0 where
+pub record HungLink : Type 0 where
   pub taken : List ℕ
   pub left : List ℕ
   pub written : List ℕ
@@ -37,14 +38,14 @@ HasCause (Err Fault) before now = Rose before now
 HasCause (Err Memory) before now = now ≡ before
 
 -- a link told this
-pub record Tells (link : Meanings) (hung : Hung) : Type 0 where
+pub record Tells (link : Meanings) (hung : HungLink) : Type 0 where
   pub taken : link.taken ≡ Some hung.taken
   pub left : link.left ≡ Some hung.left
   pub written : link.written ≡ Some hung.written
 
 -- where it is told afterwards which links were hung up, this one stands at the end, behind those that were told before
-abbrev pub HasHung : Meanings → Option (List Hung) → Option (List Hung) → Type 0
-HasHung link old new = (y : List Hung) → new ≡ Some y → (x : List Hung) × (hung : Hung) × (old ≡ Some x) × Tells link hung × (y ≡ x ++ hung ∷ [])
+abbrev pub HasHung : Meanings → Option (List HungLink) → Option (List HungLink) → Type 0
+HasHung link old new = (y : List HungLink) → new ≡ Some y → (x : List HungLink) × (hung : HungLink) × (old ≡ Some x) × Tells link hung × (y ≡ x ++ hung ∷ [])
 
 -- the count rises where a call of the link had failed, and stays where none had
 pub record HangUpCounts (link : Meanings) (before now : ℕ) : Type 0 where
@@ -56,7 +57,7 @@ pub record HangUpCounts (link : Meanings) (before now : ℕ) : Type 0 where
 pub record Dialling : Type 0 where
   pub links : List Link
   pub asked : List Address
-  pub hung : Option (List Hung)
+  pub hung : Option (List HungLink)
   pub room : ℕ
   pub plan : Option Plan
   pub faults : ℕ
@@ -69,8 +70,8 @@ dialled_by false (link ∷ links) = Ok link
 
 -- the dial after the next call, which asks for this
 abbrev pub after_dial : Address → Bool → List Link → Dialling → Dialling
-after_dial address true links d = record { links = links; asked = d.asked ++ address ∷ []; hung = d.hung; room = d.room; plan = after_call d.plan; faults = raised d.faults }
-after_dial address false [] d = record { links = []; asked = d.asked ++ address ∷ []; hung = d.hung; room = d.room; plan = after_call d.plan; faults = raised d.faults }
+after_dial address true links d = record { links = links; asked = d.asked ++ address ∷ []; hung = d.hung; room = d.room; plan = after_call d.plan; faults = raised_count d.faults }
+after_dial address false [] d = record { links = []; asked = d.asked ++ address ∷ []; hung = d.hung; room = d.room; plan = after_call d.plan; faults = raised_count d.faults }
 after_dial address false (link ∷ links) d = record { links = links; asked = d.asked ++ address ∷ []; hung = d.hung; room = d.room; plan = after_call d.plan; faults = d.faults }
 
 -- a call of a dial in memory: without memory nothing is done; else what was asked for is entered, and its next link is given
@@ -79,10 +80,10 @@ HasDialled address result old new =
     ((result ≡ Err Memory) × (new ≡ old)) ⊎ ((result ≡ dialled_by (is_failing old.plan) old.links) × (new ≡ after_dial address (is_failing old.plan) old.links old))
 
 -- what a link that was hung up told, where it tells all
-abbrev pub hung_of : Link → Hung
+abbrev pub hung_of : Link → HungLink
 hung_of link = record { taken = link.source.taken; left = flat link.source.pieces; written = unwrap_or link.sink.written [] }
 
 -- which links are told once one more was hung up: it stands at the end, where it tells, and there is room
-abbrev pub with_link : ℕ → Option (List Hung) → Link → Option (List Hung)
+abbrev pub with_link : ℕ → Option (List HungLink) → Link → Option (List HungLink)
 with_link room None link = None
 with_link room (Some hung) link = if is_some link.sink.written && nat_lt (length hung) room then Some (hung ++ hung_of link ∷ []) else None

@@ -2,7 +2,7 @@
 use Rattle.std.specs.Prelude.{◌≡◌, ℕ, Bool, true, false, List, [], map, Option, Some, None}
 use Rattle.std.specs.Global.{Vec}
 use Rattle.ss_outside.specs.Told.{Meanings}
-use Rattle.ss_outside.specs.Memory.{Pieces, Room, flat, filled}
+use Rattle.ss_outside.specs.Memory.{Pieces, Room, flat, filled_pieces}
 use Rattle.ss_outside.specs.Plans.{Plan}
 
 -- the bytes are none, where they are told
@@ -27,24 +27,24 @@ pub record Link : Type 0 where
   pub is_closed : Bool
 
 -- a count of faults; without a plan it is always 0
-abbrev pub counted : Option Plan → ℕ → ℕ
-counted None count = 0
-counted (Some plan) count = count
+abbrev pub counted_faults : Option Plan → ℕ → ℕ
+counted_faults None count = 0
+counted_faults (Some plan) count = count
 
 -- what a link in memory tells
 abbrev pub link_tells : Link → Meanings
 link_tells l = record {
   taken = Some l.source.taken;
   left = Some (flat l.source.pieces);
-  read_faults = counted l.plan l.read_faults;
+  read_faults = counted_faults l.plan l.read_faults;
   written = l.sink.written;
-  write_faults = counted l.plan l.write_faults;
+  write_faults = counted_faults l.plan l.write_faults;
 }
 
 -- a link in memory before the first call
 abbrev pub fresh_link : List (Vec ℕ) → ℕ → Option Plan → Link
 fresh_link pieces room plan = record {
-  source = record { taken = []; pieces = filled (map (λ piece. piece.items) pieces); plan = None };
+  source = record { taken = []; pieces = filled_pieces (map (λ piece. piece.items) pieces); plan = None };
   sink = record { written = Some []; room = room; plan = None };
   plan = plan;
   read_faults = 0;

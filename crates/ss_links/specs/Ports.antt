@@ -1,7 +1,7 @@
 -- Ports, and those in memory.
 use Rattle.std.specs.Prelude.{◌≡◌, ℕ, ◌+◌, List, [], ◌∷◌, Bool, true, false, Option, Result, Ok, Err, ⊤}
 use Rattle.ss_outside.specs.Causes.{Rose}
-use Rattle.ss_outside.specs.Plans.{Plan, fault_count, raised, is_failing, after_call}
+use Rattle.ss_outside.specs.Plans.{Plan, fault_count, raised_count, is_failing, after_call}
 use Rattle.ss_links.specs.Counts.{RoseBy}
 use Rattle.ss_links.specs.Links.{Link}
 use Rattle.ss_links.specs.declared.port.Accepted.{Accepted}
@@ -55,9 +55,9 @@ given_by false false (link ∷ links) = Ok (gives.Link link)
 -- the port after the next call
 abbrev pub passed_by : Bool → Bool → List Link → Waiting → Waiting
 passed_by true rests links p = record p { links = links; plan = after_call p.plan }
-passed_by false true links p = record p { links = links; plan = after_call p.plan; is_to_rest = false; rests = raised p.rests }
-passed_by false false [] p = record p { links = []; plan = after_call p.plan; ends = raised p.ends }
-passed_by false false (link ∷ links) p = record p { links = links; plan = after_call p.plan; given = raised p.given; is_to_rest = p.rests_after_each }
+passed_by false true links p = record p { links = links; plan = after_call p.plan; is_to_rest = false; rests = raised_count p.rests }
+passed_by false false [] p = record p { links = []; plan = after_call p.plan; ends = raised_count p.ends }
+passed_by false false (link ∷ links) p = record p { links = links; plan = after_call p.plan; given = raised_count p.given; is_to_rest = p.rests_after_each }
 
 -- a port in memory before the first call
 abbrev pub fresh_port : List Link → Option Plan → Waiting

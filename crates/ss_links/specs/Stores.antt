@@ -1,5 +1,6 @@
 -- Stores of named files, and those in memory.
-use Rattle.std.specs.Prelude.{◌≡◌, ◌≢◌, ◌<◌, ℕ, true, false, List, length, get_or, Option, Some, None, Result, Ok, Err, find, bytes_eq, option_map, String, string_bytes}
+use Rattle.std.specs.Prelude.{◌≡◌, ◌≢◌, ◌<◌, ℕ, true, false, List, length, get_or, Option, Some, None, Result, Ok, Err}
+use Rattle.std.specs.Prelude.{find, bytes_eq, option_map, String, string_bytes}
 use Rattle.std.specs.Global.{Vec, Global}
 use Rattle.ss_outside.specs.Causes.{Rose}
 use Rattle.ss_outside.specs.Plans.{Plan}

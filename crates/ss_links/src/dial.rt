@@ -2,7 +2,7 @@
 
 ghost use Rattle.std.specs.Prelude.{◌≡◌, ℕ, Option, List, IfOk};
 ghost use Rattle.ss_links.specs.Links.{IsUnused};
-ghost use Rattle.ss_links.specs.Dials.{Address, Hung, HasAsked, HasCause, HasHung, HangUpCounts};
+ghost use Rattle.ss_links.specs.Dials.{Address, HungLink, HasAsked, HasCause, HasHung, HangUpCounts};
 
 use ss_outside::{Sink, Source};
 
@@ -26,7 +26,7 @@ pub trait Dial {
     ghost asked: { Self → Option (List Address) };
 
     /// What was taken from each link that was hung up, was left in it and was written to it, in order, where it is told.
-    ghost hung: { Self → Option (List Hung) };
+    ghost hung: { Self → Option (List HungLink) };
 
     /// Makes a link to this port of this host: no byte of it was taken or written.
     fn dial(&mut self, host: &str, port: u16) -> Result<Self::Link, DialFault>

@@ -1,7 +1,8 @@
 //! A dial in memory.
 
-ghost use Rattle.std.specs.Prelude.{◌≡◌, ◌++◌, [], ◌∷◌, All, Some, IfOk, OnOk, OnErr, map, option_map, option_copied, vec_len};
-ghost use Rattle.ss_outside.specs.Plans.{fresh_plan, raised};
+ghost use Rattle.std.specs.Prelude.{◌≡◌, ◌++◌, [], ◌∷◌, All, Some, IfOk, OnOk, OnErr, map, option_map, option_copied};
+ghost use Rattle.std.specs.Prelude.{vec_len};
+ghost use Rattle.ss_outside.specs.Plans.{fresh_plan, raised_count};
 ghost use Rattle.ss_links.specs.Links.{IsUnused, link_tells};
 ghost use Rattle.ss_links.specs.Dials.{HasAsked, HasCause, HasDialled, HasHung, HangUpCounts, hung_of, with_link};
 ghost use Rattle.ss_links.specs.Asked.{address_of};
@@ -141,7 +142,7 @@ impl<F: Faults + Drop> DialUnder<F> {
     // Fails, and counts it.
     fn fail(&mut self) -> DialFault
         ensures fault { result ≡ DialFault.Fault }
-        ensures count { self.new ≡ record self.old { faults = raised self.old.faults } }
+        ensures count { self.new ≡ record self.old { faults = raised_count self.old.faults } }
     {
         self.faults = self.faults.saturating_add(1);
         DialFault::Fault

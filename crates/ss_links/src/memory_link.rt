@@ -1,10 +1,11 @@
 //! Links in memory.
 
-ghost use Rattle.std.specs.Prelude.{◌≡◌, ◌≢◌, ◌⊎◌, ◌↔◌, ◌≤◌, Some, None, IfOk, IsErr, IsTrue, MatchBool, length, option_copied, if◌then◌else◌};
+ghost use Rattle.std.specs.Prelude.{◌≡◌, ◌≢◌, ◌⊎◌, ◌↔◌, ◌≤◌, Some, None, IfOk, IsErr, IsTrue, MatchBool, length};
+ghost use Rattle.std.specs.Prelude.{option_copied, if◌then◌else◌};
 ghost use Rattle.ss_outside.specs.Causes.{RisesOnErr, RisesOnRefusal};
-ghost use Rattle.ss_outside.specs.Told.{EndsAt, HasRead, HasWritten, accepted, received};
+ghost use Rattle.ss_outside.specs.Told.{EndsAt, HasRead, HasWritten, bytes_accepted, bytes_received};
 ghost use Rattle.ss_outside.specs.Plans.{fresh_plan, is_failing, after_call};
-ghost use Rattle.ss_outside.specs.Memory.{behind, filled, read_size, with_piece};
+ghost use Rattle.ss_outside.specs.Memory.{behind, filled_pieces, read_size, with_piece};
 ghost use Rattle.ss_links.specs.Links.{closed_link, fresh_link, link_tells};
 
 use crate::link::Closable;
@@ -28,7 +29,7 @@ pub struct LinkUnder<F: Faults + Drop> {
 
 impl<F: Faults + Drop> Model for LinkUnder<F> {
     ghost use Rattle.std.specs.Prelude.{◌≡◌, None};
-    ghost use Rattle.ss_links.specs.Links.{Link, counted};
+    ghost use Rattle.ss_links.specs.Links.{Link, counted_faults};
 
     ghost Value = { Link };
 
@@ -42,7 +43,7 @@ impl<F: Faults + Drop> Model for LinkUnder<F> {
     } };
 
     ghost invariant = { λ l. (l.source.plan ≡ None) × (l.sink.plan ≡ None)
-        × (counted (F.Faults.plan l.plan) l.read_faults ≡ l.read_faults) × (counted (F.Faults.plan l.plan) l.write_faults ≡ l.write_faults) };
+        × (counted_faults (F.Faults.plan l.plan) l.read_faults ≡ l.read_faults) × (counted_faults (F.Faults.plan l.plan) l.write_faults ≡ l.write_faults) };
 }
 
 /// A link in memory, some of whose reads and writes fail.
@@ -120,12 +121,12 @@ impl<F: Faults + Drop> Source for LinkUnder<F> {
     fn read(&mut self, into: &mut [u8]) -> Result<usize, ReadFault>
         ensures room { length into.new ≡ length into.old }
         ensures bound { IfOk result (λ count. count ≤ length into.new) }
-        ensures bytes { HasRead (received result into.new) (link_tells self.old) (link_tells self.new) }
+        ensures bytes { HasRead (bytes_received result into.new) (link_tells self.old) (link_tells self.new) }
         ensures ended { EndsAt result (length into.old) (link_tells self.old) }
         ensures cause { RisesOnErr (link_tells self.old).read_faults (link_tells self.new).read_faults result }
         ensures answer { MatchBool (is_failing self.old.plan) (IsErr result) (result ≡ Ok (read_size (length into.old) self.old.source.pieces)) }
         ensures pieces { self.new.source.pieces ≡ (if is_failing self.old.plan then self.old.source.pieces
-            else filled (behind (read_size (length into.old) self.old.source.pieces) self.old.source.pieces)) }
+            else filled_pieces (behind (read_size (length into.old) self.old.source.pieces) self.old.source.pieces)) }
         ensures sink { self.new.sink ≡ self.old.sink }
         ensures plan { self.new.plan ≡ after_call self.old.plan }
         ensures closed { self.new.is_closed ≡ self.old.is_closed }
@@ -141,7 +142,7 @@ impl<F: Faults + Drop> Source for LinkUnder<F> {
 impl<F: Faults + Drop> Sink for LinkUnder<F> {
     fn write(&mut self, from: &[u8]) -> Result<usize, WriteFault>
         ensures bound { IfOk result (λ count. count ≤ length from.now) }
-        ensures bytes { HasWritten (accepted result from.now) (link_tells self.old) (link_tells self.new) }
+        ensures bytes { HasWritten (bytes_accepted result from.now) (link_tells self.old) (link_tells self.new) }
         ensures cause { RisesOnRefusal (length from.now) (link_tells self.old).write_faults (link_tells self.new).write_faults result }
         ensures answer { MatchBool (is_failing self.old.plan) (IsErr result) (result ≡ Ok (length from.now)) }
         ensures written { self.new.sink.written ≡ (if is_failing self.old.plan then self.old.sink.written else with_piece self.old.sink.room self.old.sink.written from.now) }

@@ -1,21 +1,29 @@
 -- What each call makes of nodes that lie soundly.
-use Rattle.std.proofs.Common.{◌≡◌, ◌≢◌, ℕ, zero, suc, ◌+◌, ◌-◌, ◌<◌, ◌≤◌, List, [], ◌∷◌, ◌++◌, length, reverse, take, drop, get_or, set, cond, eqb, ltb, Option, Some, None, IsSome, IfSome, refl, sym, ap, subst, ◌∙◌, inl, inr, arith, length-append, append-nil}
+use Rattle.std.proofs.Common.{◌≡◌, ◌≢◌, ℕ, zero, suc, ◌+◌, ◌-◌, ◌<◌, ◌≤◌, List, [], ◌∷◌, ◌++◌, length, reverse, take}
+use Rattle.std.proofs.Common.{drop, get_or, set, cond, eqb, ltb, Option, Some, None, IsSome, IfSome, refl, sym, ap}
+use Rattle.std.proofs.Common.{subst, ◌∙◌, inl, inr, arith, length-append, append-nil}
 use Rattle.std.proofs.lemmas.Bool.{cases_lt, lt-ltb, le-ltb, eq-eqb, ne_eqb}
 use Rattle.std.proofs.lemmas.Bool.Decides.{eqb_tells}
-use Rattle.std.proofs.lemmas.List.{get_or_read, get_or_push, get_or_append_left, get_or-set_same, get_or-set_other, length-set}
+use Rattle.std.proofs.lemmas.List.{get_or_read, get_or_push, get_or_append_left, get_or-set_same, get_or-set_other}
+use Rattle.std.proofs.lemmas.List.{length-set}
 use Rattle.std.proofs.Math.Seq.{take-length, drop-length}
 use Rattle.std.specs.Map.{lookup_entry, remove_entry}
 use Rattle.ss_list.specs.declared.node.Node.{Node}
 use Rattle.ss_list.specs.declared.node.TheConstants.{END}
 use Rattle.ss_list.specs.declared.ends.Ends.{Ends}
-use Rattle.ss_list.specs.Chain.{times, places, value_of, IsLive, IsWhole, without, moved_back, first_of, last_of, IsAfter, IsBefore, with_value}
+use Rattle.ss_list.specs.Chain.{times, places, value_of, IsLive, IsWhole, without, moved_back, first_of, last_of}
+use Rattle.ss_list.specs.Chain.{IsAfter, IsBefore, with_value}
 use Rattle.ss_list.specs.Nodes.{node_at, value_at, SameElsewhere}
 use Rattle.ss_list.specs.Nodes.{with_value as node_with}
 use Rattle.ss_list.specs.Links.{Runs, walk, nodes_of, next_of, prev_of, IsPlace, Joins, Appends, IsSound, chain_of}
 use Rattle.ss_list.proofs.Times.{times-here, times-append, times-reverse, times-apart, at_head, below-head, apart, cut}
-use Rattle.ss_list.proofs.Paths.{Path, forward_path, backward_path, path_split, last_there, walk_runs, path_kept, runs_kept}
-use Rattle.ss_list.proofs.Holds.{Holds, open_sound, close_sound, once, is_node, not_end, end_nowhere, detached, attached, rewritten, hung, unhung, grown}
-use Rattle.ss_list.proofs.Seen.{value_in, keys-nodes_of, length-nodes_of, nodes_of-append, nodes_of-same, nodes_of-cons, lookup-there, lookup-absent, there_from_lookup, remove_entry-nodes_of, lookup_entry-nodes_of, set_value-nodes_of, first-runs, first_of-reverse}
+use Rattle.ss_list.proofs.Paths.{Path, forward_path, backward_path, path_split, last_there, walk_runs, path_kept}
+use Rattle.ss_list.proofs.Paths.{runs_kept}
+use Rattle.ss_list.proofs.Holds.{Holds, open_sound, close_sound, once, is_node, not_end, end_nowhere, detached}
+use Rattle.ss_list.proofs.Holds.{attached, rewritten, hung, unhung, grown}
+use Rattle.ss_list.proofs.Seen.{value_in, keys-nodes_of, length-nodes_of, nodes_of-append, nodes_of-same, nodes_of-cons}
+use Rattle.ss_list.proofs.Seen.{lookup-there, lookup-absent, there_from_lookup, remove_entry-nodes_of}
+use Rattle.ss_list.proofs.Seen.{lookup_entry-nodes_of, set_value-nodes_of, first-runs, first_of-reverse}
 
 -- a slice that was written as a whole is what was written
 pub whole_slice : {A : Type 0} (n : ℕ) (old new : List A) → n ≡ length old → length new ≡ length old → take n (new ++ drop (length new) old) ≡ new

@@ -1,5 +1,6 @@
 -- How each change of the links keeps the chain and the free nodes, while at most one node is out of both.
-use Rattle.std.proofs.Common.{◌≡◌, ◌≢◌, ℕ, ◌+◌, ◌<◌, ◌≤◌, List, [], ◌∷◌, ◌++◌, length, Bool, true, false, cond, eqb, ltb, None, IsSome, refl, sym, ap, subst, ◌∙◌, inl, inr, arith, length-append}
+use Rattle.std.proofs.Common.{◌≡◌, ◌≢◌, ℕ, ◌+◌, ◌<◌, ◌≤◌, List, [], ◌∷◌, ◌++◌, length, Bool, true, false, cond, eqb}
+use Rattle.std.proofs.Common.{ltb, None, IsSome, refl, sym, ap, subst, ◌∙◌, inl, inr, arith, length-append}
 use Rattle.std.proofs.lemmas.Bool.{cases_lt, lt-ltb, le-ltb, ne_eqb}
 use Rattle.std.proofs.lemmas.List.{get_or_append_left}
 use Rattle.ss_list.specs.declared.node.Node.{Node}
@@ -9,7 +10,8 @@ use Rattle.ss_list.specs.Chain.{times}
 use Rattle.ss_list.specs.Nodes.{node_at, value_at}
 use Rattle.ss_list.specs.Links.{Runs, next_of, prev_of, Joins, Appends, IsSound}
 use Rattle.ss_list.proofs.Times.{times-here, times-apart, times-append, at_head, below-head}
-use Rattle.ss_list.proofs.Paths.{Path, becomes_other, runs_kept, forward_path, backward_path, path_runs, path_split, last_there, path_kept, path_without, path_push}
+use Rattle.ss_list.proofs.Paths.{Path, becomes_other, runs_kept, forward_path, backward_path, path_runs, path_split}
+use Rattle.ss_list.proofs.Paths.{last_there, path_kept, path_without, path_push}
 
 -- the places are the chain, `unused` hang on `free`, and `out` are the nodes in neither
 pub record Holds {T : Type 0} (nodes : List (Node T)) (ends : Ends) (free : ℕ) (places unused out : List ℕ) : Type 0 where

@@ -1,10 +1,12 @@
 -- Places linked both ways, and what a new pair of neighbours makes of them.
-use Rattle.std.proofs.Common.{◌≡◌, ◌≢◌, ℕ, ◌<◌, ◌≤◌, List, [], ◌∷◌, ◌++◌, length, reverse, refl, sym, ap, subst, ◌∙◌, arith, append-nil}
+use Rattle.std.proofs.Common.{◌≡◌, ◌≢◌, ℕ, ◌<◌, ◌≤◌, List, [], ◌∷◌, ◌++◌, length, reverse, refl, sym, ap, subst, ◌∙◌}
+use Rattle.std.proofs.Common.{arith, append-nil}
 use Rattle.std.proofs.lemmas.Bool.{eq-eqb, ne_eqb}
 use Rattle.std.proofs.lemmas.List.{reverse-append}
 use Rattle.ss_list.specs.Chain.{times}
 use Rattle.ss_list.specs.Links.{Runs, walk, Becomes}
-use Rattle.ss_list.proofs.Times.{times-here, times-append, below-head, apart, gone_before, gone_after, once_before, after_apart, before_apart}
+use Rattle.ss_list.proofs.Times.{times-here, times-append, below-head, apart, gone_before, gone_after, once_before}
+use Rattle.ss_list.proofs.Times.{after_apart, before_apart}
 
 pub becomes_here : (old new : ℕ → ℕ) (at to p : ℕ) → Becomes old new at to → p ≡ at → new p ≡ to
 becomes_here old new at to p change same = change p ∙ rw (eq-eqb p at same)

@@ -1,5 +1,6 @@
 -- What a contract sees of a `Chain`.
-use Rattle.std.specs.Prelude.{◌≡◌, ℕ, ◌+◌, ◌-◌, List, ◌∷◌, ◌++◌, length, Option, IsSome, slice_get, count_by, nat_eq, nat_lt, if◌then◌else◌, refl}
+use Rattle.std.specs.Prelude.{◌≡◌, ℕ, ◌+◌, ◌-◌, List, ◌∷◌, ◌++◌, length, Option, IsSome, slice_get, count_by, nat_eq}
+use Rattle.std.specs.Prelude.{nat_lt, if◌then◌else◌, refl}
 use Rattle.std.specs.Option.{option_to_list}
 use Rattle.std.specs.Map.{keys_of, lookup, lookup_entry, remove_entry, set_value}
 use Rattle.std.specs.Coded.{Coded, code_by, coded×, coded_ℕ, coded_list}

@@ -1,5 +1,6 @@
 -- How a chain lies in memory. No public clause cites this module.
-use Rattle.std.specs.Prelude.{◌≡◌, ℕ, zero, suc, ◌+◌, ◌<◌, ◌≢◌, List, [], ◌∷◌, length, reverse, Option, None, IsSome, nat_lt, ◌==◌, if◌then◌else◌, filter_map}
+use Rattle.std.specs.Prelude.{◌≡◌, ℕ, zero, suc, ◌+◌, ◌<◌, ◌≢◌, List, [], ◌∷◌, length, reverse, Option, None, IsSome}
+use Rattle.std.specs.Prelude.{nat_lt, ◌==◌, if◌then◌else◌, filter_map}
 use Rattle.std.specs.Option.{option_map}
 use Rattle.ss_list.specs.declared.node.Node.{Node}
 use Rattle.ss_list.specs.declared.node.TheConstants.{END}

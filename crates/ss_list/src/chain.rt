@@ -1,6 +1,7 @@
 //! The chain and its calls.
 ghost use Rattle.std.specs.Borrow.{sem};
-ghost use Rattle.std.specs.Prelude.{ℕ, List, ◌^◌, ◌-◌, ◌≢◌, ◌==◌, ◌≡◌, ◌+◌, ◌<◌, ◌≤◌, [], ◌∷◌, ◌++◌, length, max, None, Some, OnOk, OnErr, IsOk, IfSome, nat_eq};
+ghost use Rattle.std.specs.Prelude.{ℕ, List, ◌^◌, ◌-◌, ◌≢◌, ◌==◌, ◌≡◌, ◌+◌, ◌<◌, ◌≤◌, [], ◌∷◌, ◌++◌, length, max, None};
+ghost use Rattle.std.specs.Prelude.{Some, OnOk, OnErr, IsOk, IfSome, nat_eq};
 
 use crate::at::At;
 use crate::ends::Ends;
@@ -40,7 +41,8 @@ impl<T> Model for Chain<T> {
 }
 
 impl<T> Chain<T> {
-    ghost use Rattle.ss_list.specs.Chain.{places, value_of, IsLive, IsWhole, IsAfter, IsBefore, first_of, last_of, without, moved_back};
+    ghost use Rattle.ss_list.specs.Chain.{places, value_of, IsLive, IsWhole, IsAfter, IsBefore, first_of, last_of};
+    ghost use Rattle.ss_list.specs.Chain.{without, moved_back};
     ghost use Rattle.ss_list.specs.Lends.{lends_value};
 
     /// An empty chain, which takes no memory.

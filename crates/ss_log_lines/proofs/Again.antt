@@ -1,5 +1,6 @@
 -- Lines of a log as JSON values: what is written for a line is read back as it.
-use Rattle.std.proofs.Common.{◌≡◌, ℕ, ℤ, ◌^◌, ◌<◌, Bool, true, cond, List, [], ◌∷◌, map, Option, Some, None, option_map, option_and_then, refl, sym, ap, ap₂, subst, ◌∙◌}
+use Rattle.std.proofs.Common.{◌≡◌, ℕ, ℤ, ◌^◌, ◌<◌, Bool, true, cond, List, [], ◌∷◌, map, Option, Some, None, option_map}
+use Rattle.std.proofs.Common.{option_and_then, refl, sym, ap, ap₂, subst, ◌∙◌}
 use Rattle.std.specs.Prelude.{FitsSigned}
 use Rattle.std.specs.Int.{w32}
 use Rattle.std.specs.List.{AllByRecursion}
@@ -25,7 +26,8 @@ use Rattle.ss_query.specs.declared.requests.Mode.{Mode}
 use Rattle.ss_query.specs.declared.requests.Mode.TheVariants.{Plain, Begin, Append, Commit}
 use Rattle.ss_query.specs.declared.requests.Query.{Query}
 use Rattle.ss_query.specs.declared.requests.Request.{Request}
-use Rattle.ss_query.specs.declared.requests.Request.TheVariants.{Info, DeleteAll, List as ListOf, Post, DeleteCollection, DeleteIds, Get, Put, Delete}
+use Rattle.ss_query.specs.declared.requests.Request.TheVariants.{Info, DeleteAll, List as ListOf, Post}
+use Rattle.ss_query.specs.declared.requests.Request.TheVariants.{DeleteCollection, DeleteIds, Get, Put, Delete}
 use Rattle.ss_query.specs.declared.requests.Sort.{Sort}
 use Rattle.ss_query.specs.declared.requests.Sort.TheVariants.{Newest, Oldest, Index}
 use Rattle.ss_query.specs.declared.replies.Mark.{Mark}
@@ -34,11 +36,18 @@ use Rattle.ss_laws.specs.declared.journal.Entry.{Entry}
 use Rattle.ss_lines.specs.Lines.{IsPart, field, integer, natural, optional, time}
 use Rattle.ss_lines.specs.Values.{field_of, id_of, integer_of, name_of, optional_of, seconds_of}
 use Rattle.ss_lines.specs.declared.lines.Line.TheVariants as told
-use Rattle.ss_lines.proofs.Told.{field_back, integer_back, integer_more, integer_other, optional_back, seconds_back, told_again}
+use Rattle.ss_lines.proofs.Told.{field_back, integer_back, integer_more, integer_other, optional_back, seconds_back}
+use Rattle.ss_lines.proofs.Told.{told_again}
 use Rattle.ss_query.specs.Reasons.{reason_name}
-use Rattle.ss_log_lines.specs.Requests.{AreFields, IsCond, IsFailure, IsId, IsMode, IsQuery, IsRequest, IsTime, asked_word, cond_data, failure_data, listed, mode_data, part_data, query_data, request_data, sort_word}
+use Rattle.ss_log_lines.specs.Requests.{AreFields, IsCond, IsFailure, IsId, IsMode, IsQuery, IsRequest, IsTime}
+use Rattle.ss_log_lines.specs.Requests.{asked_word, cond_data, failure_data, data_of_list, mode_data, part_data}
+use Rattle.ss_log_lines.specs.Requests.{query_data, request_data, sort_word}
 use Rattle.ss_log_lines.specs.LogLines.{IsEntry, IsLogLine, call_list, log_list_of, mark_word}
-use Rattle.ss_log_lines.specs.Values.{all_from, asked_of, cond_from, delete_all_from, delete_collection_from, delete_from, delete_ids_from, entry_from, failure_from, fields_told, get_from, id_from, info_from, list_from, list_request_from, log_from, log_line_from, mark_of, mode_from, part_from, post_from, put_from, query_from, reason_of, request_from, sort_of, time_from}
+use Rattle.ss_log_lines.specs.Values.{all_from, asked_of, cond_from, delete_all_from, delete_collection_from}
+use Rattle.ss_log_lines.specs.Values.{delete_from, delete_ids_from, entry_from, failure_from, fields_told, get_from}
+use Rattle.ss_log_lines.specs.Values.{id_from, info_from, list_from, list_request_from, log_from, log_line_from}
+use Rattle.ss_log_lines.specs.Values.{mark_of, mode_from, part_from, post_from, put_from, query_from, reason_of}
+use Rattle.ss_log_lines.specs.Values.{request_from, sort_of, time_from}
 use Rattle.ss_log_lines.specs.declared.lines.LogLine.{LogLine}
 use Rattle.ss_log_lines.specs.declared.lines.LogLine.TheVariants.{Log, Account, Call}
 use Rattle.ss_log_lines.proofs.Within as within
@@ -89,7 +98,7 @@ id_back id h = ap (λ b. cond b (Some id) None) h
 time_back : (t : ℕ) → IsTime t → time_from (time t) ≡ Some t
 time_back t h = stamp_again t h
 
-ids_back : (ids : List (List ℕ)) → AllByRecursion IsId ids → list_from id_from (listed string ids) ≡ Some ids
+ids_back : (ids : List (List ℕ)) → AllByRecursion IsId ids → list_from id_from (data_of_list string ids) ≡ Some ids
 ids_back ids h = all_back id_from string IsId id_back ids h
 
 cond_back : (k : Cond) → IsCond k → cond_from (cond_data k) ≡ Some k
@@ -146,7 +155,7 @@ query_by ids newer older limit offset sort full =
 query_back : (q : Query) → IsQuery q → query_from (query_data q) ≡ Some q
 unfolding query_from
 query_back q h =
-    let ids = optional_back (list_from id_from) (listed string) (AllByRecursion IsId) (λ xs. refl) ids_back q.ids h.ids in
+    let ids = optional_back (list_from id_from) (data_of_list string) (AllByRecursion IsId) (λ xs. refl) ids_back q.ids h.ids in
     let newer = optional_back time_from time IsTime (λ t. refl) time_back q.newer h.newer in
     let older = optional_back time_from time IsTime (λ t. refl) time_back q.older h.older in
     let limit = optional_back seconds_of natural (λ n. n < 2 ^ 32) (λ n. refl) seconds_back q.limit h.limit in
@@ -164,9 +173,9 @@ post_back collection parts failed mode k h =
     let some_failed = all_back failure_from failure_data IsFailure failure_back failed h.2 in
     named collection
     (λ c. option_and_then (λ m. option_and_then (λ ps. option_and_then (λ fs. option_map (λ y. Post c (record { parts = ps; failed = fs }) m y)
-    (cond_from (cond_data k))) (list_from failure_from (listed failure_data failed))) (list_from part_from (listed part_data parts))) (mode_from (mode_data mode))) h.0
+    (cond_from (cond_data k))) (list_from failure_from (data_of_list failure_data failed))) (list_from part_from (data_of_list part_data parts))) (mode_from (mode_data mode))) h.0
     ∙ (ap₂ (λ a b. option_and_then (λ m. option_and_then (λ ps. option_and_then (λ fs. option_map (λ y. Post collection (record { parts = ps; failed = fs }) m y)
-    (cond_from (cond_data k))) (list_from failure_from (listed failure_data failed))) b) a) (mode_back mode h.3) some_parts
+    (cond_from (cond_data k))) (list_from failure_from (data_of_list failure_data failed))) b) a) (mode_back mode h.3) some_parts
     ∙ ap₂ (λ a b. option_and_then (λ fs. option_map (λ y. Post collection (record { parts = parts; failed = fs }) mode y) b) a) some_failed (cond_back k h.4))
 
 put_back : (collection id : List ℕ) (f : Fields) (k : Cond) → IsRequest (Put collection id f k) → put_from (request_data (Put collection id f k)) ≡ Some (Put collection id f k)
@@ -191,7 +200,7 @@ request_back (Post collection records mode k) h = post_back collection records.p
 request_back (DeleteCollection collection k) h =
     named collection (λ c. option_map (λ y. DeleteCollection c y) (cond_from (cond_data k))) h.0 ∙ ap (option_map (λ y. DeleteCollection collection y)) (cond_back k h.1)
 request_back (DeleteIds collection ids k) h =
-    named collection (λ c. option_and_then (λ x. option_map (λ y. DeleteIds c x y) (cond_from (cond_data k))) (list_from id_from (listed string ids))) h.0
+    named collection (λ c. option_and_then (λ x. option_map (λ y. DeleteIds c x y) (cond_from (cond_data k))) (list_from id_from (data_of_list string ids))) h.0
     ∙ ap₂ (λ a b. option_and_then (λ x. option_map (λ y. DeleteIds collection x y) b) a) (ids_back ids h.1) (cond_back k h.2)
 request_back (Get collection id k) h =
     named collection (λ c. option_and_then (λ i. option_map (λ y. Get c i y) (cond_from (cond_data k))) (id_of id)) h.0

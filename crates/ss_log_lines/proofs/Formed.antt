@@ -21,7 +21,8 @@ use Rattle.ss_query.specs.declared.requests.Mode.{Mode}
 use Rattle.ss_query.specs.declared.requests.Mode.TheVariants.{Plain, Begin, Append, Commit}
 use Rattle.ss_query.specs.declared.requests.Query.{Query}
 use Rattle.ss_query.specs.declared.requests.Request.{Request}
-use Rattle.ss_query.specs.declared.requests.Request.TheVariants.{Info, DeleteAll, List as ListOf, Post, DeleteCollection, DeleteIds, Get, Put, Delete}
+use Rattle.ss_query.specs.declared.requests.Request.TheVariants.{Info, DeleteAll, List as ListOf, Post}
+use Rattle.ss_query.specs.declared.requests.Request.TheVariants.{DeleteCollection, DeleteIds, Get, Put, Delete}
 use Rattle.ss_query.specs.declared.requests.Sort.{Sort}
 use Rattle.ss_query.specs.declared.requests.Sort.TheVariants.{Newest, Oldest, Index}
 use Rattle.ss_query.specs.declared.replies.Mark.{Mark}
@@ -30,7 +31,9 @@ use Rattle.ss_laws.specs.declared.journal.Entry.{Entry}
 use Rattle.ss_lines.specs.Lines.{IsPart, OfOption, field, integer, natural, optional, time}
 use Rattle.ss_lines.proofs.Told.{field_flat, integer_flat, line_flat, seconds_flat}
 use Rattle.ss_query.specs.Reasons.{reason_name}
-use Rattle.ss_log_lines.specs.Requests.{AreFields, IsCond, IsFailure, IsId, IsMode, IsQuery, IsRequest, IsTime, asked_word, cond_data, failure_data, fields_data, listed, mode_data, part_data, query_data, request_data, sort_word}
+use Rattle.ss_log_lines.specs.Requests.{AreFields, IsCond, IsFailure, IsId, IsMode, IsQuery, IsRequest, IsTime}
+use Rattle.ss_log_lines.specs.Requests.{asked_word, cond_data, failure_data, fields_data, data_of_list, mode_data}
+use Rattle.ss_log_lines.specs.Requests.{part_data, query_data, request_data, sort_word}
 use Rattle.ss_log_lines.specs.LogLines.{IsEntry, IsLogLine, call_list, log_list_of, mark_word}
 use Rattle.ss_log_lines.specs.declared.lines.LogLine.{LogLine}
 use Rattle.ss_log_lines.specs.declared.lines.LogLine.TheVariants.{Log, Account, Call}
@@ -84,7 +87,7 @@ ids_within k ids h = all_within k string IsId (λ id i. IsUtf8-from_id id i) ids
 
 query_within : (q : Query) → IsQuery q → IsWithin 3 (query_data q)
 query_within q h =
-    let ids = optional_within 2 (listed string) (AllByRecursion IsId) (λ xs a. ids_within 1 xs a) q.ids h.ids in
+    let ids = optional_within 2 (data_of_list string) (AllByRecursion IsId) (λ xs a. ids_within 1 xs a) q.ids h.ids in
     let newer = optional_within 2 time IsTime (λ t i. stamp_is_utf8 t i) q.newer h.newer in
     let older = optional_within 2 time IsTime (λ t i. stamp_is_utf8 t i) q.older h.older in
     let limit = optional_within 2 natural (λ n. n < 2 ^ 32) (λ n few. seconds_flat n few) q.limit h.limit in

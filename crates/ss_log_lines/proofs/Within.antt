@@ -1,5 +1,6 @@
 -- JSON lists in lists: what is written for one is read back as it, is UTF-8, and has no line break.
-use Rattle.std.proofs.Common.{◌≡◌, ℕ, zero, suc, ◌≤◌, Bool, true, false, List, [], ◌∷◌, ◌++◌, map, Some, option_map, option_and_then, refl, ap, ap₂, ◌∙◌, arith}
+use Rattle.std.proofs.Common.{◌≡◌, ℕ, zero, suc, ◌≤◌, Bool, true, false, List, [], ◌∷◌, ◌++◌, map, Some, option_map}
+use Rattle.std.proofs.Common.{option_and_then, refl, ap, ap₂, ◌∙◌, arith}
 use Rattle.std.specs.Bool.{⊤}
 use Rattle.std.specs.List.{AllByRecursion}
 use Rattle.std.specs.Str.{IsUtf8}
@@ -10,7 +11,8 @@ use Rattle.serde_json.specs.Data.{Data, null, boolean, number, string, array, ob
 use Rattle.serde_json.specs.Read.{of_items, of_json, read}
 use Rattle.serde_json.specs.View.{items_of}
 use Rattle.serde_json.specs.Written.{comma_if, compact_text, items_outline, items_text, outline}
-use Rattle.ss_lines.proofs.Flat.{AreFlat, IsFlat, IsFlatNumber, comma_noline, comma_utf8, number_back, number_is, number_noline, number_utf8, read_compact}
+use Rattle.ss_lines.proofs.Flat.{AreFlat, IsFlat, IsFlatNumber, comma_noline, comma_utf8, number_back, number_is}
+use Rattle.ss_lines.proofs.Flat.{number_noline, number_utf8, read_compact}
 use Rattle.ss_lines.proofs.OneLine.{NoLine, noline_append, noline_by, quoted_noline}
 
 -- ---- values of texts, whole numbers of 64 bits, booleans and `null`, in lists that nest so deep

@@ -16,7 +16,8 @@ use Rattle.ss_query.specs.declared.requests.Mode.{Mode}
 use Rattle.ss_query.specs.declared.requests.Mode.TheVariants.{Plain, Begin, Append, Commit}
 use Rattle.ss_query.specs.declared.requests.Query.{Query}
 use Rattle.ss_query.specs.declared.requests.Request.{Request}
-use Rattle.ss_query.specs.declared.requests.Request.TheVariants.{Info, DeleteAll, List as ListOf, Post, DeleteCollection, DeleteIds, Get, Put, Delete}
+use Rattle.ss_query.specs.declared.requests.Request.TheVariants.{Info, DeleteAll, List as ListOf, Post}
+use Rattle.ss_query.specs.declared.requests.Request.TheVariants.{DeleteCollection, DeleteIds, Get, Put, Delete}
 use Rattle.ss_query.specs.declared.requests.Sort.{Sort}
 use Rattle.ss_query.specs.declared.requests.Sort.TheVariants.{Newest, Oldest, Index}
 use Rattle.ss_query.specs.Reasons.{reason_name}
@@ -27,8 +28,8 @@ use Rattle.ss_lines.specs.Lines.{IsPart, OfOption, field, integer, natural, opti
 abbrev pub list_data : List Data → Data
 list_data ds = array (items_of ds)
 
-abbrev pub listed : {X : Type 0} → (X → Data) → List X → Data
-listed written xs = list_data (map written xs)
+abbrev pub data_of_list : {X : Type 0} → (X → Data) → List X → Data
+data_of_list written xs = list_data (map written xs)
 
 -- ---- words
 
@@ -56,7 +57,7 @@ cond_data IfAbsent = list_data (string (codes "absent") ∷ [])
 -- which records of a collection are asked for: `null` where nothing is said
 abbrev pub query_data : Query → Data
 query_data q =
-    list_data (optional (listed string) q.ids ∷ optional time q.newer ∷ optional time q.older ∷ optional natural q.limit ∷ natural q.offset
+    list_data (optional (data_of_list string) q.ids ∷ optional time q.newer ∷ optional time q.older ∷ optional natural q.limit ∷ natural q.offset
     ∷ string (sort_word q.sort) ∷ boolean q.full ∷ [])
 
 abbrev pub mode_data : Mode → Data
@@ -82,9 +83,9 @@ request_data (Info what cond) = list_data (string (codes "info") ∷ string (ask
 request_data (DeleteAll cond) = list_data (string (codes "deleteall") ∷ cond_data cond ∷ [])
 request_data (ListOf collection query cond) = list_data (string (codes "list") ∷ string collection ∷ query_data query ∷ cond_data cond ∷ [])
 request_data (Post collection records mode cond) =
-    list_data (string (codes "post") ∷ string collection ∷ mode_data mode ∷ listed part_data records.parts ∷ listed failure_data records.failed ∷ cond_data cond ∷ [])
+    list_data (string (codes "post") ∷ string collection ∷ mode_data mode ∷ data_of_list part_data records.parts ∷ data_of_list failure_data records.failed ∷ cond_data cond ∷ [])
 request_data (DeleteCollection collection cond) = list_data (string (codes "drop") ∷ string collection ∷ cond_data cond ∷ [])
-request_data (DeleteIds collection ids cond) = list_data (string (codes "dropids") ∷ string collection ∷ listed string ids ∷ cond_data cond ∷ [])
+request_data (DeleteIds collection ids cond) = list_data (string (codes "dropids") ∷ string collection ∷ data_of_list string ids ∷ cond_data cond ∷ [])
 request_data (Get collection id cond) = list_data (string (codes "get") ∷ string collection ∷ string id ∷ cond_data cond ∷ [])
 request_data (Put collection id fields cond) = list_data (string (codes "put") ∷ string collection ∷ string id ∷ fields_data fields ∷ cond_data cond ∷ [])
 request_data (Delete collection id cond) = list_data (string (codes "delete") ∷ string collection ∷ string id ∷ cond_data cond ∷ [])

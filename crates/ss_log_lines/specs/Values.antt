@@ -1,5 +1,6 @@
 -- What a JSON value says as a line of a log, for private clauses; a line may be told that isn't written so.
-use Rattle.std.specs.Prelude.{◌∷◌, [], ℕ, List, if◌then◌else◌, Option, Some, None, option_map, option_and_then, bytes_eq, codes}
+use Rattle.std.specs.Prelude.{◌∷◌, [], ℕ, List, if◌then◌else◌, Option, Some, None, option_map, option_and_then}
+use Rattle.std.specs.Prelude.{bytes_eq, codes}
 use Rattle.serde_json.specs.Data.{Data, Items, no_items, item}
 use Rattle.serde_json.specs.Find.{as_array, as_bool, as_str, at}
 use Rattle.ss_text.specs.Time.{stamp_of}
@@ -15,13 +16,15 @@ use Rattle.ss_query.specs.declared.requests.Mode.{Mode}
 use Rattle.ss_query.specs.declared.requests.Mode.TheVariants.{Plain, Begin, Append, Commit}
 use Rattle.ss_query.specs.declared.requests.Query.{Query}
 use Rattle.ss_query.specs.declared.requests.Request.{Request}
-use Rattle.ss_query.specs.declared.requests.Request.TheVariants.{Info, DeleteAll, List as ListOf, Post, DeleteCollection, DeleteIds, Get, Put, Delete}
+use Rattle.ss_query.specs.declared.requests.Request.TheVariants.{Info, DeleteAll, List as ListOf, Post}
+use Rattle.ss_query.specs.declared.requests.Request.TheVariants.{DeleteCollection, DeleteIds, Get, Put, Delete}
 use Rattle.ss_query.specs.declared.requests.Sort.{Sort}
 use Rattle.ss_query.specs.declared.requests.Sort.TheVariants.{Newest, Oldest, Index}
 use Rattle.ss_query.specs.declared.replies.Mark.{Mark}
 use Rattle.ss_query.specs.declared.replies.Mark.TheVariants.{Done, Keeper, Memory}
 use Rattle.ss_laws.specs.declared.journal.Entry.{Entry}
-use Rattle.ss_lines.specs.Values.{field_of, id_at, id_of, integer_of, line_from, name_at, natural_at, optional_of, seconds_of, text_at, time_at}
+use Rattle.ss_lines.specs.Values.{field_of, id_at, id_of, integer_of, line_from, name_at, natural_at, optional_of}
+use Rattle.ss_lines.specs.Values.{seconds_of, text_at, time_at}
 use Rattle.ss_log_lines.specs.declared.requests.Kind.{Kind}
 use Rattle.ss_log_lines.specs.declared.requests.Kind.TheVariants as kind
 use Rattle.ss_log_lines.specs.declared.told.Tag.{Tag}

@@ -5,7 +5,7 @@ ghost use Rattle.serde_json.specs.Data.{Data};
 ghost use Rattle.serde_json.specs.Written.{compact_text};
 ghost use Rattle.ss_lines.specs.Cells.{data_of};
 ghost use Rattle.ss_log_lines.specs.Arrays.{behind};
-ghost use Rattle.ss_log_lines.specs.Requests.{listed};
+ghost use Rattle.ss_log_lines.specs.Requests.{data_of_list};
 
 use ss_lines::cells::{Cell, push_cell};
 use std::alloc::AllocError;
@@ -43,7 +43,7 @@ fn push_behind<T: Written>(out: &mut Vec<u8>, values: &[T]) -> Result<(), AllocE
 
 /// Appends the list of a value and those behind it.
 fn push_some<T: Written>(out: &mut Vec<u8>, first: &T, rest: &[T]) -> Result<(), AllocError>
-    ensures { OnOk result (out.new.items ≡ out.old.items ++ compact_text (listed T.json (first.now ∷ rest.now))) }
+    ensures { OnOk result (out.new.items ≡ out.old.items ++ compact_text (data_of_list T.json (first.now ∷ rest.now))) }
 {
     out.push(b'[')?;
     first.push(out)?;
@@ -54,7 +54,7 @@ fn push_some<T: Written>(out: &mut Vec<u8>, first: &T, rest: &[T]) -> Result<(),
 
 /// Appends a list of values.
 pub(crate) fn push_array<T: Written>(out: &mut Vec<u8>, values: &[T]) -> Result<(), AllocError>
-    ensures { OnOk result (out.new.items ≡ out.old.items ++ compact_text (listed T.json values.now)) }
+    ensures { OnOk result (out.new.items ≡ out.old.items ++ compact_text (data_of_list T.json values.now)) }
 {
     match values.split_first() {
         Some((first, rest)) => push_some(out, first, rest),

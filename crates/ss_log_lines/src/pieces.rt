@@ -6,7 +6,7 @@ ghost use Rattle.serde_json.specs.Written.{compact_text};
 ghost use Rattle.ss_lines.specs.Cells.{data_of};
 ghost use Rattle.ss_lines.specs.Lines.{natural, optional, time};
 ghost use Rattle.ss_log_lines.specs.Pieces.{query_piece_data};
-ghost use Rattle.ss_log_lines.specs.Requests.{cond_data, fields_data, listed, mode_data, query_data};
+ghost use Rattle.ss_log_lines.specs.Requests.{cond_data, fields_data, data_of_list, mode_data, query_data};
 
 use crate::arrays::{Written, push_array};
 use crate::words::sort_word;
@@ -115,7 +115,7 @@ impl Written for QueryPiece<'_> {
 }
 
 fn optional_ids(query: &Query) -> QueryPiece<'_>
-    ensures { query_piece_data result ≡ optional (listed string) query.now.ids }
+    ensures { query_piece_data result ≡ optional (data_of_list string) query.now.ids }
 {
     match &query.ids {
         None => QueryPiece::Cell(Cell::Null),

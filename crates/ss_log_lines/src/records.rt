@@ -4,7 +4,8 @@ ghost use Rattle.std.specs.Prelude.{◌≡◌, IfOk, option_map, option_and_then
 ghost use Rattle.serde_json.specs.Find.{as_str};
 ghost use Rattle.serde_json.specs.View.{items_view, view};
 ghost use Rattle.ss_lines.specs.Values.{field_of};
-ghost use Rattle.ss_log_lines.specs.Values.{all_from, failure_from, fields_from, fields_told, list_from, part_from, reason_of};
+ghost use Rattle.ss_log_lines.specs.Values.{all_from, failure_from, fields_from, fields_told, list_from, part_from};
+ghost use Rattle.ss_log_lines.specs.Values.{reason_of};
 
 use crate::words::reason_of;
 use serde_json::Value;

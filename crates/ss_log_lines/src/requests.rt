@@ -3,7 +3,9 @@
 ghost use Rattle.std.specs.Prelude.{◌≡◌, IfOk, option_map, option_and_then};
 ghost use Rattle.serde_json.specs.View.{view};
 ghost use Rattle.ss_lines.specs.Values.{text_at};
-ghost use Rattle.ss_log_lines.specs.Values.{asked_of, delete_all_from, delete_collection_from, delete_from, delete_ids_from, get_from, info_from, kind_of, list_request_from, of_kind, post_from, put_from, request_from};
+ghost use Rattle.ss_log_lines.specs.Values.{asked_of, delete_all_from, delete_collection_from, delete_from};
+ghost use Rattle.ss_log_lines.specs.Values.{delete_ids_from, get_from, info_from, kind_of, list_request_from, of_kind};
+ghost use Rattle.ss_log_lines.specs.Values.{post_from, put_from, request_from};
 
 use crate::records::{failures_in, fields_in, parts_in};
 use crate::values::{cond_in, ids_in, mode_in, query_in};

@@ -4,7 +4,8 @@ ghost use Rattle.std.specs.Prelude.{◌≡◌, IfOk, option_map, option_and_then
 ghost use Rattle.serde_json.specs.Find.{as_bool};
 ghost use Rattle.serde_json.specs.View.{items_view, view};
 ghost use Rattle.ss_lines.specs.Values.{optional_of, seconds_of};
-ghost use Rattle.ss_log_lines.specs.Values.{all_from, cond_from, id_from, list_from, mode_from, query_from, sort_of, time_from};
+ghost use Rattle.ss_log_lines.specs.Values.{all_from, cond_from, id_from, list_from, mode_from, query_from, sort_of};
+ghost use Rattle.ss_log_lines.specs.Values.{time_from};
 
 use crate::words::sort_of;
 use serde_json::Value;

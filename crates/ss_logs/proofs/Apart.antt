@@ -7,7 +7,7 @@ use Rattle.ss_laws.specs.Journal.{Journal}
 use Rattle.ss_laws.specs.declared.journal.Entry.{Entry}
 use Rattle.ss_lines.specs.declared.lines.Line.{Line}
 use Rattle.ss_lines.specs.declared.lines.Line.TheVariants.{End}
-use Rattle.ss_dump.specs.Fronts.{IsTold, dump_lines}
+use Rattle.ss_dump.specs.Fronts.{IsFormedInOrder, dump_lines}
 use Rattle.ss_dump.proofs.AtFront.{one_dump_lines, whole_goes_on}
 use Rattle.ss_log_lines.specs.declared.lines.LogLine.{LogLine}
 use Rattle.ss_log_lines.specs.declared.lines.LogLine.TheVariants.{Log, Account}
@@ -63,10 +63,10 @@ told_longer (l ∷ ls) (m ∷ ms) c cs e =
     (r.0, r.1, r.2, ap₂ (λ a b. a ∷ b) first r.3)
 
 -- no dump begins with another
-pub dump_goes_on : (kept other : Kept) (c : Line) (cs : List Line) → IsTold kept → IsTold other → dump_lines other ≡ dump_lines kept ++ c ∷ cs → ⊥
+pub dump_goes_on : (kept other : Kept) (c : Line) (cs : List Line) → IsFormedInOrder kept → IsFormedInOrder other → dump_lines other ≡ dump_lines kept ++ c ∷ cs → ⊥
 dump_goes_on kept other c cs h g e = whole_goes_on kept c h (record { kept = other; behind = cs; told = g; lines_are = e })
 
-pub openings_apart : (kept other : Kept) (ps qs : List LogLine) → IsTold kept → IsTold other → told (dump_lines kept) ++ ps ≡ told (dump_lines other) ++ qs → (kept ≡ other) × (ps ≡ qs)
+pub openings_apart : (kept other : Kept) (ps qs : List LogLine) → IsFormedInOrder kept → IsFormedInOrder other → told (dump_lines kept) ++ ps ≡ told (dump_lines other) ++ qs → (kept ≡ other) × (ps ≡ qs)
 openings_apart kept other ps qs h g e =
     elim (fork (told (dump_lines kept)) (told (dump_lines other)) ps qs e) [
       | same q r ↦ (one_dump_lines kept other h g (told_same (dump_lines kept) (dump_lines other) q), r)

@@ -1,5 +1,6 @@
 -- What calls say of a text from a place on: a slice of it, up to its end.
-use Rattle.std.proofs.Common.{◌≡◌, ℕ, ◌+◌, ◌-◌, ◌<◌, ◌≤◌, List, [], ◌∷◌, ◌++◌, length, take, drop, Option, Some, IfSome, IfNone, refl, sym, subst, arith, length-drop}
+use Rattle.std.proofs.Common.{◌≡◌, ℕ, ◌+◌, ◌-◌, ◌<◌, ◌≤◌, List, [], ◌∷◌, ◌++◌, length, take, drop, Option, Some, IfSome}
+use Rattle.std.proofs.Common.{IfNone, refl, sym, subst, arith, length-drop}
 use Rattle.std.proofs.lemmas.List.{take_rest}
 use Rattle.ss_bso.specs.declared.account.Plain.{Plain}
 use Rattle.ss_bso.specs.declared.changes.Kept.{Kept}
@@ -17,9 +18,11 @@ use Rattle.ss_logs.specs.declared.calls.Next.TheVariants as next
 use Rattle.ss_logs.specs.declared.calls.NextFront.{NextFront}
 use Rattle.ss_logs.specs.declared.faults.LogFault.{LogFault}
 use Rattle.ss_logs.specs.declared.faults.LogFault.TheVariants.{BadLine}
-use Rattle.ss_logs.specs.Fronts.{AreCalls, AreReadCalls, AreReadTo, IsBadCall, IsBadFront, IsCallsFault, IsFrontFault, IsFrontLog, NoneBehind, next_line}
+use Rattle.ss_logs.specs.Fronts.{AreCalls, AreReadCalls, AreReadTo, IsBadCall, IsBadFront, IsCallsFault, IsFrontFault}
+use Rattle.ss_logs.specs.Fronts.{IsFrontLog, NoneBehind, next_line}
 use Rattle.ss_logs.specs.Logs.{IsBadLine, account_at}
-use Rattle.ss_logs.proofs.InParts.{all_calls, bad_behind, bad_call, bad_few, bad_opening, front_few, front_some, log_front, one_call, over_calls}
+use Rattle.ss_logs.proofs.InParts.{all_calls, bad_behind, bad_call, bad_few, bad_opening, front_few, front_some}
+use Rattle.ss_logs.proofs.InParts.{log_front, one_call, over_calls}
 use Rattle.ss_logs.proofs.ToTheEnd.{one_read, read_few, refused}
 
 -- a text from a place on

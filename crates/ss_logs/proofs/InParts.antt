@@ -1,5 +1,7 @@
 -- A log at the front of a text, from its parts, and where a text doesn't begin with one.
-use Rattle.std.proofs.Common.{◌≡◌, ◌≢◌, ℕ, ◌+◌, ◌-◌, ◌<◌, ◌≤◌, ◌^◌, List, [], ◌∷◌, ◌++◌, length, map, take, drop, append_assoc, append-nil, refl, sym, ap, ap₂, ◌∙◌, subst, arith, length-append, length-drop}
+use Rattle.std.proofs.Common.{◌≡◌, ◌≢◌, ℕ, ◌+◌, ◌-◌, ◌<◌, ◌≤◌, ◌^◌, List, [], ◌∷◌, ◌++◌, length, map, take, drop}
+use Rattle.std.proofs.Common.{append_assoc, append-nil, refl, sym, ap, ap₂, ◌∙◌, subst, arith, length-append}
+use Rattle.std.proofs.Common.{length-drop}
 use Rattle.std.specs.List.{AllByRecursion}
 use Rattle.std.proofs.Math.ListN.{drop_of_length-le}
 use Rattle.std.proofs.Math.Seq.{take-add}
@@ -12,7 +14,7 @@ use Rattle.ss_laws.specs.declared.journal.Entry.{Entry}
 use Rattle.ss_lines.specs.declared.lines.Line.{Line}
 use Rattle.ss_lines.specs.declared.lines.Line.TheVariants.{End}
 use Rattle.ss_dump.specs.Fronts as dump
-use Rattle.ss_dump.specs.Telling.{timed}
+use Rattle.ss_dump.specs.Telling.{kept_with_times}
 use Rattle.ss_dump.proofs.AtFront.{dump_text_is, fresh_told}
 use Rattle.ss_log_lines.specs.LogLines.{IsCall, IsLogFront, IsLogLine, NoLogLineBegins, log_line_text}
 use Rattle.ss_log_lines.specs.declared.lines.LogLine.{LogLine}
@@ -20,10 +22,13 @@ use Rattle.ss_log_lines.specs.declared.lines.LogLine.TheVariants.{Log, Account, 
 use Rattle.ss_log_lines.proofs.Fronts.{told_apart}
 use Rattle.ss_logs.specs.declared.calls.Next.{Next}
 use Rattle.ss_logs.specs.declared.calls.Next.TheVariants as next
-use Rattle.ss_logs.specs.Fronts.{AreCalls, AreReadCalls, IsBadCall, IsBadFront, IsFrontLog, NoHead, NoneBehind, calls_of, next_line}
+use Rattle.ss_logs.specs.Fronts.{AreCalls, AreReadCalls, IsBadCall, IsBadFront, IsFrontLog, NoHead, NoneBehind}
+use Rattle.ss_logs.specs.Fronts.{calls_of, next_line}
 use Rattle.ss_logs.specs.Logs.{IsLog, account_at, call_lines, log_lines, log_text, text_of}
-use Rattle.ss_logs.proofs.Apart.{calls_next, dump_goes_on, fork, openings_apart, same, longer, shorter, told_longer, told_same}
-use Rattle.ss_logs.proofs.Lines.{all_append, all_back, lines_few, log_formed, log_text_is, no_front, same_text, text_append, text_one, told_text}
+use Rattle.ss_logs.proofs.Apart.{calls_next, dump_goes_on, fork, openings_apart, same, longer, shorter, told_longer}
+use Rattle.ss_logs.proofs.Apart.{told_same}
+use Rattle.ss_logs.proofs.Lines.{all_append, all_back, lines_few, log_formed, log_text_is, no_front, same_text}
+use Rattle.ss_logs.proofs.Lines.{text_append, text_one, told_text}
 
 abbrev told : List Line → List LogLine
 told ls = map (λ line. Account line) ls
@@ -108,9 +113,9 @@ bad_head text none = record {
   rest = text;
   awaited = Log 0 0;
   going = record {
-    log = empty_log 0 0 (timed 0 0 0);
-    behind = told (dump.dump_lines (timed 0 0 0)) ++ Account End ∷ [];
-    is = begun 0 0 (timed 0 0 0) (omega arith) (omega arith) fresh_told;
+    log = empty_log 0 0 (kept_with_times 0 0 0);
+    behind = told (dump.dump_lines (kept_with_times 0 0 0)) ++ Account End ∷ [];
+    is = begun 0 0 (kept_with_times 0 0 0) (omega arith) (omega arith) fresh_told;
     lines_are = refl;
   };
   text_is = refl;

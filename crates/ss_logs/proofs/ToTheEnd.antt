@@ -1,5 +1,6 @@
 -- Logs one behind the other, and where a text isn't one of logs.
-use Rattle.std.proofs.Common.{◌≡◌, ℕ, ◌+◌, ◌-◌, ◌<◌, ◌≤◌, List, [], ◌∷◌, ◌++◌, length, take, drop, append_assoc, append-nil, refl, sym, ap, ap₂, ◌∙◌, subst, arith, length-append, length-drop}
+use Rattle.std.proofs.Common.{◌≡◌, ℕ, ◌+◌, ◌-◌, ◌<◌, ◌≤◌, List, [], ◌∷◌, ◌++◌, length, take, drop, append_assoc}
+use Rattle.std.proofs.Common.{append-nil, refl, sym, ap, ap₂, ◌∙◌, subst, arith, length-append, length-drop}
 use Rattle.std.specs.List.{AllByRecursion, flat_map}
 use Rattle.std.proofs.Math.Seq.{take-add}
 use Rattle.std.proofs.lemmas.List.{length-take-le, take-append-drop}
@@ -9,9 +10,10 @@ use Rattle.ss_log_lines.specs.declared.lines.LogLine.{LogLine}
 use Rattle.ss_logs.specs.declared.faults.LogFault.{LogFault}
 use Rattle.ss_logs.specs.declared.faults.LogFault.TheVariants.{BadLine, Memory}
 use Rattle.ss_logs.specs.Fronts.{AreReadTo, GoesOn, IsBadFront, IsFrontLog}
-use Rattle.ss_logs.specs.Logs.{AreLogs, IsBadLine, IsLog, IsRefused, log_lines, log_text, logs_text, text_of}
+use Rattle.ss_logs.specs.Logs.{AreLogs, IsBadLine, IsLog, IsWhyNoLogs, log_lines, log_text, logs_text, text_of}
 use Rattle.ss_logs.proofs.Apart.{fork, lists_apart, logs_apart, longer, one_list, same, shorter}
-use Rattle.ss_logs.proofs.Lines.{all_append, all_front, lines_apart, lines_few, logs_formed, logs_text_is, no_lines, text_append}
+use Rattle.ss_logs.proofs.Lines.{all_append, all_front, lines_apart, lines_few, logs_formed, logs_text_is, no_lines}
+use Rattle.ss_logs.proofs.Lines.{text_append}
 
 -- ---- one log more
 
@@ -103,7 +105,7 @@ bad_more text logs used lines n h lt b =
     counted : (xs ys : List LogLine) → length xs + (length ys + 1) ≡ length (xs ++ ys) + 1
     counted xs ys = let a : length (xs ++ ys) ≡ length xs + length ys = length-append xs ys in omega arith
 
-pub refused : (text : List ℕ) (logs : List Journal) (used lines n : ℕ) → AreReadTo text logs used lines → used < length text → IsBadFront (drop used text) n → IsRefused text (BadLine (lines + n))
+pub refused : (text : List ℕ) (logs : List Journal) (used lines n : ℕ) → AreReadTo text logs used lines → used < length text → IsBadFront (drop used text) n → IsWhyNoLogs text (BadLine (lines + n))
 refused text logs used lines n h lt b = bad_more text logs used lines n h lt b
 
 -- ---- one text, one list of logs
@@ -126,6 +128,6 @@ clash text logs n h b =
     ends [] e t = b.over (record { logs = logs; are = h.are; lines_are = e }) t
     ends (l ∷ ls) e t = b.none l ls (text_of ls) (record { logs = logs; are = h.are; lines_are = e }) (sym t)
 
-pub not_refused : (text : List ℕ) (logs : List Journal) (fault : LogFault) → AreLogs text logs → IsRefused text fault → fault ≡ Memory
+pub not_refused : (text : List ℕ) (logs : List Journal) (fault : LogFault) → AreLogs text logs → IsWhyNoLogs text fault → fault ≡ Memory
 not_refused text logs (BadLine n) h b = absurd (clash text logs n h b)
 not_refused text logs Memory h b = refl

@@ -14,7 +14,7 @@ use Rattle.ss_log_lines.specs.declared.lines.LogLine.TheVariants.{Log, Account}
 use Rattle.ss_lines.specs.declared.lines.Line.TheVariants.{End}
 use Rattle.ss_logs.specs.declared.faults.LogFault.{LogFault}
 use Rattle.ss_logs.specs.declared.faults.LogFault.TheVariants.{Memory}
-use Rattle.ss_logs.specs.Logs.{AreLogs, IsFormed, IsLog, IsRefused, call_lines, log_of, log_text, text_of}
+use Rattle.ss_logs.specs.Logs.{AreLogs, HasJournalForm, IsLog, IsWhyNoLogs, call_lines, log_of, log_text, text_of}
 use Rattle.ss_logs.proofs.ToTheEnd.{not_refused, one_text}
 
 -- one text, whatever the order of the opening's lists
@@ -23,7 +23,7 @@ unfolding log_text
 text_in_order journal =
     ap (λ t. log_line_text (Log journal.opening.moment journal.most) ++ (t ++ (text_of (call_lines journal) ++ log_line_text (Account End)))) (dump_in_order (kept_of journal.opening))
 
-is_log : (journal : Journal) → IsFormed journal → IsLog (log_of journal)
+is_log : (journal : Journal) → HasJournalForm journal → IsLog (log_of journal)
 is_log journal h = record {
   moment = h.moment;
   most = h.most;
@@ -34,18 +34,18 @@ is_log journal h = record {
   entries = h.entries;
 }
 
-pub told : (journal : Journal) → IsFormed journal → AreLogs (log_text journal) (log_of journal ∷ [])
+pub told : (journal : Journal) → HasJournalForm journal → AreLogs (log_text journal) (log_of journal ∷ [])
 told journal h = record { are = (is_log journal h, tt); text_is = text_in_order journal ∙ sym (append-nil (log_text (log_of journal))) }
 
-pub told_one : (journal : Journal) (logs : List Journal) → IsFormed journal → AreLogs (log_text journal) logs → logs ≡ log_of journal ∷ []
+pub told_one : (journal : Journal) (logs : List Journal) → HasJournalForm journal → AreLogs (log_text journal) logs → logs ≡ log_of journal ∷ []
 told_one journal logs h are = one_text (log_text journal) logs (log_of journal ∷ []) are (told journal h)
 
 -- what is read from the text of a journal
-pub read_again : (journal : Journal) (text : List ℕ) (logs : List Journal) → IsFormed journal → text ≡ log_text journal → AreLogs text logs → logs ≡ log_of journal ∷ []
+pub read_again : (journal : Journal) (text : List ℕ) (logs : List Journal) → HasJournalForm journal → text ≡ log_text journal → AreLogs text logs → logs ≡ log_of journal ∷ []
 read_again journal text logs h e are = told_one journal logs h (subst (λ t. AreLogs t logs) e are)
 
-pub refused_again : (journal : Journal) (text : List ℕ) (fault : LogFault) → IsFormed journal → text ≡ log_text journal → IsRefused text fault → fault ≡ Memory
-refused_again journal text fault h e r = not_refused (log_text journal) (log_of journal ∷ []) fault (told journal h) (subst (λ t. IsRefused t fault) e r)
+pub refused_again : (journal : Journal) (text : List ℕ) (fault : LogFault) → HasJournalForm journal → text ≡ log_text journal → IsWhyNoLogs text fault → fault ≡ Memory
+refused_again journal text fault h e r = not_refused (log_text journal) (log_of journal ∷ []) fault (told journal h) (subst (λ t. IsWhyNoLogs t fault) e r)
 
 pub same_opening : (journal : Journal) → SameAccount journal.opening (log_of journal).opening
 same_opening journal =

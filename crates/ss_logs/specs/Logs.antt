@@ -9,7 +9,7 @@ use Rattle.ss_laws.specs.Journal.{Journal}
 use Rattle.ss_lines.specs.Lines.{IsLine}
 use Rattle.ss_lines.specs.declared.lines.Line.TheVariants.{End}
 use Rattle.ss_dump.specs.Dumps.{account_lines, dump_text, in_order}
-use Rattle.ss_dump.specs.Fronts.{IsTold, dump_lines}
+use Rattle.ss_dump.specs.Fronts.{IsFormedInOrder, dump_lines}
 use Rattle.ss_log_lines.specs.LogLines.{IsCall, log_line_text}
 use Rattle.ss_log_lines.specs.declared.lines.LogLine.{LogLine}
 use Rattle.ss_log_lines.specs.declared.lines.LogLine.TheVariants.{Log, Account, Call}
@@ -56,7 +56,7 @@ abbrev pub log_of : Journal → Journal
 log_of journal = record journal { opening = account_at journal.opening.moment (in_order (kept_of journal.opening)) }
 
 -- each value of a journal has the form of its type, and each request is within the limits of one
-pub record IsFormed (journal : Journal) : Type 0 where
+pub record HasJournalForm (journal : Journal) : Type 0 where
   pub moment : journal.opening.moment ≤ last_stamp
   pub most : journal.most < 2 ^ 32
   pub opening : AllByRecursion IsLine (account_lines (kept_of journal.opening))
@@ -67,7 +67,7 @@ pub record IsFormed (journal : Journal) : Type 0 where
 pub record IsLog (log : Journal) : Type 0 where
   pub moment : log.opening.moment ≤ last_stamp
   pub most : log.most < 2 ^ 32
-  pub opening : IsTold (kept_of log.opening)
+  pub opening : IsFormedInOrder (kept_of log.opening)
   pub entries : AllByRecursion IsCall log.entries
 
 -- the text is that of these logs, one behind the other
@@ -102,6 +102,6 @@ pub record IsBadLine (text : List ℕ) (n : ℕ) : Type 0 where
   pub number : n ≡ length lines + 1
 
 -- why a text isn't one of logs
-abbrev pub IsRefused : List ℕ → LogFault → Type 0
-IsRefused text (BadLine n) = IsBadLine text n
-IsRefused text Memory = ⊤
+abbrev pub IsWhyNoLogs : List ℕ → LogFault → Type 0
+IsWhyNoLogs text (BadLine n) = IsBadLine text n
+IsWhyNoLogs text Memory = ⊤

@@ -7,7 +7,7 @@ ghost use Rattle.ss_laws.specs.Journal.{Journal as JournalView};
 ghost use Rattle.ss_log_lines.specs.LogLines.{IsEntry};
 ghost use Rattle.ss_logs.specs.declared.faults.LogFault.{LogFault as FaultView};
 ghost use Rattle.ss_logs.specs.declared.faults.LogFault.TheVariants.{Memory};
-ghost use Rattle.ss_logs.specs.Logs.{AreLogs, IsFormed, IsRefused, log_of, log_text};
+ghost use Rattle.ss_logs.specs.Logs.{AreLogs, HasJournalForm, IsWhyNoLogs, log_of, log_text};
 ghost use Rattle.ss_query.specs.Fit.{IsFitRequest};
 
 use crate::faults::LogFault;
@@ -26,7 +26,7 @@ pub fn one_list_of_logs()
 
 /// A text of logs is refused for no cause but want of memory: so exactly the texts of logs are read.
 pub fn logs_are_not_refused()
-    ensures { (text : List ℕ) (logs : List JournalView) (fault : FaultView) → AreLogs text logs → IsRefused text fault
+    ensures { (text : List ℕ) (logs : List JournalView) (fault : FaultView) → AreLogs text logs → IsWhyNoLogs text fault
         → fault ≡ Memory }
 {}
 
@@ -34,8 +34,8 @@ pub fn logs_are_not_refused()
 /// whatever the order of its lists. Each value of the journal has the form of its type, and each request is within the
 /// limits of one.
 pub fn a_log_tells_its_journal()
-    ensures log { (journal : JournalView) → IsFormed journal → AreLogs (log_text journal) (log_of journal ∷ []) }
-    ensures no_other { (journal : JournalView) (logs : List JournalView) → IsFormed journal → AreLogs (log_text journal) logs
+    ensures log { (journal : JournalView) → HasJournalForm journal → AreLogs (log_text journal) (log_of journal ∷ []) }
+    ensures no_other { (journal : JournalView) (logs : List JournalView) → HasJournalForm journal → AreLogs (log_text journal) logs
         → logs ≡ log_of journal ∷ [] }
     ensures same { (journal : JournalView) → SameAccount journal.opening (log_of journal).opening }
 {}
@@ -52,7 +52,7 @@ fn entries_form(entries: &[Entry])
 /// Each value of a journal has the form of its type, where each request is within the limits of one.
 pub fn journal_form(journal: &Journal)
     requires fit { All (λ entry. IsFitRequest entry.request) journal.now.entries }
-    ensures { IsFormed journal.now }
+    ensures { HasJournalForm journal.now }
 {
     let opening = journal.opening();
     let _moment = opening.moment.get();

@@ -2,7 +2,7 @@
 
 ghost use Rattle.std.specs.Prelude.{◌≡◌, ◌<◌, IfOk, IfErr, length};
 ghost use Rattle.ss_logs.specs.Fronts.{AreReadTo};
-ghost use Rattle.ss_logs.specs.Logs.{AreLogs, IsRefused};
+ghost use Rattle.ss_logs.specs.Logs.{AreLogs, IsWhyNoLogs};
 
 use crate::faults::LogFault;
 use crate::fronts::front_log;
@@ -23,7 +23,7 @@ fn step(alloc: Global, bytes: &[u8], mut reading: Reading) -> Result<Reading, Lo
     requires more { reading.used < length bytes.now }
     ensures read { IfOk result (λ r. AreReadTo bytes.now r.logs.items r.used r.lines) }
     ensures nearer { IfOk result (λ r. reading.used < r.used) }
-    ensures bad { IfErr result (λ fault. IsRefused bytes.now fault) }
+    ensures bad { IfErr result (λ fault. IsWhyNoLogs bytes.now fault) }
 {
     match front_log(alloc, &bytes[reading.used..]) {
         Ok(front) => {
@@ -45,7 +45,7 @@ fn step(alloc: Global, bytes: &[u8], mut reading: Reading) -> Result<Reading, Lo
 /// the limits of one.
 pub fn read_logs(alloc: Global, bytes: &[u8]) -> Result<Vec<Log>, LogFault>
     ensures logs { IfOk result (λ logs. AreLogs bytes.now logs.items) }
-    ensures refused { IfErr result (λ fault. IsRefused bytes.now fault) }
+    ensures refused { IfErr result (λ fault. IsWhyNoLogs bytes.now fault) }
 {
     let mut reading = Reading {
         logs: Vec::new(alloc),

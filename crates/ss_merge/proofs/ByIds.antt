@@ -1,6 +1,7 @@
 -- Lists of the same ids, each once, are one list by id.
 use Rattle.std.specs.Cmp.{IsStrictWeakOrder}
-use Rattle.std.proofs.Common.{◌≡◌, ℕ, Bool, true, false, cond, not, ◌&&◌, ◌||◌, List, [], ◌∷◌, filter, bytes_eq, refl, sym, ap, ap₂, ◌∙◌, Ordering, Less, Equal, Greater, is_lt, is_eq}
+use Rattle.std.proofs.Common.{◌≡◌, ℕ, Bool, true, false, cond, not, ◌&&◌, ◌||◌, List, [], ◌∷◌, filter, bytes_eq, refl}
+use Rattle.std.proofs.Common.{sym, ap, ap₂, ◌∙◌, Ordering, Less, Equal, Greater, is_lt, is_eq}
 use Rattle.std.proofs.lemmas.List.Sorted.{ranks_by}
 use Rattle.std.specs.Ordering.{ordering_reverse}
 use Rattle.std.specs.Cmp.Lexicographic.{nat_list_cmp_total, texts_ties}

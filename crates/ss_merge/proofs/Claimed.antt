@@ -1,11 +1,15 @@
 -- The claims of the merged items are built to the merged tree.
-use Rattle.std.proofs.Common.{◌≡◌, ◌⊎◌, ℕ, zero, suc, Bool, true, false, cond, not, ◌&&◌, ◌||◌, List, [], ◌∷◌, ◌++◌, length, map, filter, find, bytes_eq, Option, Some, None, option_map, option_and_then, unwrap_or, refl, sym, ap, ap₂, subst, ◌∙◌, inl, inr}
+use Rattle.std.proofs.Common.{◌≡◌, ◌⊎◌, ℕ, zero, suc, Bool, true, false, cond, not, ◌&&◌, ◌||◌, List, [], ◌∷◌, ◌++◌}
+use Rattle.std.proofs.Common.{length, map, filter, find, bytes_eq, Option, Some, None, option_map, option_and_then}
+use Rattle.std.proofs.Common.{unwrap_or, refl, sym, ap, ap₂, subst, ◌∙◌, inl, inr}
 use Rattle.ss_record.specs.Ids.{Apart, by_id, firsts, has, places, roots, unfiled}
 use Rattle.ss_record.specs.Kinds.{is_folder}
 use Rattle.ss_record.proofs.IdLists.{bytes_eq-refl, has-nil, has-cons, has-filter, Apart-filter}
 use Rattle.ss_tree.specs.Trees.{places_node, steps}
 use Rattle.ss_build.specs.declared.claims.Claim.{Claim}
-use Rattle.ss_build.specs.Built.{best, built_children, built_parent, claim, comes_back, ids as claim_ids, is_child as is_built_child, kept_if, lists, named, node_of, or_else, proposal, proposed, tree_of}
+use Rattle.ss_build.specs.Built.{best, built_children, built_parent, claim, comes_back, ids as claim_ids}
+use Rattle.ss_build.specs.Built.{is_child as is_built_child, kept_if, lists, named, node_of, or_else, proposal}
+use Rattle.ss_build.specs.Built.{proposed_parents, tree_of}
 use Rattle.ss_build.specs.Places.{AreItems, at}
 use Rattle.ss_build.proofs.Items.{In, find_in, In-filter, AreClaims, places_no_root}
 use Rattle.ss_build.proofs.Seats.{at_in}
@@ -18,9 +22,10 @@ use Rattle.ss_dupe.proofs.Basics.{or_rest, false_from, some_from_passes}
 use Rattle.ss_dupe.proofs.Shapes.{places_is, has-roots, roots-has, apart_places}
 use Rattle.ss_merge.specs.Survivors.{content_of, survives}
 use Rattle.ss_merge.specs.Parents.{final}
-use Rattle.ss_merge.specs.Merged.{children, is_child, listed, merged, merged_node}
+use Rattle.ss_merge.specs.Merged.{children, is_child, merged_children, entries_merged, merged_node}
 use Rattle.ss_merge.specs.Claims.{AreMerging, claim_at}
-use Rattle.ss_merge.proofs.Sided.{root_survives, folder_survives, folder_kind, survivor_places, survivor_has, root_folder, comes_to_root, has_final, final-folder}
+use Rattle.ss_merge.proofs.Sided.{root_survives, folder_survives, folder_kind, survivor_places, survivor_has}
+use Rattle.ss_merge.proofs.Sided.{root_folder, comes_to_root, has_final, final-folder}
 use Rattle.std.proofs.lemmas.Bool.{cases_Bool}
 use Rattle.ss_text.proofs.Basics.{both_left, both_right, bytes_eq-sym, same_text, no_way}
 
@@ -76,7 +81,7 @@ module _ (s : Sides) (n : ℕ) where
   unfolding claim_at
   claim_kind x = refl
 
-  claim_children : (x : Id) → (claim_at s n x).children ≡ filter (is_child s n x) (listed s x)
+  claim_children : (x : Id) → (claim_at s n x).children ≡ filter (is_child s n x) (merged_children s x)
   unfolding claim_at
   claim_children x = refl
 
@@ -132,7 +137,7 @@ module _ (s : Sides) (n : ℕ) where
   unfolding lists
   lists-final y x h =
       let k : has x (claim_at s n y).children ≡ true = both_right (is_folder (claim_at s n y).item.kind) _ h in
-      child-final y x (both_right (has x (listed s y)) _ (sym (has-filter (is_child s n y) x (listed s y)) ∙ ap (has x) (sym (claim_children y)) ∙ k))
+      child-final y x (both_right (has x (merged_children s y)) _ (sym (has-filter (is_child s n y) x (merged_children s y)) ∙ ap (has x) (sym (claim_children y)) ∙ k))
 
 module _ (s : Sides) (ids : List Id) (m : AreMerging s ids) where
   abbrev pub n : ℕ
@@ -192,7 +197,7 @@ module _ (s : Sides) (ids : List Id) (m : AreMerging s ids) where
       ap (option_and_then (λ z. find (λ (g : Claim). is_folder g.item.kind && bytes_eq z g.item.id) es)) (claim_parent s n x miss ∙ e)
       ∙ named_is es p (claim_at s n p) (claim-of p (folder_survives s p folder)) (ap is_folder (claim_kind s n p) ∙ folder_kind s p folder)
 
-  proposed-of : (x p : Id) → survives s x ≡ true → is_root x ≡ false → final s n x ≡ Some p → proposed es x ≡ p
+  proposed-of : (x p : Id) → survives s x ≡ true → is_root x ≡ false → final s n x ≡ Some p → proposed_parents es x ≡ p
   proposed-of x p h miss e =
       proposed_claim es x (claim_at s n x) (no_root x miss) (claim-of x h)
       ∙ proposal_parts es (claim_at s n x) (claim_at s n p) p (named-of x p miss e) (claim_id s n p) only
@@ -206,32 +211,32 @@ module _ (s : Sides) (ids : List Id) (m : AreMerging s ids) where
 
   -- ---- and no item comes back to itself
 
-  top_up : proposed es places ≡ places
+  top_up : proposed_parents es places ≡ places
   top_up = proposed_none es places places_no_root are_claims.no_places
 
-  up : (k : ℕ) (x : Id) → survives s x ≡ true → meets (final s n) is_root k x ≡ true → (j : ℕ) × (steps (proposed es) j x ≡ places)
+  up : (k : ℕ) (x : Id) → survives s x ≡ true → meets (final s n) is_root k x ≡ true → (j : ℕ) × (steps (proposed_parents es) j x ≡ places)
   unfolding steps
   up zero x h r = (1, proposed_root es x (roots-has x r))
   up (suc k) x h r = cases (cases_Bool (is_root x)) (λ p. up k p)
     where
-      cases : (is_root x ≡ true) ⊎ (is_root x ≡ false) → ((p : Id) → survives s p ≡ true → meets (final s n) is_root k p ≡ true → (j : ℕ) × (steps (proposed es) j p ≡ places)) → (j : ℕ) × (steps (proposed es) j x ≡ places)
+      cases : (is_root x ≡ true) ⊎ (is_root x ≡ false) → ((p : Id) → survives s p ≡ true → meets (final s n) is_root k p ≡ true → (j : ℕ) × (steps (proposed_parents es) j p ≡ places)) → (j : ℕ) × (steps (proposed_parents es) j x ≡ places)
       cases (inl root) more = (1, proposed_root es x (roots-has x root))
       cases (inr miss) more =
           let next = some_from_passes (meets (final s n) is_root k) (final s n x) (or_rest (is_root x) _ r miss) in
           let rest = more next.0 (folder_survives s next.0 (final-folder s n x next.0 next.1)) next.2 in
-          (suc rest.0, ap (steps (proposed es) rest.0) (proposed-of x next.0 h miss next.1) ∙ rest.1)
+          (suc rest.0, ap (steps (proposed_parents es) rest.0) (proposed-of x next.0 h miss next.1) ∙ rest.1)
 
-  never_back : (x : Id) → survives s x ≡ true → comes_back (proposed es) (length es) x ≡ false
+  never_back : (x : Id) → survives s x ≡ true → comes_back (proposed_parents es) (length es) x ≡ false
   unfolding comes_back
-  never_back x h = false_from (comes_back (proposed es) (length es) x) (λ k.
-      let back = walk_steps (proposed es) (length es) (proposed es x) x k in
+  never_back x h = false_from (comes_back (proposed_parents es) (length es) x) (λ k.
+      let back = walk_steps (proposed_parents es) (length es) (proposed_parents es x) x k in
       let r = comes_to_root s ids m x h in
       let top = up r.0 x h r.1 in
-      no_way (is_places x) (ap is_places (circle_top (proposed es) places top_up back.0 top.0 x back.1 top.1) ∙ places_is) (survivor_places s x h))
+      no_way (is_places x) (ap is_places (circle_top (proposed_parents es) places top_up back.0 top.0 x back.1 top.1) ∙ places_is) (survivor_places s x h))
 
   parent-of : (x p : Id) → survives s x ≡ true → is_root x ≡ false → final s n x ≡ Some p → built_parent es x ≡ p
   unfolding built_parent
-  parent-of x p h miss e = ap (λ b. cond b unfiled (proposed es x)) (never_back x h) ∙ proposed-of x p h miss e
+  parent-of x p h miss e = ap (λ b. cond b unfiled (proposed_parents es x)) (never_back x h) ∙ proposed-of x p h miss e
 
   root-parent : (x : Id) → is_root x ≡ true → built_parent es x ≡ places
   root-parent x r = parent_root es x are_claims (roots-has x r)
@@ -253,7 +258,7 @@ module _ (s : Sides) (ids : List Id) (m : AreMerging s ids) where
           ap (λ z. bytes_eq z p) (parent-of x f.0 h miss f.1) ∙ bytes_eq-sym f.0 p ∙ sym (ap (λ b. not b && passes (bytes_eq p) (final s n x)) miss ∙ ap (passes (bytes_eq p)) f.1)
 
   abbrev front : Id → List Id
-  front p = firsts (filter (is_child s n p) (listed s p))
+  front p = firsts (filter (is_child s n p) (merged_children s p))
 
   rest-is : (p : Id) → filter (λ x. is_child s n p x && not (has x (front p))) kept ≡ filter (λ x. is_child s n p x && not (has x (front p))) ids
   rest-is p = filter_within (survives s) (λ x. is_child s n p x && not (has x (front p))) ids (λ x k. child-survives s n p x (both_left (is_child s n p x) _ k))
@@ -261,8 +266,8 @@ module _ (s : Sides) (ids : List Id) (m : AreMerging s ids) where
   listed-is : (p : Id) → is_places p ≡ false → firsts (filter (is_built_child es (claim_at s n p).item.id) (claim_at s n p).children) ≡ front p
   listed-is p out =
       ap₂ (λ z l. firsts (filter (is_built_child es z) l)) (claim_id s n p) (claim_children s n p)
-      ∙ ap (λ q. firsts (filter q (filter (is_child s n p) (listed s p)))) (λ i x. child-is p out x i)
-      ∙ ap firsts (filter_twice (is_child s n p) (listed s p))
+      ∙ ap (λ q. firsts (filter q (filter (is_child s n p) (merged_children s p)))) (λ i x. child-is p out x i)
+      ∙ ap firsts (filter_twice (is_child s n p) (merged_children s p))
 
   children-of : (p : Id) → is_places p ≡ false → built_children es (claim_at s n p) ≡ children s ids p
   unfolding built_children children
@@ -286,6 +291,6 @@ module _ (s : Sides) (ids : List Id) (m : AreMerging s ids) where
       let c : built_children es (claim_at s n x) ≡ children s ids x = children-of x (survivor_places s x h) in
       λ i. record { id = x; kind = (content_of s x).kind; content = (content_of s x).content; parent = p i; children = c i; time = 0 }
 
-  pub tree-is : tree_of es ≡ merged s ids
-  unfolding tree_of merged
+  pub tree-is : tree_of es ≡ entries_merged s ids
+  unfolding tree_of entries_merged
   tree-is = ap (λ l. places_node ∷ l) (map_same (node_of es) (claim_at s n) (merged_node s ids) kept (λ x h. node-is x (kept-survives x h)))

@@ -1,5 +1,6 @@
 -- An item stays fit under another id.
-use Rattle.std.proofs.Common.{◌≡◌, true, false, cond, not, ◌&&◌, List, ℕ, Option, Some, None, option_map, unwrap_or, codes, bytes_eq, sym, ap, ◌∙◌, inl, inr}
+use Rattle.std.proofs.Common.{◌≡◌, true, false, cond, not, ◌&&◌, List, ℕ, Option, Some, None, option_map, unwrap_or}
+use Rattle.std.proofs.Common.{codes, bytes_eq, sym, ap, ◌∙◌, inl, inr}
 use Rattle.serde_json.specs.Data.{object, Members}
 use Rattle.serde_json.specs.Find.{get_member}
 use Rattle.ss_record.specs.Marks.{plain_text}

@@ -1,5 +1,6 @@
 -- Ways of a merge stay among its ids, and the nearest folders on them are those of the rules.
-use Rattle.std.proofs.Common.{◌≡◌, ◌↔◌, ◌||◌, ℕ, Bool, true, cond, List, length, bytes_eq, Option, Some, None, is_some, unwrap_or, sym, ap, ◌∙◌}
+use Rattle.std.proofs.Common.{◌≡◌, ◌↔◌, ◌||◌, ℕ, Bool, true, cond, List, length, bytes_eq, Option, Some, None, is_some}
+use Rattle.std.proofs.Common.{unwrap_or, sym, ap, ◌∙◌}
 use Rattle.std.specs.HashMap.{get}
 use Rattle.ss_record.specs.Ids.{has}
 use Rattle.ss_dupe.specs.declared.sides.Side.{Side}

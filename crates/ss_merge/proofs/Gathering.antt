@@ -1,22 +1,23 @@
 -- Ids that are gathered, each once.
-use Rattle.std.proofs.Common.{◌≡◌, ◌⊎◌, ◌+◌, ◌<◌, ◌≤◌, ℕ, Bool, true, false, cond, ◌||◌, List, [], ◌∷◌, ◌++◌, length, take, get_or, bytes_eq, refl, sym, ap, ap₂, subst, ◌∙◌, inl, inr}
+use Rattle.std.proofs.Common.{◌≡◌, ◌⊎◌, ◌+◌, ◌<◌, ◌≤◌, ℕ, Bool, true, false, cond, ◌||◌, List, [], ◌∷◌, ◌++◌, length}
+use Rattle.std.proofs.Common.{take, get_or, bytes_eq, refl, sym, ap, ap₂, subst, ◌∙◌, inl, inr}
 use Rattle.std.proofs.lemmas.List.{take_all}
 use Rattle.ss_record.specs.Ids.{Apart, has}
 use Rattle.ss_record.proofs.IdLists.{has-nil, has-cons, has-append, or-assoc, Apart-nil, Apart-cons, Apart-append}
 use Rattle.ss_dupe.specs.Looks.{Id}
-use Rattle.ss_merge.specs.Links.{IsGathered}
+use Rattle.ss_merge.specs.Links.{GathersIds}
 use Rattle.ss_merge.proofs.Holding.{has-more}
 use Rattle.ss_text.proofs.Basics.{or_false, or_true, bytes_eq-sym, same_text, no_way}
 use Rattle.std.proofs.lemmas.Bool.{cases_Bool}
 
 pub record Gathering (seen : Id → Bool) (old ids from : List Id) : Type 0 where
-  pub gathered : IsGathered seen ids
+  pub gathered : GathersIds seen ids
   pub all : (x : Id) → has x ids ≡ (has x old || has x from)
 
-pub nothing_gathered : (seen : Id → Bool) (ids : List Id) → ((x : Id) → seen x ≡ false) → ids ≡ [] → IsGathered seen ids
+pub nothing_gathered : (seen : Id → Bool) (ids : List Id) → ((x : Id) → seen x ≡ false) → ids ≡ [] → GathersIds seen ids
 nothing_gathered seen ids none empty = record { apart = subst Apart (sym empty) Apart-nil; told = λ x. none x ∙ sym (ap (has x) empty ∙ has-nil x) }
 
-pub begun : (seen : Id → Bool) (ids from : List Id) → IsGathered seen ids → Gathering seen ids ids (take 0 from)
+pub begun : (seen : Id → Bool) (ids from : List Id) → GathersIds seen ids → Gathering seen ids ids (take 0 from)
 begun seen ids from g = record { gathered = g; all = λ x. sym (ap (λ b. has x ids || b) (has-nil x) ∙ or_false (has x ids)) }
 
 pub gathered_more : (seen after : Id → Bool) (old ids more from : List Id) (i : ℕ) (y : Id) → i < length from → y ≡ get_or from i y → more ≡ cond (seen y) ids (ids ++ y ∷ []) → ((x : Id) → after x ≡ (bytes_eq y x || seen x))

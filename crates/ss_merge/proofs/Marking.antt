@@ -1,12 +1,14 @@
 -- Walks that mark what they pass.
-use Rattle.std.proofs.Common.{◌≡◌, ◌⊎◌, ◌+◌, ◌-◌, ◌<◌, ◌≤◌, ◌||◌, ℕ, zero, suc, Bool, true, false, cond, List, [], ◌∷◌, ◌++◌, length, take, take_all, get_or, bytes_eq, Option, Some, None, is_some, unwrap_or, refl, sym, ap, subst, ◌∙◌, inl, inr, arith}
+use Rattle.std.proofs.Common.{◌≡◌, ◌⊎◌, ◌+◌, ◌-◌, ◌<◌, ◌≤◌, ◌||◌, ℕ, zero, suc, Bool, true, false, cond, List, [], ◌∷◌}
+use Rattle.std.proofs.Common.{◌++◌, length, take, take_all, get_or, bytes_eq, Option, Some, None, is_some, unwrap_or}
+use Rattle.std.proofs.Common.{refl, sym, ap, subst, ◌∙◌, inl, inr, arith}
 use Rattle.ss_record.specs.Ids.{has}
 use Rattle.ss_record.proofs.IdLists.{has-nil, has-cons, has-append}
 use Rattle.ss_dupe.specs.Looks.{Id}
 use Rattle.ss_dupe.specs.Walks.{meets, passes}
 use Rattle.ss_dupe.proofs.Basics.{same-tells}
 use Rattle.ss_merge.specs.Nearest.{goal_or, nearest}
-use Rattle.ss_merge.specs.Ways.{AreMarks, StaysIn, Told, Walked, is_goal_on, nearest_on, next_on}
+use Rattle.ss_merge.specs.Ways.{AreMarks, StaysIn, MarksPath, WalksPath, is_goal_on, nearest_on, next_on}
 use Rattle.ss_merge.specs.declared.ways.Way.{Way}
 use Rattle.ss_merge.proofs.Holding.{has-more}
 use Rattle.ss_merge.proofs.Stable.{nearest_on as on_by}
@@ -63,11 +65,11 @@ module _ (way : Way) (ids : List Id) where
 
 -- ---- marking with the goal
 
-pub none_told : (walked : Id → Option (Option Id)) (path : List Id) (goal : Option Id) → Told walked walked (take 0 path) goal
+pub none_told : (walked : Id → Option (Option Id)) (path : List Id) (goal : Option Id) → MarksPath walked walked (take 0 path) goal
 none_told walked path goal = record { told = λ x. sym (ap (λ b. cond b (Some goal) (walked x)) (has-nil x)) }
 
-pub more_told : {walked now new : Id → Option (Option Id)} (path : List Id) (i : ℕ) (y : Id) (goal : Option Id) → i < length path → y ≡ get_or path i y → Told walked now (take i path) goal
-    → ((x : Id) → new x ≡ cond (bytes_eq y x) (Some goal) (now x)) → Told walked new (take (i + 1) path) goal
+pub more_told : {walked now new : Id → Option (Option Id)} (path : List Id) (i : ℕ) (y : Id) (goal : Option Id) → i < length path → y ≡ get_or path i y → MarksPath walked now (take i path) goal
+    → ((x : Id) → new x ≡ cond (bytes_eq y x) (Some goal) (now x)) → MarksPath walked new (take (i + 1) path) goal
 more_told {walked} {now} {new} path i y goal lt is so put = record {
   told = λ x. put x ∙ ap (cond (bytes_eq y x) (Some goal)) (so.told x) ∙ ap (λ b. cond b (Some goal) (cond (has x (take i path)) (Some goal) (walked x))) (bytes_eq-sym y x)
       ∙ joined (bytes_eq x y) (has x (take i path)) (walked x) ∙ sym (ap (λ b. cond b (Some goal) (walked x)) (has-more x y path i lt is));
@@ -79,7 +81,7 @@ more_told {walked} {now} {new} path i y goal lt is so put = record {
     joined false true o = refl
     joined false false o = refl
 
-pub all_told : {walked now : Id → Option (Option Id)} (path : List Id) (i : ℕ) (goal : Option Id) → length path ≤ i → Told walked now (take i path) goal → Told walked now path goal
+pub all_told : {walked now : Id → Option (Option Id)} (path : List Id) (i : ℕ) (goal : Option Id) → length path ≤ i → MarksPath walked now (take i path) goal → MarksPath walked now path goal
 all_told {walked} {now} path i goal le so = record { told = λ x. so.told x ∙ ap (λ ps. cond (has x ps) (Some goal) (walked x)) (take_all i path le) }
 
 module _ (way : Way) (ids : List Id) (stays : StaysIn way ids) where
@@ -176,7 +178,7 @@ module _ (way : Way) (ids : List Id) (stays : StaysIn way ids) where
             cc
         cases (inr h) = right at goal (sym (on.marks at ∙ ap (λ b. cond b (Some None) (old at)) h) ∙ e)
 
-    pub known_end : AreMarks way ids old → {now : Id → Option (Option Id)} {path : List Id} {at : Id} {i : ℕ} → On way ids old start now path at i → (goal : Option Id) → now at ≡ Some goal → Walked way ids old now path start goal
+    pub known_end : AreMarks way ids old → {now : Id → Option (Option Id)} {path : List Id} {at : Id} {i : ℕ} → On way ids old start now path at i → (goal : Option Id) → now at ≡ Some goal → WalksPath way ids old now path start goal
     known_end right {now} {path} {at} {i} on goal e = record {
       marks = on.marks;
       near = λ x h. on.near x h ∙ known_on right on goal e;
@@ -186,7 +188,7 @@ module _ (way : Way) (ids : List Id) (stays : StaysIn way ids) where
       ];
     }
 
-    pub put_end : {now : Id → Option (Option Id)} {path : List Id} {at : Id} {i : ℕ} → Put way ids old start now path at i → (goal : Option Id) → goal_ahead way ids at ≡ goal → Walked way ids old now path start goal
+    pub put_end : {now : Id → Option (Option Id)} {path : List Id} {at : Id} {i : ℕ} → Put way ids old start now path at i → (goal : Option Id) → goal_ahead way ids at ≡ goal → WalksPath way ids old now path start goal
     put_end {now} {path} {at} {i} put goal e = record {
       marks = put.marks;
       near = λ x h. put.near x h ∙ e;
@@ -194,11 +196,11 @@ module _ (way : Way) (ids : List Id) (stays : StaysIn way ids) where
     }
 
     -- no way on
-    pub none_end : {now : Id → Option (Option Id)} {path : List Id} {at : Id} {i : ℕ} → Put way ids old start now path at i → next_on way at ≡ None → Walked way ids old now path start None
+    pub none_end : {now : Id → Option (Option Id)} {path : List Id} {at : Id} {i : ℕ} → Put way ids old start now path at i → next_on way at ≡ None → WalksPath way ids old now path start None
     none_end {now} {path} {at} {i} put e = put_end put None (no_next at put.inside e)
 
     -- a goal next
-    pub goal_end : {now : Id → Option (Option Id)} {path : List Id} {at : Id} {i : ℕ} → Put way ids old start now path at i → (p : Id) → next_on way at ≡ Some p → is_goal_on way p ≡ true → Walked way ids old now path start (Some p)
+    pub goal_end : {now : Id → Option (Option Id)} {path : List Id} {at : Id} {i : ℕ} → Put way ids old start now path at i → (p : Id) → next_on way at ≡ Some p → is_goal_on way p ≡ true → WalksPath way ids old now path start (Some p)
     goal_end {now} {path} {at} {i} put p e g = put_end put (Some p) (goal_next at p put.inside e g)
 
     -- one step on
@@ -219,7 +221,7 @@ module _ (way : Way) (ids : List Id) (stays : StaysIn way ids) where
         }
 
     -- as many steps as there are ids, and no goal
-    pub far_end : {now : Id → Option (Option Id)} {path : List Id} {at : Id} {i : ℕ} → On way ids old start now path at i → 0 < length ids → length ids ≤ i → Walked way ids old now path start None
+    pub far_end : {now : Id → Option (Option Id)} {path : List Id} {at : Id} {i : ℕ} → On way ids old start now path at i → 0 < length ids → length ids ≤ i → WalksPath way ids old now path start None
     far_end {now} {path} {at} {i} on some le = record {
       marks = on.marks;
       near = λ x h. on.near x h ∙ (sym on.from ∙ none);
@@ -234,7 +236,7 @@ module _ (way : Way) (ids : List Id) (stays : StaysIn way ids) where
 
   module _ (old : Id → Option (Option Id)) (start : Id) (right : AreMarks way ids old) where
     -- a walk that found nothing has marked all well
-    pub walked_right : {new : Id → Option (Option Id)} {path : List Id} → Walked way ids old new path start None → AreMarks way ids new
+    pub walked_right : {new : Id → Option (Option Id)} {path : List Id} → WalksPath way ids old new path start None → AreMarks way ids new
     walked_right {new} {path} w x goal e = cases (cases_Bool (has x path))
       where
         cases : (has x path ≡ true) ⊎ (has x path ≡ false) → goal_ahead way ids x ≡ goal
@@ -244,14 +246,14 @@ module _ (way : Way) (ids : List Id) (stays : StaysIn way ids) where
             cc
         cases (inr h) = right x goal (sym (w.marks x ∙ ap (λ b. cond b (Some None) (old x)) h) ∙ e)
 
-    pub walked_kept : {new : Id → Option (Option Id)} {path : List Id} {goal : Option Id} → Walked way ids old new path start goal → (x : Id) → is_some (old x) ≡ true → is_some (new x) ≡ true
+    pub walked_kept : {new : Id → Option (Option Id)} {path : List Id} {goal : Option Id} → WalksPath way ids old new path start goal → (x : Id) → is_some (old x) ≡ true → is_some (new x) ≡ true
     walked_kept {new} {path} {goal} w x h = ap is_some (w.marks x) ∙ cases (has x path)
       where
         cases : (b : Bool) → is_some (cond b (Some None) (old x)) ≡ true
         cases true = refl
         cases false = h
 
-    pub told_right : {walked new : Id → Option (Option Id)} {path : List Id} {goal : Option Id} → Walked way ids old walked path start goal → Told walked new path goal → AreMarks way ids new
+    pub told_right : {walked new : Id → Option (Option Id)} {path : List Id} {goal : Option Id} → WalksPath way ids old walked path start goal → MarksPath walked new path goal → AreMarks way ids new
     told_right {walked} {new} {path} {goal} w t x other e = cases (cases_Bool (has x path))
       where
         cases : (has x path ≡ true) ⊎ (has x path ≡ false) → goal_ahead way ids x ≡ other
@@ -261,7 +263,7 @@ module _ (way : Way) (ids : List Id) (stays : StaysIn way ids) where
             cc
         cases (inr h) = right x other (sym (t.told x ∙ ap (λ b. cond b (Some goal) (walked x)) h ∙ (w.marks x ∙ ap (λ b. cond b (Some None) (old x)) h)) ∙ e)
 
-    pub told_kept : {walked new : Id → Option (Option Id)} {path : List Id} {goal : Option Id} → Told walked new path goal → (x : Id) → is_some (walked x) ≡ true → is_some (new x) ≡ true
+    pub told_kept : {walked new : Id → Option (Option Id)} {path : List Id} {goal : Option Id} → MarksPath walked new path goal → (x : Id) → is_some (walked x) ≡ true → is_some (new x) ≡ true
     told_kept {walked} {new} {path} {goal} t x h = ap is_some (t.told x) ∙ cases (has x path)
       where
         cases : (b : Bool) → is_some (cond b (Some goal) (walked x)) ≡ true

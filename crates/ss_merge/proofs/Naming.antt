@@ -1,5 +1,7 @@
 -- Names by a map of pairs, and trees by other names.
-use Rattle.std.proofs.Common.{◌≡◌, ◌⊎◌, ◌+◌, ◌<◌, ◌≤◌, ℕ, zero, suc, Bool, true, false, cond, ◌||◌, List, [], ◌∷◌, ◌++◌, length, map, find, take, take_all, get_or, bytes_eq, Option, Some, None, is_some, option_map, refl, sym, ap, ap₂, subst, ◌∙◌, inl, inr, arith, is_eq, Less}
+use Rattle.std.proofs.Common.{◌≡◌, ◌⊎◌, ◌+◌, ◌<◌, ◌≤◌, ℕ, zero, suc, Bool, true, false, cond, ◌||◌, List, [], ◌∷◌, ◌++◌}
+use Rattle.std.proofs.Common.{length, map, find, take, take_all, get_or, bytes_eq, Option, Some, None, is_some}
+use Rattle.std.proofs.Common.{option_map, refl, sym, ap, ap₂, subst, ◌∙◌, inl, inr, arith, is_eq, Less}
 use Rattle.std.proofs.lemmas.List.{take_more}
 use Rattle.std.specs.List.{AllByRecursion}
 use Rattle.std.specs.List.Sorted.{IsStrictlySortedBy}
@@ -8,17 +10,17 @@ use Rattle.std.specs.Map.{lookup}
 use Rattle.ss_text.specs.Texts.{text_cmp}
 use Rattle.ss_record.specs.Ids.{Apart, has}
 use Rattle.ss_record.proofs.IdLists.{has-nil, has-cons, has-head, has-tail, Apart-head, Apart-tail}
-use Rattle.ss_tree.specs.Trees.{IsValidTree, Placed, node}
+use Rattle.ss_tree.specs.Trees.{IsValidTree, PlacedItem, node}
 use Rattle.ss_dupe.specs.Looks.{Id, Look, look, is_in}
 use Rattle.ss_dupe.specs.Sides.{sides}
 use Rattle.ss_dupe.specs.Pairs.{ArePairs}
-use Rattle.ss_dupe.specs.Renaming.{named, renamed, renamed_item}
+use Rattle.ss_dupe.specs.Renaming.{named, tree_renamed, renamed_item}
 use Rattle.ss_dupe.specs.Plains.{placed_at}
 use Rattle.ss_dupe.specs.declared.plain.Seat.{Seat}
 use Rattle.ss_dupe.proofs.Basics.{false_from, has-cases}
 use Rattle.ss_dupe.proofs.Shapes.{in-of_none, of-in, shape}
 use Rattle.ss_dupe.proofs.Renamed.{names_apart, look-renamed, from-renamed}
-use Rattle.ss_merge.specs.Links.{AreNames, IsRenamed, TakesIn, by_map, look_by, or_else}
+use Rattle.ss_merge.specs.Links.{AreNames, NamesAnew, TakesIn, by_map, look_by, or_else}
 use Rattle.ss_merge.proofs.Holding.{has-more}
 use Rattle.std.proofs.lemmas.Bool.{cases_Bool}
 use Rattle.ss_dupe.proofs.Newness.{has-at}
@@ -94,11 +96,11 @@ is_none : (f : Look) (z : Id) → is_in f z ≡ false → f z ≡ None
 unfolding is_in
 is_none f z h = none (f z) h
   where
-    none : (o : Option Placed) → is_some o ≡ false → o ≡ None
+    none : (o : Option PlacedItem) → is_some o ≡ false → o ≡ None
     none None h = refl
     none (Some n) h = cc
 
-in_some : (f : Look) (q z : Id) (n : Placed) → f z ≡ Some n → q ≡ z → is_in f q ≡ true
+in_some : (f : Look) (q z : Id) (n : PlacedItem) → f z ≡ Some n → q ≡ z → is_in f q ≡ true
 unfolding is_in
 in_some f q z n e k = ap is_some (ap f k ∙ e)
 
@@ -124,7 +126,7 @@ met_again t name u ids i y lt e there s = record {
     cases x false p true q h = ap (λ z. has z (take i ids)) (same_text x y q) ∙ there
     cases x false p false q h = let no : (has x (take i ids) || bytes_eq x y) ≡ false = ap₂ (λ c d. c || d) p q in cc
 
-one_more : (t : Look) (name : Id → Id) (u v : Look) (ids : List Id) (i : ℕ) (y : Id) (n : Placed) → AreNames t name → ((x : Id) → has x ids ≡ is_in t x) → i < length ids → y ≡ get_or ids i y
+one_more : (t : Look) (name : Id → Id) (u v : Look) (ids : List Id) (i : ℕ) (y : Id) (n : PlacedItem) → AreNames t name → ((x : Id) → has x ids ≡ is_in t x) → i < length ids → y ≡ get_or ids i y
     → Some n ≡ option_map (renamed_item name) (t y) → ((x : Id) → v x ≡ cond (bytes_eq (name y) x) (Some n) (u x)) → SoFar t name u (take i ids) → SoFar t name v (take (i + 1) ids)
 one_more t name u v ids i y n names are lt e given at s = record {
   named = λ x h. named x (cases_Bool (bytes_eq (name y) (name x))) h;
@@ -170,7 +172,7 @@ one_more t name u v ids i y n names are lt e given at s = record {
         let f = s.from q (in_same v u q (at q ∙ ap (λ b. cond b (Some n) (u q)) miss) h) in
         (f.0, has-more f.0 y ids i lt e ∙ ap (λ b. b || bytes_eq f.0 y) f.1, f.2)
 
-renamed_all : (t : Look) (name : Id → Id) (u : Look) (ids : List Id) (i : ℕ) → ((x : Id) → has x ids ≡ is_in t x) → length ids ≤ i → SoFar t name u (take i ids) → IsRenamed t name u
+renamed_all : (t : Look) (name : Id → Id) (u : Look) (ids : List Id) (i : ℕ) → ((x : Id) → has x ids ≡ is_in t x) → length ids ≤ i → SoFar t name u (take i ids) → NamesAnew t name u
 renamed_all t name u ids i are le s =
     let w = subst (SoFar t name u) (take_all i ids le) s in
     record { named = λ x h. w.named x (are x ∙ h); from = λ q h. let f = w.from q h in (f.0, sym (are f.0) ∙ f.1, f.2) }
@@ -219,11 +221,11 @@ one_moved name first rest later u v ids i y names are lt e gone takes m = record
         (sym (ap (λ o. option_map (renamed_item name) (option_map placed_at o)) (first_at h ∙ q)))
         (λ x. takes x ∙ ap (λ o. cond (bytes_eq (name y) x) (or_else (option_map (renamed_item name) (option_map placed_at o)) (u x)) (u x)) q) m.done
 
-pub all_moved : (name : Id → Id) (first rest : Id → Option Seat) (u : Look) (ids : List Id) (i : ℕ) → ((x : Id) → has x ids ≡ is_in (look_by first) x) → length ids ≤ i → Moved name first rest u (take i ids) → IsRenamed (look_by first) name u
+pub all_moved : (name : Id → Id) (first rest : Id → Option Seat) (u : Look) (ids : List Id) (i : ℕ) → ((x : Id) → has x ids ≡ is_in (look_by first) x) → length ids ≤ i → Moved name first rest u (take i ids) → NamesAnew (look_by first) name u
 all_moved name first rest u ids i are le m = renamed_all (look_by first) name u ids i are le m.done
 
 -- one item that is put in
-pub takes_some : (name : Id → Id) (y : Id) (t old new : Look) (k : Id) (p n : Placed) → k ≡ name y → t y ≡ Some p → n ≡ renamed_item name p → ((x : Id) → new x ≡ cond (bytes_eq k x) (Some n) (old x)) → TakesIn name y t old new
+pub takes_some : (name : Id → Id) (y : Id) (t old new : Look) (k : Id) (p n : PlacedItem) → k ≡ name y → t y ≡ Some p → n ≡ renamed_item name p → ((x : Id) → new x ≡ cond (bytes_eq k x) (Some n) (old x)) → TakesIn name y t old new
 takes_some name y t old new k p n key there is put x =
     put x ∙ ap₂ (λ z m. cond (bytes_eq z x) (Some m) (old x)) key is ∙ sym (ap (λ o. cond (bytes_eq (name y) x) (or_else (option_map (renamed_item name) o) (old x)) (old x)) there)
 
@@ -235,7 +237,7 @@ takes_none name y t old none x = sym (ap (λ o. cond (bytes_eq (name y) x) (or_e
     same false = refl
 
 -- the ids by other names are those of the tree by them
-pub ids_renamed : (t : Look) (name : Id → Id) (u : Look) (ids : List Id) → ((x : Id) → has x ids ≡ is_in t x) → IsRenamed t name u → (q : Id) → has q (map name ids) ≡ is_in u q
+pub ids_renamed : (t : Look) (name : Id → Id) (u : Look) (ids : List Id) → ((x : Id) → has x ids ≡ is_in t x) → NamesAnew t name u → (q : Id) → has q (map name ids) ≡ is_in u q
 ids_renamed t name u ids are is q = both (has q (map name ids)) (is_in u q) to from
   where
     both : (a b : Bool) → (a ≡ true → b ≡ true) → (b ≡ true → a ≡ true) → a ≡ b
@@ -269,36 +271,36 @@ ids_renamed t name u ids are is q = both (has q (map name ids)) (is_in u q) to f
 
 -- ---- the renamed local tree
 
-node_own : (t : List Placed) (x : Id) (n : Placed) → node x t ≡ Some n → n.id ≡ x
+node_own : (t : List PlacedItem) (x : Id) (n : PlacedItem) → node x t ≡ Some n → n.id ≡ x
 unfolding node
 node_own [] x n e = cc
 node_own (m ∷ ms) x n e = cases (bytes_eq x m.id) refl e (λ k. node_own ms x n k)
   where
     cases : (b : Bool) → bytes_eq x m.id ≡ b → cond b (Some m) (find (λ k. bytes_eq x k.id) ms) ≡ Some n → (find (λ k. bytes_eq x k.id) ms ≡ Some n → n.id ≡ x) → n.id ≡ x
-    cases true h k more = let same : m ≡ n = cc in ap (λ (z : Placed). z.id) (sym same) ∙ sym (same_text x m.id h)
+    cases true h k more = let same : m ≡ n = cc in ap (λ (z : PlacedItem). z.id) (sym same) ∙ sym (same_text x m.id h)
     cases false h k more = more k
 
-pub are_names : (m l r : List Placed) (x y : List Id) (pairs : List (Id × Id)) (t : Look) (g : Id → Option Id) → IsValidTree l → IsValidTree r → ArePairs (sides m l r x y) pairs
+pub are_names : (m l r : List PlacedItem) (x y : List Id) (pairs : List (Id × Id)) (t : Look) (g : Id → Option Id) → IsValidTree l → IsValidTree r → ArePairs (sides m l r x y) pairs
     → ((z : Id) → t z ≡ look l z) → ((z : Id) → g z ≡ lookup (bytes_eq z) pairs) → AreNames t (by_map g)
 are_names m l r x y pairs t g vl vr a looks names =
     subst (λ f. AreNames f (by_map g)) (λ i z. sym (looks z) i)
     (subst (λ h. AreNames (look l) (by_map h)) (λ i z. sym (names z) i)
     (record { apart = names_apart (sides m l r x y) (shape l vl) (shape r vr) pairs a; own = λ z n e. node_own l z n e }))
 
-pub renamed_look : (l : List Placed) (pairs : List (Id × Id)) (t u : Look) (g : Id → Option Id) → ((z : Id) → t z ≡ look l z) → ((z : Id) → g z ≡ lookup (bytes_eq z) pairs) → AreNames t (by_map g)
-    → IsRenamed t (by_map g) u → (q : Id) → u q ≡ look (renamed (named pairs) l) q
-renamed_look l pairs t u g looks names are is q = by_parts (subst (λ f. AreNames f (by_map g)) (λ i z. looks z i) are) (subst (λ f. IsRenamed f (by_map g) u) (λ i z. looks z i) is)
+pub renamed_look : (l : List PlacedItem) (pairs : List (Id × Id)) (t u : Look) (g : Id → Option Id) → ((z : Id) → t z ≡ look l z) → ((z : Id) → g z ≡ lookup (bytes_eq z) pairs) → AreNames t (by_map g)
+    → NamesAnew t (by_map g) u → (q : Id) → u q ≡ look (tree_renamed (named pairs) l) q
+renamed_look l pairs t u g looks names are is q = by_parts (subst (λ f. AreNames f (by_map g)) (λ i z. looks z i) are) (subst (λ f. NamesAnew f (by_map g) u) (λ i z. looks z i) is)
   where
-    by_parts : AreNames (look l) (by_map g) → IsRenamed (look l) (by_map g) u → u q ≡ look (renamed (named pairs) l) q
-    by_parts a s = by_names (subst (λ h. AreNames (look l) (by_map h)) (λ i z. names z i) a) (subst (λ h. IsRenamed (look l) (by_map h) u) (λ i z. names z i) s)
+    by_parts : AreNames (look l) (by_map g) → NamesAnew (look l) (by_map g) u → u q ≡ look (tree_renamed (named pairs) l) q
+    by_parts a s = by_names (subst (λ h. AreNames (look l) (by_map h)) (λ i z. names z i) a) (subst (λ h. NamesAnew (look l) (by_map h) u) (λ i z. names z i) s)
       where
-        by_names : AreNames (look l) (named pairs) → IsRenamed (look l) (named pairs) u → u q ≡ look (renamed (named pairs) l) q
-        by_names b w = cases (cases_Bool (is_in u q)) (cases_Bool (is_in (look (renamed (named pairs) l)) q))
+        by_names : AreNames (look l) (named pairs) → NamesAnew (look l) (named pairs) u → u q ≡ look (tree_renamed (named pairs) l) q
+        by_names b w = cases (cases_Bool (is_in u q)) (cases_Bool (is_in (look (tree_renamed (named pairs) l)) q))
           where
-            both : (x : Id) → is_in (look l) x ≡ true → q ≡ named pairs x → u q ≡ look (renamed (named pairs) l) q
-            both x h e = ap u e ∙ w.named x h ∙ sym (look-renamed l (named pairs) b.apart x h) ∙ sym (ap (look (renamed (named pairs) l)) e)
+            both : (x : Id) → is_in (look l) x ≡ true → q ≡ named pairs x → u q ≡ look (tree_renamed (named pairs) l) q
+            both x h e = ap u e ∙ w.named x h ∙ sym (look-renamed l (named pairs) b.apart x h) ∙ sym (ap (look (tree_renamed (named pairs) l)) e)
 
-            cases : (is_in u q ≡ true) ⊎ (is_in u q ≡ false) → (is_in (look (renamed (named pairs) l)) q ≡ true) ⊎ (is_in (look (renamed (named pairs) l)) q ≡ false) → u q ≡ look (renamed (named pairs) l) q
+            cases : (is_in u q ≡ true) ⊎ (is_in u q ≡ false) → (is_in (look (tree_renamed (named pairs) l)) q ≡ true) ⊎ (is_in (look (tree_renamed (named pairs) l)) q ≡ false) → u q ≡ look (tree_renamed (named pairs) l) q
             cases (inl h) _ = let f = w.from q h in both f.0 f.1 f.2
             cases (inr h) (inl k) = let f = from-renamed l (named pairs) b.apart q k in both f.0 f.1 f.2
-            cases (inr h) (inr k) = is_none u q h ∙ sym (is_none (look (renamed (named pairs) l)) q k)
+            cases (inr h) (inr k) = is_none u q h ∙ sym (is_none (look (tree_renamed (named pairs) l)) q k)

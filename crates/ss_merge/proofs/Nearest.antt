@@ -1,5 +1,6 @@
 -- The nearest goal on a walk that comes to a root.
-use Rattle.std.proofs.Common.{◌≡◌, ◌⊎◌, ℕ, zero, suc, ◌<◌, ◌≤◌, Bool, true, false, cond, Option, Some, None, sym, ap, subst, ◌∙◌, inl, inr, arith}
+use Rattle.std.proofs.Common.{◌≡◌, ◌⊎◌, ℕ, zero, suc, ◌<◌, ◌≤◌, Bool, true, false, cond, Option, Some, None, sym, ap}
+use Rattle.std.proofs.Common.{subst, ◌∙◌, inl, inr, arith}
 use Rattle.ss_dupe.specs.Walks.{meets}
 use Rattle.ss_merge.specs.Nearest.{goal_or, nearest}
 use Rattle.ss_dupe.proofs.Basics.{or_rest, some_from_passes, false_from}

@@ -1,5 +1,6 @@
 -- The final parents of a merge come to a root, and what that gives.
-use Rattle.std.proofs.Common.{◌≡◌, ◌↔◌, ◌⊎◌, bytes_eq, refl, ℕ, zero, suc, Bool, true, false, cond, not, List, length, Some, sym, ap, ◌∙◌, inl, inr}
+use Rattle.std.proofs.Common.{◌≡◌, ◌↔◌, ◌⊎◌, bytes_eq, refl, ℕ, zero, suc, Bool, true, false, cond, not, List, length}
+use Rattle.std.proofs.Common.{Some, sym, ap, ◌∙◌, inl, inr}
 use Rattle.ss_record.specs.declared.kinds.Kind.TheVariants.{Folder}
 use Rattle.ss_record.specs.Ids.{has}
 use Rattle.ss_record.specs.Kinds.{is_folder}

@@ -1,5 +1,6 @@
 -- The nearest goal of a walk inside a list: as many steps as the list is long find it.
-use Rattle.std.proofs.Common.{◌≡◌, ◌<◌, ◌≤◌, ℕ, zero, suc, Bool, true, false, cond, List, length, Option, Some, None, refl, sym, ap, ◌∙◌, arith, Decides}
+use Rattle.std.proofs.Common.{◌≡◌, ◌<◌, ◌≤◌, ℕ, zero, suc, Bool, true, false, cond, List, length, Option, Some, None}
+use Rattle.std.proofs.Common.{refl, sym, ap, ◌∙◌, arith, Decides}
 use Rattle.ss_merge.specs.Nearest.{goal_or, nearest}
 use Rattle.ss_dupe.proofs.Bounds.{has, without, length-without_lt, has-without, Takes, TakesIn, takes_in, takes_at_most}
 use Rattle.ss_text.proofs.Basics.{no_way}

@@ -1,6 +1,6 @@
 -- The side that is taken, case by case.
 use Rattle.std.proofs.Common.{◌≡◌, ◌⊎◌, true, false, cond, not, Bool, Option, Some, None, unwrap_or, ap, ◌∙◌, inl, inr}
-use Rattle.ss_tree.specs.Trees.{Placed}
+use Rattle.ss_tree.specs.Trees.{PlacedItem}
 use Rattle.ss_dupe.specs.declared.sides.Side.{Side}
 use Rattle.ss_dupe.specs.declared.sides.Side.TheVariants.{Local, Remote}
 use Rattle.ss_dupe.specs.Looks.{Id, is_in}
@@ -9,7 +9,7 @@ use Rattle.ss_merge.specs.Survivors.{differs, newer, side_of, taken}
 use Rattle.std.proofs.lemmas.Bool.{cases_Bool}
 use Rattle.ss_text.proofs.Basics.{no_way}
 
-module _ (s : Sides) (alike : Placed → Placed → Bool) (x : Id) where
+module _ (s : Sides) (alike : PlacedItem → PlacedItem → Bool) (x : Id) where
   only_local : is_in s.remote x ≡ false → taken s alike x ≡ Some Local
   unfolding taken
   only_local r = ap (λ b. cond (not b) (Some Local)

@@ -1,11 +1,14 @@
 -- The ids of a tree's nodes: each once, and all of them.
-use Rattle.std.proofs.Common.{◌≡◌, ◌⊎◌, ℕ, ◌+◌, ◌<◌, ◌≤◌, Bool, true, false, not, cond, ◌&&◌, List, [], ◌∷◌, map, filter, bytes_eq, is_some, option_map, unwrap_or, refl, sym, ap, subst, ◌∙◌, inl, inr, arith}
+use Rattle.std.proofs.Common.{◌≡◌, ◌⊎◌, ℕ, ◌+◌, ◌<◌, ◌≤◌, Bool, true, false, not, cond, ◌&&◌, List, [], ◌∷◌, map}
+use Rattle.std.proofs.Common.{filter, bytes_eq, is_some, option_map, unwrap_or, refl, sym, ap, subst, ◌∙◌, inl, inr}
+use Rattle.std.proofs.Common.{arith}
 use Rattle.ss_list.specs.Chain.{times}
 use Rattle.ss_list.proofs.Times.{times-here, at_head, below-head}
 use Rattle.ss_record.specs.Ids.{Apart, has}
-use Rattle.ss_record.proofs.IdLists.{has-nil, has-cons, has-head, has-tail, has-filter, Apart-nil, Apart-cons, Apart-filter}
+use Rattle.ss_record.proofs.IdLists.{has-nil, has-cons, has-head, has-tail, has-filter, Apart-nil, Apart-cons}
+use Rattle.ss_record.proofs.IdLists.{Apart-filter}
 use Rattle.ss_tree.specs.declared.entries.Entry.{Entry}
-use Rattle.ss_tree.specs.Trees.{Placed, node, node_ids}
+use Rattle.ss_tree.specs.Trees.{PlacedItem, node, node_ids}
 use Rattle.ss_tree.specs.Entries.{is_live, placed, tree, IsTree}
 use Rattle.ss_tree.proofs.Valid.{entry_in, in_entry, one_entry, node_found, node_at}
 use Rattle.ss_build.proofs.Stand.{node_has, has_node}

@@ -7,7 +7,7 @@ use Rattle.ss_dupe.specs.Shapes.{AreShaped}
 use Rattle.ss_dupe.specs.Sides.{Sides}
 use Rattle.ss_merge.specs.Survivors.{content_of, survives}
 use Rattle.ss_merge.specs.Parents.{final}
-use Rattle.ss_merge.specs.Merged.{is_child, listed}
+use Rattle.ss_merge.specs.Merged.{is_child, merged_children}
 
 -- ids are those of the two trees, which are valid
 pub record AreMerging (s : Sides) (ids : List Id) : Type 0 where
@@ -19,7 +19,7 @@ unfoldable pub claim_at : Sides → ℕ → Id → Claim
 claim_at s n x = record {
   item = record { id = x; kind = (content_of s x).kind; content = (content_of s x).content };
   parentid = if is_root x then None else final s n x;
-  children = filter (is_child s n x) (listed s x);
+  children = filter (is_child s n x) (merged_children s x);
   time = 0;
 }
 

@@ -1,8 +1,9 @@
 -- What survives a merge, and the side whose content is taken. The local items of duplicate pairs have the remote ids.
-use Rattle.std.specs.Prelude.{nat_lt, Bool, true, false, not, ◌||◌, ◌&&◌, Option, Some, None, if◌then◌else◌, unwrap_or, bytes_eq}
+use Rattle.std.specs.Prelude.{nat_lt, Bool, true, false, not, ◌||◌, ◌&&◌, Option, Some, None, if◌then◌else◌, unwrap_or}
+use Rattle.std.specs.Prelude.{bytes_eq}
 use Rattle.ss_record.specs.Ids.{same_list}
 use Rattle.ss_record.specs.Kinds.{is_folder, same_kind}
-use Rattle.ss_tree.specs.Trees.{Placed}
+use Rattle.ss_tree.specs.Trees.{PlacedItem}
 use Rattle.ss_dupe.specs.declared.sides.Side.{Side}
 use Rattle.ss_dupe.specs.declared.sides.Side.TheVariants.{Local, Remote}
 use Rattle.ss_dupe.specs.Looks.{Id, is_in, at, is_places, is_root}
@@ -11,17 +12,17 @@ use Rattle.ss_dupe.specs.Sides.{Sides, other, tree_of, deleted_on}
 
 -- ---- what differs from the mirror
 
-abbrev pub same_content : Placed → Placed → Bool
+abbrev pub same_content : PlacedItem → PlacedItem → Bool
 same_content a b = same_kind a.kind b.kind && bytes_eq a.content b.content
 
-abbrev pub same_parent : Placed → Placed → Bool
+abbrev pub same_parent : PlacedItem → PlacedItem → Bool
 same_parent a b = passes (λ p. passes (bytes_eq p) b.parent) a.parent
 
-abbrev pub same_children : Placed → Placed → Bool
+abbrev pub same_children : PlacedItem → PlacedItem → Bool
 same_children a b = same_list a.children b.children
 
 -- an item that isn't in the mirror differs
-unfoldable pub differs : Sides → (Placed → Placed → Bool) → Side → Id → Bool
+unfoldable pub differs : Sides → (PlacedItem → PlacedItem → Bool) → Side → Id → Bool
 differs s alike side x = not (is_in s.mirror x) || not (alike (at (tree_of s side) x) (at s.mirror x))
 
 -- its kind, its content or its parent differs from the mirror's
@@ -50,7 +51,7 @@ newer s x = if nat_lt (at s.remote x).time (at s.local x).time then Local else R
 
 -- the side that has the item, or of two the one on which it differs, or the newer one where it differs on both; None
 -- where it differs on neither
-unfoldable pub taken : Sides → (Placed → Placed → Bool) → Id → Option Side
+unfoldable pub taken : Sides → (PlacedItem → PlacedItem → Bool) → Id → Option Side
 taken s alike x =
     if not (is_in s.remote x) then Some Local
     else (if not (is_in s.local x) then Some Remote
@@ -59,11 +60,11 @@ taken s alike x =
     else (if differs s alike Remote x then Some Remote else None)))
 
 -- where it differs on neither, the local side
-unfoldable pub side_of : Sides → (Placed → Placed → Bool) → Id → Side
+unfoldable pub side_of : Sides → (PlacedItem → PlacedItem → Bool) → Id → Side
 side_of s alike x = unwrap_or (taken s alike x) Local
 
 -- the item with the taken kind and content
-unfoldable pub content_of : Sides → Id → Placed
+unfoldable pub content_of : Sides → Id → PlacedItem
 content_of s x = at (tree_of s (side_of s same_content x)) x
 
 -- a survivor whose taken kind is a folder

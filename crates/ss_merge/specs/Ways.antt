@@ -39,11 +39,11 @@ abbrev pub AreMarks : Way → List Id → (Id → Option (Option Id)) → Type 0
 AreMarks way ids marks = (x : Id) (goal : Option Id) → marks x ≡ Some goal → nearest_on way (length ids) x ≡ goal
 
 -- the ids of a path were marked as without a goal, and each has this nearest one
-pub record Walked (way : Way) (ids : List Id) (old new : Id → Option (Option Id)) (path : List Id) (start : Id) (goal : Option Id) : Type 0 where
+pub record WalksPath (way : Way) (ids : List Id) (old new : Id → Option (Option Id)) (path : List Id) (start : Id) (goal : Option Id) : Type 0 where
   pub marks : (x : Id) → new x ≡ (if has x path then Some None else old x)
   pub near : (x : Id) → has x path ≡ true → nearest_on way (length ids) x ≡ goal
   pub met : is_some (new start) ≡ true
 
 -- the ids of a path were marked with a goal
-pub record Told (old new : Id → Option (Option Id)) (path : List Id) (goal : Option Id) : Type 0 where
+pub record MarksPath (old new : Id → Option (Option Id)) (path : List Id) (goal : Option Id) : Type 0 where
   pub told : (x : Id) → new x ≡ (if has x path then Some goal else old x)

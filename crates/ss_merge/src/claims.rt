@@ -7,7 +7,7 @@ ghost use Rattle.ss_dupe.specs.Plains.{view};
 ghost use Rattle.ss_dupe.specs.Shapes.{AreShaped};
 ghost use Rattle.ss_dupe.specs.Sides.{tree_of};
 ghost use Rattle.ss_merge.specs.Survivors.{content_of, survives};
-ghost use Rattle.ss_merge.specs.Merged.{listed};
+ghost use Rattle.ss_merge.specs.Merged.{merged_children};
 ghost use Rattle.ss_merge.specs.Links.{claim_by, is_under};
 
 use crate::parts::Part;
@@ -73,7 +73,7 @@ fn children_on<'p>(plains: &'p Plains<'_>, side: Side, id: &Id) -> &'p [Id]
 
 /// The children of an item on the side whose list is taken, then those on the other side, as far as they have this
 /// parent.
-#[tactic(auto, unfolding(crate::specs::Merged::listed))]
+#[tactic(auto, unfolding(crate::specs::Merged::merged_children))]
 fn children_of(
     alloc: Global,
     plains: &Plains,
@@ -81,7 +81,7 @@ fn children_of(
     id: &Id,
 ) -> Result<Words, AllocError>
     ensures { IfOk result (λ children. children ≡ filter (is_under (view plains.now) (get bytes_eq finals.now) id.now)
-        (listed (view plains.now) id.now)) }
+        (merged_children (view plains.now) id.now)) }
 {
     let side = side_of(plains, Part::Children, id);
     let other = children_on(plains, side.other(), id);

@@ -5,7 +5,7 @@ ghost use Rattle.std.specs.HashSet.{contains_by};
 ghost use Rattle.ss_record.specs.Ids.{Apart, by_id, has};
 ghost use Rattle.ss_dupe.specs.Looks.{Id as Text, is_in};
 ghost use Rattle.ss_dupe.specs.Plains.{AreIds, view};
-ghost use Rattle.ss_merge.specs.Links.{IsGathered};
+ghost use Rattle.ss_merge.specs.Links.{GathersIds};
 
 use ss_dupe::Plains;
 use ss_seed::Seed;
@@ -40,8 +40,8 @@ fn add_ids(
     seen: &mut HashSet<Id, Seed>,
     ids: &mut Vec<Id>,
 ) -> Result<(), AllocError>
-    requires { IsGathered (λ x. contains_by (bytes_eq x) seen.old) ids.old.items }
-    ensures gathered { OnOk result (IsGathered (λ x. contains_by (bytes_eq x) seen.new) ids.new.items) }
+    requires { GathersIds (λ x. contains_by (bytes_eq x) seen.old) ids.old.items }
+    ensures gathered { OnOk result (GathersIds (λ x. contains_by (bytes_eq x) seen.new) ids.new.items) }
     ensures all { OnOk result ((x : Text) → has x ids.new.items ≡ (has x ids.old.items || has x from.now)) }
 {
     for id in from {

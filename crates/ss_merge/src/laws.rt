@@ -9,7 +9,7 @@ ghost use Rattle.ss_dupe.specs.declared.sides.Side.{Side};
 ghost use Rattle.ss_dupe.specs.Sides.{Sides};
 ghost use Rattle.ss_merge.specs.Survivors.{survives};
 ghost use Rattle.ss_merge.specs.Parents.{chosen, final, is_rooted, nearest_folder};
-ghost use Rattle.ss_merge.specs.Merged.{merged};
+ghost use Rattle.ss_merge.specs.Merged.{entries_merged};
 ghost use Rattle.ss_merge.specs.Claims.{AreMerging};
 
 /// From each survivor the walk of final parents comes to a root.
@@ -32,7 +32,7 @@ pub fn nearest_is_exact()
 
 /// A merged tree is valid, and has `places` and the survivors and nothing else.
 pub fn merged_trees_are_valid()
-    ensures valid { (s : Sides) (ids : List Id) → AreMerging s ids → IsValidTree (merged s ids) }
+    ensures valid { (s : Sides) (ids : List Id) → AreMerging s ids → IsValidTree (entries_merged s ids) }
     ensures ids { (s : Sides) (ids : List Id) → AreMerging s ids → (x : Id)
-        → (has x (node_ids (merged s ids)) ≡ true) ↔ ((x ≡ places) ⊎ (survives s x ≡ true)) }
+        → (has x (node_ids (entries_merged s ids)) ≡ true) ↔ ((x ≡ places) ⊎ (survives s x ≡ true)) }
 {}

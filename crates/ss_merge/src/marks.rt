@@ -4,7 +4,7 @@ ghost use Rattle.std.specs.Prelude.{◌≡◌, ◌∷◌, [], List, Some, true, 
 ghost use Rattle.std.specs.HashMap.{get};
 ghost use Rattle.ss_record.specs.Ids.{has};
 ghost use Rattle.ss_dupe.specs.Looks.{Id as Text};
-ghost use Rattle.ss_merge.specs.Ways.{AreMarks, HasShape, StaysIn, Told, Walked, nearest_on};
+ghost use Rattle.ss_merge.specs.Ways.{AreMarks, HasShape, StaysIn, MarksPath, WalksPath, nearest_on};
 
 use crate::ways::{Way, is_goal, next, seed_of};
 use ss_seed::Seed;
@@ -36,7 +36,7 @@ fn walk(
     requires one { has id.now ids.now ≡ true }
     requires marks { AreMarks way.now ids.now (get bytes_eq marks.old) }
     requires empty { path.old.items ≡ [] }
-    ensures { IfOk result (λ goal. Walked way.now ids.now (get bytes_eq marks.old) (get bytes_eq marks.new)
+    ensures { IfOk result (λ goal. WalksPath way.now ids.now (get bytes_eq marks.old) (get bytes_eq marks.new)
         path.new.items id.now goal) }
 {
     let mut at = id;
@@ -64,7 +64,7 @@ fn mark_path(
     goal: &Id,
     marks: &mut HashMap<Id, Option<Id>, Seed>,
 ) -> Result<(), AllocError>
-    ensures { OnOk result (Told (get bytes_eq marks.old) (get bytes_eq marks.new) path.now (Some goal.now)) }
+    ensures { OnOk result (MarksPath (get bytes_eq marks.old) (get bytes_eq marks.new) path.now (Some goal.now)) }
 {
     for passed in path {
         marks.insert(passed.copy(alloc)?, Some(goal.copy(alloc)?))?;

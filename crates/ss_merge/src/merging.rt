@@ -8,9 +8,9 @@ ghost use Rattle.ss_dupe.specs.Looks.{Id as Text, is_places};
 ghost use Rattle.ss_dupe.specs.Pairs.{ArePairs};
 ghost use Rattle.ss_dupe.specs.Plains.{view};
 ghost use Rattle.ss_dupe.specs.Renaming.{paired};
-ghost use Rattle.ss_dupe.specs.Sides.{asked};
+ghost use Rattle.ss_dupe.specs.Sides.{sides_asked};
 ghost use Rattle.ss_merge.specs.Survivors.{survives};
-ghost use Rattle.ss_merge.specs.Merged.{all_ids, gone_of, merged, merged_tree, origins};
+ghost use Rattle.ss_merge.specs.Merged.{all_ids, gone_of, entries_merged, merged_tree, origins};
 ghost use Rattle.ss_merge.specs.Claims.{AreMerging};
 
 use crate::claims::claims_of;
@@ -48,7 +48,7 @@ pub struct Merged {
 /// The tree of the survivors in their places.
 fn tree_of(alloc: Global, plains: &Plains, ids: &[Id]) -> Result<Tree, AllocError>
     requires { AreMerging (view plains.now) ids.now }
-    ensures same { IfOk result (λ t. IsSame (tree t) (merged (view plains.now) ids.now)) }
+    ensures same { IfOk result (λ t. IsSame (tree t) (entries_merged (view plains.now) ids.now)) }
     ensures valid { IfOk result (λ t. IsValidTree (tree t)) }
 {
     let finals = finals_of(alloc, plains, ids)?;
@@ -69,7 +69,7 @@ pub fn merge(alloc: Global, sides: &Sides) -> Result<Merged, AllocError>
         ≡ (has x (node_ids (tree m.tree)) && not (is_places x))) }
     ensures gone { IfOk result (λ m. m.gone ≡ gone_of (paired m.renamed.items sides.now)
         (all_ids m.renamed.items sides.now)) }
-    ensures renamed { IfOk result (λ m. ArePairs (asked sides.now) m.renamed.items) }
+    ensures renamed { IfOk result (λ m. ArePairs (sides_asked sides.now) m.renamed.items) }
 {
     let paired = read_paired(alloc, sides)?;
     let ids = all_ids(alloc, &paired.plains)?;

@@ -9,8 +9,8 @@ ghost use Rattle.ss_dupe.specs.Pairs.{ArePairs};
 ghost use Rattle.ss_dupe.specs.Plains.{AreIds, look_of, placed_at, view};
 ghost use Rattle.ss_dupe.specs.Renaming.{paired, renamed_item};
 ghost use Rattle.ss_dupe.specs.Shapes.{AreShaped};
-ghost use Rattle.ss_dupe.specs.Sides.{asked};
-ghost use Rattle.ss_merge.specs.Links.{AreNames, IsRenamed, TakesIn, by_map, look_by};
+ghost use Rattle.ss_dupe.specs.Sides.{sides_asked};
+ghost use Rattle.ss_merge.specs.Links.{AreNames, NamesAnew, TakesIn, by_map, look_by};
 
 use ss_dupe::{PlainTree, Plains, Seat, pair_read};
 use ss_seed::Seed;
@@ -129,7 +129,7 @@ fn rename_seats<'a>(
 ) -> Result<HashMap<Id, Seat<'a>, Seed>, AllocError>
     requires ids { (x : Text) → has x ids.now ≡ is_in (look_by (get bytes_eq seats)) x }
     requires names { AreNames (look_by (get bytes_eq seats)) (by_map (get bytes_eq names.now)) }
-    ensures { IfOk result (λ named. IsRenamed (look_by (get bytes_eq seats.entry)) (by_map (get bytes_eq names.now))
+    ensures { IfOk result (λ named. NamesAnew (look_by (get bytes_eq seats.entry)) (by_map (get bytes_eq names.now))
         (look_by (get bytes_eq named))) }
 {
     let mut named = HashMap::with_hasher(alloc, *seats.hasher());
@@ -148,7 +148,7 @@ fn rename<'a>(
 ) -> Result<PlainTree<'a>, AllocError>
     requires ids { AreIds plain }
     requires names { AreNames (look_of plain) (by_map (get bytes_eq names.now)) }
-    ensures looks { IfOk result (λ named. IsRenamed (look_of plain.entry) (by_map (get bytes_eq names.now))
+    ensures looks { IfOk result (λ named. NamesAnew (look_of plain.entry) (by_map (get bytes_eq names.now))
         (look_of named)) }
     ensures ids { IfOk result AreIds }
 {
@@ -168,7 +168,7 @@ pub(crate) struct Paired<'a> {
 
 /// Reads the trees out, once, pairs the duplicates, and gives the local items of the pairs the remote ids.
 pub(crate) fn read_paired<'a>(alloc: Global, sides: &Sides<'a>) -> Result<Paired<'a>, AllocError>
-    ensures renamed { IfOk result (λ p. ArePairs (asked sides.now) p.renamed.items) }
+    ensures renamed { IfOk result (λ p. ArePairs (sides_asked sides.now) p.renamed.items) }
     ensures same { IfOk result (λ p. view p.plains ≡ paired p.renamed.items sides.now) }
     ensures local_ids { IfOk result (λ p. AreIds p.plains.local) }
     ensures remote_ids { IfOk result (λ p. AreIds p.plains.remote) }

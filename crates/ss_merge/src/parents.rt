@@ -1,6 +1,7 @@
 //! Parents of merged items.
 
-ghost use Rattle.std.specs.Prelude.{◌≡◌, ◌||◌, Some, None, is_some, option_map, unwrap_or, length, true, IfOk, OnOk, if◌then◌else◌, bytes_eq};
+ghost use Rattle.std.specs.Prelude.{◌≡◌, ◌||◌, Some, None, is_some, option_map, unwrap_or, length, true, IfOk, OnOk};
+ghost use Rattle.std.specs.Prelude.{if◌then◌else◌, bytes_eq};
 ghost use Rattle.std.specs.HashMap.{get};
 ghost use Rattle.ss_record.specs.Ids.{has};
 ghost use Rattle.ss_dupe.specs.declared.sides.Side.TheVariants.{Local, Remote};

@@ -6,7 +6,8 @@ ghost use Rattle.ss_dupe.specs.Looks.{at, is_in};
 ghost use Rattle.ss_dupe.specs.Plains.{placed_at, view};
 ghost use Rattle.ss_dupe.specs.Sides.{tree_of};
 ghost use Rattle.ss_dupe.specs.Shapes.{AreShaped};
-ghost use Rattle.ss_merge.specs.Survivors.{content_of, differs, is_changed, is_merged_folder, newer, side_of, stays, survives, taken};
+ghost use Rattle.ss_merge.specs.Survivors.{content_of, differs, is_changed, is_merged_folder, newer, side_of, stays};
+ghost use Rattle.ss_merge.specs.Survivors.{survives, taken};
 ghost use Rattle.ss_merge.specs.Parts.{alike};
 
 use crate::parts::{Part, alike};

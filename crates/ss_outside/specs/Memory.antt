@@ -1,13 +1,14 @@
 -- Sources and sinks in memory.
-use Rattle.std.specs.Prelude.{ℕ, ◌+◌, min, nat_le, Bool, true, false, List, [], ◌∷◌, ◌++◌, length, drop, filter, Option, Some, None, if◌then◌else◌}
+use Rattle.std.specs.Prelude.{ℕ, ◌+◌, min, nat_le, Bool, true, false, List, [], ◌∷◌, ◌++◌, length, drop, filter, Option}
+use Rattle.std.specs.Prelude.{Some, None, if◌then◌else◌}
 use Rattle.std.specs.List.{flat_map}
 use Rattle.std.specs.Global.{Vec}
 use Rattle.ss_outside.specs.Told.{Meanings}
 use Rattle.ss_outside.specs.Plans.{Plan, fault_count}
 
 -- the bytes of pieces, one after the other
-abbrev pub joined : List (Vec ℕ) → List ℕ
-joined pieces = flat_map (λ piece. piece.items) pieces
+abbrev pub bytes_of_pieces : List (Vec ℕ) → List ℕ
+bytes_of_pieces pieces = flat_map (λ piece. piece.items) pieces
 
 -- the same of pieces as lists
 abbrev pub flat : List (List ℕ) → List ℕ
@@ -19,8 +20,8 @@ has_byte [] = false
 has_byte (b ∷ bytes) = true
 
 -- the pieces that have a byte
-abbrev pub filled : List (List ℕ) → List (List ℕ)
-filled pieces = filter has_byte pieces
+abbrev pub filled_pieces : List (List ℕ) → List (List ℕ)
+filled_pieces pieces = filter has_byte pieces
 
 -- pieces without so many bytes at the front of the first
 abbrev pub behind : ℕ → List (List ℕ) → List (List ℕ)

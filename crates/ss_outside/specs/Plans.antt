@@ -13,21 +13,21 @@ abbrev pub fresh_plan : List ℕ → Plan
 fresh_plan failing = record { failing = failing; calls = 0; faults = 0 }
 
 -- a count that was raised; it stops at the greatest u64
-abbrev pub raised : ℕ → ℕ
-raised count = min (count + 1) (2 ^ 64 - 1)
+abbrev pub raised_count : ℕ → ℕ
+raised_count count = min (count + 1) (2 ^ 64 - 1)
 
 -- whether the next call fails; without a plan none does
 abbrev pub is_failing : Option Plan → Bool
 is_failing None = false
-is_failing (Some plan) = list_any (λ number. number == raised plan.calls) plan.failing
+is_failing (Some plan) = list_any (λ number. number == raised_count plan.calls) plan.failing
 
 -- the plan after the next call
 abbrev pub after_call : Option Plan → Option Plan
 after_call None = None
 after_call (Some plan) = Some (record {
   failing = plan.failing;
-  calls = raised plan.calls;
-  faults = if is_failing (Some plan) then raised plan.faults else plan.faults;
+  calls = raised_count plan.calls;
+  faults = if is_failing (Some plan) then raised_count plan.faults else plan.faults;
 })
 
 -- how many calls failed

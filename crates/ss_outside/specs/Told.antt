@@ -17,14 +17,14 @@ abbrev pub counts_alone : ℕ → ℕ → Meanings
 counts_alone reads writes = record { taken = None; left = None; read_faults = reads; written = None; write_faults = writes }
 
 -- the bytes that a read brought into its buffer
-abbrev pub received : {E : Type 0} → Result ℕ E → List ℕ → List ℕ
-received (Ok n) into = take n into
-received (Err fault) into = []
+abbrev pub bytes_received : {E : Type 0} → Result ℕ E → List ℕ → List ℕ
+bytes_received (Ok n) into = take n into
+bytes_received (Err fault) into = []
 
 -- the bytes of the piece that a write took
-abbrev pub accepted : {E : Type 0} → Result ℕ E → List ℕ → List ℕ
-accepted (Ok n) from = take n from
-accepted (Err fault) from = []
+abbrev pub bytes_accepted : {E : Type 0} → Result ℕ E → List ℕ → List ℕ
+bytes_accepted (Ok n) from = take n from
+bytes_accepted (Err fault) from = []
 
 -- what was taken has these bytes more at its end
 abbrev pub Takes : List ℕ → Option (List ℕ) → Option (List ℕ) → Type 0

@@ -1,8 +1,9 @@
 //! A sink in memory.
 
-ghost use Rattle.std.specs.Prelude.{◌≡◌, ◌≤◌, [], Some, None, IfOk, IsErr, MatchBool, length, option_copied, if◌then◌else◌};
+ghost use Rattle.std.specs.Prelude.{◌≡◌, ◌≤◌, [], Some, None, IfOk, IsErr, MatchBool, length, option_copied};
+ghost use Rattle.std.specs.Prelude.{if◌then◌else◌};
 ghost use Rattle.ss_outside.specs.Causes.{RisesOnRefusal};
-ghost use Rattle.ss_outside.specs.Told.{HasWritten, accepted};
+ghost use Rattle.ss_outside.specs.Told.{HasWritten, bytes_accepted};
 ghost use Rattle.ss_outside.specs.Plans.{fresh_plan, is_failing, after_call};
 ghost use Rattle.ss_outside.specs.Memory.{sink_tells, with_piece};
 
@@ -90,7 +91,7 @@ impl<F: Faults + Drop> Told for SinkUnder<F> {
 impl<F: Faults + Drop> Sink for SinkUnder<F> {
     fn write(&mut self, from: &[u8]) -> Result<usize, WriteFault>
         ensures bound { IfOk result (λ count. count ≤ length from.now) }
-        ensures bytes { HasWritten (accepted result from.now) (sink_tells self.old) (sink_tells self.new) }
+        ensures bytes { HasWritten (bytes_accepted result from.now) (sink_tells self.old) (sink_tells self.new) }
         ensures cause { RisesOnRefusal (length from.now) (sink_tells self.old).write_faults (sink_tells self.new).write_faults result }
         ensures answer { MatchBool (is_failing self.old.plan) (IsErr result) (result ≡ Ok (length from.now)) }
         ensures written { self.new.written ≡ (if is_failing self.old.plan then self.old.written else with_piece self.old.room self.old.written from.now) }

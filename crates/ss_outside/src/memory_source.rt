@@ -2,9 +2,9 @@
 
 ghost use Rattle.std.specs.Prelude.{◌≡◌, ◌≤◌, [], None, Some, IfOk, IsErr, MatchBool, length, map, if◌then◌else◌};
 ghost use Rattle.ss_outside.specs.Causes.{RisesOnErr};
-ghost use Rattle.ss_outside.specs.Told.{EndsAt, HasRead, received};
+ghost use Rattle.ss_outside.specs.Told.{EndsAt, HasRead, bytes_received};
 ghost use Rattle.ss_outside.specs.Plans.{fresh_plan, is_failing, after_call};
-ghost use Rattle.ss_outside.specs.Memory.{joined, filled, behind, read_size, source_tells};
+ghost use Rattle.ss_outside.specs.Memory.{bytes_of_pieces, filled_pieces, behind, read_size, source_tells};
 
 use crate::faults::{Faults, Never, Numbered};
 use crate::source::{ReadFault, Source};
@@ -22,17 +22,17 @@ pub struct SourceUnder<F: Faults + Drop> {
 
 impl<F: Faults + Drop> Model for SourceUnder<F> {
     ghost use Rattle.std.specs.Prelude.{◌++◌, ◌≤◌, take, drop, length, map, None, Some};
-    ghost use Rattle.ss_outside.specs.Memory.{Pieces, joined, filled, behind};
+    ghost use Rattle.ss_outside.specs.Memory.{Pieces, bytes_of_pieces, filled_pieces, behind};
 
     ghost Value = { Pieces };
 
     ghost view = { λ s. record {
-      taken = joined (take s.piece s.pieces.items) ++ take s.at (joined (drop s.piece s.pieces.items));
-      pieces = filled (behind s.at (map (λ piece. piece.items) (drop s.piece s.pieces.items)));
+      taken = bytes_of_pieces (take s.piece s.pieces.items) ++ take s.at (bytes_of_pieces (drop s.piece s.pieces.items));
+      pieces = filled_pieces (behind s.at (map (λ piece. piece.items) (drop s.piece s.pieces.items)));
       plan = F.Faults.plan s.plan;
     } };
 
-    ghost invariant = { λ s. s.at ≤ length (joined (take 1 (drop s.piece s.pieces.items))) };
+    ghost invariant = { λ s. s.at ≤ length (bytes_of_pieces (take 1 (drop s.piece s.pieces.items))) };
 }
 
 /// A source in memory, some of whose reads fail.
@@ -44,8 +44,8 @@ pub type SureSource = SourceUnder<Never>;
 impl SourceUnder<Numbered> {
     /// A source of these pieces; the reads with the numbers `failing` fail, counted from 1.
     pub fn new(pieces: Vec<Vec<u8>>, failing: Vec<u64>) -> MemSource
-        ensures value { result ≡ record { taken = []; pieces = filled (map (λ piece. piece.items) pieces.items); plan = Some (fresh_plan failing.items) } }
-        ensures told { source_tells result ≡ record { taken = Some []; left = Some (joined pieces.items); read_faults = 0; written = None; write_faults = 0 } }
+        ensures value { result ≡ record { taken = []; pieces = filled_pieces (map (λ piece. piece.items) pieces.items); plan = Some (fresh_plan failing.items) } }
+        ensures told { source_tells result ≡ record { taken = Some []; left = Some (bytes_of_pieces pieces.items); read_faults = 0; written = None; write_faults = 0 } }
     {
         SourceUnder {
             pieces,
@@ -59,8 +59,8 @@ impl SourceUnder<Numbered> {
 impl SourceUnder<Never> {
     /// A source of these pieces.
     pub fn new(pieces: Vec<Vec<u8>>) -> SureSource
-        ensures value { result ≡ record { taken = []; pieces = filled (map (λ piece. piece.items) pieces.items); plan = None } }
-        ensures told { source_tells result ≡ record { taken = Some []; left = Some (joined pieces.items); read_faults = 0; written = None; write_faults = 0 } }
+        ensures value { result ≡ record { taken = []; pieces = filled_pieces (map (λ piece. piece.items) pieces.items); plan = None } }
+        ensures told { source_tells result ≡ record { taken = Some []; left = Some (bytes_of_pieces pieces.items); read_faults = 0; written = None; write_faults = 0 } }
     {
         SourceUnder {
             pieces,
@@ -79,12 +79,12 @@ impl<F: Faults + Drop> Source for SourceUnder<F> {
     fn read(&mut self, into: &mut [u8]) -> Result<usize, ReadFault>
         ensures room { length into.new ≡ length into.old }
         ensures bound { IfOk result (λ count. count ≤ length into.new) }
-        ensures bytes { HasRead (received result into.new) (source_tells self.old) (source_tells self.new) }
+        ensures bytes { HasRead (bytes_received result into.new) (source_tells self.old) (source_tells self.new) }
         ensures ended { EndsAt result (length into.old) (source_tells self.old) }
         ensures cause { RisesOnErr (source_tells self.old).read_faults (source_tells self.new).read_faults result }
         ensures answer { MatchBool (is_failing self.old.plan) (IsErr result) (result ≡ Ok (read_size (length into.old) self.old.pieces)) }
         ensures pieces { self.new.pieces ≡ (if is_failing self.old.plan then self.old.pieces
-            else filled (behind (read_size (length into.old) self.old.pieces) self.old.pieces)) }
+            else filled_pieces (behind (read_size (length into.old) self.old.pieces) self.old.pieces)) }
         ensures plan { self.new.plan ≡ after_call self.old.plan }
     {
         if self.plan.fails() {

@@ -1,7 +1,7 @@
 //! Where bytes go to.
 
 ghost use Rattle.std.specs.Prelude.{◌≡◌, ◌≤◌, ◌++◌, ℕ, List, IfOk, OnOk, OnErr, length};
-ghost use Rattle.ss_outside.specs.Told.{HasWritten, accepted};
+ghost use Rattle.ss_outside.specs.Told.{HasWritten, bytes_accepted};
 ghost use Rattle.ss_outside.specs.Causes.{RisesOnErr, RisesOnRefusal};
 
 use crate::told::Told;
@@ -15,7 +15,7 @@ pub trait Sink: Told {
     /// Writes bytes from the front of `from`. Ok(0) for a piece that isn't empty counts as a fault.
     fn write(&mut self, from: &[u8]) -> Result<usize, WriteFault>
         ensures bound { IfOk result (λ count. count ≤ length from.now) }
-        ensures bytes { HasWritten (accepted result from.now) (Self.Told.told self.old) (Self.Told.told self.new) }
+        ensures bytes { HasWritten (bytes_accepted result from.now) (Self.Told.told self.old) (Self.Told.told self.new) }
         ensures cause { RisesOnRefusal (length from.now) (Self.Told.told self.old).write_faults (Self.Told.told self.new).write_faults result };
 }
 

@@ -1,12 +1,14 @@
 -- The first refusal, by whether a request is stopped before it is looked at as a write.
-use Rattle.std.specs.Prelude.{◌≡◌, Bool, true, false, ◌&&◌, ◌||◌, cond, nat_le, [], ◌∷◌, Option, Some, None, is_some, refl}
+use Rattle.std.specs.Prelude.{◌≡◌, Bool, true, false, ◌&&◌, ◌||◌, cond, nat_le, [], ◌∷◌, Option, Some, None, is_some}
+use Rattle.std.specs.Prelude.{refl}
 use Rattle.std.proofs.Common.{◌∙◌}
 use Rattle.ss_text.specs.Time.{last_stamp}
 use Rattle.ss_bso.specs.declared.account.Plain.{Plain}
 use Rattle.ss_query.specs.declared.requests.Request.{Request}
 use Rattle.ss_query.specs.Refused.{Refusal, NoItem, NoMoreBatches, NoBatch, BatchFull, ClockEnded, AccountFull}
 use Rattle.ss_query.specs.Effect.{effect, is_over, is_write}
-use Rattle.ss_query.specs.Api.{misses_item, condition_cause, lacks_room, misses_batch, overfills_batch, first_some, where_so, outcome, refusal}
+use Rattle.ss_query.specs.Api.{misses_item, condition_cause, lacks_room, misses_batch, overfills_batch, first_some}
+use Rattle.ss_query.specs.Api.{where_so, outcome, refusal}
 use Rattle.ss_plain.specs.Steps.{is_stopped, within}
 
 -- the account after a request with these causes

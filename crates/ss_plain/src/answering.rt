@@ -1,7 +1,7 @@
 //! The account after a request.
 
 ghost use Rattle.std.specs.Prelude.{◌≡◌, nat_le, true, false, if◌then◌else◌, IfOk};
-ghost use Rattle.ss_laws.specs.Journals.{account_after, marked};
+ghost use Rattle.ss_laws.specs.Journals.{account_after, marked_outcome};
 ghost use Rattle.ss_query.specs.Api.{outcome, refusal};
 ghost use Rattle.ss_query.specs.Effect.{effect, is_write};
 ghost use Rattle.ss_text.specs.Time.{last_stamp};
@@ -76,7 +76,7 @@ pub fn next(
     request: &Request,
     mark: Mark,
 ) -> Result<Plain, AllocError>
-    ensures { IfOk result (λ after. after ≡ (marked account now request.now mark).account) }
+    ensures { IfOk result (λ after. after ≡ (marked_outcome account now request.now mark).account) }
 {
     let account = tick(account, now);
     match mark {

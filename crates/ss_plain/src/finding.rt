@@ -2,7 +2,8 @@
 
 ghost use Rattle.std.specs.Prelude.{◌≡◌, ◌==◌, ◌&&◌, bytes_eq, option_copied, option_map};
 ghost use Rattle.ss_bso.specs.Batches.{batch_in};
-ghost use Rattle.ss_query.specs.Refused.{condition_of, has_item, is_listed, is_there, collection_time, item_time, staged_parts, target_time};
+ghost use Rattle.ss_query.specs.Refused.{condition_of, has_item, is_listed, is_there, collection_time, item_time};
+ghost use Rattle.ss_query.specs.Refused.{staged_parts, target_time};
 
 use crate::rows::find_row;
 use ss_bso::{Part, Plain, Staged};

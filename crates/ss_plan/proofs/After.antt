@@ -1,5 +1,6 @@
 -- The rows after a plan stand for the tree.
-use Rattle.std.proofs.Common.{◌≡◌, ◌≢◌, ℕ, List, [], ◌∷◌, length, Bool, true, false, cond, ◌||◌, inl, inr, refl, sym, ap, ap₂, ◌∙◌, subst, Option, Some, None, option_map, option_and_then, unwrap_or, is_some}
+use Rattle.std.proofs.Common.{◌≡◌, ◌≢◌, ℕ, List, [], ◌∷◌, length, Bool, true, false, cond, ◌||◌, inl, inr, refl, sym}
+use Rattle.std.proofs.Common.{ap, ap₂, ◌∙◌, subst, Option, Some, None, option_map, option_and_then, unwrap_or, is_some}
 use Rattle.std.proofs.lemmas.Bool.{false≢true}
 use Rattle.ss_record.specs.declared.readings.Sheet.{Sheet}
 use Rattle.ss_record.specs.Ids.{has, places}
@@ -8,7 +9,7 @@ use Rattle.ss_record.specs.Records.{tombstone_of}
 use Rattle.ss_record.proofs.IdLists.{bytes_eq-apart}
 use Rattle.ss_record.proofs.Tombs.{tombstone_reads}
 use Rattle.ss_tree.specs.declared.entries.Entry.{Entry}
-use Rattle.ss_tree.specs.Trees.{Placed, node, node_ids}
+use Rattle.ss_tree.specs.Trees.{PlacedItem, node, node_ids}
 use Rattle.ss_tree.specs.Entries.{IsTree, entry, placed, preorder, tree}
 use Rattle.ss_tree.proofs.EachMet.{each_met}
 use Rattle.ss_tree.proofs.Once.{once_each}
@@ -18,10 +19,12 @@ use Rattle.ss_build.specs.Stand.{HasItsRows, agrees, row}
 use Rattle.ss_build.proofs.Items as items
 use Rattle.ss_build.proofs.Keyed.{key_in}
 use Rattle.ss_build.proofs.Stand.{node_id, node_has, node_none}
-use Rattle.ss_plan.specs.Plan.{Readings, gone, id_at, is_told, item_of, order, plan, puts, reading_at, record_at, record_due, record_for}
-use Rattle.ss_plan.specs.Written.{IsWritten, sheet, sheet_after}
+use Rattle.ss_plan.specs.Plan.{Readings, gone, id_at, is_told, item_of, order, plan, puts, reading_at, record_at}
+use Rattle.ss_plan.specs.Plan.{record_due, record_for}
+use Rattle.ss_plan.specs.Written.{AreRowsAfter, sheet, sheet_after}
 use Rattle.ss_plan.proofs.Last.{after-append, after-puts, made, made-none, made-some}
-use Rattle.ss_plan.proofs.Stands.{AreFit, gone_to, not_gone, out_of, read_found, reading_is, reads, reads_is, record_agrees, row_is, row_reading}
+use Rattle.ss_plan.proofs.Stands.{AreFit, gone_to, not_gone, out_of, read_found, reading_is, reads, reads_is}
+use Rattle.ss_plan.proofs.Stands.{record_agrees, row_is, row_reading}
 use Rattle.ss_text.proofs.Basics.{some_same, none_some}
 
 -- ---- each item of the tree is met
@@ -32,7 +35,7 @@ in_items [] x i = i
 in_items (y ∷ ys) x (inl e) = inl e
 in_items (y ∷ ys) x (inr i) = inr (in_items ys x i)
 
-pub order_has : (es : List Entry) → IsTree es → (x : List ℕ) (n : Placed) → node x (tree es) ≡ Some n → has x (order es) ≡ true
+pub order_has : (es : List Entry) → IsTree es → (x : List ℕ) (n : PlacedItem) → node x (tree es) ≡ Some n → has x (order es) ≡ true
 order_has es t x n q =
     let e = node_found es x n q in
     let at : entry e.0.node es ≡ Some e.0 = in_entry es e.0 t.nodes e.1 in
@@ -52,13 +55,13 @@ module _ (es : List Entry) (t : IsTree es) (rs : Readings) where
       ∙ after-puts s (λ y. Some (tombstone_of y)) (gone (tree es) rs) x (cond (has x (order es)) (made s x (record_for (tree es) rs x) o) o))
 
   -- an item of the tree
-  after-in : (s : ℕ) (x : List ℕ) (n : Placed) (o : Option Sheet) → node x (tree es) ≡ Some n → sheet_after s (plan es rs) x o ≡ made s x (record_for (tree es) rs x) o
+  after-in : (s : ℕ) (x : List ℕ) (n : PlacedItem) (o : Option Sheet) → node x (tree es) ≡ Some n → sheet_after s (plan es rs) x o ≡ made s x (record_for (tree es) rs x) o
   after-in s x n o q =
       after-plan s x o
       ∙ (ap (λ b. cond b (made s x (Some (tombstone_of x)) (cond (has x (order es)) (made s x (record_for (tree es) rs x) o) o)) (cond (has x (order es)) (made s x (record_for (tree es) rs x) o) o)) (not_gone (tree es) rs x (node_has (tree es) x n q))
       ∙ ap (λ b. cond b (made s x (record_for (tree es) rs x) o) o) (order_has es t x n q))
 
-  due : (x : List ℕ) (n : Placed) (b : Bool) → x ≢ places → node x (tree es) ≡ Some n → is_told n (reading_at x rs) ≡ b → record_for (tree es) rs x ≡ cond b None (Some (record_at n))
+  due : (x : List ℕ) (n : PlacedItem) (b : Bool) → x ≢ places → node x (tree es) ≡ Some n → is_told n (reading_at x rs) ≡ b → record_for (tree es) rs x ≡ cond b None (Some (record_at n))
   unfolding record_for record_due
   due x n b ne q e =
       ap (option_and_then (λ m. record_due m (reading_at x rs))) q
@@ -80,7 +83,7 @@ module _ (es : List Entry) (t : IsTree es) (rs : Readings) where
 
 -- ---- the rows after it
 
-told_sheet : (n : Placed) (o : Option Sheet) → is_told n (option_map reads o) ≡ true → (s : Sheet) × (o ≡ Some s) × (agrees n (reads s) ≡ true)
+told_sheet : (n : PlacedItem) (o : Option Sheet) → is_told n (option_map reads o) ≡ true → (s : Sheet) × (o ≡ Some s) × (agrees n (reads s) ≡ true)
 unfolding is_told
 told_sheet n None e = absurd (false≢true e)
 told_sheet n (Some s) e = (s, refl, e)
@@ -91,14 +94,14 @@ fit_tree es t fit x n q =
     let e = node_found es x n q in
     ap (λ m. is_fit (item_of m)) e.3 ∙ fit e.0.node e.0 (in_entry es e.0 t.nodes e.1)
 
-module _ (es : List Entry) (t : IsTree es) (each_fit : (k : ℕ) (e : Entry) → entry k es ≡ Some e → is_fit e.item ≡ true) (rs : Readings) (sheets after : List Sheet) (stamp : ℕ) (told : readings (rows_of sheets) ≡ rs) (w : IsWritten sheets (plan es rs) stamp after) where
+module _ (es : List Entry) (t : IsTree es) (each_fit : (k : ℕ) (e : Entry) → entry k es ≡ Some e → is_fit e.item ≡ true) (rs : Readings) (sheets after : List Sheet) (stamp : ℕ) (told : readings (rows_of sheets) ≡ rs) (w : AreRowsAfter sheets (plan es rs) stamp after) where
   read_at : (x : List ℕ) → reading_at x rs ≡ option_map reads (sheet x sheets)
   read_at x = ap (reading_at x) (sym told) ∙ reading_is x sheets
 
   made_row : (x : List ℕ) (s : Sheet) → sheet x after ≡ Some s → row x (rows_of after) ≡ Some (row_of s)
   made_row x s e = row_is x after ∙ ap (option_map row_of) e
 
-  each : (x : List ℕ) (n : Placed) → x ≢ places → node x (tree es) ≡ Some n → (b : Bool) → is_told n (reading_at x rs) ≡ b → (r : _) × (row x (rows_of after) ≡ Some r) × (agrees n r.reading ≡ true)
+  each : (x : List ℕ) (n : PlacedItem) → x ≢ places → node x (tree es) ≡ Some n → (b : Bool) → is_told n (reading_at x rs) ≡ b → (r : _) × (row x (rows_of after) ≡ Some r) × (agrees n r.reading ≡ true)
   each x n ne q true e =
       let s = told_sheet n (sheet x sheets) (ap (is_told n) (sym (read_at x)) ∙ e) in
       let stays : sheet x after ≡ Some s.0 = w.each x ∙ (after-in es t rs stamp x n (sheet x sheets) q ∙ (ap (λ p. made stamp x p (sheet x sheets)) (due es t rs x n true ne q e) ∙ (made-none stamp x (sheet x sheets) ∙ s.1))) in

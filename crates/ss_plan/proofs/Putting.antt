@@ -1,5 +1,7 @@
 -- The loops of a plan: one more reading that is known, one more record that is put.
-use Rattle.std.proofs.Common.{◌≡◌, nat_lt, ℕ, suc, zero, ◌+◌, ◌<◌, ◌≤◌, List, [], ◌∷◌, ◌++◌, length, map, take, drop, get_or, Bool, true, false, cond, refl, sym, ap, ap₂, subst, ◌∙◌, arith, find, bytes_eq, Option, Some, None, option_map, option_and_then, unwrap_or, is_some, add-one}
+use Rattle.std.proofs.Common.{◌≡◌, nat_lt, ℕ, suc, zero, ◌+◌, ◌<◌, ◌≤◌, List, [], ◌∷◌, ◌++◌, length, map, take, drop}
+use Rattle.std.proofs.Common.{get_or, Bool, true, false, cond, refl, sym, ap, ap₂, subst, ◌∙◌, arith, find, bytes_eq}
+use Rattle.std.proofs.Common.{Option, Some, None, option_map, option_and_then, unwrap_or, is_some, add-one}
 use Rattle.std.proofs.lemmas.Bool.{false≢true, lt-ltb, le-ltb}
 use Rattle.std.proofs.lemmas.List.{drop_all, take_more}
 use Rattle.std.proofs.Math.Seq.{drop-cons}
@@ -9,7 +11,7 @@ use Rattle.ss_record.specs.declared.readings.Reading.{Reading}
 use Rattle.ss_record.specs.Ids.{has, places}
 use Rattle.ss_record.specs.Items.{is_fit}
 use Rattle.ss_tree.specs.declared.entries.Entry.{Entry}
-use Rattle.ss_tree.specs.Trees.{Placed, node}
+use Rattle.ss_tree.specs.Trees.{PlacedItem, node}
 use Rattle.ss_tree.specs.Entries.{IsTree, above, entry, kid_ids, placed, tree}
 use Rattle.ss_tree.proofs.Valid.{entry_in, node_at, valid_tree}
 use Rattle.ss_bso.specs.declared.parts.Part.{Part}
@@ -136,7 +138,7 @@ puts_next f xs i x p old new lt is due so more =
     ∙ (sym (puts-append f (take i xs) (get_or xs i x ∷ [])) ∙ ap (puts f) (sym (take_more xs i x lt))))))
 
 -- what is due is what has to be put
-pub due_is : (t : List Placed) (rs : Readings) (x : List ℕ) (n : Placed) (reading : Option Reading) (due : Option (List ℕ)) → node x t ≡ Some n → reading ≡ reading_at x rs → due ≡ record_due n reading → due ≡ record_for t rs x
+pub due_is : (t : List PlacedItem) (rs : Readings) (x : List ℕ) (n : PlacedItem) (reading : Option Reading) (due : Option (List ℕ)) → node x t ≡ Some n → reading ≡ reading_at x rs → due ≡ record_due n reading → due ≡ record_for t rs x
 unfolding record_for
 due_is t rs x n reading due q r d = d ∙ (ap (record_due n) r ∙ sym (ap (option_and_then (λ m. record_due m (reading_at x rs))) q))
 

@@ -1,5 +1,6 @@
 -- What agrees with an item, and who is gone.
-use Rattle.std.proofs.Common.{◌≡◌, ◌≢◌, ◌⊎◌, ℕ, List, [], ◌∷◌, map, Bool, true, false, not, cond, ◌&&◌, inl, inr, refl, sym, ap, ap₂, ◌∙◌, filter, find, bytes_eq, Some, None, option_map, unwrap_or}
+use Rattle.std.proofs.Common.{◌≡◌, ◌≢◌, ◌⊎◌, ℕ, List, [], ◌∷◌, map, Bool, true, false, not, cond, ◌&&◌, inl, inr, refl}
+use Rattle.std.proofs.Common.{sym, ap, ap₂, ◌∙◌, filter, find, bytes_eq, Some, None, option_map, unwrap_or}
 use Rattle.std.proofs.lemmas.Bool.{and_parts, false≢true, false_from_ne_true}
 use Rattle.ss_record.specs.declared.kinds.Kind.{Kind}
 use Rattle.ss_record.specs.declared.kinds.Kind.TheVariants.{Bookmark, Folder, Livemark, Query, Separator}
@@ -10,7 +11,7 @@ use Rattle.ss_record.specs.Ids.{has, places, roots, same_list}
 use Rattle.ss_record.specs.Items.{is_fit}
 use Rattle.ss_record.specs.Kinds.{is_folder, same_kind}
 use Rattle.ss_record.specs.Records.{reading, record_of}
-use Rattle.ss_tree.specs.Trees.{IsValidTree, IsUnder, Placed, node, node_ids, places_node}
+use Rattle.ss_tree.specs.Trees.{IsValidTree, IsUnder, PlacedItem, node, node_ids, places_node}
 use Rattle.ss_build.specs.Rows.{is_item, readings, row_of, rows_of}
 use Rattle.ss_build.specs.Stand.{agrees, row}
 use Rattle.ss_record.proofs.IdLists.{bytes_eq-refl, has-head, has-by_id}
@@ -23,8 +24,8 @@ use Rattle.ss_plan.specs.Written.{sheet}
 use Rattle.ss_text.proofs.Basics.{some_same}
 
 -- each item is fit: its record reads back as it
-abbrev pub AreFit : List Placed → Type 0
-AreFit t = (x : List ℕ) (n : Placed) → node x t ≡ Some n → is_fit (item_of n) ≡ true
+abbrev pub AreFit : List PlacedItem → Type 0
+AreFit t = (x : List ℕ) (n : PlacedItem) → node x t ≡ Some n → is_fit (item_of n) ≡ true
 
 -- ---- what agrees with an item
 
@@ -41,7 +42,7 @@ same_list-refl [] = refl
 same_list-refl (x ∷ xs) = ap₂ (λ a b. a && b) (bytes_eq-refl x) (same_list-refl xs)
 
 -- `places` stands under nothing
-top_parent : (t : List Placed) → IsValidTree t → (m : Placed) (x : List ℕ) → node places t ≡ Some m → m.parent ≡ Some x → ⊥
+top_parent : (t : List PlacedItem) → IsValidTree t → (m : PlacedItem) (x : List ℕ) → node places t ≡ Some m → m.parent ≡ Some x → ⊥
 unfolding places_node
 top_parent t v m x q p = let same : places_node ≡ m = some_same (sym v.top_is ∙ q) in none (ap (λ k. k.parent) same ∙ p)
   where
@@ -49,7 +50,7 @@ top_parent t v m x q p = let same : places_node ≡ m = some_same (sym v.top_is 
     none e = cc
 
 -- an item that is no folder has no children
-no_kids : (t : List Placed) → IsValidTree t → (x : List ℕ) (n : Placed) → node x t ≡ Some n → is_folder n.kind ≡ false → n.children ≡ []
+no_kids : (t : List PlacedItem) → IsValidTree t → (x : List ℕ) (n : PlacedItem) → node x t ≡ Some n → is_folder n.kind ≡ false → n.children ≡ []
 unfolding IsUnder
 no_kids t v x n q f = go n.children refl
   where
@@ -62,12 +63,12 @@ no_kids t v x n q f = go n.children refl
         let there : n ≡ w.2 = some_same (sym q ∙ (ap (λ y. node y t) same ∙ w.3)) in
         absurd (false≢true (sym f ∙ (ap (λ m. is_folder m.kind) there ∙ w.4)))
 
-own_agrees : (n : Placed) (y : List ℕ) → n.parent ≡ Some y → agrees n (Item (item_of n) (Some y) n.children) ≡ true
+own_agrees : (n : PlacedItem) (y : List ℕ) → n.parent ≡ Some y → agrees n (Item (item_of n) (Some y) n.children) ≡ true
 own_agrees n y p =
     ap₂ (λ a b. a && b) (ap₂ (λ a b. a && b) (ap₂ (λ a b. a && b) (same_kind-refl n.kind) (bytes_eq-refl n.content)) (ap (λ o. unwrap_or (option_map (bytes_eq y) o) false) p ∙ bytes_eq-refl y)) (same_list-refl n.children)
 
 -- the record of an item agrees with it
-pub record_agrees : (t : List Placed) → IsValidTree t → AreFit t → (x : List ℕ) (n : Placed) → x ≢ places → node x t ≡ Some n → agrees n (reading x (record_at n)) ≡ true
+pub record_agrees : (t : List PlacedItem) → IsValidTree t → AreFit t → (x : List ℕ) (n : PlacedItem) → x ≢ places → node x t ≡ Some n → agrees n (reading x (record_at n)) ≡ true
 unfolding record_at
 record_agrees t v fit x n ne q =
     let id : n.id ≡ x = node_id t x n q in
@@ -139,7 +140,7 @@ filter_in {X} p (y ∷ ys) x i h = go (p y) refl i (λ j. filter_in p ys x j h)
     go false e (inr j) more = more j
 
 -- what is gone isn't in the tree
-pub gone_out : (t : List Placed) (rs : Readings) (x : List ℕ) → has x (gone t rs) ≡ true → has x (node_ids t) ≡ false
+pub gone_out : (t : List PlacedItem) (rs : Readings) (x : List ℕ) → has x (gone t rs) ≡ true → has x (node_ids t) ≡ false
 unfolding gone
 gone_out t rs x h =
     let p : (List ℕ × Reading) → Bool = λ r. is_item r.1 && not (has r.0 (node_ids t)) in
@@ -154,17 +155,17 @@ gone_out t rs x h =
     no false e = refl
 
 -- each item that isn't in the tree is gone
-pub gone_to : (t : List Placed) (rs : Readings) (r : List ℕ × Reading) → In r rs → is_item r.1 ≡ true → has r.0 (node_ids t) ≡ false → has r.0 (gone t rs) ≡ true
+pub gone_to : (t : List PlacedItem) (rs : Readings) (r : List ℕ × Reading) → In r rs → is_item r.1 ≡ true → has r.0 (node_ids t) ≡ false → has r.0 (gone t rs) ≡ true
 unfolding gone
 gone_to t rs r i e f =
     let p : (List ℕ × Reading) → Bool = λ w. is_item w.1 && not (has w.0 (node_ids t)) in
     has-by_id r.0 (map (λ w. w.0) (filter p rs)) ∙ key_in (λ (w : List ℕ × Reading). w.0) (filter p rs) r (filter_in p rs r i (ap₂ (λ a b. a && not b) e f))
 
-pub not_gone : (t : List Placed) (rs : Readings) (x : List ℕ) → has x (node_ids t) ≡ true → has x (gone t rs) ≡ false
+pub not_gone : (t : List PlacedItem) (rs : Readings) (x : List ℕ) → has x (node_ids t) ≡ true → has x (gone t rs) ≡ false
 not_gone t rs x h = false_from_ne_true (has x (gone t rs)) (λ g. false≢true (sym (gone_out t rs x g) ∙ h))
 
 -- what isn't in a valid tree is neither `places` nor a root
-pub out_of : (t : List Placed) (x : List ℕ) → IsValidTree t → has x (node_ids t) ≡ false → (x ≢ places) × (has x roots ≡ false)
+pub out_of : (t : List PlacedItem) (x : List ℕ) → IsValidTree t → has x (node_ids t) ≡ false → (x ≢ places) × (has x roots ≡ false)
 out_of t x v h = (
   λ e. false≢true (sym h ∙ (ap (λ w. has w (node_ids t)) e ∙ node_has t places places_node v.top_is)),
   false_from_ne_true (has x roots) (λ r. let u = root_under t v x r in false≢true (sym h ∙ node_has t x u.0 u.1)),

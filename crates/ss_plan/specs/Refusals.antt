@@ -1,5 +1,6 @@
 -- Why a plan isn't sent: the server's limits.
-use Rattle.std.specs.Prelude.{ℕ, min, List, [], nat_lt, if◌then◌else◌, Option, Some, None, length, find, sum_by, option_map, codes}
+use Rattle.std.specs.Prelude.{ℕ, min, List, [], nat_lt, if◌then◌else◌, Option, Some, None, length, find, sum_by}
+use Rattle.std.specs.Prelude.{option_map, codes}
 use Rattle.serde_json.specs.Data.{string, array, object, no_items, item, no_members, member}
 use Rattle.serde_json.specs.Written.{compact_text}
 use Rattle.ss_bso.specs.declared.parts.Field.{Field}
@@ -7,7 +8,8 @@ use Rattle.ss_bso.specs.declared.parts.Field.TheVariants.{Keep, Clear, Set}
 use Rattle.ss_bso.specs.declared.parts.Part.{Part}
 use Rattle.ss_plan.specs.declared.limits.Limits.{Limits}
 use Rattle.ss_plan.specs.declared.limits.PlanFault.{PlanFault}
-use Rattle.ss_plan.specs.declared.limits.PlanFault.TheVariants.{RecordTooLarge, BodyTooLarge, TooManyRecords, TooManyBytes}
+use Rattle.ss_plan.specs.declared.limits.PlanFault.TheVariants.{RecordTooLarge, BodyTooLarge, TooManyRecords}
+use Rattle.ss_plan.specs.declared.limits.PlanFault.TheVariants.{TooManyBytes}
 
 -- the payload that a part sets
 abbrev pub payload_set : Field (List ℕ) → List ℕ

@@ -20,6 +20,6 @@ sheet_after stamp parts x old = fold (λ row part. Some (sheet_put stamp row par
 
 -- The rows after the parts were put with one stamp, whatever their order: each id that a part names has the row that its
 -- parts make of the old one, and each other id the row that it had.
-pub record IsWritten (sheets : List Sheet) (parts : List Part) (stamp : ℕ) (after : List Sheet) : Type 0 where
+pub record AreRowsAfter (sheets : List Sheet) (parts : List Part) (stamp : ℕ) (after : List Sheet) : Type 0 where
   pub apart : Apart (map (λ s. s.id) after)
   pub each : (x : List ℕ) → sheet x after ≡ sheet_after stamp parts x (sheet x sheets)

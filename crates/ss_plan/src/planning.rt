@@ -7,7 +7,7 @@ ghost use Rattle.ss_build.specs.Rows.{readings as told, rows_of};
 ghost use Rattle.ss_build.specs.Stand.{HasItsRows};
 ghost use Rattle.ss_plan.specs.Plan.{plan};
 ghost use Rattle.ss_plan.specs.Refusals.{refusal};
-ghost use Rattle.ss_plan.specs.Written.{IsWritten};
+ghost use Rattle.ss_plan.specs.Written.{AreRowsAfter};
 ghost use Rattle.ss_plan.specs.declared.limits.PlanFault.TheVariants.{Memory};
 
 use crate::gone::tombstones;
@@ -31,7 +31,7 @@ pub fn changes(
 ) -> Result<Vec<Part>, AllocError>
     ensures parts { IfOk result (λ parts. parts.items ≡ plan tree.now readings.now) }
     ensures stand { IfOk result (λ parts. (sheets after : List Sheet) (stamp : ℕ) → told (rows_of sheets) ≡ readings.now
-        → IsWritten sheets parts.items stamp after → HasItsRows (tree_of tree.now) (rows_of after)) }
+        → AreRowsAfter sheets parts.items stamp after → HasItsRows (tree_of tree.now) (rows_of after)) }
 {
     let upserts = records(alloc, tree, readings)?;
     let removals = tombstones(alloc, tree, readings)?;
@@ -52,7 +52,7 @@ pub fn plan(
     ensures refused { MatchResult result (λ parts. refusal limits.now (plan tree.now built.now.readings.items)
         ≡ None) (λ e. (e ≡ Memory) ⊎ (refusal limits.now (plan tree.now built.now.readings.items) ≡ Some e)) }
     ensures stand { IfOk result (λ parts. (sheets after : List Sheet) (stamp : ℕ)
-        → told (rows_of sheets) ≡ built.now.readings.items → IsWritten sheets parts.items stamp after
+        → told (rows_of sheets) ≡ built.now.readings.items → AreRowsAfter sheets parts.items stamp after
         → HasItsRows (tree_of tree.now) (rows_of after)) }
 {
     let parts = changes(alloc, tree, &built.readings)?;

@@ -1,7 +1,8 @@
 //! The records that have to be put.
 
 ghost use Rattle.std.specs.Option.{option_to_list};
-ghost use Rattle.std.specs.Prelude.{◌≡◌, ◌++◌, ◌||◌, ℕ, Some, None, false, true, IfOk, OnOk, bytes_eq, option_map, is_some, if◌then◌else◌};
+ghost use Rattle.std.specs.Prelude.{◌≡◌, ◌++◌, ◌||◌, ℕ, Some, None, false, true, IfOk, OnOk, bytes_eq, option_map};
+ghost use Rattle.std.specs.Prelude.{is_some, if◌then◌else◌};
 ghost use Rattle.ss_record.specs.Ids.{places};
 ghost use Rattle.ss_record.specs.Items.{is_fit};
 ghost use Rattle.ss_tree.specs.declared.entries.Entry.{Entry};

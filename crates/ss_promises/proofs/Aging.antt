@@ -1,5 +1,6 @@
 -- Rows after a request of anybody: each was there before, or is later than the store's time was.
-use Rattle.std.specs.Prelude.{◌≡◌, ◌⊎◌, ℕ, ◌<◌, ◌≤◌, Bool, true, false, not, ◌&&◌, cond, List, [], ◌∷◌, filter, find, Option, Some, None, option_map, is_some, bytes_eq, refl}
+use Rattle.std.specs.Prelude.{◌≡◌, ◌⊎◌, ℕ, ◌<◌, ◌≤◌, Bool, true, false, not, ◌&&◌, cond, List, [], ◌∷◌, filter, find}
+use Rattle.std.specs.Prelude.{Option, Some, None, option_map, is_some, bytes_eq, refl}
 use Rattle.std.proofs.Common.{sym, ap, subst, inl, inr, ◌∙◌, arith}
 use Rattle.ss_bso.specs.declared.rows.Row.{Row}
 use Rattle.ss_bso.specs.declared.parts.Part.{Part}
@@ -17,7 +18,9 @@ use Rattle.ss_text.specs.Time.{after}
 use Rattle.std.proofs.lemmas.Bool.{and_from}
 use Rattle.ss_text.proofs.Basics.{both_left, both_right, bytes_eq-same, same_text}
 use Rattle.ss_query.specs.declared.requests.Request.{Request}
-use Rattle.ss_query.specs.declared.requests.Request.TheVariants.{Info, DeleteAll, List as ListOf, Post, DeleteCollection, DeleteIds, Put, Get as GetItem, Delete as DeleteItem}
+use Rattle.ss_query.specs.declared.requests.Request.TheVariants.{Info, DeleteAll, List as ListOf, Post}
+use Rattle.ss_query.specs.declared.requests.Request.TheVariants.{DeleteCollection, DeleteIds, Put, Get as GetItem}
+use Rattle.ss_query.specs.declared.requests.Request.TheVariants.{Delete as DeleteItem}
 use Rattle.ss_query.specs.Refused.{Refusal}
 use Rattle.ss_query.specs.Effect.{effect, parts_to_put, stamp_in, write_some}
 use Rattle.ss_query.specs.Api.{api, outcome, refusal}

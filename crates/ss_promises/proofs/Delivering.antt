@@ -4,7 +4,7 @@ use Rattle.std.proofs.Common.{sym, ap, subst, ◌∙◌}
 use Rattle.ss_bso.specs.declared.account.Plain.{Plain}
 use Rattle.ss_http.specs.Hearing.{Hears}
 use Rattle.ss_query.specs.declared.replies.Mark.{Mark}
-use Rattle.ss_laws.specs.Journals.{marked}
+use Rattle.ss_laws.specs.Journals.{marked_outcome}
 use Rattle.ss_query.specs.declared.requests.Request.{Request}
 use Rattle.ss_query.specs.declared.requests.Request.TheVariants.{DeleteAll}
 use Rattle.ss_query.specs.Api.{Outcome, api}
@@ -26,7 +26,7 @@ use Rattle.ss_world.specs.declared.events.Event.TheVariants.{Deliver, LoseReply}
 use Rattle.ss_world.specs.Happening.{Happens, IsDelivered, IsLost}
 use Rattle.ss_world.specs.Seats.{after}
 use Rattle.ss_world.specs.declared.seats.Seat.TheVariants.{Idle, Syncs}
-use Rattle.ss_world.specs.Worlds.{WorldView, seated}
+use Rattle.ss_world.specs.Worlds.{WorldView, world_with_seat}
 use Rattle.ss_promises.specs.Exchanges.{Proceeds, Responds}
 use Rattle.ss_promises.proofs.Meaning.{Alike, answers-alike}
 
@@ -52,9 +52,9 @@ unfolding uid_in newlines_in
 asked_alike uid other request asked newlines e = (ap uid_in e, ap newlines_in e)
 
 -- a reply is written as one that isn't asked for in lines
-pub written_alike : (output : List ℕ) (account : Plain) (now : ℕ) (request : Request) (mark : Mark) (newlines last : Bool) → output ≡ wire (marked account now request mark).reply newlines last → newlines ≡ false
-    → output ≡ wire (marked account now request mark).reply false last
-written_alike output account now request mark newlines last is e = is ∙ ap (λ lines. wire (marked account now request mark).reply lines last) e
+pub written_alike : (output : List ℕ) (account : Plain) (now : ℕ) (request : Request) (mark : Mark) (newlines last : Bool) → output ≡ wire (marked_outcome account now request mark).reply newlines last → newlines ≡ false
+    → output ≡ wire (marked_outcome account now request mark).reply false last
+written_alike output account now request mark newlines last is e = is ∙ ap (λ lines. wire (marked_outcome account now request mark).reply lines last) e
 
 -- a server's answer to bytes that are routed to this request of this account
 module _ (manner : Manner) (input output : List ℕ) (before server : Server) (now uid : ℕ) (request : Request) (alike : Alike before.account now (request_meant manner request) request)
@@ -86,16 +86,16 @@ module _ (manner : Manner) (input output : List ℕ) (before server : Server) (n
 -- the device hears the reply
 pub delivered : (world : WorldView) (n now : ℕ) (machine : MachineView) (server : Server) (next : Next) → slice_get world.seats n ≡ Some (Syncs machine)
     → Answers world.server now (ask machine) server → Follows machine.device machine.run machine.stage (told_by (awaits machine.stage) (api world.server.account now (ask machine)).reply) next
-    → Happens world (Deliver n now) (seated world server n (after machine next))
+    → Happens world (Deliver n now) (world_with_seat world server n (after machine next))
 delivered world n now machine server next there answers follows =
-    let v : WorldView = seated world server n (after machine next) in
+    let v : WorldView = world_with_seat world server n (after machine next) in
     subst (λ o. MatchOption o (v ≡ world) (IsDelivered world n now v)) (sym there) (record { server = server; answers = answers; next = next; follows = follows; is = refl })
 
 -- the device doesn't
 pub lost : (world : WorldView) (n now : ℕ) (machine : MachineView) (server : Server) → slice_get world.seats n ≡ Some (Syncs machine) → Answers world.server now (ask machine) server
-    → Happens world (LoseReply n now) (seated world server n (Idle machine.device))
+    → Happens world (LoseReply n now) (world_with_seat world server n (Idle machine.device))
 lost world n now machine server there answers =
-    let v : WorldView = seated world server n (Idle machine.device) in
+    let v : WorldView = world_with_seat world server n (Idle machine.device) in
     subst (λ o. MatchOption o (v ≡ world) (IsLost world n now v)) (sym there) (record { server = server; answers = answers; is = refl })
 
 -- the machine goes on as after what the reply says

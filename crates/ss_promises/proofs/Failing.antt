@@ -9,13 +9,14 @@ use Rattle.ss_query.specs.declared.replies.Mark.TheVariants.{Done, Keeper, Memor
 use Rattle.ss_query.specs.declared.replies.Reply.{Reply}
 use Rattle.ss_query.specs.declared.replies.Said.TheVariants.{Keeper as KeeperWord, Memory as MemoryWord}
 use Rattle.ss_query.specs.declared.requests.Request.{Request}
-use Rattle.ss_laws.specs.Journals.{failed, marked}
+use Rattle.ss_laws.specs.Journals.{failed_outcome, marked_outcome}
 use Rattle.ss_laws.proofs.Valid.{valid-tick}
 use Rattle.ss_route.specs.Texts.{body_text}
 use Rattle.ss_route.specs.Wire.{HasReason, IsHeardWhole, IsReply, heard_of, wire}
 use Rattle.ss_hearing.specs.declared.answer.Answer.TheVariants.{Refused}
 use Rattle.ss_hearing.specs.declared.answer.Awaited.{Awaited}
-use Rattle.ss_hearing.specs.declared.answer.Awaited.TheVariants.{Configuration, FirstPage, LaterPage, AllIds, Staging, Writing}
+use Rattle.ss_hearing.specs.declared.answer.Awaited.TheVariants.{Configuration, FirstPage, LaterPage, AllIds, Staging}
+use Rattle.ss_hearing.specs.declared.answer.Awaited.TheVariants.{Writing}
 use Rattle.ss_hearing.specs.Hearing.{answer_of, status_of}
 use Rattle.ss_client.specs.declared.summaries.SyncFault.TheVariants as fault
 use Rattle.ss_client.specs.declared.runs.Run.{Run}
@@ -33,7 +34,7 @@ use Rattle.ss_world.specs.declared.seats.Seat.{Seat}
 use Rattle.ss_world.specs.declared.seats.Seat.TheVariants.{Idle, Syncs}
 use Rattle.ss_world.specs.Happening.{Happens, IsGivenUp}
 use Rattle.ss_world.specs.Seats.{after}
-use Rattle.ss_world.specs.Worlds.{WorldView, seated}
+use Rattle.ss_world.specs.Worlds.{WorldView, world_with_seat}
 use Rattle.ss_promises.specs.Exchanges.{Proceeds}
 
 -- ---- the reply
@@ -47,7 +48,7 @@ pub record IsFailure (reply : Reply) : Type 0 where
   pub kind : (awaited : Awaited) → reply.status ≡ status_of awaited → IsOfKind awaited reply.body
   pub told : (awaited : Awaited) → told_by awaited reply ≡ Refused reply.status
 
-keeper_kind : (account : Plain) (now : ℕ) (awaited : Awaited) → 503 ≡ status_of awaited → IsOfKind awaited (failed account now 503 KeeperWord).reply.body
+keeper_kind : (account : Plain) (now : ℕ) (awaited : Awaited) → 503 ≡ status_of awaited → IsOfKind awaited (failed_outcome account now 503 KeeperWord).reply.body
 keeper_kind account now Configuration e = absurd (omega (arith, e))
 keeper_kind account now FirstPage e = absurd (omega (arith, e))
 keeper_kind account now LaterPage e = absurd (omega (arith, e))
@@ -55,7 +56,7 @@ keeper_kind account now AllIds e = absurd (omega (arith, e))
 keeper_kind account now Staging e = absurd (omega (arith, e))
 keeper_kind account now Writing e = absurd (omega (arith, e))
 
-memory_kind : (account : Plain) (now : ℕ) (awaited : Awaited) → 507 ≡ status_of awaited → IsOfKind awaited (failed account now 507 MemoryWord).reply.body
+memory_kind : (account : Plain) (now : ℕ) (awaited : Awaited) → 507 ≡ status_of awaited → IsOfKind awaited (failed_outcome account now 507 MemoryWord).reply.body
 memory_kind account now Configuration e = absurd (omega (arith, e))
 memory_kind account now FirstPage e = absurd (omega (arith, e))
 memory_kind account now LaterPage e = absurd (omega (arith, e))
@@ -63,7 +64,7 @@ memory_kind account now AllIds e = absurd (omega (arith, e))
 memory_kind account now Staging e = absurd (omega (arith, e))
 memory_kind account now Writing e = absurd (omega (arith, e))
 
-keeper_told : (account : Plain) (now : ℕ) (awaited : Awaited) → told_by awaited (failed account now 503 KeeperWord).reply ≡ Refused 503
+keeper_told : (account : Plain) (now : ℕ) (awaited : Awaited) → told_by awaited (failed_outcome account now 503 KeeperWord).reply ≡ Refused 503
 unfolding told_by
 keeper_told account now Configuration = refl
 keeper_told account now FirstPage = refl
@@ -72,7 +73,7 @@ keeper_told account now AllIds = refl
 keeper_told account now Staging = refl
 keeper_told account now Writing = refl
 
-memory_told : (account : Plain) (now : ℕ) (awaited : Awaited) → told_by awaited (failed account now 507 MemoryWord).reply ≡ Refused 507
+memory_told : (account : Plain) (now : ℕ) (awaited : Awaited) → told_by awaited (failed_outcome account now 507 MemoryWord).reply ≡ Refused 507
 unfolding told_by
 memory_told account now Configuration = refl
 memory_told account now FirstPage = refl
@@ -81,15 +82,15 @@ memory_told account now AllIds = refl
 memory_told account now Staging = refl
 memory_told account now Writing = refl
 
-keeper_whole : (account : Plain) (now : ℕ) → IsHeardWhole (failed account now 503 KeeperWord).reply false
+keeper_whole : (account : Plain) (now : ℕ) → IsHeardWhole (failed_outcome account now 503 KeeperWord).reply false
 unfolding body_text
 keeper_whole account now = omega arith
 
-memory_whole : (account : Plain) (now : ℕ) → IsHeardWhole (failed account now 507 MemoryWord).reply false
+memory_whole : (account : Plain) (now : ℕ) → IsHeardWhole (failed_outcome account now 507 MemoryWord).reply false
 unfolding body_text
 memory_whole account now = omega arith
 
-pub is_failure : (account : Plain) (now : ℕ) (request : Request) (mark : Mark) → IsValid account → (mark ≡ Done → ⊥) → IsFailure (marked account now request mark).reply
+pub is_failure : (account : Plain) (now : ℕ) (request : Request) (mark : Mark) → IsValid account → (mark ≡ Done → ⊥) → IsFailure (marked_outcome account now request mark).reply
 is_failure account now request Done valid h = absurd (h refl)
 is_failure account now request Keeper valid h = record {
   numbers = record { moment = (valid-tick account now valid).moment; modified = tt; count = tt; next = tt };
@@ -133,8 +134,8 @@ pub ticked : (world : WorldView) (now : ℕ) (server : Server) → Ticks world.s
 ticked world now server t = record { server = server; ticks = t; is = refl }
 
 pub given_up : (world : WorldView) (n : ℕ) (machine : MachineView) (server : Server) (seat : Seat) → slice_get world.seats n ≡ Some (Syncs machine) → seat ≡ Idle machine.device
-    → Happens (record world { server = server }) (LoseRequest n) (seated world server n seat)
+    → Happens (record world { server = server }) (LoseRequest n) (world_with_seat world server n seat)
 given_up world n machine server seat there is =
     let w : WorldView = record world { server = server } in
-    let v : WorldView = seated world server n seat in
-    subst (λ o. MatchOption o (v ≡ w) (IsGivenUp w n v)) (sym there) (ap (seated world server n) is)
+    let v : WorldView = world_with_seat world server n seat in
+    subst (λ o. MatchOption o (v ≡ w) (IsGivenUp w n v)) (sym there) (ap (world_with_seat world server n) is)

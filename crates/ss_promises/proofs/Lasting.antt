@@ -1,5 +1,6 @@
 -- Accounts keep the values of their types.
-use Rattle.std.specs.Prelude.{◌≡◌, ℕ, ℤ, ◌^◌, ◌<◌, ◌≤◌, Bool, true, false, ◌==◌, cond, List, [], ◌∷◌, ◌++◌, bytes_eq, filter_map, Option, Some, None, IfSome, IsSomeAnd, is_some, unwrap_or, refl}
+use Rattle.std.specs.Prelude.{◌≡◌, ℕ, ℤ, ◌^◌, ◌<◌, ◌≤◌, Bool, true, false, ◌==◌, cond, List, [], ◌∷◌, ◌++◌, bytes_eq}
+use Rattle.std.specs.Prelude.{filter_map, Option, Some, None, IfSome, IsSomeAnd, is_some, unwrap_or, refl}
 use Rattle.std.specs.Option.{option_map_or}
 use Rattle.std.specs.Int.Signed.{mag}
 use Rattle.std.specs.Str.{IsUtf8}
@@ -18,11 +19,14 @@ use Rattle.ss_bso.specs.Lists.{Each}
 use Rattle.ss_bso.specs.Put.{field_value, put}
 use Rattle.ss_bso.specs.Validity.{IsValid}
 use Rattle.ss_bso.specs.Write.{ids_of, parts_of, put_all, rows_without, rows_written, stamped}
-use Rattle.ss_bso.proofs.Lists.{All-from_Each, Each-and, Each-any, Each-append, Each-filter, Each-filter_map, Each-find, Each-from_All, Each-imp, Each-map}
+use Rattle.ss_bso.proofs.Lists.{All-from_Each, Each-and, Each-any, Each-append, Each-filter, Each-filter_map, Each-find}
+use Rattle.ss_bso.proofs.Lists.{Each-from_All, Each-imp, Each-map}
 use Rattle.ss_query.specs.declared.requests.Mode.{Mode}
 use Rattle.ss_query.specs.declared.requests.Mode.TheVariants.{Plain as PlainPost, Begin, Append, Commit}
 use Rattle.ss_query.specs.declared.requests.Request.{Request}
-use Rattle.ss_query.specs.declared.requests.Request.TheVariants.{Info, DeleteAll, List as ListOf, Post, DeleteCollection, DeleteIds, Put, Get as GetItem, Delete as DeleteItem}
+use Rattle.ss_query.specs.declared.requests.Request.TheVariants.{Info, DeleteAll, List as ListOf, Post}
+use Rattle.ss_query.specs.declared.requests.Request.TheVariants.{DeleteCollection, DeleteIds, Put, Get as GetItem}
+use Rattle.ss_query.specs.declared.requests.Request.TheVariants.{Delete as DeleteItem}
 use Rattle.ss_query.specs.Fit.{IsFitRequest}
 use Rattle.ss_query.specs.Refused.{Refusal, collection_time, staged_parts}
 use Rattle.ss_query.specs.Effect.{batches_after, effect, parts_to_put, stamp_in, write_some}

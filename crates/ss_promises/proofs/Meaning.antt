@@ -1,5 +1,6 @@
 -- What a request means in either manner of reading conditions.
-use Rattle.std.specs.Prelude.{◌≡◌, ℕ, Bool, true, false, ◌&&◌, ◌||◌, ◌==◌, nat_le, nat_lt, List, [], ◌∷◌, Option, option_map, is_none, refl}
+use Rattle.std.specs.Prelude.{◌≡◌, ℕ, Bool, true, false, ◌&&◌, ◌||◌, ◌==◌, nat_le, nat_lt, List, [], ◌∷◌, Option}
+use Rattle.std.specs.Prelude.{option_map, is_none, refl}
 use Rattle.std.proofs.Common.{sym, ap, cond, subst, ◌∙◌}
 use Rattle.std.proofs.lemmas.Bool.{eqb-true}
 use Rattle.ss_text.specs.Time.{last_stamp, stops}
@@ -9,14 +10,18 @@ use Rattle.ss_bso.specs.declared.account.Plain.{Plain}
 use Rattle.ss_bso.specs.Account.{tick}
 use Rattle.ss_bso.specs.Validity.{SameAccount}
 use Rattle.ss_query.specs.declared.requests.Request.{Request}
-use Rattle.ss_query.specs.declared.requests.Request.TheVariants.{Info, DeleteAll, List as ListOf, Post, DeleteCollection, DeleteIds, Put, Get as GetItem, Delete as DeleteItem}
-use Rattle.ss_query.specs.Refused.{Refusal, NoItem, NoMoreBatches, NoBatch, BatchFull, ClockEnded, AccountFull, condition_of, is_there, target_time, with_condition}
+use Rattle.ss_query.specs.declared.requests.Request.TheVariants.{Info, DeleteAll, List as ListOf, Post}
+use Rattle.ss_query.specs.declared.requests.Request.TheVariants.{DeleteCollection, DeleteIds, Put, Get as GetItem}
+use Rattle.ss_query.specs.declared.requests.Request.TheVariants.{Delete as DeleteItem}
+use Rattle.ss_query.specs.Refused.{Refusal, NoItem, NoMoreBatches, NoBatch, BatchFull, ClockEnded, AccountFull}
+use Rattle.ss_query.specs.Refused.{condition_of, is_there, target_time, with_condition}
 use Rattle.ss_query.specs.Effect.{effect, is_write, is_over}
-use Rattle.ss_query.specs.Api.{Outcome, api, first_some, lacks_room, misses_batch, misses_item, overfills_batch, where_so, why_stopped}
+use Rattle.ss_query.specs.Api.{Outcome, api, first_some, lacks_room, misses_batch, misses_item, overfills_batch}
+use Rattle.ss_query.specs.Api.{where_so, why_stopped}
 use Rattle.ss_laws.specs.Laws.{AbsenceLaw, is_of_batch}
 use Rattle.ss_route.specs.declared.manner.Manner.{Manner}
 use Rattle.ss_route.specs.declared.manner.Manner.TheVariants.{Profile, Browser}
-use Rattle.ss_route.specs.Conditions.{meant}
+use Rattle.ss_route.specs.Conditions.{cond_meant}
 use Rattle.ss_route.specs.Sending.{request_meant}
 use Rattle.ss_account.specs.Keeping.{is_for_keeper}
 use Rattle.ss_serving.specs.Bookmarks.{Server}
@@ -37,7 +42,7 @@ own_condition (Put collection id fields x) = refl
 own_condition (DeleteItem collection id x) = refl
 
 -- browsers mean another condition only by that nothing has changed since 0
-meant_same : (c : Cond) → (c ≡ IfUnmodified 0 → ⊥) → meant Browser c ≡ c
+meant_same : (c : Cond) → (c ≡ IfUnmodified 0 → ⊥) → cond_meant Browser c ≡ c
 meant_same Free other = refl
 meant_same (IfModified since) other = refl
 meant_same IfAbsent other = refl
@@ -54,7 +59,7 @@ pub meant_as_is : (request : Request) → (condition_of request ≡ IfUnmodified
 meant_as_is request other = ap (λ c. with_condition c request) (meant_same (condition_of request) other) ∙ own_condition request
 
 pub meant_absent : (request : Request) → condition_of request ≡ IfUnmodified 0 → request_meant Browser request ≡ with_condition IfAbsent request
-meant_absent request e = ap (λ c. with_condition (meant Browser c) request) e
+meant_absent request e = ap (λ c. with_condition (cond_meant Browser c) request) e
 
 -- ---- what the account does
 

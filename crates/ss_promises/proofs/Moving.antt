@@ -16,7 +16,7 @@ use Rattle.ss_query.specs.Flat.{Ask, after_all, after_ask, reply_to, turns}
 use Rattle.ss_laws.proofs.SameApi.{order_law, tick-same}
 use Rattle.ss_laws.proofs.Valid.{valid-api, valid-tick}
 use Rattle.ss_lines.specs.Lines.{IsLine}
-use Rattle.ss_account.specs.Keeping.{IsKept}
+use Rattle.ss_account.specs.Keeping.{IsKeptAccount}
 use Rattle.ss_account.specs.Opening.{IsGood}
 use Rattle.ss_dump.specs.Dumps.{account_lines, dump_text, in_order}
 use Rattle.ss_dump.specs.Undumped.{IsDumpOf}
@@ -80,7 +80,7 @@ read_opens kept read again good formed h s =
     let is : read ≡ in_order kept = dump_of_one kept read formed good h in
     same-through (opened kept) (opened (in_order kept)) again (opened_same kept (in_order kept) (same_in_order kept)) (subst (λ k. SameAccount (opened k) again) is s)
 
-pub moves : (kept read : Kept) (account again : Plain) → IsValid account → IsKept kept account → IsGood kept → AllByRecursion IsLine (account_lines kept) → IsDumpOf (dump_text kept) read
+pub moves : (kept read : Kept) (account again : Plain) → IsValid account → IsKeptAccount kept account → IsGood kept → AllByRecursion IsLine (account_lines kept) → IsDumpOf (dump_text kept) read
     → SameAccount (opened read) again → GoesOn account again × AnswerAlikeFrom account.moment account again
 moves kept read account again valid k good formed h s =
     let g = goes_on kept account again valid k (read_opens kept read again good formed h s) in

@@ -1,5 +1,7 @@
 -- The numbers that a client hears are within what a server reads.
-use Rattle.std.proofs.Common.{◌≡◌, ℕ, zero, suc, ◌^◌, ◌<◌, ◌≤◌, List, [], ◌∷◌, length, get_or, min, Bool, true, false, cond, ◌==◌, ◌&&◌, leb, eq-eqb, Option, Some, None, option_map, option_and_then, unwrap_or, codes, decimal, refl, sym, ap, ◌∙◌, subst, arith, rules}
+use Rattle.std.proofs.Common.{◌≡◌, ℕ, zero, suc, ◌^◌, ◌<◌, ◌≤◌, List, [], ◌∷◌, length, get_or, min, Bool, true, false}
+use Rattle.std.proofs.Common.{cond, ◌==◌, ◌&&◌, leb, eq-eqb, Option, Some, None, option_map, option_and_then, unwrap_or}
+use Rattle.std.proofs.Common.{codes, decimal, refl, sym, ap, ◌∙◌, subst, arith, rules}
 use Rattle.std.specs.Prelude.{IfSome}
 use Rattle.std.specs.Char.{is_ascii_digit}
 use Rattle.std.specs.List.{list_all}
@@ -13,14 +15,17 @@ use Rattle.json.specs.Json.{Json}
 use Rattle.ss_text.specs.Numbers.{number_of}
 use Rattle.ss_http.specs.Limits.{most_body_bytes}
 use Rattle.ss_http.specs.declared.heard.Heard.{Heard}
-use Rattle.ss_bso.specs.Limits.{most_record_payload_bytes, most_post_records, most_post_bytes, most_batch_records, most_batch_bytes}
+use Rattle.ss_bso.specs.Limits.{most_record_payload_bytes, most_post_records, most_post_bytes, most_batch_records}
+use Rattle.ss_bso.specs.Limits.{most_batch_bytes}
 use Rattle.ss_plan.specs.declared.limits.Limits.{Limits}
 use Rattle.ss_route.specs.Posts.{batch_of}
 use Rattle.ss_route.specs.Targets.{positive_of}
 use Rattle.ss_hearing.specs.declared.answer.Awaited.{Awaited}
-use Rattle.ss_hearing.specs.declared.answer.Awaited.TheVariants.{Configuration, FirstPage, LaterPage, AllIds, Staging, Writing}
+use Rattle.ss_hearing.specs.declared.answer.Awaited.TheVariants.{Configuration, FirstPage, LaterPage, AllIds, Staging}
+use Rattle.ss_hearing.specs.declared.answer.Awaited.TheVariants.{Writing}
 use Rattle.ss_hearing.specs.declared.answer.Answer.{Answer}
-use Rattle.ss_hearing.specs.declared.answer.Answer.TheVariants.{Configured, Listed, Held, Written, Changed, Refused, Unread}
+use Rattle.ss_hearing.specs.declared.answer.Answer.TheVariants.{Configured, Listed, Held, Written, Changed, Refused}
+use Rattle.ss_hearing.specs.declared.answer.Answer.TheVariants.{Unread}
 use Rattle.ss_hearing.specs.Bodies.{json_of, number_in, stamp_in, string_in, ◌>>=◌}
 use Rattle.ss_hearing.specs.Limits.{limit_in, limits_of}
 use Rattle.ss_hearing.specs.Lists.{rows_of, ids_of, next_of}

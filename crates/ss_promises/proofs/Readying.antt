@@ -1,5 +1,6 @@
 -- Each machine of a world can send its request, and a server can read it.
-use Rattle.std.specs.Prelude.{◌≡◌, ℕ, ◌+◌, ◌<◌, ◌≤◌, Bool, true, false, ◌&&◌, ◌||◌, ◌==◌, cond, nat_le, nat_lt, List, [], ◌∷◌, map, set, slice_get, MatchOption, Option, Some, None, unwrap_or, length, refl}
+use Rattle.std.specs.Prelude.{◌≡◌, ℕ, ◌+◌, ◌<◌, ◌≤◌, Bool, true, false, ◌&&◌, ◌||◌, ◌==◌, cond, nat_le, nat_lt, List}
+use Rattle.std.specs.Prelude.{[], ◌∷◌, map, set, slice_get, MatchOption, Option, Some, None, unwrap_or, length, refl}
 use Rattle.std.specs.Bool.{MatchBool}
 use Rattle.std.specs.Option.{option_map_or}
 use Rattle.std.proofs.Common.{sym, subst, inl, inr, ◌∙◌, arith}
@@ -17,11 +18,14 @@ use Rattle.ss_query.specs.declared.requests.Info.TheVariants.{Configuration as T
 use Rattle.ss_query.specs.declared.requests.Mode.{Mode}
 use Rattle.ss_query.specs.declared.requests.Mode.TheVariants.{Plain as PlainPost, Begin, Append, Commit}
 use Rattle.ss_query.specs.declared.requests.Request.{Request}
-use Rattle.ss_query.specs.declared.requests.Request.TheVariants.{Info, DeleteAll, List as ListOf, Post, DeleteCollection, DeleteIds, Put, Get as GetItem, Delete as DeleteItem}
+use Rattle.ss_query.specs.declared.requests.Request.TheVariants.{Info, DeleteAll, List as ListOf, Post}
+use Rattle.ss_query.specs.declared.requests.Request.TheVariants.{DeleteCollection, DeleteIds, Put, Get as GetItem}
+use Rattle.ss_query.specs.declared.requests.Request.TheVariants.{Delete as DeleteItem}
 use Rattle.ss_query.specs.declared.replies.Body.{Body}
 use Rattle.ss_query.specs.declared.replies.Body.TheVariants.{Limits, Ids, Rows, Posted, Staged}
 use Rattle.ss_query.specs.declared.replies.Reply.{Reply}
-use Rattle.ss_query.specs.Refused.{Refusal, NoItem, NotModified, WasModified, NoMoreBatches, NoBatch, BatchFull, ClockEnded, AccountFull, said_by as why_said}
+use Rattle.ss_query.specs.Refused.{Refusal, NoItem, NotModified, WasModified, NoMoreBatches, NoBatch, BatchFull}
+use Rattle.ss_query.specs.Refused.{ClockEnded, AccountFull, said_by as why_said}
 use Rattle.ss_query.specs.Told.{body_of, info_body, post_body, rows_body}
 use Rattle.ss_query.specs.Api.{api, outcome, refusal, time_told}
 use Rattle.ss_laws.proofs.Commit.{passes}
@@ -29,7 +33,8 @@ use Rattle.ss_route.specs.Sending.{IsReadable, IsSent}
 use Rattle.ss_hearing.specs.declared.answer.Answer.{Answer}
 use Rattle.ss_hearing.specs.declared.answer.Answer.TheVariants.{Paged, Held, Written, Changed, Refused, Unread}
 use Rattle.ss_hearing.specs.declared.answer.Awaited.{Awaited}
-use Rattle.ss_hearing.specs.declared.answer.Awaited.TheVariants.{Configuration, FirstPage, LaterPage, AllIds, Staging, Writing}
+use Rattle.ss_hearing.specs.declared.answer.Awaited.TheVariants.{Configuration, FirstPage, LaterPage, AllIds, Staging}
+use Rattle.ss_hearing.specs.declared.answer.Awaited.TheVariants.{Writing}
 use Rattle.ss_hearing.specs.Hearing.{is_conditional, status_of, told}
 use Rattle.ss_device.specs.declared.faults.EditFault.{EditFault}
 use Rattle.ss_client.specs.declared.runs.Stage.TheVariants.{Asks}
@@ -45,10 +50,12 @@ use Rattle.ss_serving.specs.Bookmarks.{sheet_of}
 use Rattle.ss_serving.specs.Asking.{first_failed, is_offset, page_told, said_by, told_by, touches}
 use Rattle.ss_world.specs.declared.events.Edit.{Edit}
 use Rattle.ss_world.specs.declared.events.Event.{Event}
-use Rattle.ss_world.specs.declared.events.Event.TheVariants.{Start, Deliver, LoseRequest, LoseReply, Anew, Change, Other, Tick, Reopen}
+use Rattle.ss_world.specs.declared.events.Event.TheVariants.{Start, Deliver, LoseRequest, LoseReply, Anew, Change}
+use Rattle.ss_world.specs.declared.events.Event.TheVariants.{Other, Tick, Reopen}
 use Rattle.ss_world.specs.declared.seats.Seat.{Seat}
 use Rattle.ss_world.specs.declared.seats.Seat.TheVariants.{Idle, Syncs}
-use Rattle.ss_world.specs.Happening.{Asked, Edits, Happens, IsDelivered, IsEdited, IsGivenUp, IsLost, Runs, Starts, Step, edit_fault, last}
+use Rattle.ss_world.specs.Happening.{Asked, Edits, Happens, IsDelivered, IsEdited, IsGivenUp, IsLost, Runs, Starts}
+use Rattle.ss_world.specs.Happening.{Step, edit_fault, last}
 use Rattle.ss_world.specs.Promises.{IsOpening}
 use Rattle.ss_world.specs.Reaching.{IsReached}
 use Rattle.ss_world.specs.Seats.{after}

@@ -1,5 +1,6 @@
 -- An account that is opened again from what its keeper tells.
-use Rattle.std.specs.Prelude.{◌≡◌, ◌⊎◌, ℕ, ◌≤◌, max, Bool, true, false, List, [], ◌∷◌, filter, Option, Some, None, IfSome, Result, Ok, Err, IfOk, refl}
+use Rattle.std.specs.Prelude.{◌≡◌, ◌⊎◌, ℕ, ◌≤◌, max, Bool, true, false, List, [], ◌∷◌, filter, Option, Some, None}
+use Rattle.std.specs.Prelude.{IfSome, Result, Ok, Err, IfOk, refl}
 use Rattle.std.proofs.Common.{sym, ap, subst, inl, inr, ◌∙◌, arith}
 use Rattle.std.proofs.lemmas.Bool.Decides.{nat_tests}
 use Rattle.std.proofs.lemmas.Option.{none-some}
@@ -23,7 +24,7 @@ use Rattle.ss_laws.proofs.SameApi.{order_law}
 use Rattle.ss_laws.proofs.Valid.{valid-tick}
 use Rattle.ss_account.specs.declared.faults.OpenFault.{OpenFault}
 use Rattle.ss_account.specs.declared.faults.OpenFault.TheVariants.{Keeper, BadRow, BadCollection, BadBatch, Memory}
-use Rattle.ss_account.specs.Keeping.{IsKept}
+use Rattle.ss_account.specs.Keeping.{IsKeptAccount}
 use Rattle.ss_account.specs.Opening.{IsFaultOf, IsGood}
 use Rattle.ss_account.proofs.Keeping.{alive-again}
 use Rattle.ss_promises.specs.Restarts.{GoesOn}
@@ -48,7 +49,7 @@ latest_below time moment (batch ∷ batches) le h =
     latest_below (max time batch.begun) moment batches (omega (arith, le, first)) h.1
 
 -- each batch that is kept began by the account's moment: it is one of the account's, or over
-kept_begun : (kept : Kept) (account : Plain) → IsValid account → IsKept kept account → Each (λ (batch : Staged). batch.begun ≤ account.moment) kept.batches
+kept_begun : (kept : Kept) (account : Plain) → IsValid account → IsKeptAccount kept account → Each (λ (batch : Staged). batch.begun ≤ account.moment) kept.batches
 kept_begun kept account valid k =
     let Begun : Staged → Type 0 = λ batch. batch.begun ≤ account.moment in
     let own : Each Begun account.batches = Each-imp (IsValidBatch account) Begun (λ batch v. v.begun) account.batches (Each-from_All (IsValidBatch account) account.batches valid.batches) in
@@ -58,7 +59,7 @@ kept_begun kept account valid k =
     (filter-each Begun (is_open account.moment) kept.batches open_ones)
 
 -- the moment of the account that is opened isn't later
-opened_before : (kept : Kept) (account : Plain) → IsValid account → IsKept kept account → latest kept.store kept.batches ≤ account.moment
+opened_before : (kept : Kept) (account : Plain) → IsValid account → IsKeptAccount kept account → latest kept.store kept.batches ≤ account.moment
 opened_before kept account valid k =
     let store : account.store ≤ account.moment = valid.store in
     let same : account.store ≡ kept.store = k.store in
@@ -104,7 +105,7 @@ alike account again now request valid same =
 
 -- ---- the account that is opened again
 
-module _ (kept : Kept) (account again : Plain) (valid : IsValid account) (k : IsKept kept account) (s : SameAccount (opened kept) again) where
+module _ (kept : Kept) (account again : Plain) (valid : IsValid account) (k : IsKeptAccount kept account) (s : SameAccount (opened kept) again) where
   below : after (latest kept.store kept.batches) 0 ≤ account.moment
   below = omega (arith, opened_before kept account valid k)
 
@@ -178,7 +179,7 @@ refused_by kept (BadCollection n) good h = absurd (none-some n (sym good.collect
 refused_by kept (BadRow n) good h = absurd (none-some n (sym good.rows ∙ h.1))
 refused_by kept (BadBatch n) good h = absurd (none-some n (sym good.batches ∙ h.2))
 
-pub told_on : (told : Option Kept) (before account again : Plain) → account ≡ tick before 0 → IsValid account → IfSome told (λ kept. IsKept kept account)
+pub told_on : (told : Option Kept) (before account again : Plain) → account ≡ tick before 0 → IsValid account → IfSome told (λ kept. IsKeptAccount kept account)
     → IfSome told (λ kept. SameAccount (opened kept) again) → IfSome told (λ kept. GoesOn before again)
 told_on None before account again is valid k s = tt
 told_on (Some kept) before account again is valid k s = goes_on-before before again (subst (λ a. GoesOn a again) is (goes_on kept account again valid k s))
@@ -189,7 +190,7 @@ told_refused None fault good h = tt
 told_refused (Some kept) fault good h = refused_by kept fault good h
 
 -- of what an opening answers
-pub opened_on : {A E : Type 0} (plain : A → Plain) (r : Result A E) (told now : Option Kept) (before account : Plain) → now ≡ told → account ≡ tick before 0 → IsValid account → IfSome told (λ kept. IsKept kept account)
+pub opened_on : {A E : Type 0} (plain : A → Plain) (r : Result A E) (told now : Option Kept) (before account : Plain) → now ≡ told → account ≡ tick before 0 → IsValid account → IfSome told (λ kept. IsKeptAccount kept account)
     → IfOk r (λ again. IfSome now (λ kept. SameAccount (opened kept) (plain again))) → IfOk r (λ again. IfSome told (λ kept. GoesOn before (plain again)))
 opened_on plain (Ok again) told now before account same is valid k s =
     told_on told before account (plain again) is valid k (subst (λ (t : Option Kept). IfSome t (λ kept. SameAccount (opened kept) (plain again))) same s)

@@ -1,5 +1,6 @@
 -- The numbers and texts of the replies to what a machine asks are those of their types.
-use Rattle.std.specs.Prelude.{◌≡◌, ℕ, ◌+◌, ◌^◌, ◌<◌, ◌≤◌, Bool, true, false, ◌&&◌, ◌||◌, cond, nat_le, nat_lt, List, [], ◌∷◌, bytes_eq, length, map, drop, filter, Option, Some, None, IfSome, All, refl}
+use Rattle.std.specs.Prelude.{◌≡◌, ℕ, ◌+◌, ◌^◌, ◌<◌, ◌≤◌, Bool, true, false, ◌&&◌, ◌||◌, cond, nat_le, nat_lt, List, []}
+use Rattle.std.specs.Prelude.{◌∷◌, bytes_eq, length, map, drop, filter, Option, Some, None, IfSome, All, refl}
 use Rattle.std.proofs.Common.{sym, subst, ◌∙◌, arith, length-drop, length-take}
 use Rattle.std.proofs.lemmas.Bool.Decides.{nat_tests}
 use Rattle.std.proofs.lemmas.List.Elements.{All-drop, All-take}
@@ -25,10 +26,13 @@ use Rattle.ss_query.specs.declared.requests.Mode.{Mode}
 use Rattle.ss_query.specs.declared.requests.Mode.TheVariants.{Plain as PlainPost, Begin, Append, Commit}
 use Rattle.ss_query.specs.declared.requests.Query.{Query}
 use Rattle.ss_query.specs.declared.requests.Request.{Request}
-use Rattle.ss_query.specs.declared.requests.Request.TheVariants.{Info, DeleteAll, List as ListOf, Post, DeleteCollection, DeleteIds, Put, Get as GetItem, Delete as DeleteItem}
-use Rattle.ss_query.specs.Answer.{answer, comes_before, is_asked, limited, next_offset}
+use Rattle.ss_query.specs.declared.requests.Request.TheVariants.{Info, DeleteAll, List as ListOf, Post}
+use Rattle.ss_query.specs.declared.requests.Request.TheVariants.{DeleteCollection, DeleteIds, Put, Get as GetItem}
+use Rattle.ss_query.specs.declared.requests.Request.TheVariants.{Delete as DeleteItem}
+use Rattle.ss_query.specs.Answer.{answer, comes_before, is_asked, limited_list, next_offset}
 use Rattle.ss_query.specs.Fit.{IsFitRequest}
-use Rattle.ss_query.specs.Refused.{Refusal, NoItem, NotModified, WasModified, NoMoreBatches, NoBatch, BatchFull, ClockEnded, AccountFull, collection_time, said_by, target_time, time_shown}
+use Rattle.ss_query.specs.Refused.{Refusal, NoItem, NotModified, WasModified, NoMoreBatches, NoBatch, BatchFull}
+use Rattle.ss_query.specs.Refused.{ClockEnded, AccountFull, collection_time, said_by, target_time, time_shown}
 use Rattle.ss_query.specs.Effect.{is_write, stamp_in}
 use Rattle.ss_query.specs.Told.{body_of, count_of, first_failures, info_body, next_of, post_body, rows_body}
 use Rattle.ss_query.specs.Api.{api, outcome, refusal, time_told}
@@ -48,11 +52,11 @@ use Rattle.ss_promises.specs.Values.{IsTypedAccount, IsTypedPart}
 nothing : {X : Type 0} (P : X → Type 0) → All P []
 nothing P = λ k d h. absurd (omega arith)
 
-limited_all : {X : Type 0} (P : X → Type 0) (limit : Option ℕ) (xs : List X) → All P xs → All P (limited limit xs)
+limited_all : {X : Type 0} (P : X → Type 0) (limit : Option ℕ) (xs : List X) → All P xs → All P (limited_list limit xs)
 limited_all P None xs h = h
 limited_all P (Some limit) xs h = All-take P limit xs h
 
-limited_few : {X : Type 0} (limit : Option ℕ) (xs : List X) → length (limited limit xs) ≤ length xs
+limited_few : {X : Type 0} (limit : Option ℕ) (xs : List X) → length (limited_list limit xs) ≤ length xs
 limited_few None xs = omega arith
 limited_few (Some limit) xs = omega (arith, length-take limit xs)
 

@@ -1,5 +1,7 @@
 -- A run's requests are within what a server reads, from the first one on.
-use Rattle.std.proofs.Common.{◌≡◌, ◌⊎◌, ℕ, ◌+◌, ◌<◌, ◌≤◌, List, [], ◌∷◌, ◌++◌, length, take, drop, Bool, true, false, cond, ◌&&◌, nat_lt, nat_le, Option, Some, None, option_map, find, MatchOption, unwrap_or, slice_index, append_assoc, codes, refl, sym, ap, ◌∙◌, subst, inl, inr, arith}
+use Rattle.std.proofs.Common.{◌≡◌, ◌⊎◌, ℕ, ◌+◌, ◌<◌, ◌≤◌, List, [], ◌∷◌, ◌++◌, length, take, drop, Bool, true, false}
+use Rattle.std.proofs.Common.{cond, ◌&&◌, nat_lt, nat_le, Option, Some, None, option_map, find, MatchOption, unwrap_or}
+use Rattle.std.proofs.Common.{slice_index, append_assoc, codes, refl, sym, ap, ◌∙◌, subst, inl, inr, arith}
 use Rattle.std.specs.Prelude.{IfSome}
 use Rattle.std.specs.Bool.{MatchBool}
 use Rattle.std.specs.List.{All}
@@ -17,7 +19,8 @@ use Rattle.ss_bso.specs.declared.parts.Part.{Part}
 use Rattle.ss_plan.specs.declared.limits.Limits.{Limits}
 use Rattle.ss_plan.specs.declared.limits.PlanFault.{PlanFault}
 use Rattle.ss_plan.specs.Plan.{plan}
-use Rattle.ss_plan.specs.Refusals.{body_bytes, first_over, lone_body, or_else, payload_bytes, payload_set as payload_planned, refusal}
+use Rattle.ss_plan.specs.Refusals.{body_bytes, first_over, lone_body, or_else, payload_bytes}
+use Rattle.ss_plan.specs.Refusals.{payload_set as payload_planned, refusal}
 use Rattle.ss_plan.proofs.Bodies.{body_text}
 use Rattle.ss_route.specs.Sending.{payload_set, upload_text, uploads_text}
 use Rattle.ss_route.specs.Texts.{json_text, list_text}
@@ -25,7 +28,8 @@ use Rattle.ss_device.specs.Device.{DeviceView}
 use Rattle.ss_sync.specs.Posts.{IsNext, fits}
 use Rattle.ss_sync.specs.Fetched.{are_known, kept}
 use Rattle.ss_hearing.specs.declared.answer.Answer.{Answer}
-use Rattle.ss_hearing.specs.declared.answer.Answer.TheVariants.{Configured, Paged, Listed, Held, Written, Failed, Changed, Refused, Unread}
+use Rattle.ss_hearing.specs.declared.answer.Answer.TheVariants.{Configured, Paged, Listed, Held, Written, Failed}
+use Rattle.ss_hearing.specs.declared.answer.Answer.TheVariants.{Changed, Refused, Unread}
 use Rattle.ss_client.specs.declared.summaries.SyncFault.TheVariants as fault
 use Rattle.ss_client.specs.declared.runs.Run.{Run}
 use Rattle.ss_client.specs.declared.runs.Stage.{Stage}
@@ -33,10 +37,13 @@ use Rattle.ss_client.specs.declared.runs.Stage.TheVariants.{Asks, Opens, Pages, 
 use Rattle.ss_client.specs.Asking.{asked, mode_of}
 use Rattle.ss_client.specs.Leaves.{UploadView}
 use Rattle.ss_client.specs.Runs.{MachineView, rest_of}
-use Rattle.ss_client.specs.Machine.{Next, Stop, onward, posting, fetching, unread, again, falls_back, uploads, is_bad, Ends, Begins, Finishes, Holds, Writes, LastPage, PageIn, PageOn, OpensWith, ListsAll, limits_at, page_at, ids_at, held_at, written_at, Follows}
+use Rattle.ss_client.specs.Machine.{Next, Stop, onward, posting, fetching, unread, again, falls_back, uploads, is_bad}
+use Rattle.ss_client.specs.Machine.{Ends, Begins, Finishes, Holds, Writes, LastPage, PageIn, PageOn, OpensWith}
+use Rattle.ss_client.specs.Machine.{ListsAll, limits_at, page_at, ids_at, held_at, written_at, Follows}
 use Rattle.ss_client.proofs.Posting.{rest-is}
 use Rattle.ss_route.specs.Sending.{IsReadable, IsReadableBatch}
-use Rattle.ss_promises.specs.Readable.{GoesReadably, IsNumber, IsOneBody, IsReadableNext, IsReadableRun, IsReadableUpload, TellsReadable}
+use Rattle.ss_promises.specs.Readable.{GoesReadably, IsNumber, IsOneBody, IsReadableNext, IsReadableRun}
+use Rattle.ss_promises.specs.Readable.{IsReadableUpload, TellsReadable}
 
 abbrev IsRoom : Limits → Type 0
 IsRoom limits = limits.max_request_bytes ≤ most_body_bytes

@@ -4,10 +4,13 @@ use Rattle.std.proofs.Common.{sym, subst, arith}
 use Rattle.ss_bso.specs.declared.account.Plain.{Plain}
 use Rattle.ss_bso.specs.Account.{tick}
 use Rattle.ss_query.specs.declared.requests.Request.{Request}
-use Rattle.ss_query.specs.declared.requests.Request.TheVariants.{Info, DeleteAll, List as ListOf, Post, DeleteCollection, DeleteIds, Put, Get as GetItem, Delete as DeleteItem}
+use Rattle.ss_query.specs.declared.requests.Request.TheVariants.{Info, DeleteAll, List as ListOf, Post}
+use Rattle.ss_query.specs.declared.requests.Request.TheVariants.{DeleteCollection, DeleteIds, Put, Get as GetItem}
+use Rattle.ss_query.specs.declared.requests.Request.TheVariants.{Delete as DeleteItem}
 use Rattle.ss_query.specs.declared.requests.Mode.{Mode}
 use Rattle.ss_query.specs.declared.requests.Mode.TheVariants.{Plain as PlainPost, Begin, Append, Commit}
-use Rattle.ss_query.specs.Refused.{Refusal, NoItem, NotModified, WasModified, NoMoreBatches, NoBatch, BatchFull, ClockEnded, AccountFull, status_of as status_why}
+use Rattle.ss_query.specs.Refused.{Refusal, NoItem, NotModified, WasModified, NoMoreBatches, NoBatch, BatchFull}
+use Rattle.ss_query.specs.Refused.{ClockEnded, AccountFull, status_of as status_why}
 use Rattle.ss_query.specs.Told.{ok_status, post_status}
 use Rattle.ss_query.specs.Api.{api, outcome, refusal}
 use Rattle.ss_route.specs.Wire.{HasReason}

@@ -1,5 +1,6 @@
 -- Uploads while the server is started anew.
-use Rattle.std.specs.Prelude.{◌≡◌, ℕ, ◌≤◌, max, Bool, true, false, ◌&&◌, ◌==◌, cond, List, [], ◌∷◌, filter, find, slice_get, Option, Some, None, option_map, MatchOption, bytes_eq, refl}
+use Rattle.std.specs.Prelude.{◌≡◌, ℕ, ◌≤◌, max, Bool, true, false, ◌&&◌, ◌==◌, cond, List, [], ◌∷◌, filter, find}
+use Rattle.std.specs.Prelude.{slice_get, Option, Some, None, option_map, MatchOption, bytes_eq, refl}
 use Rattle.std.specs.Bool.{MatchBool}
 use Rattle.std.proofs.Common.{sym, ap, subst, ◌∙◌, arith}
 use Rattle.ss_text.specs.Time.{after}
@@ -27,12 +28,14 @@ use Rattle.ss_serving.proofs.Same.{batch-reordered}
 use Rattle.ss_client.specs.declared.summaries.Fetch.{Fetch}
 use Rattle.ss_world.specs.declared.events.Edit.{Edit}
 use Rattle.ss_world.specs.declared.events.Event.{Event}
-use Rattle.ss_world.specs.declared.events.Event.TheVariants.{Start, Deliver, LoseRequest, LoseReply, Anew, Change, Other, Tick, Reopen}
+use Rattle.ss_world.specs.declared.events.Event.TheVariants.{Start, Deliver, LoseRequest, LoseReply, Anew, Change}
+use Rattle.ss_world.specs.declared.events.Event.TheVariants.{Other, Tick, Reopen}
 use Rattle.ss_device.specs.declared.faults.EditFault.{EditFault}
 use Rattle.ss_world.specs.declared.seats.Seat.{Seat}
 use Rattle.ss_world.specs.declared.seats.Seat.TheVariants.{Idle, Syncs}
 use Rattle.ss_world.specs.Worlds.{WorldView}
-use Rattle.ss_world.specs.Happening.{Asked, Edits, Happens, IsDelivered, IsEdited, IsGivenUp, IsLost, Runs, Starts, Step, edit_fault, last}
+use Rattle.ss_world.specs.Happening.{Asked, Edits, Happens, IsDelivered, IsEdited, IsGivenUp, IsLost, Runs, Starts}
+use Rattle.ss_world.specs.Happening.{Step, edit_fault, last}
 use Rattle.ss_world.specs.Promises.{first_rows}
 use Rattle.ss_world.specs.Reaching.{IsReached}
 use Rattle.ss_world.proofs.Fitting.{BatchFits, Fits, UploadFits}

@@ -11,7 +11,7 @@ use Rattle.ss_world.specs.declared.events.Event.TheVariants.{Deliver, LoseReply}
 use Rattle.ss_world.specs.declared.seats.Seat.TheVariants.{Idle, Syncs}
 use Rattle.ss_world.specs.Happening.{Happens, Step}
 use Rattle.ss_world.specs.Seats.{after}
-use Rattle.ss_world.specs.Worlds.{WorldView, seated}
+use Rattle.ss_world.specs.Worlds.{WorldView, world_with_seat}
 use Rattle.ss_promises.specs.Exchanges.{Address, IsMeantAlike, IsTellable, Proceeds, Responds, bytes_sent}
 use Rattle.ss_promises.specs.Readable.{IsReadableRun}
 
@@ -20,7 +20,7 @@ abbrev pub AreReady : WorldView → Type 0
 AreReady w = (n : ℕ) (machine : MachineView) → slice_get w.seats n ≡ Some (Syncs machine) → IsSound machine.run machine.stage × IsReadableRun machine.run machine.stage
 
 -- a device of a world sends the request of its machine, which has the values of its types, to its server, and this answers what it reads
-pub record IsAsked (manner : Manner) (address : Address) (n : ℕ) (w : WorldView) (now : ℕ) : Type 0 where
+pub record AsksServer (manner : Manner) (address : Address) (n : ℕ) (w : WorldView) (now : ℕ) : Type 0 where
   pub machine : MachineView
   pub there : slice_get w.seats n ≡ Some (Syncs machine)
   pub typed : HasTypes (ask machine)
@@ -32,17 +32,17 @@ pub record IsAsked (manner : Manner) (address : Address) (n : ℕ) (w : WorldVie
 
 -- and its machine does what it does with the response
 pub record IsExchange (manner : Manner) (address : Address) (n : ℕ) (w : WorldView) (now : ℕ) (v : WorldView) : Type 0 where
-  pub asked : IsAsked manner address n w now
+  pub asked : AsksServer manner address n w now
   pub tellable : IsTellable w.server.account now asked.machine
   pub more : List ℕ
   pub next : Next
   pub proceeds : Proceeds asked.machine (asked.output ++ more) next
-  pub is : v ≡ seated w asked.server n (after asked.machine next)
+  pub is : v ≡ world_with_seat w asked.server n (after asked.machine next)
 
 -- or it doesn't hear it, and is as it was started
 pub record IsUnheard (manner : Manner) (address : Address) (n : ℕ) (w : WorldView) (now : ℕ) (v : WorldView) : Type 0 where
-  pub asked : IsAsked manner address n w now
-  pub is : v ≡ seated w asked.server n (Idle asked.machine.device)
+  pub asked : AsksServer manner address n w now
+  pub is : v ≡ world_with_seat w asked.server n (Idle asked.machine.device)
 
 -- a step of devices that ask servers of their account at this address: an exchange, heard or not, or any other event
 pub data IsTurn (manner : Manner) (address : Address) (w : WorldView) (step : Step) : Type 0 where

@@ -12,7 +12,7 @@ use Rattle.ss_query.specs.declared.replies.Mark.TheVariants.{Done}
 use Rattle.ss_query.specs.declared.requests.Request.{Request}
 use Rattle.ss_query.specs.Api.{api}
 use Rattle.ss_query.specs.Refused.{condition_of, is_there, target_time}
-use Rattle.ss_laws.specs.Journals.{marked}
+use Rattle.ss_laws.specs.Journals.{marked_outcome}
 use Rattle.ss_route.specs.declared.manner.Manner.{Manner}
 use Rattle.ss_route.specs.declared.manner.Manner.TheVariants.{Profile, Browser}
 use Rattle.ss_route.specs.declared.routed.Routed.TheVariants.{Ask}
@@ -89,7 +89,7 @@ pub record Fails (manner : Manner) (input : List ℕ) (before : Server) (now : �
   pub fails : mark ≡ Done → ⊥
   pub ticks : Ticks before now after
   pub last : Bool
-  pub writes : output ≡ wire (marked before.account now request mark).reply newlines last
+  pub writes : output ≡ wire (marked_outcome before.account now request mark).reply newlines last
 
 -- A request means the same in either manner: the manner is that of the letter; or, where the condition is that nothing has changed
 -- since 0, which browsers mean as that the target isn't there, the target is there exactly if it has a time after 0.

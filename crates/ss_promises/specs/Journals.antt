@@ -7,14 +7,14 @@ use Rattle.ss_query.specs.Flat.{Ask}
 use Rattle.ss_laws.specs.declared.journal.Entry.{Entry}
 
 -- a request that was done; of one that ended for want of memory or by its keeper's failure the reading of the clock alone is left
-abbrev pub done : Mark → Request → Option Request
-done Done request = Some request
-done Keeper request = None
-done Memory request = None
+abbrev pub done_request : Mark → Request → Option Request
+done_request Done request = Some request
+done_request Keeper request = None
+done_request Memory request = None
 
 -- an entry, and the entries of a journal, as readings of the clock with a request or bare
 abbrev pub ask_of : Entry → Ask
-ask_of entry = record { now = entry.now; request = done entry.mark entry.request }
+ask_of entry = record { now = entry.now; request = done_request entry.mark entry.request }
 
 abbrev pub asks_of : List Entry → List Ask
 asks_of entries = map ask_of entries

@@ -3,7 +3,7 @@
 ghost use Rattle.std.specs.Prelude.{◌≡◌};
 ghost use Rattle.ss_query.specs.Fit.{IsFitRequest};
 ghost use Rattle.ss_query.specs.Marks.{mark_of};
-ghost use Rattle.ss_laws.specs.Journals.{marked};
+ghost use Rattle.ss_laws.specs.Journals.{marked_outcome};
 ghost use Rattle.ss_promises.specs.Steps.{IsStepBy};
 
 use ss_account::Account;
@@ -21,7 +21,7 @@ pub fn answered<K: Keeper>(
     request: &Request,
 ) -> Reply
     requires { IsFitRequest request.now }
-    ensures reply { result ≡ (marked account.old.plain now request.now (mark_of result)).reply }
+    ensures reply { result ≡ (marked_outcome account.old.plain now request.now (mark_of result)).reply }
     ensures step { IsStepBy (mark_of result) (K.told account.old.keeper) account.old.plain now request.now
         (K.told account.new.keeper) account.new.plain }
 {

@@ -28,8 +28,9 @@ ghost use Rattle.ss_world.specs.declared.events.Event.TheVariants.{Deliver, Lose
 ghost use Rattle.ss_world.specs.declared.seats.Seat.TheVariants.{Idle, Syncs};
 ghost use Rattle.ss_world.specs.Happening.{Happens};
 ghost use Rattle.ss_world.specs.Seats.{after};
-ghost use Rattle.ss_world.specs.Worlds.{WorldView, seated};
-ghost use Rattle.ss_promises.specs.Exchanges.{Address, IsAddress, IsMeantAlike, IsReady, IsTellable, Fails, Proceeds, Responds, bytes_sent};
+ghost use Rattle.ss_world.specs.Worlds.{WorldView, world_with_seat};
+ghost use Rattle.ss_promises.specs.Exchanges.{Address, IsAddress, IsMeantAlike, IsReady, IsTellable, Fails, Proceeds};
+ghost use Rattle.ss_promises.specs.Exchanges.{Responds, bytes_sent};
 
 use crate::runs::requests_stay_readable;
 use crate::values::replies_are_typed;
@@ -94,21 +95,21 @@ pub fn exchanges_are_deliveries()
         → IsTellable world.server.account now machine
         → (r : Responds manner (bytes_sent address machine ++ behind) world.server now server output)
         → (p : Proceeds machine (output ++ more) next)
-        → Happens world (Deliver n now) (seated world server n (after machine next)) × (r.uid ≡ address.uid)
+        → Happens world (Deliver n now) (world_with_seat world server n (after machine next)) × (r.uid ≡ address.uid)
         × (r.left ≡ behind) × (p.left ≡ more) }
     ensures loses { (manner : Manner) (address : Address) (world : WorldView) (n now : ℕ) (machine : MachineView)
         (server : Server) (output behind : List ℕ) → IsAddress address → IsReady machine
         → slice_get world.seats n ≡ Some (Syncs machine)
         → IsMeantAlike manner world.server.account now (ask machine)
         → (r : Responds manner (bytes_sent address machine ++ behind) world.server now server output)
-        → Happens world (LoseReply n now) (seated world server n (Idle machine.device)) × (r.uid ≡ address.uid)
+        → Happens world (LoseReply n now) (world_with_seat world server n (Idle machine.device)) × (r.uid ≡ address.uid)
         × (r.left ≡ behind) }
     ensures fails { (manner : Manner) (address : Address) (world : WorldView) (n now : ℕ) (machine : MachineView)
         (mark : Mark) (server : Server) (output behind more : List ℕ) (next : Next) → IsAddress address
         → IsReady machine → slice_get world.seats n ≡ Some (Syncs machine) → IsValid world.server.account
         → (f : Fails manner (bytes_sent address machine ++ behind) world.server now mark server output)
         → (p : Proceeds machine (output ++ more) next) → Happens world (Tick now) (record world { server = server })
-        × Happens (record world { server = server }) (LoseRequest n) (seated world server n (after machine next))
+        × Happens (record world { server = server }) (LoseRequest n) (world_with_seat world server n (after machine next))
         × (f.uid ≡ address.uid) × (f.left ≡ behind) × (p.left ≡ more) }
 {
     requests_come_in();

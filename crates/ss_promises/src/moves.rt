@@ -7,7 +7,7 @@ ghost use Rattle.ss_bso.specs.declared.changes.Kept.{Kept as KeptView};
 ghost use Rattle.ss_bso.specs.Changes.{opened};
 ghost use Rattle.ss_bso.specs.Validity.{IsValid, SameAccount};
 ghost use Rattle.ss_lines.specs.Lines.{IsLine};
-ghost use Rattle.ss_account.specs.Keeping.{IsKept};
+ghost use Rattle.ss_account.specs.Keeping.{IsKeptAccount};
 ghost use Rattle.ss_account.specs.Opening.{IsGood};
 ghost use Rattle.ss_dump.specs.Dumps.{account_lines, dump_text};
 ghost use Rattle.ss_dump.specs.Undumped.{IsDumpOf};
@@ -26,7 +26,7 @@ pub fn replies_stay_equal()
 /// An account moves by its dump: where what is kept is a valid account's, as it is after each step, what is read of its
 /// dump, and opened elsewhere, goes on as the account, and has its replies to whatever is asked from its moment on.
 pub fn accounts_move()
-    ensures { (kept read : KeptView) (account again : Plain) → IsValid account → IsKept kept account → IsGood kept
+    ensures { (kept read : KeptView) (account again : Plain) → IsValid account → IsKeptAccount kept account → IsGood kept
         → AllByRecursion IsLine (account_lines kept) → IsDumpOf (dump_text kept) read → SameAccount (opened read) again
         → GoesOn account again × AnswerAlikeFrom account.moment account again }
 {}

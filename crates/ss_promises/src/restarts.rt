@@ -7,7 +7,7 @@ ghost use Rattle.ss_bso.specs.declared.changes.Kept.{Kept};
 ghost use Rattle.ss_bso.specs.Changes.{opened};
 ghost use Rattle.ss_bso.specs.Validity.{IsValid, SameAccount};
 ghost use Rattle.ss_account.specs.declared.faults.OpenFault.TheVariants.{Keeper as KeeperFailed, Memory as NoMemory};
-ghost use Rattle.ss_account.specs.Keeping.{IsKept};
+ghost use Rattle.ss_account.specs.Keeping.{IsKeptAccount};
 ghost use Rattle.ss_promises.specs.Restarts.{GoesOn};
 
 use ss_account::{Account, OpenFault};
@@ -18,7 +18,7 @@ use std::alloc::Global;
 /// that is opened from it has the same collections, times and counter, and from the old moment on the same rows and
 /// batches; so each upload goes on.
 pub fn accounts_go_on()
-    ensures { (kept : Kept) (account again : Plain) → IsValid account → IsKept kept account
+    ensures { (kept : Kept) (account again : Plain) → IsValid account → IsKeptAccount kept account
         → SameAccount (opened kept) again → GoesOn account again }
 {}
 

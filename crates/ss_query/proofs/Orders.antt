@@ -1,5 +1,6 @@
 -- The orders of a query's answer and of names are total, and strict on distinct ids and names, so the answers don't depend on the order of the rows.
-use Rattle.std.specs.Prelude.{◌≡◌, ℕ, Bool, true, false, not, ◌&&◌, List, length, filter, unwrap_or, pos, bytes_eq, IsFalse, drop, refl}
+use Rattle.std.specs.Prelude.{◌≡◌, ℕ, Bool, true, false, not, ◌&&◌, List, length, filter, unwrap_or, pos, bytes_eq}
+use Rattle.std.specs.Prelude.{IsFalse, drop, refl}
 use Rattle.std.proofs.Common.{sym, ap, ◌∙◌}
 use Rattle.std.specs.declared.cmp.Ordering.{Ordering}
 use Rattle.std.specs.declared.cmp.Ordering.TheVariants.{Less, Equal, Greater}
@@ -13,7 +14,8 @@ use Rattle.ss_query.specs.declared.requests.Query.{Query}
 use Rattle.ss_query.specs.declared.requests.Sort.{Sort}
 use Rattle.ss_query.specs.declared.requests.Sort.TheVariants.{Newest, Oldest, Index}
 use Rattle.ss_query.specs.declared.replies.Picked.{Picked}
-use Rattle.ss_query.specs.Answer.{is_asked, sort_cmp, row_cmp, comes_before, limited, next_offset, answer, answer_of}
+use Rattle.ss_query.specs.Answer.{is_asked, sort_cmp, row_cmp, comes_before, limited_list, next_offset, answer}
+use Rattle.ss_query.specs.Answer.{answer_of}
 use Rattle.ss_bso.specs.Lists.{Apart, OtherId}
 use Rattle.ss_query.specs.Told.{by_name}
 use Rattle.ss_bso.proofs.Lists.{Each-any, Each-passes, Pairs, Pairs-filter, Pairs-imp}
@@ -83,7 +85,7 @@ sorted_rows-reordered sort rows others r distinct =
 -- the answer over rows that a query asks for does not depend on their order
 pub answer_of-reordered : (rows others : List Row) (query : Query) → Reordered rows others → Pairs OtherId rows → answer_of rows query ≡ answer_of others query
 answer_of-reordered rows others query r distinct =
-    ap (λ (found : List Row). let picked : Picked = record { rows = limited query.limit (drop query.offset found); next = next_offset query.limit query.offset (length found) } in picked)
+    ap (λ (found : List Row). let picked : Picked = record { rows = limited_list query.limit (drop query.offset found); next = next_offset query.limit query.offset (length found) } in picked)
     (sorted_rows-reordered query.sort rows others r distinct)
 
 -- nor does the answer over the rows of a collection

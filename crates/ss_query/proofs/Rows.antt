@@ -1,12 +1,14 @@
 -- Worked rows: the definitions compute what is expected.
-use Rattle.std.specs.Prelude.{◌≡◌, ℕ, pos, false, List, [], ◌∷◌, ◌++◌, filter_map, Option, Some, None, option_map, codes, refl}
+use Rattle.std.specs.Prelude.{◌≡◌, ℕ, pos, false, List, [], ◌∷◌, ◌++◌, filter_map, Option, Some, None, option_map}
+use Rattle.std.specs.Prelude.{codes, refl}
 use Rattle.ss_text.specs.declared.stamps.Cond.TheVariants.{Free, IfModified, IfUnmodified}
 use Rattle.ss_bso.specs.declared.parts.Fields.{Fields}
 use Rattle.ss_bso.specs.declared.parts.Part.{Part}
 use Rattle.ss_bso.specs.declared.parts.Field.TheVariants.{Keep, Clear, Set}
 use Rattle.ss_bso.specs.declared.account.Plain.{Plain}
 use Rattle.ss_query.specs.declared.requests.Request.{Request}
-use Rattle.ss_query.specs.declared.requests.Request.TheVariants.{Info, DeleteAll, List as ListOf, Post, DeleteCollection, DeleteIds, Get, Put}
+use Rattle.ss_query.specs.declared.requests.Request.TheVariants.{Info, DeleteAll, List as ListOf, Post}
+use Rattle.ss_query.specs.declared.requests.Request.TheVariants.{DeleteCollection, DeleteIds, Get, Put}
 use Rattle.ss_query.specs.declared.requests.Info.{Info as InfoKind}
 use Rattle.ss_query.specs.declared.requests.Info.TheVariants.{Collections, Counts, Usage, Quota}
 use Rattle.ss_query.specs.declared.requests.Mode.{Mode}
@@ -14,12 +16,14 @@ use Rattle.ss_query.specs.declared.requests.Mode.TheVariants.{Plain as PlainPost
 use Rattle.ss_query.specs.declared.requests.Query.{Query}
 use Rattle.ss_query.specs.declared.requests.Sort.TheVariants.{Newest}
 use Rattle.ss_query.specs.declared.replies.Body.{Body}
-use Rattle.ss_query.specs.declared.replies.Body.TheVariants.{Times, Counts as CountsBody, Usage as UsageBody, Quota as QuotaBody, Gone, Ids, Posted, Staged, One, At, Empty, Said}
+use Rattle.ss_query.specs.declared.replies.Body.TheVariants.{Times, Counts as CountsBody, Usage as UsageBody}
+use Rattle.ss_query.specs.declared.replies.Body.TheVariants.{Quota as QuotaBody, Gone, Ids, Posted, Staged, One, At}
+use Rattle.ss_query.specs.declared.replies.Body.TheVariants.{Empty, Said}
 use Rattle.ss_query.specs.declared.replies.Said.TheVariants.{Item, Modified, Batches, Batch, Clock}
 use Rattle.ss_query.specs.declared.replies.Reply.{Reply}
 use Rattle.ss_bso.specs.declared.parts.Reason.TheVariants.{Ttl}
 use Rattle.ss_bso.specs.Account.{fresh, tick}
-use Rattle.ss_query.specs.Api.{api, done}
+use Rattle.ss_query.specs.Api.{api, done_outcome}
 use Rattle.ss_query.specs.Flat.{Ask, Turn, turns, flat}
 
 abbrev forms : List ℕ
@@ -168,7 +172,7 @@ begun = record {
 }
 
 -- what a begin that isn't refused does and is told
-begin_stages_its_parts : done (tick (api fresh 1000 (Put forms z none Free)).account 1001) (post Begin (one a (text (codes "1"))))
+begin_stages_its_parts : done_outcome (tick (api fresh 1000 (Put forms z none Free)).account 1001) (post Begin (one a (text (codes "1"))))
     ≡ record { account = begun; reply = record { status = 202; moment = 1001; modified = Some 1000; count = None; next = None; body = Staged 1 (a ∷ []) [] } }
 begin_stages_its_parts = refl
 

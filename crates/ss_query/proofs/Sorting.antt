@@ -9,24 +9,24 @@ use Rattle.std.specs.List.Sorted.{IsSortedByClosure, IsStableByClosure}
 use Rattle.std.specs.Ordering.{is_lt}
 use denote.Ref.{Bor}
 use denote.Param.Members.{Mut}
-use Rattle.ss_text.specs.Texts.{placed, sorted}
+use Rattle.ss_text.specs.Texts.{list_with, sorted}
 use Rattle.ss_text.proofs.Sorting.{sorted_is}
 
 -- ---- under a function
 
 module _ {X Y : Type 0} (lt : Y → Y → Bool) (f : X → Y) where
-  map_step : (b : Bool) (x y : X) (ys : List X) → map f (placed (λ a c. lt (f a) (f c)) x ys) ≡ placed lt (f x) (map f ys)
-      → map f (cond b (y ∷ placed (λ a c. lt (f a) (f c)) x ys) (x ∷ y ∷ ys)) ≡ cond b (f y ∷ placed lt (f x) (map f ys)) (f x ∷ f y ∷ map f ys)
+  map_step : (b : Bool) (x y : X) (ys : List X) → map f (list_with (λ a c. lt (f a) (f c)) x ys) ≡ list_with lt (f x) (map f ys)
+      → map f (cond b (y ∷ list_with (λ a c. lt (f a) (f c)) x ys) (x ∷ y ∷ ys)) ≡ cond b (f y ∷ list_with lt (f x) (map f ys)) (f x ∷ f y ∷ map f ys)
   map_step true x y ys later = ap (λ l. f y ∷ l) later
   map_step false x y ys later = refl
 
-  map-placed : (x : X) (ys : List X) → map f (placed (λ a c. lt (f a) (f c)) x ys) ≡ placed lt (f x) (map f ys)
+  map-placed : (x : X) (ys : List X) → map f (list_with (λ a c. lt (f a) (f c)) x ys) ≡ list_with lt (f x) (map f ys)
   map-placed x [] = refl
   map-placed x (y ∷ ys) = map_step (lt (f y) (f x)) x y ys (map-placed x ys)
 
   pub map-sorted : (xs : List X) → map f (sorted (λ a b. lt (f a) (f b)) xs) ≡ sorted lt (map f xs)
   map-sorted [] = refl
-  map-sorted (x ∷ xs) = map-placed x (sorted (λ a b. lt (f a) (f b)) xs) ∙ ap (placed lt (f x)) (map-sorted xs)
+  map-sorted (x ∷ xs) = map-placed x (sorted (λ a b. lt (f a) (f b)) xs) ∙ ap (list_with lt (f x)) (map-sorted xs)
 
 -- what `sort_by` leaves of a list, seen by a key that its closure compares
 pub sorted_by_closure : {F B X : Type 0} {g : Mut F (Bor B × (Bor B × Unit {0})) Ordering} {f : F} (cmp : X → X → Ordering) (total : IsTotalOrder cmp) (key : B → X) (xs ys : List B)

@@ -1,5 +1,6 @@
 -- The answer of a query over the rows of one collection (SyncStorage API 1.5, GET of a collection).
-use Rattle.std.specs.Prelude.{ℕ, ◌+◌, pos, Bool, ◌&&◌, nat_lt, true, List, length, take, drop, filter, map, Option, Some, None, unwrap_or, if◌then◌else◌}
+use Rattle.std.specs.Prelude.{ℕ, ◌+◌, pos, Bool, ◌&&◌, nat_lt, true, List, length, take, drop, filter, map, Option}
+use Rattle.std.specs.Prelude.{Some, None, unwrap_or, if◌then◌else◌}
 use Rattle.std.specs.Option.{option_map_or}
 use Rattle.std.specs.declared.cmp.Ordering.{Ordering}
 use Rattle.std.specs.Ordering.{nat_cmp, int_cmp, ordering_then, is_lt}
@@ -33,9 +34,9 @@ abbrev pub comes_before : Sort → Row → Row → Bool
 comes_before sort row other = is_lt (row_cmp sort row other)
 
 -- at most so many rows, or all
-abbrev pub limited : {X : Type 0} → Option ℕ → List X → List X
-limited None rows = rows
-limited (Some limit) rows = take limit rows
+abbrev pub limited_list : {X : Type 0} → Option ℕ → List X → List X
+limited_list None rows = rows
+limited_list (Some limit) rows = take limit rows
 
 -- where the next page begins, if rows are left
 abbrev pub next_offset : Option ℕ → ℕ → ℕ → Option ℕ
@@ -46,7 +47,7 @@ next_offset (Some limit) offset count = if nat_lt (offset + limit) count then So
 abbrev pub answer_of : List Row → Query → Picked
 answer_of asked query =
     let found = sorted (comes_before query.sort) asked in
-    record { rows = limited query.limit (drop query.offset found); next = next_offset query.limit query.offset (length found) }
+    record { rows = limited_list query.limit (drop query.offset found); next = next_offset query.limit query.offset (length found) }
 
 -- filter, order, drop, take
 abbrev pub answer : List Row → Query → Picked

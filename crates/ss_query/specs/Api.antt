@@ -1,5 +1,6 @@
 -- The one-account API: what a request, at a reading of the clock, makes of an account, and what it is told.
-use Rattle.std.specs.Prelude.{ℕ, ◌==◌, Bool, false, not, ◌&&◌, ◌||◌, nat_le, is_none, List, [], ◌∷◌, ◌++◌, length, Option, Some, None, option_map, if◌then◌else◌}
+use Rattle.std.specs.Prelude.{ℕ, ◌==◌, Bool, false, not, ◌&&◌, ◌||◌, nat_le, is_none, List, [], ◌∷◌, ◌++◌, length}
+use Rattle.std.specs.Prelude.{Option, Some, None, option_map, if◌then◌else◌}
 use Rattle.std.specs.Option.{option_map_or}
 use Rattle.ss_text.specs.Time.{last_stamp, stops}
 use Rattle.ss_bso.specs.declared.account.Plain.{Plain}
@@ -9,7 +10,9 @@ use Rattle.ss_query.specs.declared.requests.Request.{Request}
 use Rattle.ss_query.specs.declared.requests.Request.TheVariants.{Post, Get, Delete}
 use Rattle.ss_query.specs.declared.replies.Reply.{Reply}
 use Rattle.ss_bso.specs.Batches.{fit}
-use Rattle.ss_query.specs.Refused.{Refusal, NoItem, NotModified, WasModified, NoMoreBatches, NoBatch, BatchFull, ClockEnded, AccountFull, status_of, said_by, time_shown, condition_of, is_there, target_time, batch_of, staged_parts, continued, begins}
+use Rattle.ss_query.specs.Refused.{Refusal, NoItem, NotModified, WasModified, NoMoreBatches, NoBatch, BatchFull}
+use Rattle.ss_query.specs.Refused.{ClockEnded, AccountFull, status_of, said_by, time_shown, condition_of, is_there}
+use Rattle.ss_query.specs.Refused.{target_time, batch_of, staged_parts, continued, begins}
 use Rattle.ss_query.specs.Effect.{stamp_in, effect, is_write, is_over}
 use Rattle.ss_query.specs.Told.{body_of, ok_status, count_of, next_of}
 
@@ -77,8 +80,8 @@ abbrev pub time_told : Plain → Request → ℕ
 time_told account request = if is_write account request then stamp_in account else target_time account request
 
 -- a request that is refused: nothing is done, and the cause is told
-abbrev pub refused : Plain → Request → Refusal → Outcome
-refused account request why = record {
+abbrev pub refused_outcome : Plain → Request → Refusal → Outcome
+refused_outcome account request why = record {
   account = account;
   reply = record {
     status = status_of why;
@@ -91,8 +94,8 @@ refused account request why = record {
 }
 
 -- a request that isn't refused: its effect, and what it is told
-abbrev pub done : Plain → Request → Outcome
-done account request = record {
+abbrev pub done_outcome : Plain → Request → Outcome
+done_outcome account request = record {
   account = effect account request;
   reply = record {
     status = ok_status request;
@@ -106,8 +109,8 @@ done account request = record {
 
 -- refused, or else done
 abbrev pub outcome : Plain → Request → Option Refusal → Outcome
-outcome account request (Some why) = refused account request why
-outcome account request None = done account request
+outcome account request (Some why) = refused_outcome account request why
+outcome account request None = done_outcome account request
 
 -- the API: a tick of the clock, and then the first refusal or else the request's effect
 abbrev pub api : Plain → ℕ → Request → Outcome

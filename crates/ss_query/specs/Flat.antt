@@ -1,5 +1,6 @@
 -- The flat list: the same requests without batches, each commit's whole list in its place.
-use Rattle.std.specs.Prelude.{ℕ, ◌==◌, Bool, false, List, [], ◌∷◌, ◌++◌, flat_map, Option, Some, None, option_map, if◌then◌else◌}
+use Rattle.std.specs.Prelude.{ℕ, ◌==◌, Bool, false, List, [], ◌∷◌, ◌++◌, flat_map, Option, Some, None, option_map}
+use Rattle.std.specs.Prelude.{if◌then◌else◌}
 use Rattle.std.specs.Option.{option_map_or}
 use Rattle.ss_bso.specs.declared.parts.Part.{Part}
 use Rattle.ss_bso.specs.declared.account.Plain.{Plain}
@@ -61,8 +62,8 @@ abbrev pub staged_by : ℕ → Turn → List Part
 staged_by number turn = if is_for_batch number turn then option_map_or parts_sent turn.ask.request [] else []
 
 -- the parts that a batch has gathered: those that the opening lists for it, and then those that the turns staged for it
-abbrev pub gathered : Plain → List Turn → ℕ → List Part
-gathered opening past number =
+abbrev pub gathered_parts : Plain → List Turn → ℕ → List Part
+gathered_parts opening past number =
     flat_map (λ (batch : StagedBatch). if batch.number == number then batch.parts else []) opening.batches
     ++ flat_map (staged_by number) past
 
@@ -90,7 +91,7 @@ flat_ask parts_for turn = record {
 -- what stands for the turns after those of the past
 abbrev pub flat_after : Plain → List Turn → List Turn → List Ask
 flat_after opening past [] = []
-flat_after opening past (turn ∷ turns) = flat_ask (gathered opening past) turn ∷ flat_after opening (past ++ turn ∷ []) turns
+flat_after opening past (turn ∷ turns) = flat_ask (gathered_parts opening past) turn ∷ flat_after opening (past ++ turn ∷ []) turns
 
 -- the flat list
 abbrev pub flat : Plain → List Ask → List Ask

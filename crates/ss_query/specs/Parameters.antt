@@ -1,5 +1,6 @@
 -- What the text of a query says (SyncStorage API 1.5, GET of a collection).
-use Rattle.std.specs.Prelude.{◌≡◌, ℕ, ◌==◌, nat_le, List, [], ◌∷◌, length, bytes_eq, is_some, if◌then◌else◌, Option, Some, None, ok_or, Result, Ok, Err, codes, ⊤}
+use Rattle.std.specs.Prelude.{◌≡◌, ℕ, ◌==◌, nat_le, List, [], ◌∷◌, length, bytes_eq, is_some, if◌then◌else◌, Option}
+use Rattle.std.specs.Prelude.{Some, None, ok_or, Result, Ok, Err, codes, ⊤}
 use Rattle.std.specs.List.{list_all, slice_split}
 use Rattle.std.specs.Str.Lossy.{utf8_lossy}
 use Rattle.form_urlencoded.specs.Form.{raw_pairs, decode}

@@ -16,10 +16,13 @@ use Rattle.ss_query.specs.declared.requests.Mode.TheVariants.{Plain as PlainPost
 use Rattle.ss_query.specs.declared.requests.Info.{Info as InfoKind}
 use Rattle.ss_query.specs.declared.requests.Info.TheVariants.{Collections, Counts, Usage, Quota, Configuration}
 use Rattle.ss_query.specs.declared.requests.Request.{Request}
-use Rattle.ss_query.specs.declared.requests.Request.TheVariants.{Info, DeleteAll, List as ListOf, Post, DeleteCollection, DeleteIds, Get, Put, Delete}
+use Rattle.ss_query.specs.declared.requests.Request.TheVariants.{Info, DeleteAll, List as ListOf, Post}
+use Rattle.ss_query.specs.declared.requests.Request.TheVariants.{DeleteCollection, DeleteIds, Get, Put, Delete}
 use Rattle.ss_query.specs.declared.replies.Picked.{Picked}
 use Rattle.ss_query.specs.declared.replies.Body.{Body}
-use Rattle.ss_query.specs.declared.replies.Body.TheVariants.{Times, Counts as CountsBody, Usage as UsageBody, Quota as QuotaBody, Limits, Gone, Ids, Rows, Posted, Staged, One, At, Empty}
+use Rattle.ss_query.specs.declared.replies.Body.TheVariants.{Times, Counts as CountsBody, Usage as UsageBody}
+use Rattle.ss_query.specs.declared.replies.Body.TheVariants.{Quota as QuotaBody, Limits, Gone, Ids, Rows, Posted}
+use Rattle.ss_query.specs.declared.replies.Body.TheVariants.{Staged, One, At, Empty}
 use Rattle.ss_query.specs.Answer.{answer}
 
 -- names upwards by bytes
@@ -50,8 +53,8 @@ post_body account records (Append number) time = Staged number (ids_of records.p
 post_body account records (Commit number) time = Posted time (ids_of records.parts) (first_failures records.failed)
 
 -- the answer to a query of a collection, which is empty where the collection is absent
-abbrev pub picked : Plain → List ℕ → Query → Picked
-picked account collection query = answer (rows_of collection account.rows) query
+abbrev pub picked_rows : Plain → List ℕ → Query → Picked
+picked_rows account collection query = answer (rows_of collection account.rows) query
 
 -- the rows, or their ids alone
 abbrev pub rows_body : Bool → List Row → Body
@@ -62,7 +65,7 @@ rows_body full rows = if full then Rows rows else Ids (map (λ row. row.id) rows
 abbrev pub body_of : Plain → Request → ℕ → Body
 body_of account (Info what cond) time = info_body account what
 body_of account (DeleteAll cond) time = Gone time
-body_of account (ListOf collection query cond) time = rows_body query.full (picked account collection query).rows
+body_of account (ListOf collection query cond) time = rows_body query.full (picked_rows account collection query).rows
 body_of account (Post collection records mode cond) time = post_body account records mode time
 body_of account (DeleteCollection collection cond) time = Gone time
 body_of account (DeleteIds collection ids cond) time = Gone time
@@ -84,10 +87,10 @@ ok_status _ = 200
 
 -- the page of a list: how many rows it has, and where the next begins
 abbrev pub count_of : Plain → Request → Option ℕ
-count_of account (ListOf collection query cond) = Some (length (picked account collection query).rows)
+count_of account (ListOf collection query cond) = Some (length (picked_rows account collection query).rows)
 count_of account _ = None
 
 -- where the next page of a list begins
 abbrev pub next_of : Plain → Request → Option ℕ
-next_of account (ListOf collection query cond) = (picked account collection query).next
+next_of account (ListOf collection query cond) = (picked_rows account collection query).next
 next_of account _ = None

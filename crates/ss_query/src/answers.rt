@@ -4,7 +4,8 @@ ghost use Rattle.std.specs.Prelude.{◌≡◌, IfOk, true, nat_lt, map, filter, 
 ghost use Rattle.std.specs.Option.{option_map_or};
 ghost use Rattle.ss_bso.specs.Write.{is_among};
 ghost use Rattle.ss_text.specs.Texts.{sorted};
-ghost use Rattle.ss_query.specs.Answer.{is_asked, row_cmp, comes_before, limited, next_offset, answer_of, answer, picked_ids};
+ghost use Rattle.ss_query.specs.Answer.{is_asked, row_cmp, comes_before, limited_list, next_offset, answer_of, answer};
+ghost use Rattle.ss_query.specs.Answer.{picked_ids};
 
 use crate::replies::{Picked, PickedIds};
 use crate::requests::{Query, Sort};
@@ -82,7 +83,7 @@ fn in_order(mut found: Vec<&Row>, sort: Sort) -> Result<Vec<&Row>, AllocError>
 
 /// What is left after the offset, up to the limit.
 fn page<'a, 'b>(ordered: &'b [&'a Row], offset: u32, limit: Option<u32>) -> &'b [&'a Row]
-    ensures { result.now ≡ limited limit (drop offset ordered.now) }
+    ensures { result.now ≡ limited_list limit (drop offset ordered.now) }
 {
     let begin = ordered.len().min(offset as usize);
     let rest = &ordered[begin..];

@@ -4,7 +4,8 @@ ghost use Rattle.std.specs.Prelude.{◌≡◌, ◌==◌, IfOk, Some, None, if◌
 ghost use Rattle.std.specs.List.{list_all, slice_split};
 ghost use Rattle.ss_text.specs.Names.{is_id};
 ghost use Rattle.ss_text.specs.Numbers.{number_of};
-ghost use Rattle.ss_query.specs.Parameters.{parameter, ids_in, stamp_in, limit_in, offset_in, sort_in, optional, or_default, ids_of_text, query_of_text, Gives};
+ghost use Rattle.ss_query.specs.Parameters.{parameter, ids_in, stamp_in, limit_in, offset_in, sort_in, optional};
+ghost use Rattle.ss_query.specs.Parameters.{or_default, ids_of_text, query_of_text, Gives};
 ghost use Rattle.ss_query.specs.declared.requests.Sort.TheVariants as order;
 ghost use Rattle.ss_query.specs.declared.queries.QueryFault.TheVariants.{Memory};
 

@@ -1,12 +1,15 @@
 -- The plain text of a value is marked into its compact text.
-use Rattle.std.proofs.Common.{◌≡◌, ℕ, ◌<◌, List, [], ◌∷◌, ◌++◌, length, Bool, true, false, cond, ◌&&◌, ◌==◌, refl, sym, ap, ap₂, ◌∙◌, lit<, append_assoc, append-nil}
+use Rattle.std.proofs.Common.{◌≡◌, ℕ, ◌<◌, List, [], ◌∷◌, ◌++◌, length, Bool, true, false, cond, ◌&&◌, ◌==◌, refl, sym}
+use Rattle.std.proofs.Common.{ap, ap₂, ◌∙◌, lit<, append_assoc, append-nil}
 use Rattle.std.proofs.lemmas.Bool.{and_parts}
 use Rattle.std.specs.List.{flat_map, list_all}
 use Rattle.json.specs.Print.{quoted, escape}
 use Rattle.json.specs.Word.{after_number}
-use Rattle.serde_json.specs.Data.{Data, null, boolean, number, string, array, object, Items, no_items, item, Members, no_members, member}
+use Rattle.serde_json.specs.Data.{Data, null, boolean, number, string, array, object, Items, no_items, item, Members}
+use Rattle.serde_json.specs.Data.{no_members, member}
 use Rattle.serde_json.specs.Written.{compact_text, items_text, members_text, number_text}
-use Rattle.ss_text.specs.Decimals.{Piece, run, text, byte, outside, pieces, spelled, is_number_byte, is_decimal, marked}
+use Rattle.ss_text.specs.Decimals.{Piece, run, text, byte, outside, pieces, bytes_of_piece, is_number_byte, is_decimal}
+use Rattle.ss_text.specs.Decimals.{marked}
 use Rattle.ss_text.proofs.Pieces.{begins_run, Cut, recut}
 use Rattle.ss_text.proofs.Marks.{all_marked, all_unmarked, marked-unmarked}
 use Rattle.ss_text.proofs.Printed.{escape_raw}
@@ -39,7 +42,7 @@ abbrev mutual
   members_cuts later no_members ps = byte 125 ∷ ps
   members_cuts later (member k d ms) ps = lead later (text (escape k) ∷ byte 58 ∷ cuts d (members_cuts true ms ps))
 
-lead_spelled : (later : Bool) (ps : List Piece) (t : List ℕ) → flat_map spelled ps ≡ t → flat_map spelled (lead later ps) ≡ cond later (44 ∷ []) [] ++ t
+lead_spelled : (later : Bool) (ps : List Piece) (t : List ℕ) → flat_map bytes_of_piece ps ≡ t → flat_map bytes_of_piece (lead later ps) ≡ cond later (44 ∷ []) [] ++ t
 lead_spelled true ps t e = ap (λ l. 44 ∷ l) e
 lead_spelled false ps t e = e
 
@@ -48,7 +51,7 @@ lead_append true a b = refl
 lead_append false a b = refl
 
 mutual
-  cuts_spelled : (d : Data) (ps : List Piece) → flat_map spelled (cuts d ps) ≡ compact_text d ++ flat_map spelled ps
+  cuts_spelled : (d : Data) (ps : List Piece) → flat_map bytes_of_piece (cuts d ps) ≡ compact_text d ++ flat_map bytes_of_piece ps
   cuts_spelled null ps = refl
   cuts_spelled (boolean true) ps = refl
   cuts_spelled (boolean false) ps = refl
@@ -57,21 +60,21 @@ mutual
   cuts_spelled (array ds) ps = ap (λ t. 91 ∷ t) (items_spelled false ds ps)
   cuts_spelled (object ms) ps = ap (λ t. 123 ∷ t) (members_spelled false ms ps)
 
-  items_spelled : (later : Bool) (ds : Items) (ps : List Piece) → flat_map spelled (items_cuts later ds ps) ≡ items_text later ds ++ flat_map spelled ps
+  items_spelled : (later : Bool) (ds : Items) (ps : List Piece) → flat_map bytes_of_piece (items_cuts later ds ps) ≡ items_text later ds ++ flat_map bytes_of_piece ps
   items_spelled later no_items ps = refl
   items_spelled later (item d ds) ps =
-      lead_spelled later (cuts d (items_cuts true ds ps)) ((compact_text d ++ items_text true ds) ++ flat_map spelled ps)
-      (cuts_spelled d (items_cuts true ds ps) ∙ ap (λ t. compact_text d ++ t) (items_spelled true ds ps) ∙ sym (append_assoc (compact_text d) (items_text true ds) (flat_map spelled ps)))
-      ∙ lead_append later (compact_text d ++ items_text true ds) (flat_map spelled ps)
+      lead_spelled later (cuts d (items_cuts true ds ps)) ((compact_text d ++ items_text true ds) ++ flat_map bytes_of_piece ps)
+      (cuts_spelled d (items_cuts true ds ps) ∙ ap (λ t. compact_text d ++ t) (items_spelled true ds ps) ∙ sym (append_assoc (compact_text d) (items_text true ds) (flat_map bytes_of_piece ps)))
+      ∙ lead_append later (compact_text d ++ items_text true ds) (flat_map bytes_of_piece ps)
 
-  members_spelled : (later : Bool) (ms : Members) (ps : List Piece) → flat_map spelled (members_cuts later ms ps) ≡ members_text later ms ++ flat_map spelled ps
+  members_spelled : (later : Bool) (ms : Members) (ps : List Piece) → flat_map bytes_of_piece (members_cuts later ms ps) ≡ members_text later ms ++ flat_map bytes_of_piece ps
   members_spelled later no_members ps = refl
   members_spelled later (member k d ms) ps =
-      lead_spelled later (text (escape k) ∷ byte 58 ∷ cuts d (members_cuts true ms ps)) ((quoted k ++ 58 ∷ (compact_text d ++ members_text true ms)) ++ flat_map spelled ps)
+      lead_spelled later (text (escape k) ∷ byte 58 ∷ cuts d (members_cuts true ms ps)) ((quoted k ++ 58 ∷ (compact_text d ++ members_text true ms)) ++ flat_map bytes_of_piece ps)
       (ap (λ t. quoted k ++ 58 ∷ t)
-      (cuts_spelled d (members_cuts true ms ps) ∙ ap (λ t. compact_text d ++ t) (members_spelled true ms ps) ∙ sym (append_assoc (compact_text d) (members_text true ms) (flat_map spelled ps)))
-      ∙ sym (append_assoc (quoted k) (58 ∷ (compact_text d ++ members_text true ms)) (flat_map spelled ps)))
-      ∙ lead_append later (quoted k ++ 58 ∷ (compact_text d ++ members_text true ms)) (flat_map spelled ps)
+      (cuts_spelled d (members_cuts true ms ps) ∙ ap (λ t. compact_text d ++ t) (members_spelled true ms ps) ∙ sym (append_assoc (compact_text d) (members_text true ms) (flat_map bytes_of_piece ps)))
+      ∙ sym (append_assoc (quoted k) (58 ∷ (compact_text d ++ members_text true ms)) (flat_map bytes_of_piece ps)))
+      ∙ lead_append later (quoted k ++ 58 ∷ (compact_text d ++ members_text true ms)) (flat_map bytes_of_piece ps)
 
 -- ---- they are pieces of a text, unmarked too, and marked again they are the same
 
@@ -159,4 +162,4 @@ plain_cuts d h = ap (pieces outside) (sym (cuts_spelled d [] ∙ append-nil (com
 pub marked_plain : (d : Data) → is_plain d ≡ true → marked (plain_text d) ≡ compact_text d
 marked_plain d h =
     let ok = value_ok d h [] nothing_ok in
-    ap (λ ps. marked (flat_map spelled (all_unmarked ps))) (plain_cuts d h) ∙ marked-unmarked (cuts d []) ok.cut ok.back ∙ cuts_spelled d [] ∙ append-nil (compact_text d)
+    ap (λ ps. marked (flat_map bytes_of_piece (all_unmarked ps))) (plain_cuts d h) ∙ marked-unmarked (cuts d []) ok.cut ok.back ∙ cuts_spelled d [] ∙ append-nil (compact_text d)

@@ -1,11 +1,15 @@
 -- The parts of a reading that is an item.
-use Rattle.std.proofs.Common.{is_some, ◌≡◌, ◌≢◌, ℕ, ◌≤◌, List, [], ◌∷◌, Bool, true, false, not, cond, ◌&&◌, ◌||◌, nat_le, refl, sym, ap, ap₂, ◌∙◌, subst, arith, Option, Some, None, option_map, option_and_then, unwrap_or, bytes_eq, codes, filter, string_bytes, Less, Equal, Greater, nat_cmp, Ordering}
+use Rattle.std.proofs.Common.{is_some, ◌≡◌, ◌≢◌, ℕ, ◌≤◌, List, [], ◌∷◌, Bool, true, false, not, cond, ◌&&◌, ◌||◌}
+use Rattle.std.proofs.Common.{nat_le, refl, sym, ap, ap₂, ◌∙◌, subst, arith, Option, Some, None, option_map}
+use Rattle.std.proofs.Common.{option_and_then, unwrap_or, bytes_eq, codes, filter, string_bytes, Less, Equal, Greater}
+use Rattle.std.proofs.Common.{nat_cmp, Ordering}
 use Rattle.std.specs.Ordering.{match_ordering, is_eq}
 use Rattle.std.specs.Cmp.Lexicographic.{slice_cmp, nat_list_cmp_total}
 use Rattle.std.proofs.lemmas.Bool.{and_parts, and_from, false≢true, leb-true}
 use Rattle.std.proofs.lemmas.Map.Text.{is_eq-slice_cmp}
 use Rattle.ss_text.specs.Decimals.{marked}
-use Rattle.serde_json.specs.Data.{unsigned, negative, float, Data, null, boolean, number, string, array, object, Items, no_items, item, Members, no_members, member, depth, members_depth}
+use Rattle.serde_json.specs.Data.{unsigned, negative, float, Data, null, boolean, number, string, array, object, Items}
+use Rattle.serde_json.specs.Data.{no_items, item, Members, no_members, member, depth, members_depth}
 use Rattle.serde_json.specs.Read.{read}
 use Rattle.serde_json.specs.Find.{get_member, as_object}
 use Rattle.serde_json.specs.Written.{has_float, items_have_float, members_have_float}
@@ -20,7 +24,8 @@ use Rattle.ss_record.specs.Ids.{has, places, roots}
 use Rattle.ss_record.specs.Kinds.{is_folder, kind_of}
 use Rattle.ss_record.specs.Payloads.{is_json, without, lacks, is_string, is_true, payload_members}
 use Rattle.ss_record.specs.Records.{parentid_of, children_of, item_of, members_reading, reading}
-use Rattle.ss_record.specs.Marks.{said_text, string_of, is_plain_number, is_plain, items_plain, members_plain, plain_text}
+use Rattle.ss_record.specs.Marks.{said_text, string_of, is_plain_number, is_plain, items_plain, members_plain}
+use Rattle.ss_record.specs.Marks.{plain_text}
 use Rattle.ss_record.proofs.Sorted.{Below, MembersSorted}
 use Rattle.ss_text.proofs.Basics.{same_text, and_then_some}
 

@@ -1,5 +1,7 @@
 -- An item passes the test exactly where it is fit.
-use Rattle.std.proofs.Common.{is_some, ◌≡◌, ◌≢◌, ℕ, ◌≤◌, List, [], ◌∷◌, Bool, true, false, not, cond, ◌&&◌, ◌||◌, inr, refl, sym, ap, ◌∙◌, arith, Option, Some, None, option_map, option_and_then, unwrap_or, bytes_eq, codes, ◌↔◌, inl}
+use Rattle.std.proofs.Common.{is_some, ◌≡◌, ◌≢◌, ℕ, ◌≤◌, List, [], ◌∷◌, Bool, true, false, not, cond, ◌&&◌, ◌||◌, inr}
+use Rattle.std.proofs.Common.{refl, sym, ap, ◌∙◌, arith, Option, Some, None, option_map, option_and_then, unwrap_or}
+use Rattle.std.proofs.Common.{bytes_eq, codes, ◌↔◌, inl}
 use Rattle.std.proofs.lemmas.Bool.{and_parts, and_from, false≢true, not-true}
 use Rattle.serde_json.specs.Data.{string, array, object, Members, no_members, put, depth, items_depth, members_depth}
 use Rattle.serde_json.specs.Read.{read}
@@ -15,15 +17,19 @@ use Rattle.ss_text.specs.Decimals.{pieces, is_decimal, marked}
 use Rattle.ss_record.specs.Ids.{has, places, roots}
 use Rattle.ss_record.specs.Kinds.{is_folder, kind_name}
 use Rattle.ss_record.specs.Payloads.{without, lacks, is_true, payload_members}
-use Rattle.ss_record.specs.Records.{children_of, item_of, members_reading, reading, string_items, record_members, record_of, ReadsBack, IsFit}
+use Rattle.ss_record.specs.Records.{children_of, item_of, members_reading, reading, string_items, record_members}
+use Rattle.ss_record.specs.Records.{record_of, ReadsBack, IsFit}
 use Rattle.ss_record.specs.Marks.{marked_string, said_text, is_string_or_decimal, members_plain, plain_text}
 use Rattle.ss_record.proofs.Strings.{said_marked, string_plain, name_plain, kind_said}
 use Rattle.ss_record.proofs.IdLists.{bytes_eq-refl, bytes_eq-apart}
 use Rattle.ss_record.proofs.OfId.{kind_of-name}
 use Rattle.ss_record.proofs.Sorted.{IsSorted, MembersSorted, Sorted-put, Sorted-read}
 use Rattle.ss_record.specs.declared.kinds.Kind.TheVariants.{Bookmark, Query, Folder, Livemark, Separator}
-use Rattle.ss_record.proofs.Exact.{float_members, payload_plain, payload_parts, item_parts, members_parts, reading_parts, without_lacks, without_plain, without_depth, without_sorted, get-without, deleted_kept}
-use Rattle.ss_record.proofs.Unmarked.{lacks-without, without-put, plain-put, depth-put, plain_strings, flat_strings, strings_back, payload_back}
+use Rattle.ss_record.proofs.Exact.{float_members, payload_plain, payload_parts, item_parts, members_parts}
+use Rattle.ss_record.proofs.Exact.{reading_parts, without_lacks, without_plain, without_depth, without_sorted}
+use Rattle.ss_record.proofs.Exact.{get-without, deleted_kept}
+use Rattle.ss_record.proofs.Unmarked.{lacks-without, without-put, plain-put, depth-put, plain_strings, flat_strings}
+use Rattle.ss_record.proofs.Unmarked.{strings_back, payload_back}
 use Rattle.ss_text.proofs.Basics.{same_text, bytes_eq-same}
 
 -- ---- the record of an item with such a content

@@ -1,8 +1,9 @@
 -- Lists of ids: membership after a filter, in first appearances, in order; walks.
-use Rattle.std.proofs.Common.{◌≡◌, ◌≢◌, ℕ, List, [], ◌∷◌, ◌++◌, Bool, true, false, not, cond, ◌&&◌, ◌||◌, refl, sym, ap, ap₂, ◌∙◌, filter, bytes_eq}
+use Rattle.std.proofs.Common.{◌≡◌, ◌≢◌, ℕ, List, [], ◌∷◌, ◌++◌, Bool, true, false, not, cond, ◌&&◌, ◌||◌, refl, sym, ap}
+use Rattle.std.proofs.Common.{ap₂, ◌∙◌, filter, bytes_eq}
 use Rattle.std.proofs.lemmas.Bool.{or_parts}
 use Rattle.std.proofs.lemmas.Slice.Eq.{bytes_eq-Decides}
-use Rattle.ss_text.specs.Texts.{placed}
+use Rattle.ss_text.specs.Texts.{list_with}
 use Rattle.ss_record.specs.Ids.{has, Apart, firsts, before, by_id}
 use Rattle.ss_text.proofs.Basics.{and_false, bytes_eq-sym, same_text}
 
@@ -75,7 +76,7 @@ has-firsts x (y ∷ ys) =
     go true = refl
     go false = and-true (has x ys)
 
-pub has-placed : (x y : List ℕ) (ys : List (List ℕ)) → has x (placed before y ys) ≡ (bytes_eq x y || has x ys)
+pub has-placed : (x y : List ℕ) (ys : List (List ℕ)) → has x (list_with before y ys) ≡ (bytes_eq x y || has x ys)
 has-placed x y [] = has-cons x y []
 has-placed x y (z ∷ zs) = go (before z y) (has-placed x y zs)
   where
@@ -85,8 +86,8 @@ has-placed x y (z ∷ zs) = go (before z y) (has-placed x y zs)
     swap false true c = refl
     swap false false c = refl
 
-    go : (b : Bool) → has x (placed before y zs) ≡ (bytes_eq x y || has x zs) → has x (cond b (z ∷ placed before y zs) (y ∷ z ∷ zs)) ≡ (bytes_eq x y || has x (z ∷ zs))
-    go true ih = has-cons x z (placed before y zs) ∙ (ap (λ b. bytes_eq x z || b) ih ∙ (swap (bytes_eq x z) (bytes_eq x y) (has x zs) ∙ ap (λ b. bytes_eq x y || b) (sym (has-cons x z zs))))
+    go : (b : Bool) → has x (list_with before y zs) ≡ (bytes_eq x y || has x zs) → has x (cond b (z ∷ list_with before y zs) (y ∷ z ∷ zs)) ≡ (bytes_eq x y || has x (z ∷ zs))
+    go true ih = has-cons x z (list_with before y zs) ∙ (ap (λ b. bytes_eq x z || b) ih ∙ (swap (bytes_eq x z) (bytes_eq x y) (has x zs) ∙ ap (λ b. bytes_eq x y || b) (sym (has-cons x z zs))))
     go false ih = has-cons x y (z ∷ zs)
 
 pub has-by_id : (x : List ℕ) (ys : List (List ℕ)) → has x (by_id ys) ≡ has x ys
@@ -126,15 +127,15 @@ Apart-firsts (x ∷ xs) =
     (has-filter (λ z. not (bytes_eq z x)) x (firsts xs) ∙ (ap (λ b. has x (firsts xs) && not b) (bytes_eq-refl x) ∙ and_false (has x (firsts xs))))
     (Apart-filter (λ z. not (bytes_eq z x)) (firsts xs) (Apart-firsts xs))
 
-pub Apart-placed : (x : List ℕ) (xs : List (List ℕ)) → has x xs ≡ false → Apart xs → Apart (placed before x xs)
+pub Apart-placed : (x : List ℕ) (xs : List (List ℕ)) → has x xs ≡ false → Apart xs → Apart (list_with before x xs)
 Apart-placed x [] h a = Apart-cons x [] h a
 Apart-placed x (y ∷ ys) h a = go (before y x) (Apart-placed x ys parts.1 (Apart-tail y ys a))
   where
     parts : (bytes_eq x y ≡ false) × (has x ys ≡ false)
     parts = or_parts (bytes_eq x y) (has x ys) (sym (has-cons x y ys) ∙ h)
 
-    go : (b : Bool) → Apart (placed before x ys) → Apart (cond b (y ∷ placed before x ys) (x ∷ y ∷ ys))
-    go true ih = Apart-cons y (placed before x ys) (has-placed y x ys ∙ (ap₂ (λ b c. b || c) (bytes_eq-sym y x ∙ parts.0) (Apart-head y ys a))) ih
+    go : (b : Bool) → Apart (list_with before x ys) → Apart (cond b (y ∷ list_with before x ys) (x ∷ y ∷ ys))
+    go true ih = Apart-cons y (list_with before x ys) (has-placed y x ys ∙ (ap₂ (λ b c. b || c) (bytes_eq-sym y x ∙ parts.0) (Apart-head y ys a))) ih
     go false ih = Apart-cons x (y ∷ ys) h a
 
 pub Apart-by_id : (xs : List (List ℕ)) → Apart xs → Apart (by_id xs)

@@ -10,7 +10,8 @@ use Rattle.ss_record.specs.Kinds.{kind_of}
 use Rattle.ss_record.specs.Marks.{marked_string, said_text, is_string_or_decimal, is_plain_number}
 use Rattle.ss_record.specs.Payloads.{payload_members}
 use Rattle.ss_record.specs.Items.{names_of, are_content, has_content, is_fit}
-use Rattle.ss_record.specs.Records.{tombstone_members, tombstone_of, item_of, members_reading, reading, record_members, record_of}
+use Rattle.ss_record.specs.Records.{tombstone_members, tombstone_of, item_of, members_reading, reading, record_members}
+use Rattle.ss_record.specs.Records.{record_of}
 
 a_decimal_is_kept : reading (codes "b1") (codes "{\"id\":\"b1\",\"w\":1.50,\"type\":\"bookmark\"}") ≡ Item (record { id = codes "b1"; kind = Bookmark; content = codes "{\"w\":1.50}" }) None []
 unfolding reading members_reading item_of kind_of names_of payload_members said_text is_string_or_decimal is_plain_number pieces is_decimal places roots has digits serde_json_on_literals

@@ -1,5 +1,7 @@
 -- The plain text of a plain value is JSON.
-use Rattle.std.proofs.Common.{◌≡◌, ℕ, ◌≤◌, max, List, [], ◌∷◌, ◌++◌, Bool, true, false, cond, ◌&&◌, ◌||◌, refl, sym, ap, ap₂, ◌∙◌, subst, arith, suc, append_assoc, append-nil, Option, Some, None, is_some, unwrap_or, drop}
+use Rattle.std.proofs.Common.{◌≡◌, ℕ, ◌≤◌, max, List, [], ◌∷◌, ◌++◌, Bool, true, false, cond, ◌&&◌, ◌||◌, refl, sym, ap}
+use Rattle.std.proofs.Common.{ap₂, ◌∙◌, subst, arith, suc, append_assoc, append-nil, Option, Some, None, is_some}
+use Rattle.std.proofs.Common.{unwrap_or, drop}
 use Rattle.std.specs.Bool.{⊤}
 use Rattle.std.specs.List.{flat_map}
 use Rattle.std.proofs.lemmas.Bool.{and_parts, false≢true}
@@ -10,9 +12,10 @@ use Rattle.json.specs.Tree as tree
 use Rattle.json.specs.Tree.{json_tokens, items_tokens, members_tokens}
 use Rattle.json.specs.Print.{quoted, escape, token_text, print, print_from, IsNumber}
 use Rattle.json.proofs.Printed.Trees.{document-print}
-use Rattle.serde_json.specs.Data.{Data, null, boolean, number, string, array, object, Items, no_items, item, Members, no_members, member, depth, items_depth, members_depth}
+use Rattle.serde_json.specs.Data.{Data, null, boolean, number, string, array, object, Items, no_items, item, Members}
+use Rattle.serde_json.specs.Data.{no_members, member, depth, items_depth, members_depth}
 use Rattle.serde_json.specs.Written.{number_text}
-use Rattle.ss_text.specs.Decimals.{Piece, text, spelled, is_decimal, unmarked_piece}
+use Rattle.ss_text.specs.Decimals.{Piece, text, bytes_of_piece, is_decimal, unmarked_piece}
 use Rattle.ss_text.proofs.Marks.{all_unmarked}
 use Rattle.ss_record.specs.Marks.{said_text, is_string_or_decimal, is_plain, items_plain, members_plain, plain_text}
 use Rattle.ss_record.specs.Payloads.{is_json}
@@ -94,7 +97,7 @@ mutual
 
 -- the text of pieces with their marks undone
 abbrev undone : List Piece → List ℕ
-undone ps = flat_map spelled (all_unmarked ps)
+undone ps = flat_map bytes_of_piece (all_unmarked ps)
 
 told_print : (later : Bool) (o : Option (List ℕ)) (s : List ℕ) (ts : List Token) → print_from later (json_tokens (told_json o s) ++ ts) ≡ cond later (44 ∷ []) [] ++ (token_text (told_token o s) ++ print_from true ts)
 unfolding print_from
@@ -116,8 +119,8 @@ text_undone later s ts ps h e =
     led false = refl
 
 -- a name is undone into its key, whose colon is a piece of its own
-name_undone : (o : Option (List ℕ)) (k : List ℕ) (a b : List ℕ) → is_some o ≡ true → spelled (unmarked_piece (text (escape k))) ≡ token_text (told_token o k) → a ≡ b
-    → (quoted (told_name o) ++ 58 ∷ []) ++ a ≡ spelled (unmarked_piece (text (escape k))) ++ 58 ∷ b
+name_undone : (o : Option (List ℕ)) (k : List ℕ) (a b : List ℕ) → is_some o ≡ true → bytes_of_piece (unmarked_piece (text (escape k))) ≡ token_text (told_token o k) → a ≡ b
+    → (quoted (told_name o) ++ 58 ∷ []) ++ a ≡ bytes_of_piece (unmarked_piece (text (escape k))) ++ 58 ∷ b
 name_undone None k a b h told e = absurd (false≢true h)
 name_undone (Some t) k a b h told e = append_assoc (quoted t) (58 ∷ []) a ∙ ap₂ (λ x y. x ++ 58 ∷ y) (sym told) e
 

@@ -1,12 +1,15 @@
 -- Strings of marked texts: what they say, and how they are written.
-use Rattle.std.proofs.Common.{◌≡◌, ℕ, zero, suc, ◌<◌, ◌≤◌, List, [], ◌∷◌, ◌++◌, length, take, drop, Bool, true, false, not, cond, ◌&&◌, ◌||◌, ◌==◌, ◌⊎◌, inl, inr, refl, sym, ap, ap₂, ◌∙◌, subst, arith, Option, Some, None, is_some, bytes_eq}
+use Rattle.std.proofs.Common.{◌≡◌, ℕ, zero, suc, ◌<◌, ◌≤◌, List, [], ◌∷◌, ◌++◌, length, take, drop, Bool, true, false}
+use Rattle.std.proofs.Common.{not, cond, ◌&&◌, ◌||◌, ◌==◌, ◌⊎◌, inl, inr, refl, sym, ap, ap₂, ◌∙◌, subst, arith, Option}
+use Rattle.std.proofs.Common.{Some, None, is_some, bytes_eq}
 use Rattle.std.proofs.lemmas.Bool.{and_parts, false≢true, true≢false, eqb-true, cases_eq, cases_lt, ne_eqb}
 use Rattle.std.specs.List.{list_all}
 use Rattle.json.specs.Print.{escape_byte, escape, token_text, IsNumber}
 use Rattle.json.specs.Token.{Token}
 use Rattle.json.specs.Word.{after_number}
 use Rattle.json.proofs.Printed.Strings.{escape_byte_plain}
-use Rattle.ss_text.specs.Decimals.{Piece, run, text, spelled, is_number_byte, is_all, is_inexact, is_decimal, escape_mark, begins_marked as raw_marked, marked_piece, unmarked_piece}
+use Rattle.ss_text.specs.Decimals.{Piece, run, text, bytes_of_piece, is_number_byte, is_all, is_inexact, is_decimal}
+use Rattle.ss_text.specs.Decimals.{escape_mark, begins_marked as raw_marked, marked_piece, unmarked_piece}
 use Rattle.ss_text.proofs.Pieces.{begins_run, Cut}
 use Rattle.ss_text.proofs.Marks.{run_unmarked}
 use Rattle.ss_text.proofs.Printed.{escape_raw}
@@ -145,7 +148,7 @@ told_token (Some t) s = Token.string t
 pub record Unmarks (s : List ℕ) : Type 0 where
   pub cut : (ps : List Piece) → begins_run ps ≡ false → Cut ps → Cut (unmarked_piece (text (escape s)) ∷ ps)
   pub back : marked_piece (unmarked_piece (text (escape s))) ≡ text (escape s)
-  pub told : spelled (unmarked_piece (text (escape s))) ≡ token_text (told_token (said_text s) s)
+  pub told : bytes_of_piece (unmarked_piece (text (escape s))) ≡ token_text (told_token (said_text s) s)
 
 as_it_is : (s : List ℕ) → raw_marked (escape s) ≡ false → said_text s ≡ Some s → Unmarks s
 as_it_is s e said =
@@ -153,7 +156,7 @@ as_it_is s e said =
     record {
       cut = λ ps h c. subst (λ p. Cut (p ∷ ps)) (sym same) (escape_raw s, c);
       back = ap marked_piece same ∙ ap (λ b. cond b (text (escape_mark ++ escape s)) (text (escape s))) e;
-      told = ap spelled same ∙ ap (λ o. token_text (told_token o s)) (sym said);
+      told = ap bytes_of_piece same ∙ ap (λ o. token_text (told_token o s)) (sym said);
     }
 
 -- behind the mark: another mark, or a decimal
@@ -164,7 +167,7 @@ marked_text s e begins =
     record {
       cut = λ ps h c. subst (λ p. Cut (p ∷ ps)) (sym same) (escape_raw s, c);
       back = ap marked_piece same ∙ ap (λ b. cond b (text (escape_mark ++ escape s)) (text (escape s))) e;
-      told = ap spelled same ∙ ap (λ b. token_text (told_token (cond b (Some s) None) (1 ∷ s))) (sym begins);
+      told = ap bytes_of_piece same ∙ ap (λ b. token_text (told_token (cond b (Some s) None) (1 ∷ s))) (sym begins);
     }
 
 marked_number : (s : List ℕ) → is_decimal s ≡ true → begins_marked s ≡ false → Unmarks (1 ∷ s)
@@ -178,7 +181,7 @@ marked_number s d begins =
     record {
       cut = λ ps h c. subst (λ p. Cut (p ∷ ps)) (sym same) (bytes, some_front s number, h, c);
       back = ap marked_piece same ∙ ap (λ b. cond b (text (escape_mark ++ s)) (run s)) d ∙ ap (λ t. text (escape_mark ++ t)) (sym written);
-      told = ap spelled same ∙ ap (λ b. token_text (told_token (cond b (Some s) None) (1 ∷ s))) (sym begins);
+      told = ap bytes_of_piece same ∙ ap (λ b. token_text (told_token (cond b (Some s) None) (1 ∷ s))) (sym begins);
     }
 
 marked_first : (s : List ℕ) → begins_marked s ≡ true → raw_marked (escape s) ≡ true

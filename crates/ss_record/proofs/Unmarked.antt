@@ -1,5 +1,6 @@
 -- A plain object is read back from its plain text.
-use Rattle.std.proofs.Common.{◌≡◌, ℕ, ◌≤◌, List, [], ◌∷◌, true, not, cond, ◌&&◌, nat_le, refl, sym, ap, ap₂, ◌∙◌, arith, Some, None, is_some, option_map, option_and_then, Ordering, Less, Equal, Greater, nat_cmp}
+use Rattle.std.proofs.Common.{◌≡◌, ℕ, ◌≤◌, List, [], ◌∷◌, true, not, cond, ◌&&◌, nat_le, refl, sym, ap, ap₂, ◌∙◌, arith}
+use Rattle.std.proofs.Common.{Some, None, is_some, option_map, option_and_then, Ordering, Less, Equal, Greater, nat_cmp}
 use Rattle.std.specs.Ordering.{match_ordering, is_eq}
 use Rattle.std.specs.Cmp.Lexicographic.{slice_cmp}
 use Rattle.std.proofs.lemmas.Bool.{and_parts, and_from, le-leb, not-true}

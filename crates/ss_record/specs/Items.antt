@@ -1,5 +1,6 @@
 -- Bookmark items without their places, and which are fit.
-use Rattle.std.specs.Prelude.{◌&&◌, ◌||◌, ℕ, List, [], ◌∷◌, Bool, false, not, if◌then◌else◌, option_map, unwrap_or, codes, bytes_eq}
+use Rattle.std.specs.Prelude.{◌&&◌, ◌||◌, ℕ, List, [], ◌∷◌, Bool, false, not, if◌then◌else◌, option_map, unwrap_or}
+use Rattle.std.specs.Prelude.{codes, bytes_eq}
 use Rattle.serde_json.specs.Data.{object, Members}
 use Rattle.serde_json.specs.Find.{get_member}
 use Rattle.ss_record.specs.declared.kinds.Kind.{Kind}

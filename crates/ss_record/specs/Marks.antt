@@ -1,11 +1,13 @@
 -- Values as they are read from a marked text: a number with a point, an exponent or more than 18 digits, or `-0`, is a
 -- string of U+0001 and its characters, and a string that begins with U+0001 has one more in front.
-use Rattle.std.specs.Prelude.{◌&&◌, ◌||◌, ◌==◌, nat_lt, pos, negsuc, ℕ, ℤ, List, [], ◌∷◌, drop, Bool, true, false, if◌then◌else◌, Option, Some, None, option_and_then, is_some}
+use Rattle.std.specs.Prelude.{◌&&◌, ◌||◌, ◌==◌, nat_lt, pos, negsuc, ℕ, ℤ, List, [], ◌∷◌, drop, Bool, true, false}
+use Rattle.std.specs.Prelude.{if◌then◌else◌, Option, Some, None, option_and_then, is_some}
 use Rattle.std.specs.Int.Signed.{lt_z}
-use Rattle.serde_json.specs.Data.{Num, Data, null, boolean, number, string, array, object, Items, no_items, item, Members, no_members, member}
+use Rattle.serde_json.specs.Data.{Num, Data, null, boolean, number, string, array, object, Items, no_items, item}
+use Rattle.serde_json.specs.Data.{Members, no_members, member}
 use Rattle.serde_json.specs.Find.{as_str, as_u64, as_i64}
 use Rattle.serde_json.specs.Written.{compact_text}
-use Rattle.ss_text.specs.Decimals.{is_decimal, unmarked}
+use Rattle.ss_text.specs.Decimals.{is_decimal, unmarked_text}
 
 -- ---- strings
 
@@ -62,4 +64,4 @@ abbrev mutual
 
 -- the compact text, in which each marked number stands with the characters that it had
 abbrev pub plain_text : Data → List ℕ
-plain_text d = unmarked (compact_text d)
+plain_text d = unmarked_text (compact_text d)

@@ -1,7 +1,9 @@
 -- Payloads as JSON: which are read, and what stands in their members.
-use Rattle.std.specs.Prelude.{◌&&◌, nat_le, ℕ, List, [], ◌∷◌, Bool, true, false, not, if◌then◌else◌, Option, Some, None, option_map, option_and_then, unwrap_or, is_some, bytes_eq}
+use Rattle.std.specs.Prelude.{◌&&◌, nat_le, ℕ, List, [], ◌∷◌, Bool, true, false, not, if◌then◌else◌, Option, Some, None}
+use Rattle.std.specs.Prelude.{option_map, option_and_then, unwrap_or, is_some, bytes_eq}
 use Rattle.json.specs.Json.{document}
-use Rattle.serde_json.specs.Data.{Data, null, boolean, number, string, array, object, Items, no_items, item, Members, no_members, member, depth}
+use Rattle.serde_json.specs.Data.{Data, null, boolean, number, string, array, object, Items, no_items, item, Members}
+use Rattle.serde_json.specs.Data.{no_members, member, depth}
 use Rattle.serde_json.specs.Read.{read}
 use Rattle.serde_json.specs.Find.{as_object}
 use Rattle.ss_text.specs.Decimals.{marked}

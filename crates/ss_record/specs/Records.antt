@@ -1,5 +1,6 @@
 -- What a record says of the id of its row, and the record of an item.
-use Rattle.std.specs.Prelude.{◌≡◌, ◌⊎◌, ◌&&◌, ℕ, List, [], Bool, true, false, not, if◌then◌else◌, Option, Some, None, map, option_map, option_and_then, unwrap_or, codes, bytes_eq}
+use Rattle.std.specs.Prelude.{◌≡◌, ◌⊎◌, ◌&&◌, ℕ, List, [], Bool, true, false, not, if◌then◌else◌, Option, Some, None}
+use Rattle.std.specs.Prelude.{map, option_map, option_and_then, unwrap_or, codes, bytes_eq}
 use Rattle.serde_json.specs.Data.{Data, boolean, string, array, object, Items, Members, no_members, member, put}
 use Rattle.serde_json.specs.Read.{read}
 use Rattle.serde_json.specs.View.{items_of}

@@ -1,6 +1,7 @@
 //! Bookmark items without their places.
 
-ghost use Rattle.std.specs.Prelude.{◌≡◌, Some, ◌&&◌, true, false, not, bytes_eq, string_bytes, codes, if◌then◌else◌, IfOk, OnOk, IsErrOf};
+ghost use Rattle.std.specs.Prelude.{◌≡◌, Some, ◌&&◌, true, false, not, bytes_eq, string_bytes, codes, if◌then◌else◌};
+ghost use Rattle.std.specs.Prelude.{IfOk, OnOk, IsErrOf};
 ghost use Rattle.serde_json.specs.View.{members_view};
 ghost use Rattle.ss_record.specs.Items.{empty_folder, has_content, is_fit, names_of};
 ghost use Rattle.ss_record.specs.Ids.{has};

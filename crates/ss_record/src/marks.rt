@@ -5,7 +5,8 @@ ghost use Rattle.std.specs.Prelude.{◌≡◌, ◌∷◌, ◌||◌, false, drop,
 ghost use Rattle.serde_json.specs.Data.{object};
 ghost use Rattle.serde_json.specs.View.{view, number_view, items_view, members_view};
 ghost use Rattle.serde_json.specs.Written.{members_have_float};
-ghost use Rattle.ss_record.specs.Marks.{begins_marked, marked_string, said_text, string_of, is_string_or_decimal, is_plain_number, is_plain, items_plain, members_plain, plain_text};
+ghost use Rattle.ss_record.specs.Marks.{begins_marked, marked_string, said_text, string_of, is_string_or_decimal};
+ghost use Rattle.ss_record.specs.Marks.{is_plain_number, is_plain, items_plain, members_plain, plain_text};
 
 use serde_json::{Map, Number, Value};
 use ss_text::{Word, is_decimal, unmark_decimals};

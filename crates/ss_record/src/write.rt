@@ -1,12 +1,14 @@
 //! The records of items, and of deleted ones.
 
-ghost use Rattle.std.specs.Prelude.{◌≡◌, ◌≢◌, [], Some, false, map, string_bytes, codes, if◌then◌else◌, IfOk, OnOk, OnErr};
+ghost use Rattle.std.specs.Prelude.{◌≡◌, ◌≢◌, [], Some, false, map, string_bytes, codes, if◌then◌else◌, IfOk, OnOk};
+ghost use Rattle.std.specs.Prelude.{OnErr};
 ghost use Rattle.serde_json.specs.Data.{string, array, put};
 ghost use Rattle.serde_json.specs.View.{view, items_view, members_view};
 ghost use Rattle.ss_record.specs.Ids.{has, places, roots};
 ghost use Rattle.ss_record.specs.Kinds.{is_folder, kind_name};
 ghost use Rattle.ss_record.specs.Marks.{marked_string};
-ghost use Rattle.ss_record.specs.Records.{reading, record_members, record_of, string_items, tombstone_members, tombstone_of};
+ghost use Rattle.ss_record.specs.Records.{reading, record_members, record_of, string_items, tombstone_members};
+ghost use Rattle.ss_record.specs.Records.{tombstone_of};
 ghost use Rattle.ss_record.specs.declared.readings.Reading.TheVariants.{Item as Reads, Tombstone};
 
 use crate::items::Item;

@@ -1,5 +1,7 @@
 -- Changes of a device, one after the other.
-use Rattle.std.proofs.Common.{◌≡◌, ℕ, suc, ◌+◌, ◌*◌, ◌≤◌, ◌%◌, ◌==◌, List, [], ◌∷◌, ◌++◌, map, length, set, length-set, slice_get, Bool, true, false, cond, Option, Some, None, refl, sym, ap, subst, ◌∙◌, arith, inl, inr}
+use Rattle.std.proofs.Common.{◌≡◌, ℕ, suc, ◌+◌, ◌*◌, ◌≤◌, ◌%◌, ◌==◌, List, [], ◌∷◌, ◌++◌, map, length, set, length-set}
+use Rattle.std.proofs.Common.{slice_get, Bool, true, false, cond, Option, Some, None, refl, sym, ap, subst, ◌∙◌, arith}
+use Rattle.std.proofs.Common.{inl, inr}
 use Rattle.std.proofs.lemmas.Bool.Decides.{nat_tests}
 use Rattle.std.specs.Prelude.{MatchOption, filter}
 use Rattle.std.proofs.lemmas.List.{length-append, map-append}
@@ -9,14 +11,14 @@ use Rattle.ss_device.specs.declared.faults.EditFault.{EditFault}
 use Rattle.ss_serving.specs.Bookmarks.{Server}
 use Rattle.ss_world.specs.declared.events.Edit.{Edit}
 use Rattle.ss_world.specs.declared.events.Event.TheVariants.{Change}
-use Rattle.ss_world.specs.Worlds.{WorldView, seated}
+use Rattle.ss_world.specs.Worlds.{WorldView, world_with_seat}
 use Rattle.ss_world.specs.declared.seats.Seat.{Seat}
 use Rattle.ss_world.specs.declared.seats.Seat.TheVariants.{Idle, Syncs}
 use Rattle.ss_world.specs.Happening.{Edits, Happens, IsEdited, Step, edit_fault}
 use Rattle.ss_world.proofs.Lists.{at_set}
 use Rattle.ss_rehearse.specs.Draws.{drawn, drawn_after}
 use Rattle.ss_rehearse.specs.Scripts.{addition, additions, change_events, move, moves, numbers, renaming, renamings}
-use Rattle.ss_rehearse.specs.Plays.{IsChanged, Leads}
+use Rattle.ss_rehearse.specs.Plays.{PlaysChanges, Leads}
 use Rattle.ss_rehearse.specs.Syncing.{AreIdle}
 use Rattle.ss_rehearse.proofs.Steps.{leads_on, leads_one}
 
@@ -28,11 +30,11 @@ events_more now n (x ∷ es) e =
     ap (λ xs. Change n now x ∷ xs)
     (events_more (now + 100) n es e ∙ ap (λ t. change_events (now + 100) n es ++ Change n t e ∷ []) (let s : now + 100 + 100 * length es ≡ now + 100 * suc (length es) = omega arith in s))
 
-pub changed_none : (n now : ℕ) (w : WorldView) → IsChanged n now w [] [] w now
+pub changed_none : (n now : ℕ) (w : WorldView) → PlaysChanges n now w [] [] w now
 changed_none n now w = record { leads = record { runs = tt; here = refl }; events = refl; next_is = let z : now ≡ now + 100 * 0 = omega arith in z }
 
-pub changed_more : (n now : ℕ) (w : WorldView) (es : List Edit) (steps : List Step) (v : WorldView) (next : ℕ) (e : Edit) (u : WorldView) → IsChanged n now w es steps v next → Happens v (Change n next e) u
-    → IsChanged n now w (es ++ e ∷ []) (steps ++ record { event = Change n next e; world = u } ∷ []) u (next + 100)
+pub changed_more : (n now : ℕ) (w : WorldView) (es : List Edit) (steps : List Step) (v : WorldView) (next : ℕ) (e : Edit) (u : WorldView) → PlaysChanges n now w es steps v next → Happens v (Change n next e) u
+    → PlaysChanges n now w (es ++ e ∷ []) (steps ++ record { event = Change n next e; world = u } ∷ []) u (next + 100)
 changed_more n now w es steps v next e u c h = record {
   leads = leads_on w v u steps (record { event = Change n next e; world = u } ∷ []) c.leads (leads_one v u (Change n next e) h);
   events =
@@ -42,13 +44,13 @@ changed_more n now w es steps v next e u c h = record {
 }
 
 -- with the changes so far, and those with one more
-pub more : (n now : ℕ) (w : WorldView) (es all : List Edit) (v : WorldView) (next : ℕ) (e : Edit) (u : WorldView) → all ≡ es ++ e ∷ [] → (steps : List Step) × IsChanged n now w es steps v next → Happens v (Change n next e) u
-    → (steps : List Step) × IsChanged n now w all steps u (next + 100)
+pub more : (n now : ℕ) (w : WorldView) (es all : List Edit) (v : WorldView) (next : ℕ) (e : Edit) (u : WorldView) → all ≡ es ++ e ∷ [] → (steps : List Step) × PlaysChanges n now w es steps v next → Happens v (Change n next e) u
+    → (steps : List Step) × PlaysChanges n now w all steps u (next + 100)
 more n now w es all v next e u q c h =
-    (c.0 ++ record { event = Change n next e; world = u } ∷ [], subst (λ xs. IsChanged n now w xs (c.0 ++ record { event = Change n next e; world = u } ∷ []) u (next + 100)) (sym q) (changed_more n now w es c.0 v next e u c.1 h))
+    (c.0 ++ record { event = Change n next e; world = u } ∷ [], subst (λ xs. PlaysChanges n now w xs (c.0 ++ record { event = Change n next e; world = u } ∷ []) u (next + 100)) (sym q) (changed_more n now w es c.0 v next e u c.1 h))
 
-pub as_before : (n now : ℕ) (w : WorldView) (es all : List Edit) (v : WorldView) (next : ℕ) → all ≡ es → (steps : List Step) × IsChanged n now w es steps v next → (steps : List Step) × IsChanged n now w all steps v next
-as_before n now w es all v next q c = (c.0, subst (λ xs. IsChanged n now w xs c.0 v next) (sym q) c.1)
+pub as_before : (n now : ℕ) (w : WorldView) (es all : List Edit) (v : WorldView) (next : ℕ) → all ≡ es → (steps : List Step) × PlaysChanges n now w es steps v next → (steps : List Step) × PlaysChanges n now w all steps v next
+as_before n now w es all v next q c = (c.0, subst (λ xs. PlaysChanges n now w xs c.0 v next) (sym q) c.1)
 
 -- ---- the changes up to a number
 
@@ -87,7 +89,7 @@ moves_same n q = some_more (λ k. k % 2 == 0) move n false q ∙ none_more (move
 pub change_idle : (w v : WorldView) (n now : ℕ) (e : Edit) → AreIdle w → Happens w (Change n now e) v → AreIdle v
 change_idle w v n now e a h = go (slice_get w.seats n) h
   where
-    set_idle : (server : Server) (d : DeviceView) → v ≡ seated w server n (Idle d) → AreIdle v
+    set_idle : (server : Server) (d : DeviceView) → v ≡ world_with_seat w server n (Idle d) → AreIdle v
     set_idle server d q = record {
       two = ap (λ (x : WorldView). length x.seats) q ∙ (length-set w.seats n (Idle d) ∙ a.two);
       idle = λ k s t. elim (at_set w.seats n k (Idle d) s (ap (λ (x : WorldView). slice_get x.seats k) (sym q) ∙ t)) [ inl b ↦ (d, b.1) | inr b ↦ a.idle k s b.1 ];
@@ -116,7 +118,7 @@ untested x h = grind (arith, nat_tests)
 
 -- the changes so far, what the clock reads, and that no device syncs
 abbrev pub AreChanged : ℕ → ℕ → WorldView → List Edit → ℕ → WorldView → ℕ → Type 0
-AreChanged n now w es at v next = ((steps : List Step) × IsChanged n now w es steps v next) × (next ≤ now + 100 * at) × AreIdle v
+AreChanged n now w es at v next = ((steps : List Step) × PlaysChanges n now w es steps v next) × (next ≤ now + 100 * at) × AreIdle v
 
 one_more : (n now : ℕ) (w : WorldView) (es all : List Edit) (at : ℕ) (v : WorldView) (next : ℕ) (e : Edit) (u : WorldView) → all ≡ es ++ e ∷ [] → AreChanged n now w es at v next → Happens v (Change n next e) u
     → AreChanged n now w all (at + 1) u (next + 100)

@@ -1,5 +1,7 @@
 -- Requests of a device that come to the account, until its run ends.
-use Rattle.std.proofs.Common.{◌≡◌, ◌≢◌, ◌⊎◌, ◌&&◌, ℕ, ◌+◌, ◌*◌, ◌<◌, ◌≤◌, ◌==◌, suc, le_refl, List, [], ◌∷◌, ◌++◌, length, set, length-set, slice_get, Bool, true, false, cond, Option, Some, None, option_and_then, map, unwrap_or, refl, sym, ap, subst, ◌∙◌, arith, inl, inr}
+use Rattle.std.proofs.Common.{◌≡◌, ◌≢◌, ◌⊎◌, ◌&&◌, ℕ, ◌+◌, ◌*◌, ◌<◌, ◌≤◌, ◌==◌, suc, le_refl, List, [], ◌∷◌, ◌++◌}
+use Rattle.std.proofs.Common.{length, set, length-set, slice_get, Bool, true, false, cond, Option, Some, None}
+use Rattle.std.proofs.Common.{option_and_then, map, unwrap_or, refl, sym, ap, subst, ◌∙◌, arith, inl, inr}
 use Rattle.std.specs.Prelude.{MatchOption, Result, Ok, Err, IfOk, OnOk}
 use Rattle.std.specs.Option.{option_map_or}
 use Rattle.std.proofs.lemmas.Bool.{eqb-true, false≢true}
@@ -28,13 +30,13 @@ use Rattle.ss_serving.specs.Bookmarks.{Server, sheet_of}
 use Rattle.ss_serving.specs.Asking.{first_failed, is_offset, our_limits, page_told, said_by, told_by}
 use Rattle.ss_world.specs.declared.events.Event.TheVariants.{Deliver, Start}
 use Rattle.ss_world.specs.Seats.{after}
-use Rattle.ss_world.specs.Worlds.{WorldView, seated}
+use Rattle.ss_world.specs.Worlds.{WorldView, world_with_seat}
 use Rattle.ss_world.specs.declared.seats.Seat.{Seat}
 use Rattle.ss_world.specs.declared.seats.Seat.TheVariants.{Idle, Syncs}
 use Rattle.ss_world.specs.Happening.{Delivers, Happens, IsDelivered, Starts, Step}
 use Rattle.ss_world.proofs.Lists.{at_set}
-use Rattle.ss_rehearse.specs.Plays.{Asks, IsIdle, IsSynced, is_post, once}
-use Rattle.ss_rehearse.specs.Syncing.{AreIdle, IsAsking, IsBoundedSeat, IsUnderWay, left, left_at, post_at}
+use Rattle.ss_rehearse.specs.Plays.{Asks, IsIdle, PlaysSync, is_post, once}
+use Rattle.ss_rehearse.specs.Syncing.{AreIdle, IsAsking, IsBoundedSeat, IsUnderWay, requests_left, left_at, post_at}
 use Rattle.ss_text.proofs.Basics.{own_number}
 use Rattle.ss_client.proofs.Told.{told_good}
 
@@ -112,7 +114,7 @@ near m (Stop f) i = (tt, let z : 0 < 1 + to_follow m.run m.stage = omega arith i
 record IsNext (w : WorldView) (n : ℕ) (m : MachineView) (v : WorldView) : Type 0 where
   server : Server
   seat : Seat
-  is : v ≡ seated w server n seat
+  is : v ≡ world_with_seat w server n seat
   bounded : IsBoundedSeat seat
   less : left_at (Some seat) < 1 + to_follow m.run m.stage
 
@@ -123,8 +125,8 @@ next_of w v n now m b there h =
     let i = near m e.next (follows_near m.device m.run m.stage answer e.next b (told_ours (awaits m.stage) (api w.server.account now (ask m)).reply) e.follows) in
     record { server = e.server; seat = after m e.next; is = e.is; bounded = i.0; less = i.1 }
 
-left_less : (w v : WorldView) (n : ℕ) (m : MachineView) → slice_get w.seats n ≡ Some (Syncs m) → IsNext w n m v → left n v < left n w
-left_less w v n m there x = subst (λ (o : Option Seat). left n v < left_at o) (sym there) (go (slice_get v.seats n) refl)
+left_less : (w v : WorldView) (n : ℕ) (m : MachineView) → slice_get w.seats n ≡ Some (Syncs m) → IsNext w n m v → requests_left n v < requests_left n w
+left_less w v n m there x = subst (λ (o : Option Seat). requests_left n v < left_at o) (sym there) (go (slice_get v.seats n) refl)
   where
     go : (o : Option Seat) → slice_get v.seats n ≡ o → left_at o < 1 + to_follow m.run m.stage
     go None q = let z : 0 < 1 + to_follow m.run m.stage = omega arith in z
@@ -164,13 +166,13 @@ once_few true = le_refl 1
 once_few false = let z : 0 ≤ 1 = omega arith in z
 
 pub deliver_more : (n now : ℕ) (w : WorldView) (posts : ℕ) (v : WorldView) (next : ℕ) (m : MachineView) (u : WorldView) → IsAsking n now w posts v next → slice_get v.seats n ≡ Some (Syncs m) → Happens v (Deliver n next) u
-    → IsAsking n now w (posts + once (is_post (awaits m.stage))) u (next + 100) × (left n u < left n v)
+    → IsAsking n now w (posts + once (is_post (awaits m.stage))) u (next + 100) × (requests_left n u < requests_left n v)
 deliver_more n now w posts v next m u a there h = (
   record {
     steps = a.steps ++ step ∷ [];
     asks = asks_more n now w a.steps posts v m step a.asks there (ap (Deliver n) a.next_is) h;
     next_is = let l : length (a.steps ++ step ∷ []) ≡ length a.steps + 1 = long in let q : next ≡ now + 100 * length a.steps = a.next_is in omega (arith, l, q);
-    room = let l : length (a.steps ++ step ∷ []) ≡ length a.steps + 1 = long in let r : length a.steps + left n v ≤ 105025 = a.room in room (length (a.steps ++ step ∷ [])) (length a.steps) (left n u) (left n v) l r less;
+    room = let l : length (a.steps ++ step ∷ []) ≡ length a.steps + 1 = long in let r : length a.steps + requests_left n v ≤ 105025 = a.room in room (length (a.steps ++ step ∷ [])) (length a.steps) (requests_left n u) (requests_left n v) l r less;
     fewer = fewer (length (a.steps ++ step ∷ [])) (length a.steps) posts (once (is_post (awaits m.stage))) long a.fewer (once_few (is_post (awaits m.stage)));
     two = ap (λ (x : WorldView). length x.seats) after_it.is ∙ (length-set v.seats n after_it.seat ∙ a.two);
     others = λ k ne s t. elim (at k s t) [ inl b ↦ absurd (ne b.0) | inr b ↦ a.others k ne s b.1 ];
@@ -185,7 +187,7 @@ deliver_more n now w posts v next m u a there h = (
     after_it : IsNext v n m u
     after_it = next_of v u n next m (a.bounded (Syncs m) there) there h
 
-    less : left n u < left n v
+    less : requests_left n u < requests_left n v
     less = left_less v u n m there after_it
 
     long : length (a.steps ++ step ∷ []) ≡ length a.steps + 1
@@ -219,21 +221,21 @@ none_under_way n now w posts v next a e = record { two = a.two; idle = λ k. go 
     go k false q s t = a.others k (λ i. false≢true (sym q ∙ (ap (λ x. x == n) i ∙ own_number n))) s t
 
 pub one_more : (n now : ℕ) (w : WorldView) (posts : ℕ) (v : WorldView) (next : ℕ) (u : WorldView) (b : Bool) → Some b ≡ option_and_then post_at (slice_get v.seats n) → IsAsking n now w posts v next → Happens v (Deliver n next) u
-    → IsAsking n now w (posts + once b) u (next + 100) × (left n u < left n v)
+    → IsAsking n now w (posts + once b) u (next + 100) × (requests_left n u < requests_left n v)
 one_more n now w posts v next u b q a h =
     let m = under_way (slice_get v.seats n) b (sym q) in
-    subst (λ c. IsAsking n now w (posts + once c) u (next + 100) × (left n u < left n v)) (sym m.2) (deliver_more n now w posts v next m.0 u a m.1 h)
+    subst (λ c. IsAsking n now w (posts + once c) u (next + 100) × (requests_left n u < requests_left n v)) (sym m.2) (deliver_more n now w posts v next m.0 u a m.1 h)
 
 pub posted : (n now : ℕ) (w : WorldView) (posts : ℕ) (v : WorldView) (next : ℕ) (u : WorldView) (b : Bool) → b ≡ true → Some b ≡ option_and_then post_at (slice_get v.seats n) → IsAsking n now w posts v next → Happens v (Deliver n next) u
-    → IsAsking n now w (posts + 1) u (next + 100) × (left n u < left n v)
-posted n now w posts v next u b is q a h = subst (λ c. IsAsking n now w (posts + once c) u (next + 100) × (left n u < left n v)) is (one_more n now w posts v next u b q a h)
+    → IsAsking n now w (posts + 1) u (next + 100) × (requests_left n u < requests_left n v)
+posted n now w posts v next u b is q a h = subst (λ c. IsAsking n now w (posts + once c) u (next + 100) × (requests_left n u < requests_left n v)) is (one_more n now w posts v next u b q a h)
 
 pub not_posted : (n now : ℕ) (w : WorldView) (posts : ℕ) (v : WorldView) (next : ℕ) (u : WorldView) (b : Bool) → b ≡ false → Some b ≡ option_and_then post_at (slice_get v.seats n) → IsAsking n now w posts v next → Happens v (Deliver n next) u
-    → IsAsking n now w posts u (next + 100) × (left n u < left n v)
+    → IsAsking n now w posts u (next + 100) × (requests_left n u < requests_left n v)
 not_posted n now w posts v next u b is q a h =
     let none : posts + 0 ≡ posts = omega arith in
-    subst (λ k. IsAsking n now w k u (next + 100) × (left n u < left n v)) none
-    (subst (λ c. IsAsking n now w (posts + once c) u (next + 100) × (left n u < left n v)) is (one_more n now w posts v next u b q a h))
+    subst (λ k. IsAsking n now w k u (next + 100) × (requests_left n u < requests_left n v)) none
+    (subst (λ c. IsAsking n now w (posts + once c) u (next + 100) × (requests_left n u < requests_left n v)) is (one_more n now w posts v next u b q a h))
 
 -- ---- a sync
 
@@ -242,7 +244,7 @@ asking_none n now w a = record {
   steps = [];
   asks = (refl, refl);
   next_is = let z : now ≡ now + 100 * 0 = omega arith in z;
-  room = let f : left n w ≤ 105025 = a.few in zero_more (left n w) f;
+  room = let f : requests_left n w ≤ 105025 = a.few in zero_more (requests_left n w) f;
   fewer = le_refl 0;
   two = a.two;
   others = a.others;
@@ -271,7 +273,7 @@ started w v n a h = go (slice_get w.seats n) refl h
         few None q = let z : 0 ≤ 105025 = omega arith in z
         few (Some s) q = let d = i.idle n s q in subst (λ (y : Seat). left_at (Some y) ≤ 105025) (sym d.1) (let z : 0 ≤ 105025 = omega arith in z)
 
-    begun : (b : Bool) (d : DeviceView) → v ≡ seated w w.server n (Syncs (record { device = d; run = first_run b; stage = AsksStage })) → IsUnderWay n v
+    begun : (b : Bool) (d : DeviceView) → v ≡ world_with_seat w w.server n (Syncs (record { device = d; run = first_run b; stage = AsksStage })) → IsUnderWay n v
     begun b d q = record {
       two = ap (λ (x : WorldView). length x.seats) q ∙ (length-set w.seats n seat ∙ a.two);
       others = λ k ne s t. elim (at k s t) [ inl c ↦ absurd (ne c.0) | inr c ↦ a.idle k s c.1 ];
@@ -300,7 +302,7 @@ started w v n a h = go (slice_get w.seats n) refl h
     go None t q = idle_way v (subst AreIdle (sym q) a)
     go (Some s) t q = by s t q
 
-pub synced : (n now : ℕ) (w u : WorldView) (posts : ℕ) (v : WorldView) (next : ℕ) → Happens w (Start n Newer) u → IsAsking n now u posts v next → AreIdle v → (steps : List Step) × IsSynced n now w steps posts v next
+pub synced : (n now : ℕ) (w u : WorldView) (posts : ℕ) (v : WorldView) (next : ℕ) → Happens w (Start n Newer) u → IsAsking n now u posts v next → AreIdle v → (steps : List Step) × PlaysSync n now w steps posts v next
 synced n now w u posts v next h a i = (
   record { event = Start n Newer; world = u } ∷ a.steps,
   record {
@@ -310,14 +312,14 @@ synced n now w u posts v next h a i = (
 )
 
 pub next_early : (n now : ℕ) (u : WorldView) (posts : ℕ) (v : WorldView) (next : ℕ) → IsAsking n now u posts v next → next ≤ now + 10502500
-next_early n now u posts v next a = few (length a.steps) (left n v) a.next_is a.room
+next_early n now u posts v next a = few (length a.steps) (requests_left n v) a.next_is a.room
   where
     few : (k x : ℕ) → next ≡ now + 100 * k → k + x ≤ 105025 → next ≤ now + 10502500
     few k x p q = omega (arith, p, q)
 
 -- with what the requests answered
 pub sync_ends : {S E : Type 0} (n now : ℕ) (w u v : WorldView) (r : Result S E) (posts next : S → ℕ) → Happens w (Start n Newer) u → IfOk r (λ s. IsAsking n now u (posts s) v (next s)) → OnOk r (AreIdle v)
-    → IfOk r (λ s. (steps : List Step) × IsSynced n now w steps (posts s) v (next s))
+    → IfOk r (λ s. (steps : List Step) × PlaysSync n now w steps (posts s) v (next s))
 sync_ends n now w u v (Ok s) posts next h a i = synced n now w u (posts s) v (next s) h a i
 sync_ends n now w u v (Err e) posts next h a i = tt
 

@@ -1,5 +1,7 @@
 -- The bookmarks of a rehearsal are fit, and their ids have the form of ids.
-use Rattle.std.proofs.Common.{◌≡◌, ℕ, zero, suc, ◌+◌, ◌-◌, ◌<◌, ◌≤◌, List, [], ◌∷◌, ◌++◌, length, drop, Bool, true, false, ◌&&◌, leb, decimal, codes, refl, ap, ap₂, ◌∙◌, arith, lit<, le-leb, Some, unwrap_or, option_map}
+use Rattle.std.proofs.Common.{◌≡◌, ℕ, zero, suc, ◌+◌, ◌-◌, ◌<◌, ◌≤◌, List, [], ◌∷◌, ◌++◌, length, drop, Bool, true}
+use Rattle.std.proofs.Common.{false, ◌&&◌, leb, decimal, codes, refl, ap, ap₂, ◌∙◌, arith, lit<, le-leb, Some}
+use Rattle.std.proofs.Common.{unwrap_or, option_map}
 use Rattle.std.proofs.lemmas.Bool.{and_parts}
 use Rattle.std.proofs.lemmas.Fmt.{decimal_is_IsNumeral, length-decimal-le}
 use Rattle.std.proofs.lemmas.Str.Parse.{digit_from_value}

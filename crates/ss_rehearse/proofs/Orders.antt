@@ -1,12 +1,13 @@
 -- Trees that are the same are walked alike.
-use Rattle.std.proofs.Common.{◌≡◌, ℕ, zero, suc, Bool, true, false, cond, List, [], ◌∷◌, ◌++◌, map, length, refl, sym, ap, ap₂, ◌∙◌, inl, inr, Option, Some, None, option_map, option_and_then, unwrap_or}
+use Rattle.std.proofs.Common.{◌≡◌, ℕ, zero, suc, Bool, true, false, cond, List, [], ◌∷◌, ◌++◌, map, length, refl, sym}
+use Rattle.std.proofs.Common.{ap, ap₂, ◌∙◌, inl, inr, Option, Some, None, option_map, option_and_then, unwrap_or}
 use Rattle.std.specs.List.{flat_map}
 use Rattle.std.proofs.lemmas.List.{length-map, map-append}
-use Rattle.ss_text.specs.Texts.{placed as put_in}
+use Rattle.ss_text.specs.Texts.{list_with as put_in}
 use Rattle.ss_record.specs.Ids.{Apart, before, by_id, places}
 use Rattle.ss_record.specs.Items.{ItemView}
 use Rattle.ss_tree.specs.declared.entries.Entry.{Entry}
-use Rattle.ss_tree.specs.Trees.{IsSame, Placed, node_ids}
+use Rattle.ss_tree.specs.Trees.{IsSame, PlacedItem, node_ids}
 use Rattle.ss_tree.specs.Entries.{IsTree, above, entry, kids, placed, preorder, top_entry, tree}
 use Rattle.ss_tree.proofs.Valid.{In, valid_tree}
 use Rattle.ss_dupe.specs.Looks.{Look, at, blank, children_of, look}
@@ -26,7 +27,7 @@ abbrev pub seen : List Entry → ℕ → Seen
 seen es k = record { item = item_at es k; under = id_above es k }
 
 -- the same of an id, by the look-ups of a tree
-abbrev item_of : Placed → ItemView
+abbrev item_of : PlacedItem → ItemView
 item_of n = record { id = n.id; kind = n.kind; content = n.content }
 
 abbrev seen_by : Look → List ℕ → Seen
@@ -62,11 +63,11 @@ module _ (es : List Entry) (t : IsTree es) where
       ap₂ (λ (a : Option ItemView) (b : Option (List ℕ)). record { item = a; under = b })
       (ap (option_map (λ (d : Entry). d.item)) q)
       (ap (λ o. option_and_then (λ p. option_map (λ (i : ItemView). i.id) (item_at es p)) (option_and_then (λ (d : Entry). d.parent) o)) q ∙ under_is e.parent)
-      ∙ sym (ap (λ o. record { item = option_map item_of o; under = option_and_then (λ (n : Placed). n.parent) o }) (found_at k e q ∙ ap Some is))
+      ∙ sym (ap (λ o. record { item = option_map item_of o; under = option_and_then (λ (n : PlacedItem). n.parent) o }) (found_at k e q ∙ ap Some is))
 
   children_named : (k : ℕ) (e : Entry) → entry k es ≡ Some e → map (name_at es) (kids k es) ≡ children_of found (name_at es k)
   unfolding at
-  children_named k e q = sym (ap (λ o. (unwrap_or o blank).children) (found_at k e q) ∙ ap (λ (n : Placed). n.children) (placed_is es t k e q))
+  children_named k e q = sym (ap (λ o. (unwrap_or o blank).children) (found_at k e q) ∙ ap (λ (n : PlacedItem). n.children) (placed_is es t k e q))
 
   walk_kids : (n : ℕ) (ks : List ℕ) → ((k : ℕ) → In k ks → map (seen es) (preorder es n k) ≡ walk found n (name_at es k)) → map (seen es) (flat_map (preorder es n) ks) ≡ flat_map (walk found n) (map (name_at es) ks)
   unfolding In
@@ -97,12 +98,12 @@ length_by_id : (xs : List (List ℕ)) → length (by_id xs) ≡ length xs
 length_by_id [] = refl
 length_by_id (x ∷ xs) = length_placed x (by_id xs) ∙ ap suc (length_by_id xs)
 
-pub same_many : (t u : List Placed) → Apart (node_ids t) → Apart (node_ids u) → IsSame t u → length t ≡ length u
+pub same_many : (t u : List PlacedItem) → Apart (node_ids t) → Apart (node_ids u) → IsSame t u → length t ≡ length u
 unfolding node_ids
 same_many t u a b same =
-    sym (length-map t (λ (n : Placed). n.id)) ∙ sym (length_by_id (node_ids t))
+    sym (length-map t (λ (n : PlacedItem). n.id)) ∙ sym (length_by_id (node_ids t))
     ∙ ap length (by_id_same (node_ids t) (node_ids u) a b (same_ids t u same))
-    ∙ length_by_id (node_ids u) ∙ length-map u (λ (n : Placed). n.id)
+    ∙ length_by_id (node_ids u) ∙ length-map u (λ (n : PlacedItem). n.id)
 
 length_tree : (es : List Entry) → length (tree es) ≡ length es
 unfolding tree

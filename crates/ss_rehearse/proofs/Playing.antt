@@ -1,5 +1,6 @@
 -- A rehearsal from its opening to its end.
-use Rattle.std.proofs.Common.{◌≡◌, ℕ, zero, suc, ◌+◌, ◌<◌, List, [], ◌∷◌, ◌++◌, length, slice_get, Bool, true, Option, Some, None, option_map, unwrap_or, refl, sym, ap, subst, ◌∙◌, arith}
+use Rattle.std.proofs.Common.{◌≡◌, ℕ, zero, suc, ◌+◌, ◌<◌, List, [], ◌∷◌, ◌++◌, length, slice_get, Bool, true, Option}
+use Rattle.std.proofs.Common.{Some, None, option_map, unwrap_or, refl, sym, ap, subst, ◌∙◌, arith}
 use Rattle.std.specs.Prelude.{Result, Ok, Err, IfOk}
 use Rattle.std.proofs.lemmas.List.{append_assoc, append-nil}
 use Rattle.std.proofs.lemmas.Option.{none-some, same_Some}
@@ -19,7 +20,7 @@ use Rattle.ss_world.specs.Reaching.{IsReached, Promised}
 use Rattle.ss_world.proofs.Reaching as reaching
 use Rattle.ss_rehearse.specs.Summaries.{summary_of, summary_text}
 use Rattle.ss_rehearse.specs.Scripts.{Act, changes, sync, script}
-use Rattle.ss_rehearse.specs.Plays.{Acts, Asks, IsChanged, IsSynced, Leads, PlayView, Plays}
+use Rattle.ss_rehearse.specs.Plays.{Acts, Asks, PlaysChanges, PlaysSync, Leads, PlayView, Plays}
 use Rattle.ss_rehearse.specs.Rehearsals.{ArePromised, IsFresh, IsOpen, IsPromised, IsSummary, all_trusted, tree_at}
 use Rattle.ss_rehearse.specs.Syncing.{AreIdle, ArePlayed}
 use Rattle.ss_rehearse.proofs.Steps.{leads_on}
@@ -44,7 +45,7 @@ asks_lead : (n now : ℕ) (w : WorldView) (steps : List Step) (posts : ℕ) (v :
 asks_lead n now w [] posts v a = record { runs = tt; here = sym a.0 }
 asks_lead n now w (s ∷ steps) posts v a = let t = asks_lead n (now + 100) s.world steps a.4 v a.6 in record { runs = (a.3, t.runs); here = t.here }
 
-synced_leads : (n now : ℕ) (w : WorldView) (steps : List Step) (posts : ℕ) (v : WorldView) (next : ℕ) → IsSynced n now w steps posts v next → Leads w steps v
+synced_leads : (n now : ℕ) (w : WorldView) (steps : List Step) (posts : ℕ) (v : WorldView) (next : ℕ) → PlaysSync n now w steps posts v next → Leads w steps v
 synced_leads n now w steps posts v next s =
     let t = asks_lead n now s.syncs.started s.syncs.requests posts v s.syncs.asks in
     subst (λ xs. Leads w xs v) (sym s.syncs.steps_are) (record { runs = (s.syncs.starts, t.runs); here = t.here })
@@ -81,11 +82,11 @@ played_on w v u now mid next acts more_acts sent more h k posts =
     let whole = plays_append (record { world = w; now = now; posts = posts }) acts x.0 (record { world = v; now = mid; posts = posts ++ sent }) more_acts y.0 (record { world = u; now = next; posts = (posts ++ sent) ++ more }) x.1 y.1 in
     (x.0 ++ y.0, subst (λ (ps : List ℕ). Plays (record { world = w; now = now; posts = posts }) (acts ++ more_acts) (x.0 ++ y.0) (record { world = u; now = next; posts = ps })) (append_assoc posts sent more) whole)
 
-pub changes_played : (n now : ℕ) (w : WorldView) (edits : List Edit) (v : WorldView) (next : ℕ) → ((steps : List Step) × IsChanged n now w edits steps v next) → ArePlayed w now (changes n edits ∷ []) [] v next
+pub changes_played : (n now : ℕ) (w : WorldView) (edits : List Edit) (v : WorldView) (next : ℕ) → ((steps : List Step) × PlaysChanges n now w edits steps v next) → ArePlayed w now (changes n edits ∷ []) [] v next
 changes_played n now w edits v next h posts =
     (h.0 ++ [], (h.0, [], record { world = v; now = next; posts = posts ++ [] }, refl, (h.1, append-nil posts), (refl, refl)))
 
-pub sync_played : (n now : ℕ) (w : WorldView) (sent : ℕ) (v : WorldView) (next : ℕ) → ((steps : List Step) × IsSynced n now w steps sent v next) → ArePlayed w now (sync n ∷ []) (sent ∷ []) v next
+pub sync_played : (n now : ℕ) (w : WorldView) (sent : ℕ) (v : WorldView) (next : ℕ) → ((steps : List Step) × PlaysSync n now w steps sent v next) → ArePlayed w now (sync n ∷ []) (sent ∷ []) v next
 sync_played n now w sent v next h posts =
     (h.0 ++ [], (h.0, [], record { world = v; now = next; posts = posts ++ sent ∷ [] }, refl, (sent, h.1, refl), (refl, refl)))
 

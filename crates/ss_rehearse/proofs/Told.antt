@@ -1,5 +1,7 @@
 -- What is told of trees, and planned for them, is told by their look-ups alone.
-use Rattle.std.proofs.Common.{◌≡◌, ℕ, ◌+◌, ◌&&◌, Bool, true, false, cond, not, List, [], ◌∷◌, ◌++◌, map, filter, find, length, bytes_eq, refl, sym, ap, ap₂, ◌∙◌, Option, Some, None, option_map, option_and_then, unwrap_or, codes}
+use Rattle.std.proofs.Common.{◌≡◌, ℕ, ◌+◌, ◌&&◌, Bool, true, false, cond, not, List, [], ◌∷◌, ◌++◌, map, filter, find}
+use Rattle.std.proofs.Common.{length, bytes_eq, refl, sym, ap, ap₂, ◌∙◌, Option, Some, None, option_map}
+use Rattle.std.proofs.Common.{option_and_then, unwrap_or, codes}
 use Rattle.std.specs.List.{sum_by}
 use Rattle.std.specs.Cmp.Lexicographic.{pointwise}
 use Rattle.std.proofs.lemmas.List.{length-map}
@@ -8,12 +10,13 @@ use Rattle.ss_record.specs.Ids.{by_id}
 use Rattle.ss_record.specs.Items.{ItemView}
 use Rattle.ss_record.specs.Records.{tombstone_of}
 use Rattle.ss_tree.specs.declared.entries.Entry.{Entry}
-use Rattle.ss_tree.specs.Trees.{IsSame, Placed, node}
+use Rattle.ss_tree.specs.Trees.{IsSame, PlacedItem, node}
 use Rattle.ss_tree.specs.Entries.{IsTree, entry, kid_ids, kids, node_of, placed, stands_under, tree}
 use Rattle.ss_build.specs.Rows.{is_item}
 use Rattle.ss_merge.proofs.Whole.{same_ids}
 use Rattle.ss_plan.specs.Plan.{Readings, gone, id_at, order, plan, puts, reading_at, record_due, record_for}
-use Rattle.ss_rehearse.specs.Summaries.{children_of, count, is_own, is_renamed, nodes, once_where, same_id, same_item, same_place, same_trees, summary_of}
+use Rattle.ss_rehearse.specs.Summaries.{children_of, count, is_own, is_renamed, nodes, once_where, same_id, same_item}
+use Rattle.ss_rehearse.specs.Summaries.{same_place, same_trees, summary_of}
 use Rattle.ss_rehearse.proofs.Orders.{Seen, seen, seen_once}
 
 -- ---- counts
@@ -32,27 +35,27 @@ count_once is es fs t u same =
 
 -- ---- the children of a root
 
-find_placed : (es all : List Entry) (x : List ℕ) → find (λ (n : Placed). bytes_eq x n.id) (map (placed all) es) ≡ option_map (placed all) (find (λ (e : Entry). bytes_eq x e.item.id) es)
+find_placed : (es all : List Entry) (x : List ℕ) → find (λ (n : PlacedItem). bytes_eq x n.id) (map (placed all) es) ≡ option_map (placed all) (find (λ (e : Entry). bytes_eq x e.item.id) es)
 unfolding placed
 find_placed [] all x = refl
 find_placed (e ∷ es) all x = go (bytes_eq x e.item.id) (find_placed es all x)
   where
-    go : (b : Bool) → find (λ (n : Placed). bytes_eq x n.id) (map (placed all) es) ≡ option_map (placed all) (find (λ (d : Entry). bytes_eq x d.item.id) es)
-        → cond b (Some (placed all e)) (find (λ (n : Placed). bytes_eq x n.id) (map (placed all) es)) ≡ option_map (placed all) (cond b (Some e) (find (λ (d : Entry). bytes_eq x d.item.id) es))
+    go : (b : Bool) → find (λ (n : PlacedItem). bytes_eq x n.id) (map (placed all) es) ≡ option_map (placed all) (find (λ (d : Entry). bytes_eq x d.item.id) es)
+        → cond b (Some (placed all e)) (find (λ (n : PlacedItem). bytes_eq x n.id) (map (placed all) es)) ≡ option_map (placed all) (cond b (Some e) (find (λ (d : Entry). bytes_eq x d.item.id) es))
     go true h = refl
     go false h = h
 
-children_are : (root : List ℕ) (es : List Entry) → children_of root es ≡ unwrap_or (option_map (λ (n : Placed). length n.children) (node root (tree es))) 0
+children_are : (root : List ℕ) (es : List Entry) → children_of root es ≡ unwrap_or (option_map (λ (n : PlacedItem). length n.children) (node root (tree es))) 0
 unfolding children_of node node_of tree placed kids kid_ids
-children_are root es = go (find (λ (e : Entry). bytes_eq root e.item.id) es) ∙ sym (ap (λ o. unwrap_or (option_map (λ (n : Placed). length n.children) o) 0) (find_placed es es root))
+children_are root es = go (find (λ (e : Entry). bytes_eq root e.item.id) es) ∙ sym (ap (λ o. unwrap_or (option_map (λ (n : PlacedItem). length n.children) o) 0) (find_placed es es root))
   where
     go : (o : Option Entry) → unwrap_or (option_map (λ k. length (map (λ e. e.node) (filter (stands_under k) es))) (option_map (λ (e : Entry). e.node) o)) 0
-        ≡ unwrap_or (option_map (λ (n : Placed). length n.children) (option_map (placed es) o)) 0
+        ≡ unwrap_or (option_map (λ (n : PlacedItem). length n.children) (option_map (placed es) o)) 0
     go None = refl
     go (Some e) = length-map (filter (stands_under e.node) es) (λ (d : Entry). d.node) ∙ sym (length-map (filter (stands_under e.node) es) (λ (d : Entry). d.item.id))
 
 children_once : (root : List ℕ) (es fs : List Entry) → IsSame (tree es) (tree fs) → children_of root es ≡ children_of root fs
-children_once root es fs same = children_are root es ∙ ap (λ o. unwrap_or (option_map (λ (n : Placed). length n.children) o) 0) (same root) ∙ sym (children_are root fs)
+children_once root es fs same = children_are root es ∙ ap (λ o. unwrap_or (option_map (λ (n : PlacedItem). length n.children) o) 0) (same root) ∙ sym (children_are root fs)
 
 -- ---- equal trees
 

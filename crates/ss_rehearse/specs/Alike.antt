@@ -4,7 +4,7 @@ use Rattle.ss_tree.specs.Trees.{IsSame}
 use Rattle.ss_tree.specs.Entries.{tree}
 use Rattle.ss_device.specs.Device.{DeviceView, dead_at}
 use Rattle.ss_world.specs.declared.events.Edit.{Edit}
-use Rattle.ss_world.specs.Happening.{IsChanged, edit_fault}
+use Rattle.ss_world.specs.Happening.{ChangesDevice, edit_fault}
 
 -- The same items in the same places with the same times, the same deleted ids with their times, the same rows and the same stamp. In
 -- which order the entries of the trees and the deleted ids lie, and which nodes items have, means nothing.
@@ -17,4 +17,4 @@ pub record AreAlike (d e : DeviceView) : Type 0 where
 -- an edit is refused alike, or makes of them devices that are told alike
 pub record AreEditedAlike (now : ℕ) (edit : Edit) (d e : DeviceView) : Type 0 where
   pub refused : edit_fault d edit ≡ edit_fault e edit
-  pub changed : (v w : DeviceView) → IsChanged now edit d v → IsChanged now edit e w → AreAlike v w
+  pub changed : (v w : DeviceView) → ChangesDevice now edit d v → ChangesDevice now edit e w → AreAlike v w

@@ -1,5 +1,6 @@
 -- What comes of a script, over a world (this project's).
-use Rattle.std.specs.Prelude.{◌≡◌, ℕ, ◌+◌, ◌*◌, List, [], ◌∷◌, ◌++◌, length, map, slice_get, Some, Bool, true, false, if◌then◌else◌}
+use Rattle.std.specs.Prelude.{◌≡◌, ℕ, ◌+◌, ◌*◌, List, [], ◌∷◌, ◌++◌, length, map, slice_get, Some, Bool, true, false}
+use Rattle.std.specs.Prelude.{if◌then◌else◌}
 use Rattle.ss_hearing.specs.declared.answer.Awaited.{Awaited}
 use Rattle.ss_hearing.specs.declared.answer.Awaited.TheVariants.{Staging, Writing}
 use Rattle.ss_device.specs.Device.{DeviceView}
@@ -65,20 +66,20 @@ pub record Leads (w : WorldView) (steps : List Step) (v : WorldView) : Type 0 wh
   pub here : last w steps ≡ v
 
 -- changes of a device, from a reading of the clock on: the first of them at it; what the clock reads next
-pub record IsChanged (n now : ℕ) (w : WorldView) (edits : List Edit) (steps : List Step) (v : WorldView) (next : ℕ) : Type 0 where
+pub record PlaysChanges (n now : ℕ) (w : WorldView) (edits : List Edit) (steps : List Step) (v : WorldView) (next : ℕ) : Type 0 where
   pub leads : Leads w steps v
   pub events : events_of steps ≡ change_events now n edits
   pub next_is : next ≡ now + 100 * length edits
 
 -- a sync of a device, from a reading of the clock on; the POSTs that it sent, and what the clock reads next
-pub record IsSynced (n now : ℕ) (w : WorldView) (steps : List Step) (posts : ℕ) (v : WorldView) (next : ℕ) : Type 0 where
+pub record PlaysSync (n now : ℕ) (w : WorldView) (steps : List Step) (posts : ℕ) (v : WorldView) (next : ℕ) : Type 0 where
   pub syncs : IsSync n now w steps posts v
   pub next_is : next ≡ now + 100 * length syncs.requests
 
 -- what an act makes of a play, by these events
 abbrev pub Acts : PlayView → Act → List Step → PlayView → Type 0
-Acts p (changes n edits) steps q = IsChanged n p.now p.world edits steps q.world q.now × (q.posts ≡ p.posts)
-Acts p (sync n) steps q = (sent : ℕ) × IsSynced n p.now p.world steps sent q.world q.now × (q.posts ≡ p.posts ++ sent ∷ [])
+Acts p (changes n edits) steps q = PlaysChanges n p.now p.world edits steps q.world q.now × (q.posts ≡ p.posts)
+Acts p (sync n) steps q = (sent : ℕ) × PlaysSync n p.now p.world steps sent q.world q.now × (q.posts ≡ p.posts ++ sent ∷ [])
 
 -- what acts make of a play, one after the other
 abbrev pub Plays : PlayView → List Act → List Step → PlayView → Type 0

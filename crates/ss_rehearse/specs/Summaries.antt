@@ -1,5 +1,6 @@
 -- The summary of a rehearsal (this project's): what became of the trees of its two devices, and its lines.
-use Rattle.std.specs.Prelude.{ℕ, ◌&&◌, ◌==◌, List, [], ◌∷◌, ◌++◌, Bool, true, false, not, if◌then◌else◌, Option, Some, None, length, option_map, option_and_then, unwrap_or, sum_by, bytes_eq, codes, decimal}
+use Rattle.std.specs.Prelude.{ℕ, ◌&&◌, ◌==◌, List, [], ◌∷◌, ◌++◌, Bool, true, false, not, if◌then◌else◌, Option, Some}
+use Rattle.std.specs.Prelude.{None, length, option_map, option_and_then, unwrap_or, sum_by, bytes_eq, codes, decimal}
 use Rattle.std.specs.Cmp.Lexicographic.{pointwise}
 use Rattle.std.specs.List.{flat_map}
 use Rattle.serde_json.specs.Find.{get_member}

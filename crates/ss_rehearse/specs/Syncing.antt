@@ -1,5 +1,6 @@
 -- Syncs under way, for private clauses.
-use Rattle.std.specs.Prelude.{◌≡◌, ◌≢◌, ℕ, ◌+◌, ◌*◌, ◌≤◌, List, ◌++◌, length, slice_get, Bool, Option, Some, None, Result, Ok, Err, ⊤}
+use Rattle.std.specs.Prelude.{◌≡◌, ◌≢◌, ℕ, ◌+◌, ◌*◌, ◌≤◌, List, ◌++◌, length, slice_get, Bool, Option, Some, None}
+use Rattle.std.specs.Prelude.{Result, Ok, Err, ⊤}
 use Rattle.ss_device.specs.Device.{DeviceView}
 use Rattle.ss_client.specs.Asking.{awaits}
 use Rattle.ss_client.specs.Bounds.{IsBounded, to_follow}
@@ -28,8 +29,8 @@ left_at None = 0
 left_at (Some (Idle d)) = 0
 left_at (Some (Syncs m)) = 1 + to_follow m.run m.stage
 
-abbrev pub left : ℕ → WorldView → ℕ
-left n w = left_at (slice_get w.seats n)
+abbrev pub requests_left : ℕ → WorldView → ℕ
+requests_left n w = left_at (slice_get w.seats n)
 
 -- the run of a device that syncs ends
 abbrev pub IsBoundedSeat : Seat → Type 0
@@ -46,14 +47,14 @@ pub record IsUnderWay (n : ℕ) (w : WorldView) : Type 0 where
   pub two : length w.seats ≡ 2
   pub others : (k : ℕ) → k ≢ n → IsIdle k w
   pub bounded : (s : Seat) → slice_get w.seats n ≡ Some s → IsBoundedSeat s
-  pub few : left n w ≤ 105025
+  pub few : requests_left n w ≤ 105025
 
 -- some requests have come to the account, and others may still come
 pub record IsAsking (n now : ℕ) (w : WorldView) (posts : ℕ) (v : WorldView) (next : ℕ) : Type 0 where
   pub steps : List Step
   pub asks : Asks n now w steps posts v
   pub next_is : next ≡ now + 100 * length steps
-  pub room : length steps + left n v ≤ 105025
+  pub room : length steps + requests_left n v ≤ 105025
   pub fewer : posts ≤ length steps
   pub two : length v.seats ≡ 2
   pub others : (k : ℕ) → k ≢ n → IsIdle k v

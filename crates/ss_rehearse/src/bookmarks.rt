@@ -8,7 +8,8 @@ ghost use Rattle.ss_text.specs.Names.{is_id};
 ghost use Rattle.ss_record.specs.declared.kinds.Kind.TheVariants.{Bookmark};
 ghost use Rattle.ss_record.specs.Items.{is_fit};
 ghost use Rattle.ss_record.specs.Marks.{plain_text};
-ghost use Rattle.ss_rehearse.specs.Bookmarks.{address, bookmark, bookmark_id, eleven_digits, members_of, new_title, root_of, title};
+ghost use Rattle.ss_rehearse.specs.Bookmarks.{address, bookmark, bookmark_id, eleven_digits, members_of, new_title};
+ghost use Rattle.ss_rehearse.specs.Bookmarks.{root_of, title};
 
 use itoa::Buffer;
 use serde_json::{Map, Value};

@@ -3,7 +3,7 @@
 ghost use Rattle.std.specs.Prelude.{◌≤◌, ◌+◌, List, IfOk, OnOk, codes};
 ghost use Rattle.ss_world.specs.Happening.{Step};
 ghost use Rattle.ss_rehearse.specs.Scripts.{additions, moves, renamings};
-ghost use Rattle.ss_rehearse.specs.Plays.{IsChanged};
+ghost use Rattle.ss_rehearse.specs.Plays.{PlaysChanges};
 ghost use Rattle.ss_rehearse.specs.Syncing.{AreIdle};
 
 use crate::bookmarks::{bookmark, bookmark_id, menu, new_title, root_of};
@@ -23,7 +23,7 @@ pub(crate) fn add_all(
     requires few { items ≤ 15000 }
     requires early { now ≤ 1000000000 }
     requires idle { AreIdle world.old }
-    ensures changed { IfOk result (λ next. (steps : List Step) × IsChanged 0 now world.old (additions items seed) steps
+    ensures changed { IfOk result (λ next. (steps : List Step) × PlaysChanges 0 now world.old (additions items seed) steps
         world.new next) }
     ensures early { IfOk result (λ next. next ≤ now + 1500000) }
     ensures idle { OnOk result (AreIdle world.new) }
@@ -50,7 +50,7 @@ pub(crate) fn rename_some(
     requires few { items ≤ 15000 }
     requires early { now ≤ 1000000000 }
     requires idle { AreIdle world.old }
-    ensures changed { IfOk result (λ next. (steps : List Step) × IsChanged 1 now world.old (renamings items) steps
+    ensures changed { IfOk result (λ next. (steps : List Step) × PlaysChanges 1 now world.old (renamings items) steps
         world.new next) }
     ensures early { IfOk result (λ next. next ≤ now + 1500000) }
     ensures idle { OnOk result (AreIdle world.new) }
@@ -78,7 +78,7 @@ pub(crate) fn move_some(
     requires few { items ≤ 15000 }
     requires early { now ≤ 1000000000 }
     requires idle { AreIdle world.old }
-    ensures changed { IfOk result (λ next. (steps : List Step) × IsChanged 0 now world.old (moves items) steps world.new
+    ensures changed { IfOk result (λ next. (steps : List Step) × PlaysChanges 0 now world.old (moves items) steps world.new
         next) }
     ensures early { IfOk result (λ next. next ≤ now + 1500000) }
     ensures idle { OnOk result (AreIdle world.new) }

@@ -8,7 +8,7 @@ ghost use Rattle.ss_tree.specs.Trees.{IsSame, IsValidTree};
 ghost use Rattle.ss_tree.specs.Entries.{IsTree, tree};
 ghost use Rattle.ss_device.specs.Device.{DeviceView, dead_ids};
 ghost use Rattle.ss_plan.specs.Plan.{Readings, plan};
-ghost use Rattle.ss_sync.specs.Joined.{IsJoined};
+ghost use Rattle.ss_sync.specs.Joined.{IsJoinedTree};
 ghost use Rattle.ss_world.specs.declared.events.Edit.{Edit};
 ghost use Rattle.ss_rehearse.specs.Alike.{AreAlike, AreEditedAlike};
 ghost use Rattle.ss_rehearse.specs.Summaries.{summary_of};
@@ -25,8 +25,8 @@ pub fn devices_are_edited_alike()
 pub fn devices_are_merged_alike()
     ensures { (device other : DeviceView) (rows : List Sheet) (joined again : List Entry)
         → IsValidTree (tree device.tree) → AreAlike device other → Apart (map (λ s. s.id) rows)
-        → IsJoined device.mirror device.tree (dead_ids device.dead) rows joined
-        → IsJoined other.mirror other.tree (dead_ids other.dead) rows again → IsSame (tree joined) (tree again) }
+        → IsJoinedTree device.mirror device.tree (dead_ids device.dead) rows joined
+        → IsJoinedTree other.mirror other.tree (dead_ids other.dead) rows again → IsSame (tree joined) (tree again) }
 {}
 
 /// Trees that are the same have one plan: the same parts in the same order.

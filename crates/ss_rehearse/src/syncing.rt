@@ -2,7 +2,7 @@
 
 ghost use Rattle.std.specs.Prelude.{◌≡◌, ◌≤◌, ◌+◌, List, IfOk, OnOk, option_and_then, slice_get};
 ghost use Rattle.ss_world.specs.Happening.{Step};
-ghost use Rattle.ss_rehearse.specs.Plays.{IsSynced, is_post};
+ghost use Rattle.ss_rehearse.specs.Plays.{PlaysSync, is_post};
 ghost use Rattle.ss_rehearse.specs.Syncing.{AreIdle, IsAsking, IsUnderWay, post_at};
 
 use crate::events::{deliver, start};
@@ -72,7 +72,7 @@ pub(crate) fn sync(
 ) -> Result<Synced, AllocError>
     requires early { now ≤ 1100000000 }
     requires idle { AreIdle world.old }
-    ensures synced { IfOk result (λ synced. (steps : List Step) × IsSynced device now world.old steps synced.posts
+    ensures synced { IfOk result (λ synced. (steps : List Step) × PlaysSync device now world.old steps synced.posts
         world.new synced.next) }
     ensures early { IfOk result (λ synced. synced.next ≤ now + 10502500) }
     ensures idle { OnOk result (AreIdle world.new) }

@@ -1,5 +1,7 @@
 -- A target that is composed of plain segments and plain pairs is read as them.
-use Rattle.std.proofs.Common.{◌≡◌, ℕ, ◌<◌, ◌≤◌, ◌≢◌, List, [], ◌∷◌, ◌++◌, length, map, get_or, Bool, true, false, cond, Option, Some, None, ◌&&◌, ◌||◌, ◌==◌, refl, sym, ap, ap₂, ◌∙◌, subst, arith, append-nil, length-append, inl, inr, ◌⊎◌, lit<, lit≤, lt-ltb, not, leb, ⊎_elim}
+use Rattle.std.proofs.Common.{◌≡◌, ℕ, ◌<◌, ◌≤◌, ◌≢◌, List, [], ◌∷◌, ◌++◌, length, map, get_or, Bool, true, false, cond}
+use Rattle.std.proofs.Common.{Option, Some, None, ◌&&◌, ◌||◌, ◌==◌, refl, sym, ap, ap₂, ◌∙◌, subst, arith, append-nil}
+use Rattle.std.proofs.Common.{length-append, inl, inr, ◌⊎◌, lit<, lit≤, lt-ltb, not, leb, ⊎_elim}
 use Rattle.std.proofs.lemmas.Bool.{true≢false, and_parts, ne_eqb, cases_lt, or_cases, eqb-true, leb-true}
 use Rattle.std.proofs.lemmas.List.{get_or_past}
 use Rattle.std.proofs.lemmas.List.Sums.{AllPass-from_list_all}
@@ -12,7 +14,8 @@ use Rattle.std.specs.Prelude.{bytes_eq}
 use Rattle.std.specs.Str.{IsUtf8}
 use Rattle.httparse.specs.Grammar.{is_uri_byte}
 use Rattle.form_urlencoded.specs.Form.{raw_pairs, decode, split_once, split_pair}
-use Rattle.form_urlencoded.proofs.FormLemmas.{raw_pairs-nil, raw_pairs_first, split_once_before_at, split_once_after_at, split_once_before_none, split_once_after_none, decode_plain}
+use Rattle.form_urlencoded.proofs.FormLemmas.{raw_pairs-nil, raw_pairs_first, split_once_before_at, split_once_after_at}
+use Rattle.form_urlencoded.proofs.FormLemmas.{split_once_before_none, split_once_after_none, decode_plain}
 use Rattle.percent_encoding.specs.Percent.{percent_decode}
 use Rattle.percent_encoding.proofs.PercentLemmas.{percent_decode-nil, percent_decode_not_percent}
 use Rattle.ss_query.specs.Parameters.{parameter, first_in}

@@ -1,5 +1,6 @@
 -- A request that is routed may be asked: a POST is within its limits, and a list of ids isn't too long.
-use Rattle.std.proofs.Common.{◌≡◌, ℕ, ◌+◌, ◌≤◌, List, length, Bool, true, false, cond, nat_le, Option, Some, None, refl, ap, subst, is_some, codes}
+use Rattle.std.proofs.Common.{◌≡◌, ℕ, ◌+◌, ◌≤◌, List, length, Bool, true, false, cond, nat_le, Option, Some, None, refl}
+use Rattle.std.proofs.Common.{ap, subst, is_some, codes}
 use Rattle.std.proofs.lemmas.Bool.{and_parts, leb-true}
 use Rattle.std.specs.Option.{ForSome}
 use Rattle.std.specs.Prelude.{Result, Ok, Err}
@@ -8,14 +9,16 @@ use Rattle.ss_bso.specs.Limits.{part_bytes}
 use Rattle.ss_bso.specs.declared.parts.Records.{Records}
 use Rattle.ss_http.specs.declared.message.Message.{Message}
 use Rattle.ss_query.specs.Fit.{IsFitRequest, most_post_records, most_post_bytes}
-use Rattle.ss_query.specs.Parameters.{◌>>=◌, as_some, optional, or_default, ids_in, stamp_in, limit_in, offset_in, sort_in, ids_of_text, query_of_text, most_ids, parameter}
+use Rattle.ss_query.specs.Parameters.{◌>>=◌, as_some, optional, or_default, ids_in, stamp_in, limit_in, offset_in}
+use Rattle.ss_query.specs.Parameters.{sort_in, ids_of_text, query_of_text, most_ids, parameter}
 use Rattle.ss_query.specs.declared.requests.Mode.{Mode}
 use Rattle.ss_query.specs.declared.requests.Sort.{Sort}
 use Rattle.ss_query.specs.declared.requests.Sort.TheVariants.{Newest}
 use Rattle.ss_query.specs.declared.queries.QueryFault.{QueryFault}
 use Rattle.ss_query.specs.declared.requests.Query.{Query}
 use Rattle.ss_query.specs.declared.requests.Request.{Request}
-use Rattle.ss_query.specs.declared.requests.Request.TheVariants.{Info, DeleteAll, List as ListOf, Post, Put, Get, Delete}
+use Rattle.ss_query.specs.declared.requests.Request.TheVariants.{Info, DeleteAll, List as ListOf, Post, Put, Get}
+use Rattle.ss_query.specs.declared.requests.Request.TheVariants.{Delete}
 use Rattle.ss_route.specs.declared.asked.Asked.{Asked}
 use Rattle.ss_route.specs.declared.asked.Asked.TheVariants.{DeleteEverything, TellOf, OfCollection, OfItem}
 use Rattle.ss_route.specs.declared.asked.CollectionAct.{CollectionAct}
@@ -35,7 +38,8 @@ use Rattle.ss_route.specs.Posts.{mode_in, names_batch, announced_in}
 use Rattle.ss_bso.specs.Bodies.{records_of_text}
 use Rattle.ss_route.specs.Refusals.{or_refusal, query_refusal, body_refusal}
 use Rattle.ss_route.specs.Targets.{query_of, named_in, account_in}
-use Rattle.ss_route.specs.Routing.{is_get, asking, request_in, collection_request, item_request, list_request, post_request, delete_request, put_request, deletes, AsksFit}
+use Rattle.ss_route.specs.Routing.{is_get, asking, request_in, collection_request, item_request, list_request}
+use Rattle.ss_route.specs.Routing.{post_request, delete_request, put_request, deletes, AsksFit}
 
 -- what went on came from a value
 record Came {A B E : Type 0} (x : Result A E) (f : A → Result B E) (y : B) : Type 0 where

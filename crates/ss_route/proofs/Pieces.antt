@@ -1,5 +1,6 @@
 -- The pieces of a path without an empty one at their end.
-use Rattle.std.proofs.Common.{◌≡◌, ◌≢◌, ℕ, zero, suc, ◌+◌, ◌-◌, List, [], ◌∷◌, length, map, take, get_or, ◌==◌, true, false, cond, sym, ap, arith}
+use Rattle.std.proofs.Common.{◌≡◌, ◌≢◌, ℕ, zero, suc, ◌+◌, ◌-◌, List, [], ◌∷◌, length, map, take, get_or, ◌==◌, true}
+use Rattle.std.proofs.Common.{false, cond, sym, ap, arith}
 use Rattle.ss_route.specs.Targets.{without_empty_end}
 
 empty_last : {X : Type 0} (f : X → List ℕ) (xs : List X) (n : ℕ) (d : X) → length xs ≡ n + 1 → (length (f (get_or xs n d)) == 0) ≡ true

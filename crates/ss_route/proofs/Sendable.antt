@@ -1,5 +1,6 @@
 -- The bytes of a request that is sent are read as its message.
-use Rattle.std.proofs.Common.{◌≡◌, ℕ, ◌<◌, ◌≤◌, List, [], ◌++◌, length, true, Option, Some, None, codes, decimal, refl, sym, ap, ◌∙◌, subst, arith, lit<, length-append, append_assoc, ◌∷◌, ◌/◌, ◌%◌, ⊎_elim}
+use Rattle.std.proofs.Common.{◌≡◌, ℕ, ◌<◌, ◌≤◌, List, [], ◌++◌, length, true, Option, Some, None, codes, decimal, refl}
+use Rattle.std.proofs.Common.{sym, ap, ◌∙◌, subst, arith, lit<, length-append, append_assoc, ◌∷◌, ◌/◌, ◌%◌, ⊎_elim}
 use Rattle.std.proofs.lemmas.Fmt.{length-decimal-le}
 use Rattle.std.specs.Prelude.{IfSome}
 use Rattle.std.specs.List.{list_all}
@@ -18,11 +19,17 @@ use Rattle.ss_query.specs.declared.requests.Mode.{Mode}
 use Rattle.ss_query.specs.declared.requests.Mode.TheVariants.{Plain, Begin, Append, Commit}
 use Rattle.ss_query.specs.declared.requests.Query.{Query}
 use Rattle.ss_query.specs.declared.requests.Request.{Request}
-use Rattle.ss_query.specs.declared.requests.Request.TheVariants.{Info, DeleteAll, List as ListOf, Post, DeleteCollection, DeleteIds, Put, Get as GetItem, Delete as DeleteItem}
+use Rattle.ss_query.specs.declared.requests.Request.TheVariants.{Info, DeleteAll, List as ListOf, Post}
+use Rattle.ss_query.specs.declared.requests.Request.TheVariants.{DeleteCollection, DeleteIds, Put, Get as GetItem}
+use Rattle.ss_query.specs.declared.requests.Request.TheVariants.{Delete as DeleteItem}
 use Rattle.ss_route.specs.Posts.{token}
-use Rattle.ss_route.specs.Sending.{IsSent, IsTyped, IsReadable, IsReadableBatch, IsPageAt, IsListed, IsUnmodified, IsHost, page, all_ids, newer_text, account_path, mode_text, target_of, uploads_text, method_of, body_sent, request_sent, message_of}
+use Rattle.ss_route.specs.Sending.{IsSent, IsTyped, IsReadable, IsReadableBatch, IsPageAt, IsListed, IsUnmodified}
+use Rattle.ss_route.specs.Sending.{IsHost, page, all_ids, newer_text, account_path, mode_text, target_of, uploads_text}
+use Rattle.ss_route.specs.Sending.{method_of, body_sent, request_sent, message_of}
 use Rattle.ss_route.proofs.Composed.{Pair, ArePlainSegments, ArePlainPairs, target_text, target_uri, target_utf8}
-use Rattle.ss_route.proofs.Sent.{bookmarks, configuration, bookmarks_plain, configuration_plain, IsTime, first_pairs, first_plain, later_pairs, later_plain, first_target, later_target, ids_target, configuration_target, mode_pairs, mode_plain, mode_target}
+use Rattle.ss_route.proofs.Sent.{bookmarks, configuration, bookmarks_plain, configuration_plain, IsTime, first_pairs}
+use Rattle.ss_route.proofs.Sent.{first_plain, later_pairs, later_plain, first_target, later_target, ids_target}
+use Rattle.ss_route.proofs.Sent.{configuration_target, mode_pairs, mode_plain, mode_target}
 use Rattle.ss_route.proofs.Tokens.{token_short}
 use Rattle.ss_http.specs.Limits.{most_method_bytes, most_target_bytes}
 use Rattle.ss_http.specs.declared.limits.TheConstants.{BODY_ROOM}

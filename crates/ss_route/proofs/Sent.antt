@@ -1,5 +1,7 @@
 -- A request that is sent is routed as it was meant.
-use Rattle.std.proofs.Common.{◌≡◌, ℕ, suc, ◌+◌, ◌^◌, ◌/◌, ◌%◌, ◌<◌, ◌≤◌, List, [], ◌∷◌, length, nat_le, Bool, true, false, ◌&&◌, cond, Option, Some, None, option_and_then, codes, decimal, refl, sym, ap, ap₂, ◌∙◌, subst, arith, lit<, le-leb, append_assoc, append-nil, ◌++◌, ⊎_elim}
+use Rattle.std.proofs.Common.{◌≡◌, ℕ, suc, ◌+◌, ◌^◌, ◌/◌, ◌%◌, ◌<◌, ◌≤◌, List, [], ◌∷◌, length, nat_le, Bool, true}
+use Rattle.std.proofs.Common.{false, ◌&&◌, cond, Option, Some, None, option_and_then, codes, decimal, refl, sym, ap}
+use Rattle.std.proofs.Common.{ap₂, ◌∙◌, subst, arith, lit<, le-leb, append_assoc, append-nil, ◌++◌, ⊎_elim}
 use Rattle.std.proofs.lemmas.Fmt.{decimal_nonempty}
 use Rattle.std.proofs.lemmas.List.Folds.{list_all-append}
 use Rattle.std.proofs.lemmas.List.Sums.{sum_by-cons}
@@ -19,7 +21,8 @@ use Rattle.ss_bso.specs.declared.parts.Records.{Records}
 use Rattle.ss_http.specs.Requests.{IsCond, request_fields}
 use Rattle.ss_http.specs.declared.message.Message.{Message}
 use Rattle.ss_query.specs.Fit.{IsFitRequest, most_post_records, most_post_bytes}
-use Rattle.ss_query.specs.Parameters.{◌>>=◌, as_some, optional, or_default, ids_in, stamp_in, limit_in, offset_in, sort_in, ids_of_text, query_of_text, parameter}
+use Rattle.ss_query.specs.Parameters.{◌>>=◌, as_some, optional, or_default, ids_in, stamp_in, limit_in, offset_in}
+use Rattle.ss_query.specs.Parameters.{sort_in, ids_of_text, query_of_text, parameter}
 use Rattle.ss_query.specs.declared.queries.QueryFault.{QueryFault}
 use Rattle.ss_query.specs.declared.queries.QueryFault.TheVariants as of_query
 use Rattle.ss_query.specs.declared.replies.Said.TheVariants as words
@@ -28,7 +31,9 @@ use Rattle.ss_query.specs.declared.requests.Mode.{Mode}
 use Rattle.ss_query.specs.declared.requests.Mode.TheVariants.{Plain, Begin, Append, Commit}
 use Rattle.ss_query.specs.declared.requests.Query.{Query}
 use Rattle.ss_query.specs.declared.requests.Request.{Request}
-use Rattle.ss_query.specs.declared.requests.Request.TheVariants.{Info, DeleteAll, List as ListOf, Post, DeleteCollection, DeleteIds, Put, Get as GetItem, Delete as DeleteItem}
+use Rattle.ss_query.specs.declared.requests.Request.TheVariants.{Info, DeleteAll, List as ListOf, Post}
+use Rattle.ss_query.specs.declared.requests.Request.TheVariants.{DeleteCollection, DeleteIds, Put, Get as GetItem}
+use Rattle.ss_query.specs.declared.requests.Request.TheVariants.{Delete as DeleteItem}
 use Rattle.ss_query.specs.declared.requests.Sort.TheVariants.{Newest}
 use Rattle.ss_route.specs.declared.asked.Asked.{Asked}
 use Rattle.ss_route.specs.declared.asked.Asked.TheVariants.{TellOf, OfCollection}
@@ -45,15 +50,20 @@ use Rattle.ss_route.specs.declared.targets.Named.{Named}
 use Rattle.ss_route.specs.declared.targets.Place.TheVariants.{About, Collection}
 use Rattle.ss_route.specs.Asking.{method_in, asked_in, name_in}
 use Rattle.ss_route.specs.Bodies.{is_in_lines, lines_of_type, records_in, within_limits}
-use Rattle.ss_route.specs.Conditions.{condition_in, is_beyond_stamps, meant, stamp_said, time_in}
+use Rattle.ss_route.specs.Conditions.{condition_in, is_beyond_stamps, cond_meant, stamp_said, time_in}
 use Rattle.ss_route.specs.Fields.{wants_lines, without_parameters}
 use Rattle.ss_route.specs.Posts.{token, batch_of, mode_of, mode_in, batch_in, continues, names_batch, announced_in}
 use Rattle.ss_route.specs.Refusals.{said, code, or_refusal, query_refusal, body_refusal}
-use Rattle.ss_route.specs.Routing.{is_get, asking, settled, routed, request_in, collection_request, list_request, post_request}
-use Rattle.ss_route.specs.Sending.{IsSent, IsTyped, IsReadable, IsReadableBatch, IsPageAt, IsListed, IsUnmodified, IsUpload, page, all_ids, payload_set, account_path, target_of, uploads_text, message_of, request_meant}
+use Rattle.ss_route.specs.Routing.{is_get, asking, settled_routing, routed, request_in, collection_request}
+use Rattle.ss_route.specs.Routing.{list_request, post_request}
+use Rattle.ss_route.specs.Sending.{IsSent, IsTyped, IsReadable, IsReadableBatch, IsPageAt, IsListed, IsUnmodified}
+use Rattle.ss_route.specs.Sending.{IsUpload, page, all_ids, payload_set, account_path, target_of, uploads_text}
+use Rattle.ss_route.specs.Sending.{message_of, request_meant}
 use Rattle.ss_route.specs.Targets.{query_of, named_by, named_in, place_of, info_of, account_in}
-use Rattle.ss_route.proofs.Composed.{Pair, is_plain, IsPlainSegment, IsPlainPair, ArePlainSegments, ArePlainPairs, target_text, first_value, path_again, parameter_again}
-use Rattle.ss_route.proofs.Tokens.{decimal_is_plain, stamp_is_plain, token_is_plain, number_back, uid_back, batch_back, token_is_not_true}
+use Rattle.ss_route.proofs.Composed.{Pair, is_plain, IsPlainSegment, IsPlainPair, ArePlainSegments, ArePlainPairs}
+use Rattle.ss_route.proofs.Composed.{target_text, first_value, path_again, parameter_again}
+use Rattle.ss_route.proofs.Tokens.{decimal_is_plain, stamp_is_plain, token_is_plain, number_back, uid_back, batch_back}
+use Rattle.ss_route.proofs.Tokens.{token_is_not_true}
 use Rattle.ss_route.proofs.Uploads.{IsPart, uploads_are_read}
 use Rattle.ss_text.proofs.StampTexts.{stamp_again}
 
@@ -153,17 +163,17 @@ said_again Profile time h = stamp_again time h
 said_again Browser time h = ap (λ beyond. cond beyond (Some last_stamp) (stamp_of (stamp_text time))) (not_beyond time) ∙ stamp_again time h
 
 time_back : (manner : Manner) (time : ℕ) → time ≤ last_stamp
-    → (time_in manner (stamp_text time) >>= (λ time. Ok (meant manner (IfUnmodified time)))) ≡ Ok (meant manner (IfUnmodified time))
-time_back manner time h = ap (λ o. ok_or o (said 400 words.Condition) >>= (λ time. Ok (meant manner (IfUnmodified time)))) (said_again manner time h)
+    → (time_in manner (stamp_text time) >>= (λ time. Ok (cond_meant manner (IfUnmodified time)))) ≡ Ok (cond_meant manner (IfUnmodified time))
+time_back manner time h = ap (λ o. ok_or o (said 400 words.Condition) >>= (λ time. Ok (cond_meant manner (IfUnmodified time)))) (said_again manner time h)
 
 unmodified_again : (manner : Manner) (gets : Bool) (host : List ℕ) (time : ℕ) (body : Option (List ℕ)) → time ≤ last_stamp
-    → condition_in manner gets (request_fields host (IfUnmodified time) body) ≡ Ok (meant manner (IfUnmodified time))
+    → condition_in manner gets (request_fields host (IfUnmodified time) body) ≡ Ok (cond_meant manner (IfUnmodified time))
 unfolding condition_in
 unmodified_again manner gets host time None h = time_back manner time h
 unmodified_again manner gets host time (Some body) h = time_back manner time h
 
 -- what a request without a condition means
-free_meant : (manner : Manner) → meant manner Free ≡ Free
+free_meant : (manner : Manner) → cond_meant manner Free ≡ Free
 free_meant Profile = refl
 free_meant Browser = refl
 
@@ -280,19 +290,19 @@ ids_target uid time = simp (append_assoc, append-nil)
 
 -- a list whose target has these pairs is asked for again
 list_goes : (manner : Manner) (uid : ℕ) (host : List ℕ) (query : Query) (cond : Cond) (pairs : List Pair) → 1 ≤ uid → uid ≤ 4294967295 → target_of uid (ListOf (codes "bookmarks") query cond) ≡ target_text (bookmarks uid) pairs
-    → ArePlainPairs pairs → condition_in manner true (request_fields host cond None) ≡ Ok (meant manner cond)
+    → ArePlainPairs pairs → condition_in manner true (request_fields host cond None) ≡ Ok (cond_meant manner cond)
     → query_from (first_value (codes "ids") pairs) (first_value (codes "newer") pairs) (first_value (codes "older") pairs) (first_value (codes "limit") pairs)
     (first_value (codes "offset") pairs) (first_value (codes "sort") pairs) (first_value (codes "full") pairs) ≡ Ok query
-    → asking manner (message_of uid host (ListOf (codes "bookmarks") query cond)) ≡ Ok (Ask uid (ListOf (codes "bookmarks") query (meant manner cond)) false)
+    → asking manner (message_of uid host (ListOf (codes "bookmarks") query cond)) ≡ Ok (Ask uid (ListOf (codes "bookmarks") query (cond_meant manner cond)) false)
 list_goes manner uid host query cond pairs above below target plain condition found =
     let request = ListOf (codes "bookmarks") query cond in
     let m = message_of uid host request in
     let few : uid < 2 ^ 64 = omega arith in
-    asked_bookmarks manner m methods.Get collections.List uid pairs (meant manner cond) (ListOf (codes "bookmarks") query (meant manner cond)) get_is target plain above below (get_asks collections.List) condition
-    (listed_again m (meant manner cond) query (ap (λ target. query_of_text (query_of target)) target ∙ parameters_are (bookmarks uid) pairs query (bookmarks_plain uid few) plain found)) (no_lines host cond None)
+    asked_bookmarks manner m methods.Get collections.List uid pairs (cond_meant manner cond) (ListOf (codes "bookmarks") query (cond_meant manner cond)) get_is target plain above below (get_asks collections.List) condition
+    (listed_again m (cond_meant manner cond) query (ap (λ target. query_of_text (query_of target)) target ∙ parameters_are (bookmarks uid) pairs query (bookmarks_plain uid few) plain found)) (no_lines host cond None)
 
 first_page : (manner : Manner) (uid : ℕ) (newer : Option ℕ) (host : List ℕ) → 1 ≤ uid → uid ≤ 4294967295 → IsTime newer
-    → asking manner (message_of uid host (ListOf (codes "bookmarks") (page newer 0) Free)) ≡ Ok (Ask uid (ListOf (codes "bookmarks") (page newer 0) (meant manner Free)) false)
+    → asking manner (message_of uid host (ListOf (codes "bookmarks") (page newer 0) Free)) ≡ Ok (Ask uid (ListOf (codes "bookmarks") (page newer 0) (cond_meant manner Free)) false)
 first_page manner uid newer host above below known =
     list_goes manner uid host (page newer 0) Free (first_pairs newer) above below (first_target uid newer) (first_plain newer known)
     (free_again manner true host ∙ ap Ok (sym (free_meant manner))) (found newer known)
@@ -304,7 +314,7 @@ first_page manner uid newer host above below known =
 
 later_page : (manner : Manner) (uid : ℕ) (newer : Option ℕ) (offset time : ℕ) (host : List ℕ) → 1 ≤ uid → uid ≤ 4294967295 → IsTime newer → offset ≤ 999999999 → time ≤ last_stamp
     → asking manner (message_of uid host (ListOf (codes "bookmarks") (page newer offset) (IfUnmodified time)))
-    ≡ Ok (Ask uid (ListOf (codes "bookmarks") (page newer offset) (meant manner (IfUnmodified time))) false)
+    ≡ Ok (Ask uid (ListOf (codes "bookmarks") (page newer offset) (cond_meant manner (IfUnmodified time))) false)
 later_page manner uid newer offset time host above below known within moment =
     list_goes manner uid host (page newer offset) (IfUnmodified time) (later_pairs newer offset) above below (later_target uid newer offset time) (later_plain newer offset known (omega arith))
     (unmodified_again manner true host time None moment) (found newer known)
@@ -315,7 +325,7 @@ later_page manner uid newer offset time host above below known within moment =
     found (Some since) h = page_query (Some (stamp_text since)) (Some (decimal offset)) (Some since) offset (newer_again (Some since) h) (offset_again offset within)
 
 ids_listed : (manner : Manner) (uid time : ℕ) (host : List ℕ) → 1 ≤ uid → uid ≤ 4294967295 → time ≤ last_stamp
-    → asking manner (message_of uid host (ListOf (codes "bookmarks") all_ids (IfUnmodified time))) ≡ Ok (Ask uid (ListOf (codes "bookmarks") all_ids (meant manner (IfUnmodified time))) false)
+    → asking manner (message_of uid host (ListOf (codes "bookmarks") all_ids (IfUnmodified time))) ≡ Ok (Ask uid (ListOf (codes "bookmarks") all_ids (cond_meant manner (IfUnmodified time))) false)
 ids_listed manner uid time host above below known =
     list_goes manner uid host all_ids (IfUnmodified time) [] above below (ids_target uid time) tt (unmodified_again manner true host time None known) all_query
 
@@ -341,7 +351,7 @@ limits_asked manner uid host above below =
     (ap named_in (configuration_target uid) ∙ named_configuration uid few) (account_back uid above below) tell_asks (told_of manner m (free_again manner true host)) (no_lines host Free None)
 
 limits_meant : (manner : Manner) (uid : ℕ) (host : List ℕ) → 1 ≤ uid → uid ≤ 4294967295
-    → asking manner (message_of uid host (Info Configuration Free)) ≡ Ok (Ask uid (Info Configuration (meant manner Free)) false)
+    → asking manner (message_of uid host (Info Configuration Free)) ≡ Ok (Ask uid (Info Configuration (cond_meant manner Free)) false)
 limits_meant manner uid host above below =
     limits_asked manner uid host above below ∙ ap (λ condition. Ok (Ask uid (Info Configuration condition) false)) (sym (free_meant manner))
 
@@ -450,9 +460,9 @@ upload manner uid time host parts mode above below known readable are number byt
     let few : uid < 2 ^ 64 = omega arith in
     let target = mode_target uid records mode (IfUnmodified time) in
     let body = uploads_text parts in
-    asked_bookmarks manner m methods.Post collections.Post uid (mode_pairs mode) (meant manner (IfUnmodified time)) (request_meant manner request) post_is target (mode_plain mode readable) above below post_asks
+    asked_bookmarks manner m methods.Post collections.Post uid (mode_pairs mode) (cond_meant manner (IfUnmodified time)) (request_meant manner request) post_is target (mode_plain mode readable) above below post_asks
     (unmodified_again manner false host time (Some body) known)
-    (posted_again m records mode (meant manner (IfUnmodified time)) (ap (λ target. mode_in (query_of target)) target ∙ mode_again uid mode few readable)
+    (posted_again m records mode (cond_meant manner (IfUnmodified time)) (ap (λ target. mode_in (query_of target)) target ∙ mode_again uid mode few readable)
     (nothing_announced (names_batch (query_of m.target)) host time body) (json_again host time body) (records_again parts are number bytes))
     (no_lines host (IfUnmodified time) (Some body))
 
@@ -511,7 +521,7 @@ goes manner uid host (DeleteItem collection id cond) above below typed sent fit 
 
 pub sent_is_meant : (manner : Manner) (uid : ℕ) (host : List ℕ) (request : Request) → 1 ≤ uid → uid ≤ 4294967295 → IsTyped request → IsSent request → IsFitRequest request → IsReadable request
     → routed manner (message_of uid host request) ≡ Ask uid (request_meant manner request) false
-sent_is_meant manner uid host request above below typed sent fit readable = ap settled (goes manner uid host request above below typed sent fit readable)
+sent_is_meant manner uid host request above below typed sent fit readable = ap settled_routing (goes manner uid host request above below typed sent fit readable)
 
 -- by the profile a request is meant as it is
 as_it_is : (request : Request) → request_meant Profile request ≡ request

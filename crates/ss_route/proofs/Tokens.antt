@@ -1,7 +1,11 @@
 -- Numbers and ids of batches, as they are written and read.
-use Rattle.std.proofs.Common.{◌≡◌, ℕ, ◌+◌, ◌*◌, ◌/◌, ◌%◌, ◌^◌, ◌<◌, ◌≤◌, List, [], ◌∷◌, ◌++◌, length, get_or, Bool, true, false, ◌&&◌, ◌||◌, ◌==◌, cond, leb, eq-eqb, rules, Result, Ok, Err, Option, Some, None, option_and_then, codes, decimal, refl, sym, ap, ap₂, ◌∙◌, arith, lit<, append-nil, le-leb, ne_eqb}
+use Rattle.std.proofs.Common.{◌≡◌, ℕ, ◌+◌, ◌*◌, ◌/◌, ◌%◌, ◌^◌, ◌<◌, ◌≤◌, List, [], ◌∷◌, ◌++◌, length, get_or, Bool}
+use Rattle.std.proofs.Common.{true, false, ◌&&◌, ◌||◌, ◌==◌, cond, leb, eq-eqb, rules, Result, Ok, Err, Option, Some}
+use Rattle.std.proofs.Common.{None, option_and_then, codes, decimal, refl, sym, ap, ap₂, ◌∙◌, arith, lit<, append-nil}
+use Rattle.std.proofs.Common.{le-leb, ne_eqb}
 use Rattle.std.proofs.lemmas.Bool.{and_parts, leb-true, false_from_ne_true}
-use Rattle.std.proofs.lemmas.Fmt.{decimal_is_IsNumeral, decimal_nonempty, length-decimal-le, first_decimal, IsAscii-decimal, decimal-digits_value}
+use Rattle.std.proofs.lemmas.Fmt.{decimal_is_IsNumeral, decimal_nonempty, length-decimal-le, first_decimal}
+use Rattle.std.proofs.lemmas.Fmt.{IsAscii-decimal, decimal-digits_value}
 use Rattle.std.proofs.lemmas.Str.Parse.{IsNumeralModel, numerals_by_value, digits_value_short}
 use Rattle.std.proofs.lemmas.List.Sums.{AllPass-from_list_all}
 use Rattle.std.proofs.lemmas.Slice.Eq.{bytes_eq-Decides}

@@ -1,5 +1,7 @@
 -- The body that a client writes is read as its parts.
-use Rattle.std.proofs.Common.{◌≡◌, ℕ, ◌+◌, ◌≤◌, List, [], ◌∷◌, ◌++◌, length, map, Bool, true, false, ◌==◌, cond, Option, Some, None, option_map, option_and_then, Ok, Err, codes, is_some, refl, sym, ap, ap₂, ◌∙◌, arith, lit≤, append_assoc, append-nil, le-ltb}
+use Rattle.std.proofs.Common.{◌≡◌, ℕ, ◌+◌, ◌≤◌, List, [], ◌∷◌, ◌++◌, length, map, Bool, true, false, ◌==◌, cond, Option}
+use Rattle.std.proofs.Common.{Some, None, option_map, option_and_then, Ok, Err, codes, is_some, refl, sym, ap, ap₂, ◌∙◌}
+use Rattle.std.proofs.Common.{arith, lit≤, append_assoc, append-nil, le-ltb}
 use Rattle.std.specs.List.{flat_map, filter_map, cons_option, join_with_byte, AllByRecursion}
 use Rattle.std.specs.Str.{IsUtf8, is_utf8}
 use Rattle.std.proofs.lemmas.Str.{IsUtf8-append, is_utf8-from_IsUtf8}
@@ -14,11 +16,12 @@ use Rattle.json.proofs.Printed.Tokens.{tokens-print}
 use Rattle.json.proofs.Printed.Trees.{ArePrintable-json_tokens, value-json_tokens}
 use Rattle.serde_json.specs.Read.{read, max_depth, of_json, of_items}
 use Rattle.ss_text.specs.Names.{is_id}
-use Rattle.ss_text.specs.Decimals.{is_number_byte, outside, pieces, spelled, wrapped_pieces, wrapped}
+use Rattle.ss_text.specs.Decimals.{is_number_byte, outside, pieces, bytes_of_piece, wrapped_pieces, wrapped}
 use Rattle.ss_text.proofs.Pieces.{at_byte}
 use Rattle.ss_text.proofs.Printed.{quoted_there}
-use Rattle.ss_bso.specs.Bodies.{id_of, records_of_text, records_of, part_of, failed_of, first_fault, or_fault, part_with, failure_with, items_list, json_records}
-use Rattle.ss_bso.specs.Members.{fields_of, payload_of, sortindex_of, ttl_of, parsed, ◌>>=◌}
+use Rattle.ss_bso.specs.Bodies.{id_of, records_of_text, records_of, part_of, failed_of, first_fault, or_fault}
+use Rattle.ss_bso.specs.Bodies.{part_with, failure_with, items_list, json_records}
+use Rattle.ss_bso.specs.Members.{fields_of, payload_of, sortindex_of, ttl_of, parsed_body, ◌>>=◌}
 use Rattle.ss_bso.specs.declared.bodies.BodyFault.TheVariants.{NoId}
 use Rattle.ss_bso.specs.declared.parts.Field.TheVariants.{Keep, Set}
 use Rattle.ss_bso.specs.declared.parts.Part.{Part}
@@ -52,13 +55,13 @@ part_from u = record { id = u.id; fields = record { payload = Set u.payload; sor
 -- ---- nothing in it is wrapped
 
 abbrev W : List ℕ → List ℕ
-W text = flat_map spelled (flat_map wrapped_pieces (pieces outside text))
+W text = flat_map bytes_of_piece (flat_map wrapped_pieces (pieces outside text))
 
 W_byte : (x : ℕ) (xs : List ℕ) → (x == 34) ≡ false → is_number_byte x ≡ false → W (x ∷ xs) ≡ x ∷ W xs
-W_byte x xs q n = ap (λ ps. flat_map spelled (flat_map wrapped_pieces ps)) (at_byte x xs q n)
+W_byte x xs q n = ap (λ ps. flat_map bytes_of_piece (flat_map wrapped_pieces ps)) (at_byte x xs q n)
 
 W_quoted : (s r : List ℕ) → W (quoted s ++ r) ≡ quoted s ++ W r
-W_quoted s r = ap (λ ps. flat_map spelled (flat_map wrapped_pieces ps)) (quoted_there s r)
+W_quoted s r = ap (λ ps. flat_map bytes_of_piece (flat_map wrapped_pieces ps)) (quoted_there s r)
 
 W_open : (r : List ℕ) → W (codes "{\"id\":" ++ r) ≡ codes "{\"id\":" ++ W r
 unfolding pieces
@@ -195,8 +198,8 @@ list_is_text : (us : List Upload) → AllByRecursion IsUpload us → IsUtf8 (obj
 unfolding objects_text
 list_is_text us h = IsUtf8-append _ (codes "]") (IsUtf8-append (codes "[") _ (IsUtf8-are_ascii (codes "[") refl) (objects_are_text us h)) (IsUtf8-are_ascii (codes "]") refl)
 
-list_is_parsed : (us : List Upload) → AllByRecursion IsUpload us → parsed (objects_text us) ≡ Some (array (datas_of us))
-unfolding parsed
+list_is_parsed : (us : List Upload) → AllByRecursion IsUpload us → parsed_body (objects_text us) ≡ Some (array (datas_of us))
+unfolding parsed_body
 list_is_parsed us h =
     ap (λ t. cond (is_utf8 t) (read t) None) (nothing_wrapped us) ∙ ap (λ b. cond b (read (objects_text us)) None) (is_utf8-from_IsUtf8 (objects_text us) (list_is_text us h)) ∙ list_is_read us
 

@@ -1,5 +1,6 @@
 -- Which method may be asked of which place.
-use Rattle.std.specs.Prelude.{ℕ, is_some, List, [], ◌∷◌, map, filter, bytes_eq, Option, Some, None, ok_or, Result, Ok, Err, if◌then◌else◌, codes}
+use Rattle.std.specs.Prelude.{ℕ, is_some, List, [], ◌∷◌, map, filter, bytes_eq, Option, Some, None, ok_or, Result, Ok}
+use Rattle.std.specs.Prelude.{Err, if◌then◌else◌, codes}
 use Rattle.ss_text.specs.Names.{is_id, is_name}
 use Rattle.ss_route.specs.declared.methods.Method.{Method}
 use Rattle.ss_route.specs.declared.methods.Method.TheVariants.{Get, Put, Post, Delete}

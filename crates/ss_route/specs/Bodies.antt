@@ -1,5 +1,6 @@
 -- The types of bodies, and what the bodies of PUT and POST give (SyncStorage API 1.5).
-use Rattle.std.specs.Prelude.{ℕ, ◌+◌, Bool, true, false, not, ◌&&◌, ◌||◌, nat_le, List, length, bytes_eq, Option, Some, None, ok_or, Result, Ok, Err, if◌then◌else◌, codes}
+use Rattle.std.specs.Prelude.{ℕ, ◌+◌, Bool, true, false, not, ◌&&◌, ◌||◌, nat_le, List, length, bytes_eq, Option, Some}
+use Rattle.std.specs.Prelude.{None, ok_or, Result, Ok, Err, if◌then◌else◌, codes}
 use Rattle.std.specs.Option.{option_map_or}
 use Rattle.std.specs.Str.{str_eq_ignore_ascii_case}
 use Rattle.ss_bso.specs.declared.parts.Fields.{Fields}

@@ -1,5 +1,6 @@
 -- The condition that the fields of a message set (SyncStorage API 1.5).
-use Rattle.std.specs.Prelude.{ℕ, ◌==◌, Bool, ◌&&◌, nat_le, List, length, Option, Some, None, ok_or, Result, Ok, Err, if◌then◌else◌, codes}
+use Rattle.std.specs.Prelude.{ℕ, ◌==◌, Bool, ◌&&◌, nat_le, List, length, Option, Some, None, ok_or, Result, Ok, Err}
+use Rattle.std.specs.Prelude.{if◌then◌else◌, codes}
 use Rattle.std.specs.Char.{is_ascii_digit}
 use Rattle.std.specs.List.{list_all}
 use Rattle.ss_text.specs.declared.stamps.Cond.{Cond}
@@ -27,19 +28,19 @@ abbrev pub time_in : Manner → List ℕ → Result ℕ Local
 time_in manner value = ok_or (stamp_said manner value) (said 400 words.Condition)
 
 -- what a condition means: in the browser's manner, that nothing has changed since 0 is that the target isn't there
-abbrev pub meant : Manner → Cond → Cond
-meant Browser (IfUnmodified since) = if since == 0 then IfAbsent else IfUnmodified since
-meant Browser Free = Free
-meant Browser (IfModified since) = IfModified since
-meant Browser IfAbsent = IfAbsent
-meant Profile cond = cond
+abbrev pub cond_meant : Manner → Cond → Cond
+cond_meant Browser (IfUnmodified since) = if since == 0 then IfAbsent else IfUnmodified since
+cond_meant Browser Free = Free
+cond_meant Browser (IfModified since) = IfModified since
+cond_meant Browser IfAbsent = IfAbsent
+cond_meant Profile cond = cond
 
 -- the condition of these two values: not both; the first counts with a GET alone, but must be a time with each method
 abbrev pub condition_of : Manner → Bool → Option (List ℕ) → Option (List ℕ) → Result Cond Local
 condition_of manner gets None None = Ok Free
 condition_of manner gets None (Some unmodified) = do
   time ← time_in manner unmodified
-  Ok (meant manner (IfUnmodified time))
+  Ok (cond_meant manner (IfUnmodified time))
 condition_of manner gets (Some modified) None = do
   time ← time_in manner modified
   Ok (if gets then IfModified time else Free)

@@ -1,5 +1,6 @@
 -- What a POST says besides its body: its batch, and the sizes that it announces (SyncStorage API 1.5).
-use Rattle.std.specs.Prelude.{ℕ, Bool, true, false, nat_le, is_some, List, [], ◌∷◌, bytes_eq, decimal, Option, Some, None, option_and_then, unwrap_or, Result, Ok, Err, if◌then◌else◌, codes}
+use Rattle.std.specs.Prelude.{ℕ, Bool, true, false, nat_le, is_some, List, [], ◌∷◌, bytes_eq, decimal, Option, Some}
+use Rattle.std.specs.Prelude.{None, option_and_then, unwrap_or, Result, Ok, Err, if◌then◌else◌, codes}
 use Rattle.std.specs.List.{list_all}
 use Rattle.std.specs.Option.{option_map_or}
 use Rattle.base64.specs.GeneralPurpose.{encode_of, decoded_of}

@@ -24,14 +24,14 @@ abbrev pub code : ℕ → Local
 code number = record { status = 400; body = Code number; allow = None }
 
 -- names between commas, each comma with a space
-abbrev pub listed : List (List ℕ) → List ℕ
-listed [] = []
-listed (name ∷ []) = name
-listed (name ∷ other ∷ names) = name ++ codes ", " ++ listed (other ∷ names)
+abbrev pub comma_list : List (List ℕ) → List ℕ
+comma_list [] = []
+comma_list (name ∷ []) = name
+comma_list (name ∷ other ∷ names) = name ++ codes ", " ++ comma_list (other ∷ names)
 
 -- 405 with the methods that are allowed
 abbrev pub not_allowed : List (List ℕ) → Local
-not_allowed names = record { status = 405; body = Empty; allow = Some (listed names) }
+not_allowed names = record { status = 405; body = Empty; allow = Some (comma_list names) }
 
 -- what a query is told that is refused
 abbrev pub query_refusal : QueryFault → Local

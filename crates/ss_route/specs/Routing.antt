@@ -5,7 +5,8 @@ use Rattle.ss_text.specs.declared.stamps.Cond.{Cond}
 use Rattle.ss_http.specs.declared.message.Message.{Message}
 use Rattle.ss_query.specs.Parameters.{◌>>=◌, query_of_text, ids_of_text}
 use Rattle.ss_query.specs.declared.requests.Request.{Request}
-use Rattle.ss_query.specs.declared.requests.Request.TheVariants.{Info, DeleteAll, List as ListOf, Post, DeleteCollection, DeleteIds, Get, Put, Delete}
+use Rattle.ss_query.specs.declared.requests.Request.TheVariants.{Info, DeleteAll, List as ListOf, Post}
+use Rattle.ss_query.specs.declared.requests.Request.TheVariants.{DeleteCollection, DeleteIds, Get, Put, Delete}
 use Rattle.ss_query.specs.Fit.{IsFitRequest}
 use Rattle.ss_route.specs.declared.manner.Manner.{Manner}
 use Rattle.ss_route.specs.declared.methods.Method.{Method}
@@ -103,13 +104,13 @@ asking manner m = do
   request ← request_in manner asked method m
   Ok (Ask uid request (wants_lines m.fields))
 
-abbrev pub settled : Result Routed Told → Routed
-settled (Ok routed) = routed
-settled (Err local) = Local local
+abbrev pub settled_routing : Result Routed Told → Routed
+settled_routing (Ok routed) = routed
+settled_routing (Err local) = Local local
 
 -- routing, in a manner of reading conditions
 abbrev pub routed : Manner → Message → Routed
-routed manner m = settled (asking manner m)
+routed manner m = settled_routing (asking manner m)
 
 -- a call's answer is that one, unless memory ran out
 abbrev pub IsRouted : Routed → Routed → Type 0

@@ -1,5 +1,6 @@
 -- The requests that a sync client sends, as it writes them.
-use Rattle.std.specs.Prelude.{◌≡◌, ◌⊎◌, ℕ, ◌≤◌, ◌<◌, true, false, List, [], ◌++◌, map, length, All, Option, Some, None, IfSome, if◌then◌else◌, codes, decimal, ⊤}
+use Rattle.std.specs.Prelude.{◌≡◌, ◌⊎◌, ℕ, ◌≤◌, ◌<◌, true, false, List, [], ◌++◌, map, length, All, Option, Some, None}
+use Rattle.std.specs.Prelude.{IfSome, if◌then◌else◌, codes, decimal, ⊤}
 use Rattle.std.specs.List.{list_all}
 use Rattle.std.specs.Str.{IsUtf8}
 use Rattle.ss_text.specs.Time.{stamp_text, last_stamp}
@@ -19,7 +20,7 @@ use Rattle.ss_query.specs.declared.requests.Query.{Query}
 use Rattle.ss_query.specs.declared.requests.Request.{Request}
 use Rattle.ss_query.specs.declared.requests.Request.TheVariants.{Info, List as ListOf, Post}
 use Rattle.ss_query.specs.declared.requests.Sort.TheVariants.{Newest, Oldest}
-use Rattle.ss_route.specs.Conditions.{meant}
+use Rattle.ss_route.specs.Conditions.{cond_meant}
 use Rattle.ss_route.specs.Posts.{token}
 use Rattle.ss_route.specs.declared.manner.Manner.{Manner}
 use Rattle.ss_route.specs.Texts.{json_text, list_text}
@@ -68,7 +69,7 @@ IsSent _ = ⊥
 
 -- a request with its condition as it is meant in a manner
 abbrev pub request_meant : Manner → Request → Request
-request_meant manner request = with_condition (meant manner (condition_of request)) request
+request_meant manner request = with_condition (cond_meant manner (condition_of request)) request
 
 -- a host of 1 to 1,030 visible bytes
 abbrev pub IsHost : List ℕ → Type 0

@@ -1,5 +1,6 @@
 -- What the target of a message names: an account, a place in it, and a query (SyncStorage API 1.5).
-use Rattle.std.specs.Prelude.{ℕ, ◌==◌, List, [], ◌∷◌, map, length, slice_index, bytes_eq, nat_le, Option, Some, None, option_map, option_and_then, ok_or, Result, if◌then◌else◌, codes}
+use Rattle.std.specs.Prelude.{ℕ, ◌==◌, List, [], ◌∷◌, map, length, slice_index, bytes_eq, nat_le, Option, Some, None}
+use Rattle.std.specs.Prelude.{option_map, option_and_then, ok_or, Result, if◌then◌else◌, codes}
 use Rattle.std.specs.List.{slice_split}
 use Rattle.form_urlencoded.specs.Form.{split_once}
 use Rattle.percent_encoding.specs.Percent.{percent_decode}

@@ -1,16 +1,19 @@
 -- The texts of bodies (SyncStorage API 1.5): JSON without spaces (RFC 8259).
-use Rattle.std.specs.Prelude.{ℕ, ℤ, ◌*◌, ◌/◌, Bool, List, [], ◌++◌, map, flat_map, ◌∷◌, Option, Some, None, if◌then◌else◌, codes, decimal}
+use Rattle.std.specs.Prelude.{ℕ, ℤ, ◌*◌, ◌/◌, Bool, List, [], ◌++◌, map, flat_map, ◌∷◌, Option, Some, None}
+use Rattle.std.specs.Prelude.{if◌then◌else◌, codes, decimal}
 use Rattle.std.specs.Fmt.{signed_decimal}
 use Rattle.std.specs.List.{join_with_byte}
 use Rattle.serde_json.specs.Data.{string}
 use Rattle.serde_json.specs.Written.{compact_text}
 use Rattle.ss_text.specs.Time.{stamp_text}
-use Rattle.ss_bso.specs.Limits.{most_post_records, most_post_bytes, most_batch_records, most_batch_bytes, most_record_payload_bytes, most_account_payload_bytes}
+use Rattle.ss_bso.specs.Limits.{most_post_records, most_post_bytes, most_batch_records, most_batch_bytes}
+use Rattle.ss_bso.specs.Limits.{most_record_payload_bytes, most_account_payload_bytes}
 use Rattle.ss_http.specs.Limits.{most_body_bytes}
 use Rattle.ss_bso.specs.declared.rows.Row.{Row}
 use Rattle.ss_bso.specs.declared.parts.Reason.{Reason}
 use Rattle.ss_query.specs.declared.replies.Body.{Body}
-use Rattle.ss_query.specs.declared.replies.Body.TheVariants.{Times, Counts, Usage, Quota, Limits, Gone, Ids, Rows, Posted, Staged, One, At, Empty, Code, Said as Word}
+use Rattle.ss_query.specs.declared.replies.Body.TheVariants.{Times, Counts, Usage, Quota, Limits, Gone, Ids, Rows}
+use Rattle.ss_query.specs.declared.replies.Body.TheVariants.{Posted, Staged, One, At, Empty, Code, Said as Word}
 use Rattle.ss_query.specs.declared.replies.Said.{Said}
 use Rattle.ss_query.specs.declared.replies.Said.TheVariants as words
 use Rattle.ss_query.specs.Reasons.{reason_name}

@@ -1,5 +1,6 @@
 -- The responses to replies (SyncStorage API 1.5), and what a client hears of them.
-use Rattle.std.specs.Prelude.{ℕ, ◌^◌, ◌<◌, ◌≤◌, Bool, true, false, ◌&&◌, ◌==◌, List, [], length, Option, Some, None, IfSome, if◌then◌else◌}
+use Rattle.std.specs.Prelude.{ℕ, ◌^◌, ◌<◌, ◌≤◌, Bool, true, false, ◌&&◌, ◌==◌, List, [], length, Option, Some, None}
+use Rattle.std.specs.Prelude.{IfSome, if◌then◌else◌}
 use Rattle.ss_text.specs.Time.{last_stamp}
 use Rattle.ss_query.specs.declared.replies.Body.{Body}
 use Rattle.ss_query.specs.declared.replies.Body.TheVariants.{Ids, Rows}

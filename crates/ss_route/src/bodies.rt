@@ -2,7 +2,8 @@
 
 ghost use Rattle.std.specs.Prelude.{◌≡◌, option_map};
 ghost use Rattle.std.specs.Str.{str_eq_ignore_ascii_case};
-ghost use Rattle.ss_route.specs.Bodies.{is_coded, lines_of_type, lines_of_field, is_in_lines, fields_in, within_limits, records_in};
+ghost use Rattle.ss_route.specs.Bodies.{is_coded, lines_of_type, lines_of_field, is_in_lines, fields_in, within_limits};
+ghost use Rattle.ss_route.specs.Bodies.{records_in};
 ghost use Rattle.ss_route.specs.Refusals.{Settles, reason_refusal, fields_refusal, body_refusal};
 
 use crate::cuts::is_same;

@@ -4,7 +4,8 @@ ghost use Rattle.std.specs.Char.{is_ascii_digit};
 ghost use Rattle.std.specs.List.{list_all};
 ghost use Rattle.std.specs.Prelude.{◌≡◌, option_map};
 ghost use Rattle.ss_text.specs.declared.stamps.Cond.TheVariants.{IfUnmodified};
-ghost use Rattle.ss_route.specs.Conditions.{is_beyond_stamps, stamp_said, meant, time_in, condition_of, condition_in};
+ghost use Rattle.ss_route.specs.Conditions.{is_beyond_stamps, stamp_said, cond_meant, time_in, condition_of};
+ghost use Rattle.ss_route.specs.Conditions.{condition_in};
 ghost use Rattle.ss_route.specs.Refusals.{Settles};
 
 use crate::manner::Manner;
@@ -50,7 +51,7 @@ fn time_in(manner: Manner, value: &[u8]) -> Result<Stamp, Stop>
 
 /// The condition that nothing has changed since a time, as it is meant.
 fn unmodified_since(manner: Manner, time: Stamp) -> Cond
-    ensures { result ≡ meant manner (IfUnmodified time) }
+    ensures { result ≡ cond_meant manner (IfUnmodified time) }
 {
     match manner {
         Manner::Profile => Cond::IfUnmodified(time),

@@ -4,7 +4,8 @@ ghost use Rattle.std.specs.Prelude.{◌≡◌, IfOk, option_map, string_bytes, b
 ghost use Rattle.std.specs.List.{list_all};
 ghost use Rattle.base64.specs.GeneralPurpose.{decoded_of};
 ghost use Rattle.base64.specs.Engines.{url_safe_no_pad};
-ghost use Rattle.ss_route.specs.Posts.{batch_of, commits_in, continues, batch_in, mode_of, mode_in, is_readable, is_within, sizes, names_batch, announced_in};
+ghost use Rattle.ss_route.specs.Posts.{batch_of, commits_in, continues, batch_in, mode_of, mode_in, is_readable};
+ghost use Rattle.ss_route.specs.Posts.{is_within, sizes, names_batch, announced_in};
 ghost use Rattle.ss_route.specs.Refusals.{Settles};
 
 use crate::cuts::is_same;

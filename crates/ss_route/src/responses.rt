@@ -2,7 +2,8 @@
 
 ghost use Rattle.std.specs.Prelude.{◌≡◌, ◌++◌, IfOk, OnOk, option_map, decimal};
 ghost use Rattle.ss_http.specs.Responses.{response};
-ghost use Rattle.ss_route.specs.Wire.{is_list, content, head_of, wire, local_head, local_wire, heard_of, not_listed, refusal_of};
+ghost use Rattle.ss_route.specs.Wire.{is_list, content, head_of, wire, local_head, local_wire, heard_of, not_listed};
+ghost use Rattle.ss_route.specs.Wire.{refusal_of};
 
 use crate::routed::{Local, said};
 use crate::texts::put_body;

@@ -4,7 +4,8 @@ ghost use Rattle.std.specs.Prelude.{◌≡◌};
 ghost use Rattle.ss_query.specs.Parameters.{query_of_text, ids_of_text};
 ghost use Rattle.ss_route.specs.Refusals.{Settles, or_refusal, query_refusal, stop_of};
 ghost use Rattle.ss_route.specs.Targets.{query_of};
-ghost use Rattle.ss_route.specs.Routing.{list_request, post_request, delete_request, put_request, collection_request, item_request, request_in, asking, routed, IsRouted, AsksFit};
+ghost use Rattle.ss_route.specs.Routing.{list_request, post_request, delete_request, put_request, collection_request};
+ghost use Rattle.ss_route.specs.Routing.{item_request, request_in, asking, routed, IsRouted, AsksFit};
 
 use crate::asked::{Asked, CollectionAct, ItemAct, asked_in, id_in, name_in};
 use crate::bodies::{fields_in, is_in_lines, records_in};

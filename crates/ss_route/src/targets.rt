@@ -4,7 +4,8 @@ ghost use Rattle.std.specs.Prelude.{◌≡◌, ◌≤◌, ◌==◌, IfOk, map, o
 ghost use Rattle.std.specs.List.{slice_split};
 ghost use Rattle.percent_encoding.specs.Percent.{percent_decode};
 ghost use Rattle.ss_route.specs.Refusals.{Settles};
-ghost use Rattle.ss_route.specs.Targets.{path_of, query_of, without_empty_end, segments_of, info_of, place_of, named_by, named_in, positive_of, uid_of, account_in};
+ghost use Rattle.ss_route.specs.Targets.{path_of, query_of, without_empty_end, segments_of, info_of, place_of};
+ghost use Rattle.ss_route.specs.Targets.{named_by, named_in, positive_of, uid_of, account_in};
 
 use crate::cuts::{is_same, split_once};
 use crate::routed::{Stop, said};

@@ -7,7 +7,9 @@ ghost use Rattle.ss_text.specs.Time.{stamp_text};
 ghost use Rattle.ss_bso.specs.Limits.{most_account_payload_bytes};
 ghost use Rattle.ss_query.specs.Reasons.{reason_name};
 ghost use Rattle.ss_route.specs.Posts.{token};
-ghost use Rattle.ss_route.specs.Texts.{json_text, list_text, object_text, lines_text, elements_text, member_text, sortindex_text, row_text, kilobytes_text, failure_text, records_text, word_text, limits_text, body_text};
+ghost use Rattle.ss_route.specs.Texts.{json_text, list_text, object_text, lines_text, elements_text, member_text};
+ghost use Rattle.ss_route.specs.Texts.{sortindex_text, row_text, kilobytes_text, failure_text, records_text, word_text};
+ghost use Rattle.ss_route.specs.Texts.{limits_text, body_text};
 
 use crate::scalars::{put, put_json, put_kilobytes, put_number, put_signed};
 use base64::engine::general_purpose::URL_SAFE_NO_PAD;

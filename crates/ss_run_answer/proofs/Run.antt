@@ -1,5 +1,6 @@
 -- What one turn more, and an ending, make of the progress of `answer`.
-use Rattle.std.proofs.Common.{◌≡◌, ◌<◌, ◌≤◌, ℕ, ◌+◌, Bool, true, false, List, [], ◌∷◌, ◌++◌, length, map, Option, None, Some, Ok, suc, refl, sym, ◌∙◌, ap, subst, append_assoc, length-append, inl, inr, arith}
+use Rattle.std.proofs.Common.{◌≡◌, ◌<◌, ◌≤◌, ℕ, ◌+◌, Bool, true, false, List, [], ◌∷◌, ◌++◌, length, map, Option, None}
+use Rattle.std.proofs.Common.{Some, Ok, suc, refl, sym, ◌∙◌, ap, subst, append_assoc, length-append, inl, inr, arith}
 use Rattle.std.specs.Prelude.{IfSome, IsFalse}
 use Rattle.std.proofs.lemmas.List.{append-nil, map-append, length-map}
 use Rattle.ss_outside.specs.Told.{Meanings, HasRead}
@@ -24,11 +25,14 @@ use Rattle.ss_http.proofs.MessageLemmas.{reads_append, reads_further}
 use Rattle.ss_route.specs.Wire.{wire, refusal_of}
 use Rattle.ss_run_answer.specs.declared.answer.Ending.{Ending}
 use Rattle.ss_run_answer.specs.declared.answer.Ending.TheVariants as endings
-use Rattle.ss_run_answer.specs.Turns.{Asked, asks, told, asked, Course, entered, unread, IsCourseOf, left_by, response_to, Turn, AreTurns, closes, account_after, responses, IsRefused, refusal_response, IsReading, AreReadings, GoesOn, Answered, IsTurn, WasSent, WasCut, Progress, ending_of, Refuses, refusal, Stops, most_messages}
+use Rattle.ss_run_answer.specs.Turns.{Asked, asks, told, asked_by_message, Course, entered, unread, IsCourseOf, left_by}
+use Rattle.ss_run_answer.specs.Turns.{response_to, Turn, AreTurns, closes, account_after, responses, RefusesBytes}
+use Rattle.ss_run_answer.specs.Turns.{refusal_response, IsReading, AreReadings, GoesOn, AnswersInput, IsTurn, WasSent}
+use Rattle.ss_run_answer.specs.Turns.{WasCut, Progress, ending_of, Refuses, refusal, Stops, most_messages}
 use Rattle.ss_route.proofs.Quiet.{quiet}
 
 -- one turn more
-pub courses_further : (uid : ℕ) (turns : List Turn) (t : Turn) → AreTurns uid turns → IsCourseOf t.course (asked uid t.message) → AreTurns uid (turns ++ t ∷ [])
+pub courses_further : (uid : ℕ) (turns : List Turn) (t : Turn) → AreTurns uid turns → IsCourseOf t.course (asked_by_message uid t.message) → AreTurns uid (turns ++ t ∷ [])
 courses_further uid [] t are one = (one, tt)
 courses_further uid (u ∷ turns) t are one = (are.0, courses_further uid turns t are.1 one)
 
@@ -37,21 +41,21 @@ goes_further [] t on one = (one, tt)
 goes_further (u ∷ turns) t on one = (on.0, goes_further turns t on.1 one)
 
 pub account_further : (uid : ℕ) (account : Plain) (turns : List Turn) (t : Turn)
-    → account_after uid account (turns ++ t ∷ []) ≡ left_by t.course (asked uid t.message) (account_after uid account turns) t.now
+    → account_after uid account (turns ++ t ∷ []) ≡ left_by t.course (asked_by_message uid t.message) (account_after uid account turns) t.now
 account_further uid account [] t = refl
-account_further uid account (u ∷ turns) t = account_further uid (left_by u.course (asked uid u.message) account u.now) turns t
+account_further uid account (u ∷ turns) t = account_further uid (left_by u.course (asked_by_message uid u.message) account u.now) turns t
 
 pub responses_further : (uid : ℕ) (account : Plain) (count : ℕ) (turns : List Turn) (t : Turn)
     → responses uid account count (turns ++ t ∷ [])
-    ≡ responses uid account count turns ++ response_to t.rendered t.course (asked uid t.message) (account_after uid account turns) t.now (closes (count + length turns) t.message)
+    ≡ responses uid account count turns ++ response_to t.rendered t.course (asked_by_message uid t.message) (account_after uid account turns) t.now (closes (count + length turns) t.message)
 responses_further uid account count [] t =
-    append-nil _ ∙ ap (λ n. response_to t.rendered t.course (asked uid t.message) account t.now (closes n t.message)) (let e : count ≡ count + 0 = omega arith in e)
+    append-nil _ ∙ ap (λ n. response_to t.rendered t.course (asked_by_message uid t.message) account t.now (closes n t.message)) (let e : count ≡ count + 0 = omega arith in e)
 responses_further uid account count (u ∷ turns) t =
-    let next = left_by u.course (asked uid u.message) account u.now in
-    let first = response_to u.rendered u.course (asked uid u.message) account u.now (closes count u.message) in
+    let next = left_by u.course (asked_by_message uid u.message) account u.now in
+    let first = response_to u.rendered u.course (asked_by_message uid u.message) account u.now (closes count u.message) in
     let mid = account_after uid next turns in
     ap (λ z. first ++ z) (responses_further uid next (count + 1) turns t)
-    ∙ ap (λ n. first ++ (responses uid next (count + 1) turns ++ response_to t.rendered t.course (asked uid t.message) mid t.now (closes n t.message))) (let e : count + 1 + length turns ≡ count + suc (length turns) = omega arith in e)
+    ∙ ap (λ n. first ++ (responses uid next (count + 1) turns ++ response_to t.rendered t.course (asked_by_message uid t.message) mid t.now (closes n t.message))) (let e : count + 1 + length turns ≡ count + suc (length turns) = omega arith in e)
     ∙ sym (append_assoc first (responses uid next (count + 1) turns) _)
 
 -- one reading more
@@ -111,7 +115,7 @@ turn_for m now is = record { message = m; now = now; course = is.course; rendere
 -- the responses behind one more
 pub answered_further : (uid count : ℕ) (turns : List Turn) (m : Message) (now : ℕ) (account account' : Plain) (sent bytes : List ℕ)
     → sent ≡ responses uid fresh 0 turns → SameAccount (account_after uid fresh turns) account → IsValid account → count ≡ length turns
-    → (is : IsTurn (asked uid m) now (closes count m) account account' bytes)
+    → (is : IsTurn (asked_by_message uid m) now (closes count m) account account' bytes)
     → sent ++ bytes ≡ responses uid fresh 0 (turns ++ turn_for m now is ∷ [])
 answered_further uid count turns m now account account' sent bytes so_far same valid counted is =
     let before = responses uid fresh 0 turns in
@@ -119,21 +123,21 @@ answered_further uid count turns m now account account' sent bytes so_far same v
     let number : count ≡ 0 + length turns = omega arith in
     ap (λ z. z ++ bytes) so_far
     ∙ ap (λ z. before ++ z) (is.sent
-    ∙ same_response is.rendered is.course (asked uid m) account model now (closes count m) valid (same-back model account same)
-    ∙ ap (λ n. response_to is.rendered is.course (asked uid m) model now (closes n m)) number)
+    ∙ same_response is.rendered is.course (asked_by_message uid m) account model now (closes count m) valid (same-back model account same)
+    ∙ ap (λ n. response_to is.rendered is.course (asked_by_message uid m) model now (closes n m)) number)
     ∙ sym (responses_further uid fresh 0 turns (turn_for m now is))
 
 pub account_is_further : (uid : ℕ) (turns : List Turn) (m : Message) (now : ℕ) (account account' : Plain) {last : Bool} {bytes : List ℕ}
     → SameAccount (account_after uid fresh turns) account → IsValid account
-    → (is : IsTurn (asked uid m) now last account account' bytes)
+    → (is : IsTurn (asked_by_message uid m) now last account account' bytes)
     → SameAccount (account_after uid fresh (turns ++ turn_for m now is ∷ [])) account'
 account_is_further uid turns m now account account' same valid is =
     let model = account_after uid fresh turns in
     let P : Plain → Type 0 = λ a. SameAccount a account' in
-    let left = left_by is.course (asked uid m) account now in
-    let left_model = left_by is.course (asked uid m) model now in
+    let left = left_by is.course (asked_by_message uid m) account now in
+    let left_model = left_by is.course (asked_by_message uid m) model now in
     subst P (sym (account_further uid fresh turns (turn_for m now is)))
-    (same-through left_model left account' (same-back left left_model (same_left is.course (asked uid m) account model now valid (same-back model account same))) is.left)
+    (same-through left_model left account' (same-back left left_model (same_left is.course (asked_by_message uid m) account model now valid (same-back model account same))) is.left)
 
 -- the beginning
 pub begun : (uid : ℕ) (at : Option ℕ) (input output : Meanings) (coming : Option (List ℕ)) → IsValid fresh
@@ -179,7 +183,7 @@ pub turned : (uid : ℕ) (at : Option ℕ) (input input' input2 output output' o
     (account account' : Plain) (count now : ℕ) (m : Message) (got bytes : List ℕ)
     → Progress uid at input input' output output' coming coming' kept account count → count < most_messages
     → HasRead got input' input2 → ReadsNext (Ok m) (kept.bytes ++ got) kept' → input2.read_faults ≡ input'.read_faults
-    → IsReading at count now coming' coming2 → IsTurn (asked uid m) now (closes count m) account account' bytes → IsValid account'
+    → IsReading at count now coming' coming2 → IsTurn (asked_by_message uid m) now (closes count m) account account' bytes → IsValid account'
     → WasSent bytes output' output2 → m.last ≡ false
     → Progress uid at input input2 output output2 coming coming2 kept' account' (count + 1)
 turned uid at input input' input2 output output' output2 coming coming' coming2 kept kept' account account' count now m got bytes p more read answers same reading is valid sent stays =
@@ -216,9 +220,9 @@ pub ended_asking : (uid : ℕ) (at : Option ℕ) (input input' input2 output out
     (account account' : Plain) (count now : ℕ) (m : Message) (got bytes : List ℕ)
     → Progress uid at input input' output output' coming coming' kept account count → count < most_messages
     → HasRead got input' input2 → ReadsMessage (kept.bytes ++ got) m kept'.bytes → input2.read_faults ≡ input'.read_faults
-    → IsReading at count now coming' coming2 → IsTurn (asked uid m) now (closes count m) account account' bytes
+    → IsReading at count now coming' coming2 → IsTurn (asked_by_message uid m) now (closes count m) account account' bytes
     → WasSent bytes output' output2 → m.last ≡ true
-    → Answered uid at endings.Asked input input2 output output2 coming coming2
+    → AnswersInput uid at endings.Asked input input2 output output2 coming coming2
 ended_asking uid at input input' input2 output output' output2 coming coming' coming2 kept kept' account account' count now m got bytes p more read reads same reading is sent closed =
     let t = turn_for m now is in
     record {
@@ -244,9 +248,9 @@ pub ended_cut : (uid : ℕ) (at : Option ℕ) (input input' input2 output output
     (account account' : Plain) (count now : ℕ) (m : Message) (got bytes : List ℕ)
     → Progress uid at input input' output output' coming coming' kept account count → count < most_messages
     → HasRead got input' input2 → ReadsMessage (kept.bytes ++ got) m kept'.bytes → input2.read_faults ≡ input'.read_faults
-    → IsReading at count now coming' coming2 → IsTurn (asked uid m) now (closes count m) account account' bytes
+    → IsReading at count now coming' coming2 → IsTurn (asked_by_message uid m) now (closes count m) account account' bytes
     → WasCut bytes output' output2
-    → Answered uid at endings.Output input input2 output output2 coming coming2
+    → AnswersInput uid at endings.Output input input2 output output2 coming coming2
 ended_cut uid at input input' input2 output output' output2 coming coming' coming2 kept kept' account account' count now m got bytes p more read reads same reading is cut =
     let t = turn_for m now is in
     let P : ℕ → Type 0 = λ n. Rose n output2.write_faults in
@@ -274,7 +278,7 @@ ended_cut uid at input input' input2 output output' output2 coming coming' comin
     }
 
 -- the refused bytes of a run
-abbrev refused_for : {fault : MsgFault} {at : Option ℕ} {count : ℕ} {coming coming' : Option (List ℕ)} → (refuses : Refuses fault at count coming coming') → (rest : List ℕ) → IsMessageFault fault rest → IsRefused rest (refusal refuses)
+abbrev refused_for : {fault : MsgFault} {at : Option ℕ} {count : ℕ} {coming coming' : Option (List ℕ)} → (refuses : Refuses fault at count coming coming') → (rest : List ℕ) → IsMessageFault fault rest → RefusesBytes rest (refusal refuses)
 refused_for refuses rest cause = record { cause = cause; local = refuses.local; answered = refuses.answered }
 
 -- the bytes behind the messages were refused, and the refusal was sent
@@ -282,7 +286,7 @@ ended_refusing : (uid : ℕ) (at : Option ℕ) (input input' input2 output outpu
     → Progress uid at input input' output output' coming coming' kept account count → count < most_messages
     → HasRead got input' input2 → IsMessageFault fault (kept.bytes ++ got) → RisesWith fault input'.read_faults input2.read_faults
     → (refuses : Refuses fault at count coming' coming2) → WasSent (refusal_response (refusal refuses)) output' output2
-    → Answered uid at endings.Refused input input2 output output2 coming coming2
+    → AnswersInput uid at endings.Refused input input2 output output2 coming coming2
 ended_refusing uid at input input' input2 output output' output2 coming coming' coming2 kept account count fault got p more read cause rises refuses sent = record {
   taken = p.taken ++ got;
   sent = p.sent ++ refusal_response (refusal refuses);
@@ -305,7 +309,7 @@ ended_refusing_in_part : (uid : ℕ) (at : Option ℕ) (input input' input2 outp
     → Progress uid at input input' output output' coming coming' kept account count → count < most_messages
     → HasRead got input' input2 → IsMessageFault fault (kept.bytes ++ got) → RisesWith fault input'.read_faults input2.read_faults
     → (refuses : Refuses fault at count coming' coming2) → WasCut (refusal_response (refusal refuses)) output' output2
-    → Answered uid at endings.Output input input2 output output2 coming coming2
+    → AnswersInput uid at endings.Output input input2 output output2 coming coming2
 ended_refusing_in_part uid at input input' input2 output output' output2 coming coming' coming2 kept account count fault got p more read cause rises refuses cut =
     let P : ℕ → Type 0 = λ n. Rose n output2.write_faults in
     record {
@@ -333,7 +337,7 @@ ended_unanswered : (uid : ℕ) (at : Option ℕ) (input input' input2 output out
     → Progress uid at input input' output output' coming coming' kept account count → count < most_messages
     → HasRead got input' input2 → IsMessageFault fault (kept.bytes ++ got) → EndsWith fault input2 → RisesWith fault input'.read_faults input2.read_faults
     → refusal_of fault ≡ None
-    → Answered uid at (ending_of fault) input input2 output output' coming coming'
+    → AnswersInput uid at (ending_of fault) input input2 output output' coming coming'
 ended_unanswered uid at input input' input2 output output' coming coming' kept account count faults.End got p more read cause ends rises none = record {
   taken = p.taken ++ got;
   sent = p.sent;
@@ -409,11 +413,11 @@ unanswered : (uid : ℕ) (at : Option ℕ) (input input' input2 output output' o
     → Progress uid at input input' output output' coming coming' kept account count → count < most_messages
     → HasRead got input' input2 → IsMessageFault fault (kept.bytes ++ got) → EndsWith fault input2 → RisesWith fault input'.read_faults input2.read_faults
     → (refusal_of fault ≡ None) × (ending ≡ ending_of fault) × (output2 ≡ output') × (coming2 ≡ coming')
-    → Answered uid at ending input input2 output output2 coming coming2
+    → AnswersInput uid at ending input input2 output output2 coming coming2
 unanswered uid at input input' input2 output output' output2 coming coming' coming2 kept account count fault got ending p more read cause ends rises stops =
-    let E : Ending → Type 0 = λ e. Answered uid at e input input2 output output2 coming coming2 in
-    let O : Meanings → Type 0 = λ o. Answered uid at (ending_of fault) input input2 output o coming coming2 in
-    let C : Option (List ℕ) → Type 0 = λ c. Answered uid at (ending_of fault) input input2 output output' coming c in
+    let E : Ending → Type 0 = λ e. AnswersInput uid at e input input2 output output2 coming coming2 in
+    let O : Meanings → Type 0 = λ o. AnswersInput uid at (ending_of fault) input input2 output o coming coming2 in
+    let C : Option (List ℕ) → Type 0 = λ c. AnswersInput uid at (ending_of fault) input input2 output output' coming c in
     subst E (sym stops.1) (subst O (sym stops.2) (subst C (sym stops.3)
     (ended_unanswered uid at input input' input2 output output' coming coming' kept account count fault got p more read cause ends rises stops.0)))
 
@@ -422,7 +426,7 @@ pub stopped : (uid : ℕ) (at : Option ℕ) (input input' input2 output output' 
     → Progress uid at input input' output output' coming coming' kept account count → count < most_messages
     → HasRead got input' input2 → IsMessageFault fault (kept.bytes ++ got) → EndsWith fault input2 → RisesWith fault input'.read_faults input2.read_faults
     → Stops ending fault at count output' output2 coming' coming2
-    → Answered uid at ending input input2 output output2 coming coming2
+    → AnswersInput uid at ending input input2 output output2 coming coming2
 stopped uid at input input' input2 output output' output2 coming coming' coming2 kept account count fault got endings.Refused p more read cause ends rises stops =
     ended_refusing uid at input input' input2 output output' output2 coming coming' coming2 kept account count fault got p more read cause rises stops.0 stops.1
 stopped uid at input input' input2 output output' output2 coming coming' coming2 kept account count fault got endings.Output p more read cause ends rises stops =
@@ -443,7 +447,7 @@ stopped uid at input input' input2 output output' output2 coming coming' coming2
 -- as many messages were answered as may be
 pub ended_counting : (uid : ℕ) (at : Option ℕ) (input input' output output' : Meanings) (coming coming' : Option (List ℕ)) (kept : Kept) (account : Plain) (count : ℕ)
     → Progress uid at input input' output output' coming coming' kept account count → most_messages ≤ count
-    → Answered uid at endings.Count input input' output output' coming coming'
+    → AnswersInput uid at endings.Count input input' output output' coming coming'
 ended_counting uid at input input' output output' coming coming' kept account count p full = record {
   taken = p.taken;
   sent = p.sent;
@@ -462,7 +466,7 @@ ended_counting uid at input input' output output' coming coming' kept account co
 }
 
 -- no memory was found for the run
-pub ended_early : (uid : ℕ) (at : Option ℕ) (input output : Meanings) (coming : Option (List ℕ)) → Answered uid at endings.Memory input input output output coming coming
+pub ended_early : (uid : ℕ) (at : Option ℕ) (input output : Meanings) (coming : Option (List ℕ)) → AnswersInput uid at endings.Memory input input output output coming coming
 ended_early uid at input output coming = record {
   taken = [];
   sent = [];

@@ -1,5 +1,6 @@
 -- What `answer` writes for the messages of its input.
-use Rattle.std.specs.Prelude.{◌≡◌, ◌≢◌, ◌<◌, ◌≤◌, ◌⊎◌, ℕ, ◌+◌, Bool, true, ◌||◌, nat_eq, min, List, [], ◌∷◌, ◌++◌, length, map, Option, None, Some, IsTrue, IsFalse, if◌then◌else◌, ⊤}
+use Rattle.std.specs.Prelude.{◌≡◌, ◌≢◌, ◌<◌, ◌≤◌, ◌⊎◌, ℕ, ◌+◌, Bool, true, ◌||◌, nat_eq, min, List, [], ◌∷◌, ◌++◌}
+use Rattle.std.specs.Prelude.{length, map, Option, None, Some, IsTrue, IsFalse, if◌then◌else◌, ⊤}
 use Rattle.std.specs.Option.{option_map_or}
 use Rattle.ss_outside.specs.Told.{Meanings, HasRead, HasWritten, IsUsedUp, TakesFirst}
 use Rattle.ss_outside.specs.Causes.{Rose}
@@ -11,7 +12,7 @@ use Rattle.ss_query.specs.declared.replies.Mark.{Mark}
 use Rattle.ss_query.specs.declared.replies.Mark.TheVariants.{Done, Keeper}
 use Rattle.ss_query.specs.declared.replies.Said.TheVariants as words
 use Rattle.ss_query.specs.declared.requests.Request.{Request}
-use Rattle.ss_laws.specs.Journals.{marked}
+use Rattle.ss_laws.specs.Journals.{marked_outcome}
 use Rattle.ss_http.specs.declared.message.Message.{Message}
 use Rattle.ss_http.specs.declared.fault.MsgFault.{MsgFault}
 use Rattle.ss_http.specs.declared.fault.MsgFault.TheVariants as faults
@@ -43,8 +44,8 @@ asked_of uid (routes.Local local) = told local
 asked_of uid routes.Memory = told (said 507 words.Memory)
 
 -- what a message asks of the account `uid`, its condition by the letter of the API
-abbrev pub asked : ℕ → Message → Asked
-asked uid message = asked_of uid (routed Profile message)
+abbrev pub asked_by_message : ℕ → Message → Asked
+asked_by_message uid message = asked_of uid (routed Profile message)
 
 -- how far a message came: its request was made and entered with this mark, or it was told; or no memory was found to read what it asks
 pub data Course : Type 0 where
@@ -59,25 +60,25 @@ IsCourseOf unread question = ⊤
 
 -- the account after a message: only a request that was made changes it
 abbrev pub left_by : Course → Asked → Plain → ℕ → Plain
-left_by (entered mark) (asks request newlines) account now = (marked account now request mark).account
+left_by (entered mark) (asks request newlines) account now = (marked_outcome account now request mark).account
 left_by (entered mark) (told local) account now = account
 left_by unread question account now = account
 
 -- a reading of the clock as a time: the lesser of it and the last one
-abbrev pub clamped : ℕ → ℕ
-clamped now = min now last_stamp
+abbrev pub clamped_reading : ℕ → ℕ
+clamped_reading now = min now last_stamp
 
 -- the time that a response tells: the account's moment, or where the account wasn't asked the clock's reading
 abbrev pub time_told : Course → Asked → Plain → ℕ → ℕ
-time_told (entered mark) (asks request newlines) account now = (marked account now request mark).reply.moment
-time_told (entered mark) (told local) account now = clamped now
-time_told unread question account now = clamped now
+time_told (entered mark) (asks request newlines) account now = (marked_outcome account now request mark).reply.moment
+time_told (entered mark) (told local) account now = clamped_reading now
+time_told unread question account now = clamped_reading now
 
 -- the response to a message, where there is memory for it; `last` closes the connection
 abbrev pub full_response : Course → Asked → Plain → ℕ → Bool → List ℕ
-full_response (entered mark) (asks request newlines) account now last = wire (marked account now request mark).reply newlines last
-full_response (entered mark) (told local) account now last = local_wire local (clamped now) last
-full_response unread question account now last = memory_response (clamped now) last
+full_response (entered mark) (asks request newlines) account now last = wire (marked_outcome account now request mark).reply newlines last
+full_response (entered mark) (told local) account now last = local_wire local (clamped_reading now) last
+full_response unread question account now last = memory_response (clamped_reading now) last
 
 -- the response to a message; the fixed 507 stands in its place where it could not be rendered
 abbrev pub response_to : Bool → Course → Asked → Plain → ℕ → Bool → List ℕ
@@ -94,7 +95,7 @@ pub record Turn : Type 0 where
 -- each message came as far as its turn says
 abbrev pub AreTurns : ℕ → List Turn → Type 0
 AreTurns uid [] = ⊤
-AreTurns uid (turn ∷ turns) = IsCourseOf turn.course (asked uid turn.message) × AreTurns uid turns
+AreTurns uid (turn ∷ turns) = IsCourseOf turn.course (asked_by_message uid turn.message) × AreTurns uid turns
 
 -- how many messages one run answers (this project)
 abbrev pub most_messages : ℕ
@@ -107,14 +108,14 @@ closes count message = message.last || nat_eq (count + 1) most_messages
 -- the account after turns
 abbrev pub account_after : ℕ → Plain → List Turn → Plain
 account_after uid account [] = account
-account_after uid account (turn ∷ turns) = account_after uid (left_by turn.course (asked uid turn.message) account turn.now) turns
+account_after uid account (turn ∷ turns) = account_after uid (left_by turn.course (asked_by_message uid turn.message) account turn.now) turns
 
 -- the responses to messages, of which `count` were answered before
 abbrev pub responses : ℕ → Plain → ℕ → List Turn → List ℕ
 responses uid account count [] = []
 responses uid account count (turn ∷ turns) =
-    response_to turn.rendered turn.course (asked uid turn.message) account turn.now (closes count turn.message)
-    ++ responses uid (left_by turn.course (asked uid turn.message) account turn.now) (count + 1) turns
+    response_to turn.rendered turn.course (asked_by_message uid turn.message) account turn.now (closes count turn.message)
+    ++ responses uid (left_by turn.course (asked_by_message uid turn.message) account turn.now) (count + 1) turns
 
 -- bytes that are no message and were refused by a response: why, the reading of the clock then, and whether it could be rendered
 pub record Refused : Type 0 where
@@ -125,11 +126,11 @@ pub record Refused : Type 0 where
 -- the response to bytes that were refused; it closes the connection
 abbrev pub refusal_response : Refused → List ℕ
 refusal_response refused =
-    if refused.rendered then option_map_or (λ local. local_wire local (clamped refused.now) true) (refusal_of refused.fault) []
-    else memory_response (clamped refused.now) true
+    if refused.rendered then option_map_or (λ local. local_wire local (clamped_reading refused.now) true) (refusal_of refused.fault) []
+    else memory_response (clamped_reading refused.now) true
 
 -- the bytes were refused as they are said to be, by a fault that is answered
-pub record IsRefused (rest : List ℕ) (refused : Refused) : Type 0 where
+pub record RefusesBytes (rest : List ℕ) (refused : Refused) : Type 0 where
   pub cause : IsMessageFault refused.fault rest
   pub local : Local
   pub answered : refusal_of refused.fault ≡ Some local
@@ -172,13 +173,13 @@ Cause endings.Asked turns refused rest input input' output output' =
     (end : EndsIn turns) × IsTrue end.turn.message.last × (refused ≡ None)
 Cause endings.Cut turns refused rest input input' output output' = IsMessageFault faults.Cut rest × IsUsedUp input' × GoesOn turns × (refused ≡ None)
 Cause endings.Refused turns refused rest input input' output output' =
-    (last : Refused) × (refused ≡ Some last) × IsRefused rest last × GoesOn turns
+    (last : Refused) × (refused ≡ Some last) × RefusesBytes rest last × GoesOn turns
 Cause endings.Count turns refused rest input input' output output' = (length turns ≡ most_messages) × GoesOn turns × (refused ≡ None)
 Cause endings.Input turns refused rest input input' output output' =
     IsMessageFault faults.ReadFault rest × Rose input.read_faults input'.read_faults × GoesOn turns × (refused ≡ None)
 Cause endings.Output turns refused rest input input' output output' =
     Rose output.write_faults output'.write_faults
-    × ((EndsIn turns × (refused ≡ None)) ⊎ ((last : Refused) × (refused ≡ Some last) × IsRefused rest last × GoesOn turns))
+    × ((EndsIn turns × (refused ≡ None)) ⊎ ((last : Refused) × (refused ≡ Some last) × RefusesBytes rest last × GoesOn turns))
 Cause endings.Memory turns refused rest input input' output output' = GoesOn turns × (refused ≡ None)
 
 -- what was written: the whole; after a failure of the output a front of it
@@ -193,10 +194,10 @@ Sends endings.Input sent whole = sent ≡ whole
 Sends endings.Memory sent whole = sent ≡ whole
 
 -- the counts of faults stand where they stood, but for the one that the ending tells of
-abbrev pub Unfaulted : Ending → Meanings → Meanings → Meanings → Meanings → Type 0
-Unfaulted endings.Input input input' output output' = output'.write_faults ≡ output.write_faults
-Unfaulted endings.Output input input' output output' = input'.read_faults ≡ input.read_faults
-Unfaulted _ input input' output output' = (input'.read_faults ≡ input.read_faults) × (output'.write_faults ≡ output.write_faults)
+abbrev pub RaisesOnlyEnding : Ending → Meanings → Meanings → Meanings → Meanings → Type 0
+RaisesOnlyEnding endings.Input input input' output output' = output'.write_faults ≡ output.write_faults
+RaisesOnlyEnding endings.Output input input' output output' = input'.read_faults ≡ input.read_faults
+RaisesOnlyEnding _ input input' output output' = (input'.read_faults ≡ input.read_faults) × (output'.write_faults ≡ output.write_faults)
 
 -- a run that looked for one more message had answered fewer than may be
 abbrev pub IsFewer : Ending → ℕ → Type 0
@@ -206,7 +207,7 @@ IsFewer endings.Output count = count ≤ most_messages
 IsFewer _ count = count < most_messages
 
 -- a run of `answer` for the account `uid`, with a clock that counts upwards from a first reading, or with the one that is handed in
-pub record Answered (uid : ℕ) (at : Option ℕ) (ending : Ending) (input input' output output' : Meanings) (coming coming' : Option (List ℕ)) : Type 0 where
+pub record AnswersInput (uid : ℕ) (at : Option ℕ) (ending : Ending) (input input' output output' : Meanings) (coming coming' : Option (List ℕ)) : Type 0 where
   pub taken : List ℕ
   pub sent : List ℕ
   pub turns : List Turn
@@ -219,7 +220,7 @@ pub record Answered (uid : ℕ) (at : Option ℕ) (ending : Ending) (input input
   pub courses : AreTurns uid turns
   pub answered : Sends ending sent (all_responses uid turns refused)
   pub cause : Cause ending turns refused rest input input' output output'
-  pub faults : Unfaulted ending input input' output output'
+  pub faults : RaisesOnlyEnding ending input input' output output'
   pub fewer : IsFewer ending (length turns)
 
 -- the bytes of a response that is ready

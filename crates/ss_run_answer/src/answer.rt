@@ -4,7 +4,8 @@ ghost use Rattle.std.specs.Prelude.{◌≡◌, ◌≤◌, ◌<◌, IfSome};
 ghost use Rattle.ss_bso.specs.declared.account.Plain.{Plain};
 ghost use Rattle.ss_bso.specs.Validity.{IsValid};
 ghost use Rattle.ss_query.specs.Fit.{IsFitRequest};
-ghost use Rattle.ss_run_answer.specs.Turns.{Answered, IsReading, IsTurn, Stops, asked, asks, told, bytes_of, closes, ending_of};
+ghost use Rattle.ss_run_answer.specs.Turns.{AnswersInput, IsReading, IsTurn, Stops, asked_by_message, asks, told};
+ghost use Rattle.ss_run_answer.specs.Turns.{bytes_of, closes, ending_of};
 ghost use Rattle.ss_run_answer.specs.Words.{status_of};
 
 use crate::response::Response;
@@ -120,7 +121,7 @@ fn respond(
     message: &Message,
 ) -> Response
     requires { IsValid account.old.plain }
-    ensures turn { IsTurn (asked uid message.now) now last account.old.plain account.new.plain (bytes_of result) }
+    ensures turn { IsTurn (asked_by_message uid message.now) now last account.old.plain account.new.plain (bytes_of result) }
     ensures valid { IsValid account.new.plain }
 {
     match route(alloc, Manner::Profile, message) {
@@ -191,7 +192,7 @@ pub fn answer<S: Source, T: Sink, C: Clock>(
     clock: &mut C,
 ) -> Ending
     requires { IfSome command.at (λ first. first ≤ 999999999999) }
-    ensures answered { Answered command.uid command.at result (S.Told.told input.old) (S.Told.told input.new)
+    ensures answered { AnswersInput command.uid command.at result (S.Told.told input.old) (S.Told.told input.new)
         (T.Told.told output.old) (T.Told.told output.new) (C.coming clock.old) (C.coming clock.new) }
     ensures unread { IfSome command.at (λ _. clock.new ≡ clock.old) }
 {

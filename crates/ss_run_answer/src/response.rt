@@ -5,7 +5,7 @@ ghost use Rattle.ss_outside.specs.Told.{Meanings};
 ghost use Rattle.ss_query.specs.declared.replies.Mark.{Mark};
 ghost use Rattle.ss_http.specs.Responses.{memory_response};
 ghost use Rattle.ss_route.specs.Wire.{wire, local_wire};
-ghost use Rattle.ss_run_answer.specs.Turns.{bytes_of, clamped, OrMemory, WasSent, WasCut};
+ghost use Rattle.ss_run_answer.specs.Turns.{bytes_of, clamped_reading, OrMemory, WasSent, WasCut};
 
 use ss_http::{memory_response, memory_response_len};
 use ss_outside::{Sink, WriteFault, write_all};
@@ -44,7 +44,7 @@ impl Response {
 
     /// The response to what no account was asked, at a reading of the clock (hundredths of a second).
     pub fn to_local(alloc: Global, local: &Local, now: u64, last: bool) -> Response
-        ensures { OrMemory (local_wire local.now (clamped now) last) (clamped now) last (bytes_of result) }
+        ensures { OrMemory (local_wire local.now (clamped_reading now) last) (clamped_reading now) last (bytes_of result) }
     {
         let moment = Stamp::clamp(now);
         Response::of(render_local(alloc, local, moment, last), moment, last)
@@ -53,7 +53,7 @@ impl Response {
     /// The response to a message that was not read for want of memory, at a reading of the clock (hundredths of a
     /// second).
     pub fn unread(now: u64, last: bool) -> Response
-        ensures { bytes_of result ≡ memory_response (clamped now) last }
+        ensures { bytes_of result ≡ memory_response (clamped_reading now) last }
     {
         Response::Short {
             moment: Stamp::clamp(now),

@@ -9,7 +9,8 @@ use Rattle.ss_logs.specs.declared.faults.LogFault.TheVariants as log
 use Rattle.ss_audit.specs.declared.verdict.Verdict.{Verdict}
 use Rattle.ss_audit.specs.declared.verdict.Verdict.TheVariants.{Yes, No}
 use Rattle.ss_run_audit.specs.declared.endings.Ending.{Ending}
-use Rattle.ss_run_audit.specs.declared.endings.Ending.TheVariants.{Sound, Input, Output, BadLine, TooLong, Unsound, Memory}
+use Rattle.ss_run_audit.specs.declared.endings.Ending.TheVariants.{Sound, Input, Output, BadLine, TooLong, Unsound}
+use Rattle.ss_run_audit.specs.declared.endings.Ending.TheVariants.{Memory}
 
 abbrev pub status_of : Ending → ℕ
 status_of Sound = 0

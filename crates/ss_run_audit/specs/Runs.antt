@@ -5,7 +5,7 @@ use Rattle.ss_input.specs.declared.faults.InputFault.{InputFault}
 use Rattle.ss_input.specs.Inputs.{IsUnread, IsWhole}
 use Rattle.ss_laws.specs.Journal.{Journal}
 use Rattle.ss_logs.specs.declared.faults.LogFault.{LogFault}
-use Rattle.ss_logs.specs.Logs.{AreLogs, IsRefused}
+use Rattle.ss_logs.specs.Logs.{AreLogs, IsWhyNoLogs}
 use Rattle.ss_audit.specs.declared.verdict.Verdict.{Verdict}
 use Rattle.ss_audit.specs.Verdicts.{IsVerdict}
 use Rattle.ss_run_audit.specs.declared.endings.Ending.{Ending}
@@ -22,7 +22,7 @@ pub record IsAuditOf (text : List ℕ) (verdict : Verdict) : Type 0 where
 -- verdict
 pub data Audits (ending : Ending) (input input' output output' : Meanings) : Type 0 where
   told : (text : List ℕ) (verdict : Verdict) → IsWhole text input input' → IsAuditOf text verdict → Wrote (verdict_text verdict) (told_end verdict) ending output output' → Audits ending input input' output output'
-  refused : (text : List ℕ) (fault : LogFault) → IsWhole text input input' → IsRefused text fault → ending ≡ refused_end fault → output' ≡ output → Audits ending input input' output output'
+  refused : (text : List ℕ) (fault : LogFault) → IsWhole text input input' → IsWhyNoLogs text fault → ending ≡ refused_end fault → output' ≡ output → Audits ending input input' output output'
   unread : (fault : InputFault) → IsUnread fault input input' → ending ≡ unread_end fault → output' ≡ output → Audits ending input input' output output'
 
 -- the words are the name of the command, and behind it `--` or nothing

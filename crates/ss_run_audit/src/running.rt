@@ -1,7 +1,7 @@
 //! A run of `audit`.
 
 ghost use Rattle.std.specs.Prelude.{◌≡◌, map, string_bytes, IfOk, IfErr};
-ghost use Rattle.ss_logs.specs.Logs.{IsRefused};
+ghost use Rattle.ss_logs.specs.Logs.{IsWhyNoLogs};
 ghost use Rattle.ss_run_audit.specs.Endings.{Wrote, status_of, told_end};
 ghost use Rattle.ss_run_audit.specs.Runs.{Audits, IsAuditOf, Runs};
 
@@ -17,7 +17,7 @@ use std::alloc::Global;
 /// The verdict on the logs that a text tells.
 fn audited(alloc: Global, text: &[u8]) -> Result<Verdict, LogFault>
     ensures verdict { IfOk result (λ verdict. IsAuditOf text.now verdict) }
-    ensures refused { IfErr result (λ fault. IsRefused text.now fault) }
+    ensures refused { IfErr result (λ fault. IsWhyNoLogs text.now fault) }
 {
     let logs = read_logs(alloc, text)?;
     Ok(audit(alloc, &logs)?)

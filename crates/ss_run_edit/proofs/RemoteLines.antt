@@ -1,10 +1,11 @@
 -- The lines of remote rows, and of the rows of a device's file.
-use Rattle.std.proofs.Common.{◌≡◌, ◌≢◌, ℕ, ◌+◌, ◌==◌, List, [], ◌∷◌, ◌++◌, length, take, Option, Some, None, codes, position, append_assoc, refl, sym, ap, ap₂, subst, ◌∙◌, length-append, option_and_then}
+use Rattle.std.proofs.Common.{◌≡◌, ◌≢◌, ℕ, ◌+◌, ◌==◌, List, [], ◌∷◌, ◌++◌, length, take, Option, Some, None, codes}
+use Rattle.std.proofs.Common.{position, append_assoc, refl, sym, ap, ap₂, subst, ◌∙◌, length-append, option_and_then}
 use Rattle.std.proofs.lemmas.List.{append_cancel_left, append_cancel_right}
 use Rattle.std.proofs.Math.Seq.{take-append_seam}
 use Rattle.ss_text.specs.Time.{stamp_text}
 use Rattle.ss_record.specs.declared.readings.Sheet.{Sheet}
-use Rattle.ss_device.specs.Writing.{quoted, row_line}
+use Rattle.ss_device.specs.Writing.{quoted_string, row_line}
 use Rattle.ss_device_file.specs.declared.lines.Line.{Line}
 use Rattle.ss_device_file.specs.declared.lines.Line.TheVariants.{Head, Synced, Row, Item, Dead, End}
 use Rattle.ss_device_file.specs.Files.{row_in}
@@ -14,13 +15,13 @@ use Rattle.ss_record.proofs.OneLine.{NoLine, noline_by, noline_append}
 
 -- a line behind its tag, without its line break, and with it
 abbrev inner : Sheet → List ℕ
-inner r = stamp_text r.modified ++ codes "\"," ++ quoted r.id ++ codes "," ++ quoted r.payload ++ codes "]"
+inner r = stamp_text r.modified ++ codes "\"," ++ quoted_string r.id ++ codes "," ++ quoted_string r.payload ++ codes "]"
 
 abbrev tail : Sheet → List ℕ
-tail r = stamp_text r.modified ++ codes "\"," ++ quoted r.id ++ codes "," ++ quoted r.payload ++ codes "]\n"
+tail r = stamp_text r.modified ++ codes "\"," ++ quoted_string r.id ++ codes "," ++ quoted_string r.payload ++ codes "]\n"
 
 tail_is : (r : Sheet) → tail r ≡ inner r ++ 10 ∷ []
-tail_is r = sym (append_assoc (stamp_text r.modified ++ codes "\"," ++ quoted r.id ++ codes "," ++ quoted r.payload) (93 ∷ []) (10 ∷ []))
+tail_is r = sym (append_assoc (stamp_text r.modified ++ codes "\"," ++ quoted_string r.id ++ codes "," ++ quoted_string r.payload) (93 ∷ []) (10 ∷ []))
 
 remote_is : (r : Sheet) → remote_line r ≡ codes "[\"remote\",\"" ++ tail r
 unfolding remote_line

@@ -1,5 +1,7 @@
 -- Remote rows one behind the other.
-use Rattle.std.proofs.Common.{◌≡◌, ◌≢◌, ℕ, ◌+◌, ◌-◌, ◌≤◌, ◌==◌, List, [], ◌∷◌, ◌++◌, length, take, drop, Some, None, is_some, position, append_assoc, append-nil, refl, sym, ap, ap₂, subst, ◌∙◌, arith, length-drop}
+use Rattle.std.proofs.Common.{◌≡◌, ◌≢◌, ℕ, ◌+◌, ◌-◌, ◌≤◌, ◌==◌, List, [], ◌∷◌, ◌++◌, length, take, drop, Some, None}
+use Rattle.std.proofs.Common.{is_some, position, append_assoc, append-nil, refl, sym, ap, ap₂, subst, ◌∙◌, arith}
+use Rattle.std.proofs.Common.{length-drop}
 use Rattle.std.specs.List.{AllByRecursion}
 use Rattle.std.proofs.lemmas.List.{take-append-drop}
 use Rattle.std.proofs.Math.Seq.{take-add}
@@ -11,7 +13,8 @@ use Rattle.ss_device_file.proofs.Bodies.{has_break, line_body}
 use Rattle.ss_run_edit.specs.declared.endings.Ending.{Ending}
 use Rattle.ss_run_edit.specs.declared.endings.Ending.TheVariants as ending
 use Rattle.ss_run_edit.specs.declared.remotes.Found.TheVariants as found
-use Rattle.ss_run_edit.specs.Remotes.{AreRead, AreRemotes, IsFound, IsRow, IsStuck, IsStuckAt, IsStuckBy, Stops, remote_line, remote_lines}
+use Rattle.ss_run_edit.specs.Remotes.{AreRead, AreRemotes, IsNextRemote, IsRow, IsStuck, IsStuckAt, IsStuckBy, Stops}
+use Rattle.ss_run_edit.specs.Remotes.{remote_line, remote_lines}
 use Rattle.ss_run_edit.proofs.RemoteLines.{goes_on_with, remote_body}
 use Rattle.ss_text.proofs.Basics.{some_same, none_some}
 
@@ -64,14 +67,14 @@ lines_more (q ∷ rows) r = ap (λ t. remote_line q ++ t) (lines_more rows r) �
 further : (text : List ℕ) (used long : ℕ) → used ≤ length text → long ≤ length (drop used text) → used + long ≤ length text
 further text used long i l = let d : length (drop used text) ≡ length text - used = length-drop used text in omega arith
 
-pub one_more : (text : List ℕ) (rows new : List Sheet) (used long : ℕ) (r : Sheet) → AreSoFar text rows used → IsFound rows (drop used text) (found.Row r long) → new ≡ rows ++ r ∷ [] → AreSoFar text new (used + long)
+pub one_more : (text : List ℕ) (rows new : List Sheet) (used long : ℕ) (r : Sheet) → AreSoFar text rows used → IsNextRemote rows (drop used text) (found.Row r long) → new ≡ rows ++ r ∷ [] → AreSoFar text new (used + long)
 one_more text rows new used long r h f e = subst (λ rs. AreSoFar text rs (used + long)) (sym e) (record {
   rows_are = record { form = all_more rows r h.rows_are.form f.0; by_id = f.1 };
   inside = further text used long h.inside f.3;
   text_is = take-add used long text ∙ (ap₂ (λ a b. a ++ b) h.text_is f.4 ∙ sym (lines_more rows r));
 })
 
-pub all_read : (text : List ℕ) (rows : List Sheet) (used long : ℕ) → AreSoFar text rows used → IsFound rows (drop used text) (found.End long) → AreRead text rows (used + long)
+pub all_read : (text : List ℕ) (rows : List Sheet) (used long : ℕ) → AreSoFar text rows used → IsNextRemote rows (drop used text) (found.End long) → AreRead text rows (used + long)
 all_read text rows used long h f = record {
   rows_are = h.rows_are;
   inside = further text used long h.inside f.0;

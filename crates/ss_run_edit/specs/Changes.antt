@@ -2,13 +2,14 @@
 use Rattle.std.specs.Prelude.{◌≡◌, ℕ, List, Bool, true, false, Option, Some, None, codes, ⊤}
 use Rattle.serde_json.specs.Data.{string, object, no_members, member}
 use Rattle.serde_json.specs.Written.{compact_text}
-use Rattle.ss_record.specs.declared.kinds.Kind.TheVariants.{Bookmark as BookmarkKind, Folder as FolderKind, Separator as SeparatorKind}
+use Rattle.ss_record.specs.declared.kinds.Kind.TheVariants.{Bookmark as BookmarkKind, Folder as FolderKind}
+use Rattle.ss_record.specs.declared.kinds.Kind.TheVariants.{Separator as SeparatorKind}
 use Rattle.ss_record.specs.Items.{ItemView, is_fit}
-use Rattle.ss_tree.specs.Trees.{Placed}
+use Rattle.ss_tree.specs.Trees.{PlacedItem}
 use Rattle.ss_tree.specs.Entries.{tree}
 use Rattle.ss_device.specs.Device.{DeviceView}
-use Rattle.ss_device.specs.Edits.{IsAdded, IsDeleted, IsMoved, IsRenamed, add_fault, change_fault, move_fault}
-use Rattle.ss_device.specs.Forms.{IsFormed}
+use Rattle.ss_device.specs.Edits.{AddsItem, DeletesItem, MovesItem, RenamesItem, add_fault, change_fault, move_fault}
+use Rattle.ss_device.specs.Forms.{HasDeviceForm}
 use Rattle.ss_device.specs.Writing.{device_text}
 use Rattle.ss_device.specs.declared.faults.EditFault.{EditFault}
 use Rattle.ss_device_file.specs.Files.{IsFileOf}
@@ -58,14 +59,14 @@ fits (Some (Delete id)) = true
 fits None = true
 
 -- what a change makes of a device at this time
-abbrev pub IsChanged : ℕ → Change → DeviceView → DeviceView → Type 0
-IsChanged now (Add parent item) old new = IsAdded now parent item old new
-IsChanged now (Rename id title) old new = IsRenamed now id title old new
-IsChanged now (Move id parent) old new = IsMoved now id parent old new
-IsChanged now (Delete id) old new = IsDeleted now id old new
+abbrev pub MakesChange : ℕ → Change → DeviceView → DeviceView → Type 0
+MakesChange now (Add parent item) old new = AddsItem now parent item old new
+MakesChange now (Rename id title) old new = RenamesItem now id title old new
+MakesChange now (Move id parent) old new = MovesItem now id parent old new
+MakesChange now (Delete id) old new = DeletesItem now id old new
 
 -- why a device's tree refuses a change
-abbrev pub fault_in : Change → List Placed → Option EditFault
+abbrev pub fault_in : Change → List PlacedItem → Option EditFault
 fault_in (Add parent item) t = add_fault t parent item.id
 fault_in (Rename id title) t = change_fault t id
 fault_in (Move id parent) t = move_fault t id parent
@@ -85,8 +86,8 @@ pub record IsEditOf (change : Change) (now : ℕ) (text out : List ℕ) : Type 0
   pub new : DeviceView
   pub file : IsFileOf text old
   pub allowed : fault_in change (tree old.tree) ≡ None
-  pub changed : IsChanged now change old new
-  pub formed : IsFormed new
+  pub changed : MakesChange now change old new
+  pub formed : HasDeviceForm new
   pub out_is : out ≡ device_text new
 
 -- why nothing is made of a text: it is no device's file, or its device refuses the change

@@ -3,7 +3,7 @@ use Rattle.std.specs.Prelude.{◌≡◌, ◌≢◌, ◌⊎◌, ◌+◌, ℕ, Lis
 use Rattle.ss_device_file.specs.declared.lines.Line.{Line}
 use Rattle.ss_device_file.specs.declared.faults.LinesFault.TheVariants as lines
 use Rattle.ss_device_file.specs.Lines.{AreLines, is_ended, text_of}
-use Rattle.ss_device_file.specs.Files.{IsBadTree, IsStopped, IsUnseated}
+use Rattle.ss_device_file.specs.Files.{IsBadTree, IsWhyNoFront, IsUnseated}
 use Rattle.ss_run_edit.specs.declared.endings.Ending.{Ending}
 use Rattle.ss_run_edit.specs.declared.endings.Ending.TheVariants.{Cut, BadLine, BadTree, Memory}
 
@@ -15,8 +15,8 @@ pub record BeginsWith (text : List ℕ) (ls : List Line) (back : List ℕ) : Typ
 
 -- the text begins with no device's file: it is cut where a line is still awaited, or a line is bad
 abbrev pub IsNoFront : List ℕ → Ending → Type 0
-IsNoFront text (Cut n) = IsStopped text (lines.Cut n)
-IsNoFront text (BadLine n) = IsStopped text (lines.Refused n)
+IsNoFront text (Cut n) = IsWhyNoFront text (lines.Cut n)
+IsNoFront text (BadLine n) = IsWhyNoFront text (lines.Refused n)
 IsNoFront text Memory = ⊤
 IsNoFront text ending = ⊥
 
@@ -36,15 +36,15 @@ pub record IsExcess (text : List ℕ) (n : ℕ) : Type 0 where
 
 -- the text is not the lines of a device's file
 abbrev pub IsNoLines : List ℕ → Ending → Type 0
-IsNoLines text (Cut n) = IsStopped text (lines.Cut n)
-IsNoLines text (BadLine n) = IsStopped text (lines.Refused n) ⊎ IsExcess text n
+IsNoLines text (Cut n) = IsWhyNoFront text (lines.Cut n)
+IsNoLines text (BadLine n) = IsWhyNoFront text (lines.Refused n) ⊎ IsExcess text n
 IsNoLines text Memory = ⊤
 IsNoLines text ending = ⊥
 
 -- Why a text is no device's file. Where it ends, or has a last piece without a newline, and a line is still awaited, it is cut
 abbrev pub IsNoDevice : List ℕ → Ending → Type 0
-IsNoDevice text (Cut n) = IsStopped text (lines.Cut n)
-IsNoDevice text (BadLine n) = IsStopped text (lines.Refused n) ⊎ IsExcess text n
+IsNoDevice text (Cut n) = IsWhyNoFront text (lines.Cut n)
+IsNoDevice text (BadLine n) = IsWhyNoFront text (lines.Refused n) ⊎ IsExcess text n
 IsNoDevice text (BadTree id) = IsBadTree text id
 IsNoDevice text Memory = ⊤
 IsNoDevice text ending = ⊥

@@ -9,14 +9,14 @@ use Rattle.ss_build.specs.Rows.{dead, readings, rows_of}
 use Rattle.ss_build.specs.Built.{built}
 use Rattle.ss_dupe.specs.Pairs.{ArePairs}
 use Rattle.ss_dupe.specs.Renaming.{paired}
-use Rattle.ss_dupe.specs.Sides.{asked}
+use Rattle.ss_dupe.specs.Sides.{sides_asked}
 use Rattle.ss_merge.specs.Merged.{all_ids, gone_of, merged_tree, origins}
 use Rattle.ss_plan.specs.Plan.{Readings, plan}
 use Rattle.ss_device.specs.Device.{DeviceView, dead_ids}
 use Rattle.ss_device.specs.Writing.{end_line}
 use Rattle.ss_device_file.specs.declared.lines.Line.{Line}
 use Rattle.ss_device_file.specs.declared.faults.LinesFault.TheVariants as lines
-use Rattle.ss_device_file.specs.Files.{IsStopped, IsTold, IsUnseated}
+use Rattle.ss_device_file.specs.Files.{IsWhyNoFront, TellsDevice, IsUnseated}
 use Rattle.ss_run_edit.specs.declared.endings.Ending.{Ending}
 use Rattle.ss_run_edit.specs.declared.endings.Ending.TheVariants.{Cut, BadLine, BadTree, Memory}
 use Rattle.ss_run_edit.specs.Files.{BeginsWith}
@@ -30,7 +30,7 @@ pub record IsMergeFile (text : List ℕ) (d : DeviceView) (rows : List Sheet) : 
   pub lines : List Line
   pub back : List ℕ
   pub begins : BeginsWith text lines back
-  pub told : IsTold lines d
+  pub told : TellsDevice lines d
   pub rows_are : AreRemotes rows
   pub back_is : back ≡ remote_lines rows ++ end_line
 
@@ -40,7 +40,7 @@ pub record HasBadRows (text : List ℕ) (ending : Ending) : Type 0 where
   pub back : List ℕ
   pub device : DeviceView
   pub begins : BeginsWith text lines back
-  pub told : IsTold lines device
+  pub told : TellsDevice lines device
   pub stuck : IsStuckAt back (length lines) ending
 
 -- the text goes on behind the last end, in this line
@@ -51,7 +51,7 @@ pub record HasExcess (text : List ℕ) (n : ℕ) : Type 0 where
   pub rows : List Sheet
   pub rest : List ℕ
   pub begins : BeginsWith text lines back
-  pub told : IsTold lines device
+  pub told : TellsDevice lines device
   pub rows_are : AreRemotes rows
   pub back_is : back ≡ (remote_lines rows ++ end_line) ++ rest
   pub more : rest ≢ []
@@ -66,8 +66,8 @@ pub record HasBadTree (text id : List ℕ) : Type 0 where
 
 -- Why nothing is made of a text: the first cause from its front. Where a line is still awaited at its end it is cut
 abbrev pub RefusesMerge : List ℕ → Ending → Type 0
-RefusesMerge text (Cut n) = IsStopped text (lines.Cut n) ⊎ HasBadRows text (Cut n)
-RefusesMerge text (BadLine n) = IsStopped text (lines.Refused n) ⊎ (HasBadRows text (BadLine n) ⊎ HasExcess text n)
+RefusesMerge text (Cut n) = IsWhyNoFront text (lines.Cut n) ⊎ HasBadRows text (Cut n)
+RefusesMerge text (BadLine n) = IsWhyNoFront text (lines.Refused n) ⊎ (HasBadRows text (BadLine n) ⊎ HasExcess text n)
 RefusesMerge text (BadTree id) = HasBadTree text id
 RefusesMerge text Memory = ⊤
 RefusesMerge text ending = ⊥
@@ -79,7 +79,7 @@ RefusesMerge text ending = ⊥
 pub record IsTelling (sides : Asked) (read : Readings) (out : List ℕ) : Type 0 where
   pub joined : List Entry
   pub pairs : List (List ℕ × List ℕ)
-  pub are_pairs : ArePairs (asked sides) pairs
+  pub are_pairs : ArePairs (sides_asked sides) pairs
   pub joined_is : IsSame (tree joined) (merged_tree pairs sides)
   pub valid : IsValidTree (tree joined)
   pub out_is : out ≡ merge_text (tree joined) (origins (paired pairs sides) joined) pairs (gone_of (paired pairs sides) (all_ids pairs sides)) (length (plan joined read))

@@ -4,7 +4,7 @@ use Rattle.std.specs.List.{AllByRecursion, flat_map}
 use Rattle.ss_text.specs.Time.{stamp_text}
 use Rattle.ss_record.specs.declared.readings.Sheet.{Sheet}
 use Rattle.ss_device.specs.Device.{AreById, row_ids}
-use Rattle.ss_device.specs.Writing.{end_line, quoted}
+use Rattle.ss_device.specs.Writing.{end_line, quoted_string}
 use Rattle.ss_device_file.specs.declared.lines.Line.TheVariants.{Row}
 use Rattle.ss_device_file.specs.Lines.{IsLine}
 use Rattle.ss_device_file.specs.Files.{has_line}
@@ -15,7 +15,7 @@ use Rattle.ss_run_edit.specs.declared.remotes.Found.TheVariants as found
 
 -- the line of a remote row
 unfoldable pub remote_line : Sheet → List ℕ
-remote_line r = codes "[\"remote\",\"" ++ stamp_text r.modified ++ codes "\"," ++ quoted r.id ++ codes "," ++ quoted r.payload ++ codes "]\n"
+remote_line r = codes "[\"remote\",\"" ++ stamp_text r.modified ++ codes "\"," ++ quoted_string r.id ++ codes "," ++ quoted_string r.payload ++ codes "]\n"
 
 abbrev pub remote_lines : List Sheet → List ℕ
 remote_lines rows = flat_map remote_line rows
@@ -35,9 +35,9 @@ pub record IsStuck (rows : List Sheet) (rest : List ℕ) : Type 0 where
   pub no_end : (back : List ℕ) → rest ≢ end_line ++ back
 
 -- what comes next behind rows
-abbrev pub IsFound : List Sheet → List ℕ → Found → Type 0
-IsFound rows rest (found.Row row long) = IsRow row × AreById (row_ids (rows ++ row ∷ [])) × (0 < long) × (long ≤ length rest) × (take long rest ≡ remote_line row)
-IsFound rows rest (found.End long) = (long ≤ length rest) × (take long rest ≡ end_line)
+abbrev pub IsNextRemote : List Sheet → List ℕ → Found → Type 0
+IsNextRemote rows rest (found.Row row long) = IsRow row × AreById (row_ids (rows ++ row ∷ [])) × (0 < long) × (long ≤ length rest) × (take long rest ≡ remote_line row)
+IsNextRemote rows rest (found.End long) = (long ≤ length rest) × (take long rest ≡ end_line)
 
 -- nothing comes next, at the line of this number, for this reason
 abbrev pub IsStuckBy : List Sheet → List ℕ → ℕ → Ending → Type 0

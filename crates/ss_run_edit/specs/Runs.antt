@@ -22,7 +22,7 @@ pub data Turns (Makes : List ℕ → List ℕ → Type 0) (Refuses : List ℕ �
   unread : (fault : InputFault) → ending ≡ ending_of fault → IsUnread fault input input' → output' ≡ output → Turns Makes Refuses ending input input' output output'
 
 -- nothing was read or written, and the clock was not read
-pub record IsUntouched (input input' output output' : Meanings) (coming coming' : Option (List ℕ)) : Type 0 where
+pub record TouchesNothing (input input' output output' : Meanings) (coming coming' : Option (List ℕ)) : Type 0 where
   pub unread : input' ≡ input
   pub unwritten : output' ≡ output
   pub unasked : coming' ≡ coming
@@ -44,8 +44,8 @@ pub data Edits (command : EditCommand) (ending : Ending) (input input' output ou
       → Edits command ending input input' output output' coming coming'
   changes : (change : Change) (now : ℕ) → change_of command.action ≡ Some change → fits (Some change) ≡ true → IsTime command.at now coming coming'
       → Turns (IsEditOf change now) (RefusesEdit change) ending input input' output output' → Edits command ending input input' output output' coming coming'
-  unfit : fits (change_of command.action) ≡ false → ending ≡ Unfit → IsUntouched input input' output output' coming coming' → Edits command ending input input' output output' coming coming'
-  out_of_memory : ending ≡ Memory → IsUntouched input input' output output' coming coming' → Edits command ending input input' output output' coming coming'
+  unfit : fits (change_of command.action) ≡ false → ending ≡ Unfit → TouchesNothing input input' output output' coming coming' → Edits command ending input input' output output' coming coming'
+  out_of_memory : ending ≡ Memory → TouchesNothing input input' output output' coming coming' → Edits command ending input input' output output' coming coming'
 
 -- What `merge` does: the merge of the input's device with its remote rows is told
 abbrev pub Merges : Ending → Meanings → Meanings → Meanings → Meanings → Type 0
@@ -58,6 +58,6 @@ pub data Runs {C : Type 0} (words : List (List ℕ)) (status : ℕ) (input input
       → IfSome command.at (λ at. clock' ≡ clock) → Runs words status input input' output output' coming coming' clock clock'
   merges : (ending : Ending) → Asks words Merge → status ≡ status_of ending → Merges ending input input' output output' → coming' ≡ coming → clock' ≡ clock
       → Runs words status input input' output output' coming coming' clock clock'
-  asks_neither : ((command : EditCommand) → Asks words (Edit command) → ⊥) → (Asks words Merge → ⊥) → status ≡ 1 → IsUntouched input input' output output' coming coming' → clock' ≡ clock
+  asks_neither : ((command : EditCommand) → Asks words (Edit command) → ⊥) → (Asks words Merge → ⊥) → status ≡ 1 → TouchesNothing input input' output output' coming coming' → clock' ≡ clock
       → Runs words status input input' output output' coming coming' clock clock'
-  no_memory : status ≡ 8 → IsUntouched input input' output output' coming coming' → clock' ≡ clock → Runs words status input input' output output' coming coming' clock clock'
+  no_memory : status ≡ 8 → TouchesNothing input input' output output' coming coming' → clock' ≡ clock → Runs words status input input' output output' coming coming' clock clock'

@@ -3,7 +3,7 @@
 ghost use Rattle.std.specs.Prelude.{◌≡◌, ◌⊎◌, Some, None, true, IfOk, IfErr, OnOk, MatchResult};
 ghost use Rattle.ss_tree.specs.Entries.{tree as tree_of};
 ghost use Rattle.ss_device.specs.declared.faults.EditFault.TheVariants.{Memory};
-ghost use Rattle.ss_run_edit.specs.Changes.{IsChanged, IsNoChange, change_of, fault_in, fits};
+ghost use Rattle.ss_run_edit.specs.Changes.{MakesChange, IsNoChange, change_of, fault_in, fits};
 
 use crate::endings::Ending;
 use crate::items::{new_bookmark, new_folder, new_separator};
@@ -69,7 +69,7 @@ pub(crate) fn apply(
 ) -> Result<(), EditFault>
     ensures refused { MatchResult result (λ _. fault_in change (tree_of device.old.tree) ≡ None) (λ e. (e ≡ Memory)
         ⊎ (fault_in change (tree_of device.old.tree) ≡ Some e)) }
-    ensures changed { OnOk result (IsChanged now change device.old device.new) }
+    ensures changed { OnOk result (MakesChange now change device.old device.new) }
 {
     match change {
         Change::Add { parent, item } => device.add(alloc, now, &parent, item),

@@ -2,7 +2,7 @@
 
 ghost use Rattle.std.specs.Prelude.{◌≡◌, true, IfOk, IfErr};
 ghost use Rattle.ss_device_file.specs.Lines.{AreLines, is_ended};
-ghost use Rattle.ss_device_file.specs.Files.{AreAll, IsFileOf, IsFront, IsTold};
+ghost use Rattle.ss_device_file.specs.Files.{AreAll, IsFileOf, IsFront, TellsDevice};
 ghost use Rattle.ss_run_edit.specs.Files.{IsNoDevice, IsNoFront, IsNoLines, IsUntold};
 
 use crate::endings::Ending;
@@ -27,7 +27,7 @@ pub(crate) fn front_of(alloc: Global, text: &[u8]) -> Result<Front, Ending>
 pub(crate) fn device_told(alloc: Global, lines: Vec<Line>) -> Result<Device, Ending>
     requires lines { AreLines lines.items }
     requires ended { is_ended lines.items ≡ true }
-    ensures told { IfOk result (λ d. IsTold lines.items d) }
+    ensures told { IfOk result (λ d. TellsDevice lines.items d) }
     ensures untold { IfErr result (λ ending. IsUntold lines.items ending) }
 {
     match device_of(alloc, lines) {

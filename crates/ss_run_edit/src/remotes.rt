@@ -1,11 +1,12 @@
 //! The remote rows behind a device's file.
 
-ghost use Rattle.std.specs.Prelude.{◌≡◌, ◌≢◌, ◌==◌, ◌<◌, ◌^◌, ◌∷◌, ◌++◌, ℕ, List, [], IfOk, IfErr, IfSome, OnOk, MatchOption, Some, IsTrue, IsFalse, codes, option_and_then, position};
+ghost use Rattle.std.specs.Prelude.{◌≡◌, ◌≢◌, ◌==◌, ◌<◌, ◌^◌, ◌∷◌, ◌++◌, ℕ, List, [], IfOk, IfErr, IfSome, OnOk};
+ghost use Rattle.std.specs.Prelude.{MatchOption, Some, IsTrue, IsFalse, codes, option_and_then, position};
 ghost use Rattle.ss_device.specs.Device.{AreById, row_ids};
 ghost use Rattle.ss_record.specs.declared.readings.Sheet.{Sheet as SheetView};
 ghost use Rattle.ss_device.specs.Writing.{end_line};
 ghost use Rattle.ss_device_file.specs.Files.{row_in};
-ghost use Rattle.ss_run_edit.specs.Remotes.{AreRead, IsFound, IsRow, IsStuckBy, Stops, remote_line};
+ghost use Rattle.ss_run_edit.specs.Remotes.{AreRead, IsNextRemote, IsRow, IsStuckBy, Stops, remote_line};
 
 use crate::endings::Ending;
 use ss_device_file::{Line, read_line};
@@ -105,7 +106,7 @@ fn is_end(line: &[u8]) -> bool
 /// The row or the end with which a text goes on, up to its first newline. `line` is the number of this line.
 fn next_found(alloc: Global, rows: &[Sheet], rest: &[u8], line: u64) -> Result<Found, Ending>
     requires { AreById (row_ids rows.now) }
-    ensures found { IfOk result (λ found. IsFound rows.now rest.now found) }
+    ensures found { IfOk result (λ found. IsNextRemote rows.now rest.now found) }
     ensures stuck { IfErr result (λ ending. IsStuckBy rows.now rest.now line ending) }
 {
     let Some(end) = place_of(rest, b'\n') else {

@@ -4,7 +4,7 @@ ghost use Rattle.std.specs.Prelude.{◌≡◌, ◌++◌, true, IfOk, IfSome, OnO
 ghost use Rattle.std.specs.List.{flat_map};
 ghost use Rattle.ss_tree.specs.Entries.{IsTree, above, is_live, node_of, tree as by_ids};
 ghost use Rattle.ss_tree.specs.Trees.{parent_in};
-ghost use Rattle.ss_device.specs.Writing.{quoted};
+ghost use Rattle.ss_device.specs.Writing.{quoted_string};
 ghost use Rattle.ss_run_edit.specs.Tellings.{gone_line, merge_text, origin_text, plan_line, renamed_line, told_line};
 
 use itoa::Buffer;
@@ -38,7 +38,7 @@ fn above_of(tree: &Tree, id: &Id) -> Option<Node>
 
 /// Appends the id of an item's parent as a string; that of `places` where there is none.
 fn push_parent(out: &mut Vec<u8>, tree: &Tree, id: &Id) -> Result<(), AllocError>
-    ensures { OnOk result (out.new.items ≡ out.old.items ++ quoted (parent_in (by_ids tree.now) id.now)) }
+    ensures { OnOk result (out.new.items ≡ out.old.items ++ quoted_string (parent_in (by_ids tree.now) id.now)) }
 {
     match above_of(tree, id) {
         Some(above) => push_json_text(out, tree.item(above).id().as_str()),

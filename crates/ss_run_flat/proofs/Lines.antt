@@ -1,5 +1,6 @@
 -- What a text goes on with: a row, the end, or neither.
-use Rattle.std.proofs.Common.{◌≡◌, ℕ, ◌+◌, ◌<◌, ◌≤◌, ◌==◌, nat_lt, List, length, take, Some, None, is_some, position, refl, sym, ap, subst, ◌∙◌}
+use Rattle.std.proofs.Common.{◌≡◌, ℕ, ◌+◌, ◌<◌, ◌≤◌, ◌==◌, nat_lt, List, length, take, Some, None, is_some, position}
+use Rattle.std.proofs.Common.{refl, sym, ap, subst, ◌∙◌}
 use Rattle.std.proofs.lemmas.Bool.{ltb-true}
 use Rattle.std.proofs.lemmas.Str.{IsUtf8-from_ascii}
 use Rattle.ss_record.specs.declared.readings.Sheet.{Sheet}
@@ -10,7 +11,7 @@ use Rattle.ss_device_file.specs.Lines.{IsLine, line_text}
 use Rattle.ss_device_file.proofs.Bodies.{goes_on, has_break}
 use Rattle.ss_run_flat.specs.declared.endings.Ending.TheVariants.{Cut, BadLine}
 use Rattle.ss_run_flat.specs.declared.files.Found.{Found}
-use Rattle.ss_run_flat.specs.Files.{IsFound, IsRow, IsStuck, IsStuckBy, found_in}
+use Rattle.ss_run_flat.specs.Files.{IsNextFound, IsRow, IsStuck, IsStuckBy, found_in}
 use Rattle.ss_text.proofs.Basics.{some_same, none_some}
 use Rattle.ss_text.proofs.NameLemmas.{IsAscii-from_list_all}
 
@@ -42,9 +43,9 @@ bad_line rest n k at row last = (
 -- ---- a line that was read
 
 -- it is what comes next
-pub line_found : (rest : List ℕ) (long : ℕ) (l : Line) (f : Found) → Some f ≡ found_in long l → IsLine l → line_text l ≡ take long rest → 0 < long → long ≤ length rest → IsFound rest f
-line_found rest long (Row r) f e is text some inside = subst (λ (g : Found). IsFound rest g) (some_same (sym e)) (is, some, inside, sym text)
-line_found rest long End f e is text some inside = subst (λ (g : Found). IsFound rest g) (some_same (sym e)) (inside, sym text)
+pub line_found : (rest : List ℕ) (long : ℕ) (l : Line) (f : Found) → Some f ≡ found_in long l → IsLine l → line_text l ≡ take long rest → 0 < long → long ≤ length rest → IsNextFound rest f
+line_found rest long (Row r) f e is text some inside = subst (λ (g : Found). IsNextFound rest g) (some_same (sym e)) (is, some, inside, sym text)
+line_found rest long End f e is text some inside = subst (λ (g : Found). IsNextFound rest g) (some_same (sym e)) (inside, sym text)
 line_found rest long (Head v) f e is text some inside = cc
 line_found rest long (Synced t) f e is text some inside = cc
 line_found rest long (Item i) f e is text some inside = cc

@@ -1,5 +1,7 @@
 -- Rows that are seen one behind the other.
-use Rattle.std.proofs.Common.{◌≡◌, ◌≢◌, ℕ, ◌+◌, ◌-◌, ◌≤◌, ◌<◌, List, [], ◌∷◌, ◌++◌, length, take, drop, inl, append_assoc, append-nil, refl, sym, ap, ap₂, subst, ◌∙◌, arith, length-append, length-drop}
+use Rattle.std.proofs.Common.{◌≡◌, ◌≢◌, ℕ, ◌+◌, ◌-◌, ◌≤◌, ◌<◌, List, [], ◌∷◌, ◌++◌, length, take, drop, inl}
+use Rattle.std.proofs.Common.{append_assoc, append-nil, refl, sym, ap, ap₂, subst, ◌∙◌, arith, length-append}
+use Rattle.std.proofs.Common.{length-drop}
 use Rattle.std.specs.List.{AllByRecursion}
 use Rattle.std.proofs.lemmas.List.{take-append-drop, take_all}
 use Rattle.std.proofs.Math.Seq.{take-add}
@@ -12,7 +14,8 @@ use Rattle.ss_run_flat.specs.declared.endings.Ending.{Ending}
 use Rattle.ss_run_flat.specs.declared.endings.Ending.TheVariants as ending
 use Rattle.ss_run_flat.specs.declared.files.Found.TheVariants as found
 use Rattle.ss_run_flat.specs.declared.files.Seen.{Seen}
-use Rattle.ss_run_flat.specs.Files.{AreSeen, IsExcess, IsFile, IsFound, IsNoFile, IsRow, IsStateOfFile, IsStopped, IsStuck, IsStuckAt, IsStuckBy, row_lines, stored, stored_rows}
+use Rattle.ss_run_flat.specs.Files.{AreSeen, IsExcess, IsFile, IsNextFound, IsNoFile, IsRow, IsStateOfFile, IsWhyNoRows}
+use Rattle.ss_run_flat.specs.Files.{IsStuck, IsStuckAt, IsStuckBy, row_lines, stored, stored_rows}
 
 -- so many bytes of the text are the lines of rows, and the state is that of these
 pub record AreSoFar (kind : FlatKind) (text : List ℕ) (flat : State) (line used : ℕ) : Type 0 where
@@ -46,7 +49,7 @@ further text used long i l = let d : length (drop used text) ≡ length text - u
 one_longer : (rows : List Sheet) (r : Sheet) → length (rows ++ r ∷ []) ≡ length rows + 1
 one_longer rows r = length-append rows (r ∷ [])
 
-pub one_more : (kind : FlatKind) (text : List ℕ) (flat new : State) (line used long : ℕ) (r : Sheet) → AreSoFar kind text flat line used → IsFound (drop used text) (found.Row r long)
+pub one_more : (kind : FlatKind) (text : List ℕ) (flat new : State) (line used long : ℕ) (r : Sheet) → AreSoFar kind text flat line used → IsNextFound (drop used text) (found.Row r long)
     → new.kind ≡ flat.kind → ((rows : List Stored) → IsFlatState rows flat → IsFlatState (rows ++ stored flat.kind r ∷ []) new) → AreSoFar kind text new (line + 1) (used + long)
 one_more kind text flat new line used long r h f k s =
     let one = one_longer h.rows r in
@@ -64,7 +67,7 @@ one_more kind text flat new line used long r h f k s =
       few = omega arith;
     }
 
-pub all_seen : (kind : FlatKind) (text : List ℕ) (flat : State) (line used long : ℕ) → AreSoFar kind text flat line used → IsFound (drop used text) (found.End long)
+pub all_seen : (kind : FlatKind) (text : List ℕ) (flat : State) (line used long : ℕ) → AreSoFar kind text flat line used → IsNextFound (drop used text) (found.End long)
     → AreSeen kind text (record { flat = flat; line = line; used = used + long })
 all_seen kind text flat line used long h f = record {
   rows = h.rows;
@@ -86,7 +89,7 @@ stuck_at kind text flat line used n h is s = record {
 }
 
 -- the text behind the rows so far goes on with nothing, for this reason
-pub stops : (kind : FlatKind) (text : List ℕ) (flat : State) (line used : ℕ) (e : Ending) → AreSoFar kind text flat line used → IsStuckBy (drop used text) line e → IsStopped text e
+pub stops : (kind : FlatKind) (text : List ℕ) (flat : State) (line used : ℕ) (e : Ending) → AreSoFar kind text flat line used → IsStuckBy (drop used text) line e → IsWhyNoRows text e
 stops kind text flat line used (ending.Cut n) h s = (drop used text, stuck_at kind text flat line used n h s.1 s.0, s.2)
 stops kind text flat line used (ending.BadLine n) h s = (drop used text, stuck_at kind text flat line used n h s.1 s.0, s.2)
 stops kind text flat line used ending.Memory h s = tt
@@ -97,7 +100,7 @@ stops kind text flat line used ending.TooLong h s = absurd s
 
 -- ---- the text as a whole
 
-pub no_file : (text : List ℕ) (e : Ending) → IsStopped text e → IsNoFile text e
+pub no_file : (text : List ℕ) (e : Ending) → IsWhyNoRows text e → IsNoFile text e
 no_file text (ending.Cut n) s = s
 no_file text (ending.BadLine n) s = inl s
 no_file text ending.Memory s = tt

@@ -1,6 +1,7 @@
 -- A file of rows: a line each, in any order and as often as they like, and the end (the format is this project's; the lines are those
 -- of a device's file).
-use Rattle.std.specs.Prelude.{◌≡◌, ◌≢◌, ◌⊎◌, ◌+◌, ◌≤◌, ◌<◌, ℕ, List, [], ◌++◌, true, false, map, length, take, codes, Contains, Option, Some, None, ⊤}
+use Rattle.std.specs.Prelude.{◌≡◌, ◌≢◌, ◌⊎◌, ◌+◌, ◌≤◌, ◌<◌, ℕ, List, [], ◌++◌, true, false, map, length, take, codes}
+use Rattle.std.specs.Prelude.{Contains, Option, Some, None, ⊤}
 use Rattle.std.specs.List.{AllByRecursion, flat_map}
 use Rattle.ss_bso.specs.declared.rows.Row.{Row as Stored}
 use Rattle.ss_record.specs.declared.readings.Sheet.{Sheet}
@@ -92,9 +93,9 @@ found_in long End = Some (found.End long)
 found_in long _ = None
 
 -- what comes next
-abbrev pub IsFound : List ℕ → Found → Type 0
-IsFound rest (found.Row row long) = IsRow row × (0 < long) × (long ≤ length rest) × (take long rest ≡ row_line row)
-IsFound rest (found.End long) = (long ≤ length rest) × (take long rest ≡ end_line)
+abbrev pub IsNextFound : List ℕ → Found → Type 0
+IsNextFound rest (found.Row row long) = IsRow row × (0 < long) × (long ≤ length rest) × (take long rest ≡ row_line row)
+IsNextFound rest (found.End long) = (long ≤ length rest) × (take long rest ≡ end_line)
 
 -- nothing comes next, at the line of this number, for this reason
 abbrev pub IsStuckBy : List ℕ → ℕ → Ending → Type 0
@@ -114,11 +115,11 @@ pub record AreSeen (kind : FlatKind) (text : List ℕ) (s : Seen) : Type 0 where
   pub few : length rows ≤ s.used
 
 -- why rows are not seen to their end
-abbrev pub IsStopped : List ℕ → Ending → Type 0
-IsStopped text (Cut n) = (rest : List ℕ) × IsStuckAt text n rest × (has_line rest ≡ false)
-IsStopped text (BadLine n) = (rest : List ℕ) × IsStuckAt text n rest × (has_line rest ≡ true)
-IsStopped text Memory = ⊤
-IsStopped text ending = ⊥
+abbrev pub IsWhyNoRows : List ℕ → Ending → Type 0
+IsWhyNoRows text (Cut n) = (rest : List ℕ) × IsStuckAt text n rest × (has_line rest ≡ false)
+IsWhyNoRows text (BadLine n) = (rest : List ℕ) × IsStuckAt text n rest × (has_line rest ≡ true)
+IsWhyNoRows text Memory = ⊤
+IsWhyNoRows text ending = ⊥
 
 -- the text is a file, and the state is that of its rows
 pub record IsStateOfFile (kind : FlatKind) (text : List ℕ) (flat : State) : Type 0 where

@@ -1,7 +1,8 @@
 //! The rows of a text, and what they come to.
 
 ghost use Rattle.std.specs.Prelude.{◌≡◌, ◌==◌, IfOk, IfErr, position};
-ghost use Rattle.ss_run_flat.specs.Files.{AreSeen, IsFound, IsNoFile, IsStateOfFile, IsStopped, IsStuckBy, found_in};
+ghost use Rattle.ss_run_flat.specs.Files.{AreSeen, IsNextFound, IsNoFile, IsStateOfFile, IsWhyNoRows, IsStuckBy};
+ghost use Rattle.ss_run_flat.specs.Files.{found_in};
 
 use crate::endings::Ending;
 use crate::rows::see;
@@ -45,7 +46,7 @@ fn found_in(line: Line, long: usize) -> Option<Found>
 
 /// The row or the end with which a text goes on, up to its first newline. `number` is that of this line.
 fn next_found(alloc: Global, rest: &[u8], number: u64) -> Result<Found, Ending>
-    ensures found { IfOk result (λ found. IsFound rest.now found) }
+    ensures found { IfOk result (λ found. IsNextFound rest.now found) }
     ensures stuck { IfErr result (λ ending. IsStuckBy rest.now number ending) }
 {
     let Some(end) = place_of(rest, b'\n') else {
@@ -64,7 +65,7 @@ fn next_found(alloc: Global, rest: &[u8], number: u64) -> Result<Found, Ending>
 /// Sees the rows at the front of a text, up to their end.
 fn see_rows(alloc: Global, kind: FlatKind, text: &[u8]) -> Result<Seen, Ending>
     ensures seen { IfOk result (λ seen. AreSeen kind text.now seen) }
-    ensures stopped { IfErr result (λ ending. IsStopped text.now ending) }
+    ensures stopped { IfErr result (λ ending. IsWhyNoRows text.now ending) }
 {
     let mut flat = Flat::new(alloc, kind);
     let mut line = 1;

@@ -1,5 +1,6 @@
 -- Words ask for one thing at most.
-use Rattle.std.proofs.Common.{◌≡◌, ◌≤◌, ◌-◌, ℕ, zero, suc, List, [], ◌∷◌, Option, Some, None, IfNone, map, drop, take, length, arith, true, false, refl, sym, ap, ◌∙◌, inl, inr, subst}
+use Rattle.std.proofs.Common.{◌≡◌, ◌≤◌, ◌-◌, ℕ, zero, suc, List, [], ◌∷◌, Option, Some, None, IfNone, map, drop, take}
+use Rattle.std.proofs.Common.{length, arith, true, false, refl, sym, ap, ◌∙◌, inl, inr, subst}
 use Rattle.std.specs.Prelude.{codes}
 use Rattle.ss_route.specs.Targets.{uid_of}
 use Rattle.ss_words.specs.Lines.{is_dashed}

@@ -6,7 +6,8 @@ use Rattle.ss_outside.proofs.Telling.{HasRead-append}
 use Rattle.ss_input.specs.Inputs.{Gets, IsPart}
 use Rattle.ss_input.proofs.Pieces.{gets_more, part_append}
 use Rattle.ss_run_move.specs.declared.endings.Ending.{Ending}
-use Rattle.ss_run_move.specs.declared.endings.Ending.TheVariants.{Done, Site, Keeper, Output, Input, NoAccount, NotFresh, NoDump, TooLong, Memory}
+use Rattle.ss_run_move.specs.declared.endings.Ending.TheVariants.{Done, Site, Keeper, Output, Input, NoAccount}
+use Rattle.ss_run_move.specs.declared.endings.Ending.TheVariants.{NotFresh, NoDump, TooLong, Memory}
 use Rattle.ss_run_move.specs.Inputs.{IsUnread, IsWhole, most_bytes}
 
 longer : (s t : List ℕ) → most_bytes < length t → most_bytes < length (s ++ t)

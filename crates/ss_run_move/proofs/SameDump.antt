@@ -19,7 +19,8 @@ use Rattle.ss_bso.specs.Validity.{IsValid, SameAccount}
 use Rattle.ss_bso.proofs.Lists.{Each-any, Pairs-from_AllPairs, Pairs-imp}
 use Rattle.ss_bso.proofs.Reordering.{Ranked, same-back, sorted-reordered}
 use Rattle.ss_query.proofs.Orders.{by_name-reordered, ranked, through}
-use Rattle.ss_dump.specs.Dumps.{account_lines, body_text, closed_by, comes_before, digest_of, dump_text, in_order, number_cmp, place_cmp, text_of}
+use Rattle.ss_dump.specs.Dumps.{account_lines, body_text, closed_by, comes_before, digest_of, dump_text, in_order}
+use Rattle.ss_dump.specs.Dumps.{number_cmp, place_cmp, text_of}
 
 -- ---- rows
 

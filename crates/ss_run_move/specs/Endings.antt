@@ -11,7 +11,8 @@ use Rattle.ss_dump.specs.declared.faults.RefillFault.TheVariants as refilled
 use Rattle.ss_site.specs.declared.site.SiteFault.{SiteFault}
 use Rattle.ss_site.specs.declared.site.SiteFault.TheVariants as sites
 use Rattle.ss_run_move.specs.declared.endings.Ending.{Ending}
-use Rattle.ss_run_move.specs.declared.endings.Ending.TheVariants.{Done, Site, Keeper, Output, Input, NoAccount, NotFresh, NoDump, TooLong, Memory}
+use Rattle.ss_run_move.specs.declared.endings.Ending.TheVariants.{Done, Site, Keeper, Output, Input, NoAccount}
+use Rattle.ss_run_move.specs.declared.endings.Ending.TheVariants.{NotFresh, NoDump, TooLong, Memory}
 
 abbrev pub status_of : Ending → ℕ
 status_of Done = 0

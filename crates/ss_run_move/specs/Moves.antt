@@ -5,12 +5,13 @@ use Rattle.ss_links.specs.Counts.{RoseBy}
 use Rattle.ss_bso.specs.declared.changes.Kept.{Kept}
 use Rattle.ss_bso.specs.Changes.{kept_of, opened}
 use Rattle.ss_account.specs.declared.faults.OpenFault.{OpenFault}
-use Rattle.ss_account.specs.declared.faults.OpenFault.TheVariants.{BadCollection, BadRow, BadBatch, Keeper as KeeperFault, Memory as NoRoom}
+use Rattle.ss_account.specs.declared.faults.OpenFault.TheVariants.{BadCollection, BadRow, BadBatch}
+use Rattle.ss_account.specs.declared.faults.OpenFault.TheVariants.{Keeper as KeeperFault, Memory as NoRoom}
 use Rattle.ss_account.specs.Opening.{IsFaultOf, IsGood}
 use Rattle.ss_dump.specs.declared.faults.DumpFault.{DumpFault}
 use Rattle.ss_dump.specs.Dumps.{dump_text}
 use Rattle.ss_dump.specs.Refilled.{is_fresh}
-use Rattle.ss_dump.specs.Undumped.{IsDumpOf, IsRefused}
+use Rattle.ss_dump.specs.Undumped.{IsDumpOf, IsWhyNoDump}
 use Rattle.ss_site.specs.declared.site.SiteFault.TheVariants.{Fault}
 use Rattle.ss_site.specs.Sites.{Counts, Entries, HasCause, IsWith, Lent}
 use Rattle.ss_run_move.specs.declared.endings.Ending.{Ending}
@@ -21,7 +22,7 @@ use Rattle.ss_run_move.specs.Inputs.{IsUnread, IsWhole}
 -- ---- the site
 
 -- what a site counts, the keepers that it gave and took back, and the entries that it tells
-pub record Sited : Type 0 where
+pub record MoveSite : Type 0 where
   pub counts : Counts
   pub lent : Lent
   pub kept : Option Entries
@@ -78,13 +79,13 @@ IsUndumped folder uid kept Memory = ⊤
 IsUndumped folder uid kept ending = ⊥
 
 -- the dump is written, or there is none and nothing is written
-pub data IsTold (folder : List ℕ) (uid : ℕ) (ending : Ending) (kept : Option Entries) (output output' : Meanings) : Type 0 where
-  written : (text : List ℕ) → IsDumpAt folder uid kept text → Wrote text ending output output' → IsTold folder uid ending kept output output'
-  untold : IsUndumped folder uid kept ending → output' ≡ output → IsTold folder uid ending kept output output'
+pub data TellsDump (folder : List ℕ) (uid : ℕ) (ending : Ending) (kept : Option Entries) (output output' : Meanings) : Type 0 where
+  written : (text : List ℕ) → IsDumpAt folder uid kept text → Wrote text ending output output' → TellsDump folder uid ending kept output output'
+  untold : IsUndumped folder uid kept ending → output' ≡ output → TellsDump folder uid ending kept output output'
 
 -- what a dump of the account under this folder and uid does, which ends so
-pub record Dumps (folder : List ℕ) (uid : ℕ) (ending : Ending) (site site' : Sited) (output output' : Meanings) : Type 0 where
-  pub told : IsTold folder uid ending site.kept output output'
+pub record Dumps (folder : List ℕ) (uid : ℕ) (ending : Ending) (site site' : MoveSite) (output output' : Meanings) : Type 0 where
+  pub told : TellsDump folder uid ending site.kept output output'
   pub counted : IsCounted ending site.counts site'.counts
   pub back : CameBack site.lent site'.lent
   pub leaves : Leaves folder uid site.kept site'.kept
@@ -105,14 +106,14 @@ IsFilled folder uid told Done old new = Fills folder uid told old new
 IsFilled folder uid told ending old new = IsUnfilled folder uid old ending × Leaves folder uid old new
 
 -- what is done at the site with what a dump tells
-pub record FillsFrom (folder : List ℕ) (uid : ℕ) (told : Kept) (ending : Ending) (site site' : Sited) : Type 0 where
+pub record FillsFrom (folder : List ℕ) (uid : ℕ) (told : Kept) (ending : Ending) (site site' : MoveSite) : Type 0 where
   pub filled : IsFilled folder uid told ending site.kept site'.kept
   pub counted : IsCounted ending site.counts site'.counts
   pub back : CameBack site.lent site'.lent
 
 -- What a restore of the account under this folder and uid does, which ends so: the input is a dump, and what it tells is put there; or it is
 -- none, or isn't read whole, and the site isn't asked
-pub data Restores (folder : List ℕ) (uid : ℕ) (ending : Ending) (site site' : Sited) (input input' : Meanings) : Type 0 where
+pub data Restores (folder : List ℕ) (uid : ℕ) (ending : Ending) (site site' : MoveSite) (input input' : Meanings) : Type 0 where
   filled : (text : List ℕ) (told : Kept) → IsWhole text input input' → IsDumpOf text told → FillsFrom folder uid told ending site site' → Restores folder uid ending site site' input input'
-  refused : (text : List ℕ) (fault : DumpFault) → IsWhole text input input' → IsRefused text fault → ending ≡ at_dump fault → site' ≡ site → Restores folder uid ending site site' input input'
+  refused : (text : List ℕ) (fault : DumpFault) → IsWhole text input input' → IsWhyNoDump text fault → ending ≡ at_dump fault → site' ≡ site → Restores folder uid ending site site' input input'
   unread : IsUnread ending input input' → site' ≡ site → Restores folder uid ending site site' input input'

@@ -4,10 +4,11 @@ use Rattle.ss_outside.specs.Told.{Meanings}
 use Rattle.ss_outside.specs.Causes.{Rose}
 use Rattle.ss_bso.specs.declared.changes.Kept.{Kept}
 use Rattle.ss_account.specs.declared.faults.OpenFault.{OpenFault}
-use Rattle.ss_account.specs.declared.faults.OpenFault.TheVariants.{BadCollection, BadRow, BadBatch, Keeper as KeeperFault, Memory as NoRoom}
+use Rattle.ss_account.specs.declared.faults.OpenFault.TheVariants.{BadCollection, BadRow, BadBatch}
+use Rattle.ss_account.specs.declared.faults.OpenFault.TheVariants.{Keeper as KeeperFault, Memory as NoRoom}
 use Rattle.ss_account.specs.Opening.{IsFaultOf}
 use Rattle.ss_dump.specs.declared.faults.DumpFault.{DumpFault}
-use Rattle.ss_dump.specs.Undumped.{IsDumpOf, IsRefused}
+use Rattle.ss_dump.specs.Undumped.{IsDumpOf, IsWhyNoDump}
 use Rattle.ss_site.specs.Sites.{Counts}
 use Rattle.ss_run_move.specs.declared.endings.Ending.{Ending}
 use Rattle.ss_run_move.specs.declared.endings.Ending.TheVariants.{Keeper, NoAccount, Memory}
@@ -49,4 +50,4 @@ pub record IsReadAs (told : Kept) (input input' : Meanings) : Type 0 where
 -- why the input tells no account: it isn't read whole, or it is no dump
 pub data IsUntold (ending : Ending) (input input' : Meanings) : Type 0 where
   not_whole : IsUnread ending input input' → IsUntold ending input input'
-  no_dump : (text : List ℕ) (fault : DumpFault) → IsWhole text input input' → IsRefused text fault → ending ≡ at_dump fault → IsUntold ending input input'
+  no_dump : (text : List ℕ) (fault : DumpFault) → IsWhole text input input' → IsWhyNoDump text fault → ending ≡ at_dump fault → IsUntold ending input input'

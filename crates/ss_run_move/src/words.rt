@@ -1,6 +1,7 @@
 //! The words that ask for a dump or a restore.
 
-ghost use Rattle.std.specs.Prelude.{◌≡◌, ◌≢◌, ℕ, List, Some, None, codes, map, string_bytes, IfSome, IfNone, IsTrue, IsFalse};
+ghost use Rattle.std.specs.Prelude.{◌≡◌, ◌≢◌, ℕ, List, Some, None, codes, map, string_bytes, IfSome, IfNone, IsTrue};
+ghost use Rattle.std.specs.Prelude.{IsFalse};
 ghost use Rattle.ss_route.specs.Targets.{uid_of};
 ghost use Rattle.ss_words.specs.Lines.{is_dashed};
 ghost use Rattle.ss_run_move.specs.Asked.{Asks, AsksBehind, name_of};

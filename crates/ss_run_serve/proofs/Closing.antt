@@ -1,5 +1,6 @@
 -- What came of accounts that were open, once the store of their logs came back.
-use Rattle.std.specs.Prelude.{◌≡◌, ◌≢◌, ◌≤◌, ◌⊎◌, ◌++◌, ◌∷◌, [], ℕ, zero, suc, Bool, true, false, List, Option, Some, None, is_some, refl}
+use Rattle.std.specs.Prelude.{◌≡◌, ◌≢◌, ◌≤◌, ◌⊎◌, ◌++◌, ◌∷◌, [], ℕ, zero, suc, Bool, true, false, List, Option, Some}
+use Rattle.std.specs.Prelude.{None, is_some, refl}
 use Rattle.std.specs.Option.{option_map_or}
 use Rattle.std.proofs.Common.{sym, ap, subst, ◌∙◌, inl, inr, arith}
 use Rattle.ss_route.specs.declared.manner.Manner.{Manner}
@@ -19,7 +20,7 @@ use Rattle.ss_run_serve.specs.Once.{IsUntold}
 use Rattle.ss_run_serve.specs.Course.{CameTo, ServedUntil}
 use Rattle.ss_run_serve.specs.Logs.{logs_of, AreLogged, AreLoggedAt, AreSaved, HasCut, LogsFailed}
 use Rattle.ss_run_serve.specs.declared.logbook.Logbook.{Logbook}
-use Rattle.ss_run_serve.specs.Logbooks.{is_kept, failures_in, IsBookOf, IsLentFor, AreLeft, IsClosed}
+use Rattle.ss_run_serve.specs.Logbooks.{is_kept, failures_in, IsBookOf, IsLentFor, AreLeft, ClosesBook}
 use Rattle.ss_run_serve.proofs.Lent.{none_out, one_back, one_out, out_then}
 use Rattle.ss_run_serve.proofs.Rising.{rose_on}
 use Rattle.ss_run_serve.proofs.Retired.{counts_one}
@@ -39,19 +40,19 @@ rises_none old new same = record {
   rests = ap (λ (c : Counts). c.rests) same;
 }
 
-closed_rises : (kept : Bool) (files : Option Files) (faults : ℕ) (old new : Counts) (logs logs' : Option Files) (lent lent' : Lent) → IsClosed kept files faults old new logs logs' lent lent' → Rises old new
+closed_rises : (kept : Bool) (files : Option Files) (faults : ℕ) (old new : Counts) (logs logs' : Option Files) (lent lent' : Lent) → ClosesBook kept files faults old new logs logs' lent lent' → Rises old new
 closed_rises false files faults old new logs logs' lent lent' closed = rises_none old new closed.0
 closed_rises true files faults old new logs logs' lent lent' closed =
     let counted = counts_one faults old new closed.0 in
     record { faults = counted.faults; links = counted.links; ends = counted.ends; rests = counted.rests }
 
 -- where the store failed the site counts that
-closed_fails : (kept : Bool) (files : Option Files) (faults : ℕ) (old new : Counts) (logs logs' : Option Files) (lent lent' : Lent) → (kept ≡ false → faults ≡ 0) → IsClosed kept files faults old new logs logs' lent lent' → faults ≢ 0 → Rose old.faults new.faults
+closed_fails : (kept : Bool) (files : Option Files) (faults : ℕ) (old new : Counts) (logs logs' : Option Files) (lent lent' : Lent) → (kept ≡ false → faults ≡ 0) → ClosesBook kept files faults old new logs logs' lent lent' → faults ≢ 0 → Rose old.faults new.faults
 closed_fails false files faults old new logs logs' lent lent' unkept closed some = absurd (some (unkept refl))
 closed_fails true files faults old new logs logs' lent lent' unkept closed some = closed.0.faults.some some
 
 -- the first counts are the same
-pub closed_failed : (kept : Bool) (files : Option Files) (faults : ℕ) (first old new : Counts) (logs logs' : Option Files) (lent lent' : Lent) (stop : Stop) → (kept ≡ false → faults ≡ 0) → IsClosed kept files faults old new logs logs' lent lent' → first.faults ≤ old.faults
+pub closed_failed : (kept : Bool) (files : Option Files) (faults : ℕ) (first old new : Counts) (logs logs' : Option Files) (lent lent' : Lent) (stop : Stop) → (kept ≡ false → faults ≡ 0) → ClosesBook kept files faults old new logs logs' lent lent' → first.faults ≤ old.faults
     → HasCut faults stop → LogsFailed first new stop
 closed_failed kept files faults first old new logs logs' lent lent' stops.Logs unkept closed later cut =
     let rose = closed_fails kept files faults old new logs logs' lent lent' unkept closed cut in
@@ -83,26 +84,26 @@ unkept_none {S} faults book none = unkept book.store none
     unkept (Some s) none = absurd cc
 
 -- what was given for the book came back
-lent_for : (kept : Bool) (old mid : Lent) → IsLentFor kept old mid → (files : Option Files) (faults : ℕ) (counts counts' : Counts) (logs logs' : Option Files) (last new : Lent) → IsClosed kept files faults counts counts' logs logs' last new → AllAreBack mid last → AllAreBack old new
+lent_for : (kept : Bool) (old mid : Lent) → IsLentFor kept old mid → (files : Option Files) (faults : ℕ) (counts counts' : Counts) (logs logs' : Option Files) (last new : Lent) → ClosesBook kept files faults counts counts' logs logs' last new → AllAreBack mid last → AllAreBack old new
 lent_for false old mid given files faults counts counts' logs logs' last new closed back =
     subst (λ (l : Lent). AllAreBack l new) given (subst (λ (l : Lent). AllAreBack mid l) (sym closed.2) back)
 lent_for true old mid given files faults counts counts' logs logs' last new closed back =
     one_back old last new (out_then 1 0 old mid last (one_out old mid given) back) closed.2
 
-pub all_returned : (kept kept' : Bool) (old mid : Lent) (files : Option Files) (faults : ℕ) (counts counts' : Counts) (logs logs' : Option Files) (last new : Lent) → kept' ≡ kept → IsLentFor kept old mid → IsClosed kept' files faults counts counts' logs logs' last new
+pub all_returned : (kept kept' : Bool) (old mid : Lent) (files : Option Files) (faults : ℕ) (counts counts' : Counts) (logs logs' : Option Files) (last new : Lent) → kept' ≡ kept → IsLentFor kept old mid → ClosesBook kept' files faults counts counts' logs logs' last new
     → AllAreBack mid last → AllAreBack old new
 all_returned kept kept' old mid files faults counts counts' logs logs' last new same given closed back =
-    lent_for kept old mid given files faults counts counts' logs logs' last new (subst (λ (k : Bool). IsClosed k files faults counts counts' logs logs' last new) same closed) back
+    lent_for kept old mid given files faults counts counts' logs logs' last new (subst (λ (k : Bool). ClosesBook k files faults counts counts' logs logs' last new) same closed) back
 
 lent_at : (kept : Bool) (old mid : Lent) → IsLentFor kept old mid → mid.addresses ≡ old.addresses
 lent_at false old mid given = ap (λ (l : Lent). l.addresses) given
 lent_at true old mid given = given.2
 
-closed_at : (kept : Bool) (files : Option Files) (faults : ℕ) (counts counts' : Counts) (logs logs' : Option Files) (last new : Lent) → IsClosed kept files faults counts counts' logs logs' last new → new.addresses ≡ last.addresses
+closed_at : (kept : Bool) (files : Option Files) (faults : ℕ) (counts counts' : Counts) (logs logs' : Option Files) (last new : Lent) → ClosesBook kept files faults counts counts' logs logs' last new → new.addresses ≡ last.addresses
 closed_at false files faults counts counts' logs logs' last new closed = ap (λ (l : Lent). l.addresses) closed.2
 closed_at true files faults counts counts' logs logs' last new closed = closed.2.addresses
 
-pub still_listens : (address : List ℕ) (kept kept' : Bool) (old mid : Lent) (files : Option Files) (faults : ℕ) (counts counts' : Counts) (logs logs' : Option Files) (last new : Lent) → IsLentFor kept old mid → IsClosed kept' files faults counts counts' logs logs' last new
+pub still_listens : (address : List ℕ) (kept kept' : Bool) (old mid : Lent) (files : Option Files) (faults : ℕ) (counts counts' : Counts) (logs logs' : Option Files) (last new : Lent) → IsLentFor kept old mid → ClosesBook kept' files faults counts counts' logs logs' last new
     → ListensAt address mid last → ListensAt address old new
 still_listens address kept kept' old mid files faults counts counts' logs logs' last new given closed (inl none) = inl (closed_at kept' files faults counts counts' logs logs' last new closed ∙ none ∙ lent_at kept old mid given)
 still_listens address kept kept' old mid files faults counts counts' logs logs' last new given closed (inr one) =
@@ -111,7 +112,7 @@ still_listens address kept kept' old mid files faults counts counts' logs logs' 
 module _ {L : Type 0} where
   -- the logs are those that were saved, or as they were
   logged_at : (folder : Option LogFolder) (stop : Stop) (told : List (Term (LinkReport L))) (kept : Bool) (number : ℕ) (files files' : Option Files) (faults : ℕ) (old first last new : Option Files) (counts counts' : Counts) (lent lent' : Lent)
-      → IsBookOf folder kept number files old → AreLeft kept old first → last ≡ first → IsClosed kept files' faults counts counts' last new lent lent' → AreLogged stop (logs_of number told) files files' → AreLoggedAt folder stop told old new
+      → IsBookOf folder kept number files old → AreLeft kept old first → last ≡ first → ClosesBook kept files' faults counts counts' last new lent lent' → AreLogged stop (logs_of number told) files files' → AreLoggedAt folder stop told old new
   logged_at None stop told true number files files' faults old first last new counts counts' lent lent' book left same closed logged = absurd cc
   logged_at None stop told false number files files' faults old first last new counts counts' lent lent' book left same closed logged = closed.1 ∙ same ∙ left
   logged_at (Some folder) stop told false number files files' faults old first last new counts counts' lent lent' book left same closed logged = absurd cc
@@ -156,11 +157,11 @@ module _ {L : Type 0} where
     -- accounts that were served with an open book, once that was closed
     pub came_logged : (folder : Option LogFolder) (opened : List (ℕ × Hosted)) (workers connections asked : ℕ) (told first told' told'' : Option (List (Term (LinkReport L)))) (old begun mid new : Counts) (accounts : List (ℕ × Hosted)) (stop : Stop)
         (kept kept' : Bool) (number : ℕ) (files files' : Option Files) (faults : ℕ) (logs left last logs' : Option Files) (lent lent' : Lent)
-        → begun ≡ old → first ≡ told → told'' ≡ told' → kept' ≡ kept → IsBookOf folder kept number files logs → AreLeft kept logs left → last ≡ left → IsClosed kept' files' faults mid new last logs' lent lent'
+        → begun ≡ old → first ≡ told → told'' ≡ told' → kept' ≡ kept → IsBookOf folder kept number files logs → AreLeft kept logs left → last ≡ left → ClosesBook kept' files' faults mid new last logs' lent lent'
         → CameTo manner tells closed says opened workers connections asked first told' begun mid accounts stop (λ terms. AreLogged stop (logs_of number terms) files files')
         → CameTo manner tells closed says opened workers connections asked told told'' old new accounts stop (λ terms. AreLoggedAt folder stop terms logs logs')
     came_logged folder opened workers connections asked told first told' told'' old begun mid new accounts stop kept kept' number files files' faults logs left last logs' lent lent' counts same same' kind book stays unlogged shut came =
-        let shut' : IsClosed kept files' faults mid new last logs' lent lent' = subst (λ (k : Bool). IsClosed k files' faults mid new last logs' lent lent') kind shut in
+        let shut' : ClosesBook kept files' faults mid new last logs' lent lent' = subst (λ (k : Bool). ClosesBook k files' faults mid new last logs' lent lent') kind shut in
         let Kept : List (Term (LinkReport L)) → Type 0 = λ terms. AreLoggedAt folder stop terms logs logs' in
         let on : CameTo manner tells closed says opened workers connections asked first told' begun new accounts stop Kept =
         came_on opened workers connections asked first told' begun mid new accounts stop (λ terms. AreLogged stop (logs_of number terms) files files') Kept (closed_rises kept' files' faults mid new last logs' lent lent' shut)

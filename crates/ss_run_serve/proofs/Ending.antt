@@ -1,11 +1,13 @@
 -- What one term of a server comes to, from what the term says.
-use Rattle.std.specs.Prelude.{◌≡◌, ◌≢◌, ◌⊎◌, ◌<◌, ◌≤◌, ℕ, zero, suc, Bool, List, [], ◌∷◌, length, map, get_or, Option, Some, None, All, Any, Contains, IfSome, refl}
+use Rattle.std.specs.Prelude.{◌≡◌, ◌≢◌, ◌⊎◌, ◌<◌, ◌≤◌, ℕ, zero, suc, Bool, List, [], ◌∷◌, length, map, get_or, Option}
+use Rattle.std.specs.Prelude.{Some, None, All, Any, Contains, IfSome, refl}
 use Rattle.std.specs.List.{AllZip}
 use Rattle.std.specs.List.Sorted.{IsPermutation}
 use Rattle.std.proofs.Common.{sym, ap, subst, ◌∙◌, inl, inr, arith}
 use Rattle.std.proofs.lemmas.List.{length-map}
 use Rattle.std.proofs.lemmas.List.Elements.{All-contains, All-head, All-tail}
-use Rattle.std.proofs.lemmas.List.Sorted.{All-permutation, IsPermutation-map, IsPermutation-refl, IsPermutation-sym, Contains-permutation}
+use Rattle.std.proofs.lemmas.List.Sorted.{All-permutation, IsPermutation-map, IsPermutation-refl, IsPermutation-sym}
+use Rattle.std.proofs.lemmas.List.Sorted.{Contains-permutation}
 use mathlib.Core.Option.{some}
 use lib.ListN.{get_elem?}
 use Rattle.ss_route.specs.declared.manner.Manner.{Manner}
@@ -38,8 +40,9 @@ use Rattle.ss_run_serve.specs.declared.stop.Stop.{Stop}
 use Rattle.ss_run_serve.specs.declared.stop.Stop.TheVariants as stops
 use Rattle.ss_run_serve.specs.Hosted.{Hosted, IsBegun, hosted, hosted_at, journal_in, left_by}
 use Rattle.ss_run_serve.specs.Retiring.{uids_in}
-use Rattle.ss_run_serve.specs.Terms.{IsLeft}
-use Rattle.ss_run_serve.specs.Once.{Follows, TermsGoOn, HasFailed, IsDone, IsLast, IsLost, IsOnce, IsUnheard, IsUntold, TookPlace}
+use Rattle.ss_run_serve.specs.Terms.{IsOneLeft}
+use Rattle.ss_run_serve.specs.Once.{Follows, TermsGoOn, HasFailed, IsDone, IsLast, IsLost, IsOnce, IsUnheard, IsUntold}
+use Rattle.ss_run_serve.specs.Once.{TookPlace}
 use Rattle.ss_run_serve.specs.Logs.{logs_of_term, ArePartlySaved, AreSaved, AreLoggedOnce, HasCut, IsCut}
 use Rattle.ss_run_serve.proofs.Saving.{cut_logged, logged_once}
 use Rattle.ss_run_serve.proofs.Handed.{all_at, at_seen, contains_at, seen, seen_at, term_seen}
@@ -224,7 +227,7 @@ module _ {K : Type 0} {G : Ghosts K} (told : K → Option Kept) (faults : K → 
 
     -- what comes back of accounts that weren't served
     record Back (given handed : List (ℕ × Booked K G)) : Type 0 where
-      pub left : All (IsLeft (hosted_all given)) (hosted_all handed)
+      pub left : All (IsOneLeft (hosted_all given)) (hosted_all handed)
       pub uids : IsPermutation (uids_in (hosted_all given)) (uids_in (hosted_all handed))
       pub failed : Any HasFailed (hosted_all given) → Any HasFailed (hosted_all handed)
 
@@ -265,7 +268,7 @@ module _ {K : Type 0} {G : Ghosts K} (told : K → Option Kept) (faults : K → 
         order_begun : All (λ (a : ℕ × Hosted). IsBegun a.1) (hosted_all back.order)
         order_begun = All-permutation (λ (a : ℕ × Hosted). IsBegun a.1) (hosted_all given) (hosted_all back.order) order_moved begun
 
-        left : All (IsLeft (hosted_all given)) (hosted_all handed)
+        left : All (IsOneLeft (hosted_all given)) (hosted_all handed)
         left = left_moved (hosted_all given) (hosted_all back.order) (hosted_all handed) order_moved (left_zip Again (λ x y again. (again.uid, left_again x y again)) (hosted_all back.order) (hosted_all handed) (bare (hosted_all back.order) (hosted_all handed) order_begun long each_bare))
 
         moved : IsPermutation (uids_in (hosted_all given)) (uids_in (hosted_all handed))

@@ -1,5 +1,6 @@
 -- Accounts that were opened, and accounts whose journals were folded.
-use Rattle.std.specs.Prelude.{◌≡◌, ◌<◌, ◌≤◌, ℕ, zero, suc, List, [], ◌∷◌, ◌++◌, length, map, set, take, drop, get_or, Option, Some, Result, Ok, Err, IfOk, OnOk, OnErr, All, refl}
+use Rattle.std.specs.Prelude.{◌≡◌, ◌<◌, ◌≤◌, ℕ, zero, suc, List, [], ◌∷◌, ◌++◌, length, map, set, take, drop, get_or}
+use Rattle.std.specs.Prelude.{Option, Some, Result, Ok, Err, IfOk, OnOk, OnErr, All, refl}
 use Rattle.std.specs.List.{AllZip}
 use Rattle.std.proofs.Common.{sym, ap, subst, ◌∙◌, arith}
 use Rattle.std.proofs.lemmas.List.{length-map}
@@ -18,7 +19,7 @@ use Rattle.ss_booked.specs.Booked.{uid_of, account_of, journal_of, keeper_before
 use Rattle.ss_booked.specs.Sizes.{most_entries}
 use Rattle.ss_site.specs.Sites.{Entries, IsEntry}
 use Rattle.ss_run_serve.specs.Hosted.{Hosted, IsBegun, hosted, hosted_at, left_by}
-use Rattle.ss_run_serve.specs.Opening.{IsOpened}
+use Rattle.ss_run_serve.specs.Opening.{OpensAccount}
 use Rattle.ss_run_serve.specs.Terms.{BeginsAnew}
 use Rattle.ss_run_serve.specs.Course.{SameKeeper}
 use Rattle.ss_run_serve.proofs.Anew.{left_anew}
@@ -28,7 +29,7 @@ module _ {K : Type 0} {G : Ghosts K} (told : K → Option Kept) (faults : K → 
       → ((entries : Entries) → kept' ≡ Some entries → SameAccount (opened (entries folder uid)) account.plain) → IsEntry folder uid (told account.keeper) kept' → faults account.keeper ≡ 0
       → IfOk r (λ b. uid_of b ≡ uid) → IfOk r (λ b. account_of b ≡ account) → IfOk r (λ b. SameAccount account.plain (journal_of b).opening) → IfOk r (λ b. IsBegun (hosted told faults b))
       → IfOk r (λ b. (journal_of b).most ≡ most_entries)
-      → IfOk r (λ b. IsOpened folder kept (uid, hosted told faults b))
+      → IfOk r (λ b. OpensAccount folder kept (uid, hosted told faults b))
   opened_account folder uid kept kept' account (Err e) same opens entry fresh own is opening begun most = is
   opened_account folder uid kept kept' account (Ok b) same opens entry fresh own is opening begun most = record {
     own = own;

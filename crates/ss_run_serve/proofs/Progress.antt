@@ -1,20 +1,24 @@
 -- The terms of a server so far, and one term more.
-use Rattle.std.specs.Prelude.{◌≡◌, ◌≢◌, ◌⊎◌, ◌<◌, ◌≤◌, ◌+◌, ◌*◌, ◌-◌, ◌^◌, ℕ, zero, suc, Bool, true, false, nat_lt, if◌then◌else◌, List, [], ◌∷◌, ◌++◌, length, map, sum_by, Option, Some, None, All, Any, Contains, refl}
+use Rattle.std.specs.Prelude.{◌≡◌, ◌≢◌, ◌⊎◌, ◌<◌, ◌≤◌, ◌+◌, ◌*◌, ◌-◌, ◌^◌, ℕ, zero, suc, Bool, true, false, nat_lt}
+use Rattle.std.specs.Prelude.{if◌then◌else◌, List, [], ◌∷◌, ◌++◌, length, map, sum_by, Option, Some, None, All, Any}
+use Rattle.std.specs.Prelude.{Contains, refl}
 use Rattle.std.specs.Option.{option_map}
 use Rattle.std.specs.List.{AllZip}
 use Rattle.std.specs.List.Sorted.{IsPermutation}
 use Rattle.std.proofs.Common.{sym, ap, subst, ◌∙◌, inl, inr, arith, append_assoc, append-nil}
 use Rattle.std.proofs.lemmas.Bool.Decides.{nat_tests}
 use Rattle.std.proofs.lemmas.List.{length-append, length-map}
-use Rattle.std.proofs.lemmas.List.Elements.{All-append, All-contains, All-cons, All-head, All-nil, All-push, All-tail, Contains-get_or, Contains-push, Contains-push_cases}
-use Rattle.std.proofs.lemmas.List.Sorted.{IsPermutation-map, IsPermutation-refl, IsPermutation-trans, Contains-permutation}
+use Rattle.std.proofs.lemmas.List.Elements.{All-append, All-contains, All-cons, All-head, All-nil, All-push, All-tail}
+use Rattle.std.proofs.lemmas.List.Elements.{Contains-get_or, Contains-push, Contains-push_cases}
+use Rattle.std.proofs.lemmas.List.Sorted.{IsPermutation-map, IsPermutation-refl, IsPermutation-trans}
+use Rattle.std.proofs.lemmas.List.Sorted.{Contains-permutation}
 use Rattle.std.proofs.lemmas.List.Sums.{sum_by-append}
 use mathlib.Core.Option.{some}
 use lib.ListN.{get_elem?}
 use Rattle.ss_route.specs.declared.manner.Manner.{Manner}
 use Rattle.ss_outside.specs.Told.{Meanings}
 use Rattle.ss_outside.specs.Causes.{Rose}
-use Rattle.ss_outside.specs.Plans.{raised}
+use Rattle.ss_outside.specs.Plans.{raised_count}
 use Rattle.ss_links.specs.Counts.{RoseBy}
 use Rattle.ss_links.specs.Ports.{Accepts, idle_port}
 use Rattle.ss_links.specs.Stores.{Files}
@@ -30,11 +34,13 @@ use Rattle.ss_run_serve.specs.declared.stop.Stop.TheVariants as stops
 use Rattle.ss_run_serve.specs.Hosted.{Hosted, IsBegun, Stands, journal_in, left_by}
 use Rattle.ss_run_serve.specs.Opening.{CountsFaults}
 use Rattle.ss_run_serve.specs.Retiring.{uids_in}
-use Rattle.ss_run_serve.specs.Terms.{BeginsAnew, links_of, short_of, AreTerms, AreTold, IsLeft, IsTermOf, KeeperFailed}
+use Rattle.ss_run_serve.specs.Terms.{BeginsAnew, links_of, short_of, AreTerms, AreTold, IsOneLeft, IsTermOf}
+use Rattle.ss_run_serve.specs.Terms.{KeeperFailed}
 use Rattle.ss_run_serve.specs.Once.{HasFailed, IsDone, IsLast, IsLost, IsOnce, IsUnheard, IsUntold, TookPlace}
 use Rattle.ss_run_serve.specs.Course.{AreWithin, Course, IsToldOf, SameKeeper, Stops}
 use Rattle.ss_run_serve.specs.Logs.{Named, logs_of, logs_of_term, AreLogged, AreSaved}
-use Rattle.ss_run_serve.proofs.Saving.{all_partly, logged_of, logged_then, logs_more, none_saved, number_after, number_more, saved_then}
+use Rattle.ss_run_serve.proofs.Saving.{all_partly, logged_of, logged_then, logs_more, none_saved, number_after}
+use Rattle.ss_run_serve.proofs.Saving.{number_more, saved_then}
 use Rattle.ss_run_serve.proofs.Handed.{contains_at}
 use Rattle.ss_run_serve.proofs.Rising.{rose_less, rose_none, rose_then, rose_once}
 use Rattle.ss_run_serve.proofs.Anew.{begin_themselves, left_anew, left_themselves, left_through, left_zip}
@@ -482,12 +488,12 @@ module _ {L : Type 0} (manner : Manner) (tells : L → Meanings) (closed : L →
     -- a term took place, and the accounts begin anew
     pub progress_on : (accounts : List (ℕ × Hosted)) (number'' : ℕ) → connections ≤ 1000 → asked ≤ 999999999999 → left ≢ 1 → Progress opened coming connections asked told told' old mid port left given coming' number number' logs logs'
         → IsDone manner tells closed says given handed coming' coming'' told' told'' mid new connections port port' None number' logs' logs'' → AllZip BeginsAnew handed accounts
-        → number'' ≡ raised number' → Progress opened coming connections asked told told'' old new port' (left - 1) accounts coming'' number number'' logs logs''
+        → number'' ≡ raised_count number' → Progress opened coming connections asked told told'' old new port' (left - 1) accounts coming'' number number'' logs logs''
     progress_on accounts number'' small most more progress done anew next = record {
       terms = progress.terms ++ done.term ∷ [];
       handed = handed;
       are_told = told_more progress.terms done.term told told' told'' progress.are_told done.told;
-      numbered = next ∙ ap raised progress.numbered ∙ sym (number_more number progress.terms done.term);
+      numbered = next ∙ ap raised_count progress.numbered ∙ sym (number_more number progress.terms done.term);
       saved = saved_more progress done;
       stage = stage_more opened coming port port' progress.terms progress.handed given handed coming' coming'' connections done.term small progress.stage progress.anew done.took;
       anew = anew;

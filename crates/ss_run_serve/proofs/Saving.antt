@@ -1,18 +1,20 @@
 -- The logs of terms that were saved, and those of one term more.
-use Rattle.std.specs.Prelude.{◌≡◌, ◌≢◌, ◌<◌, ◌+◌, ℕ, zero, suc, Bool, true, false, cond, List, [], ◌∷◌, ◌++◌, length, get_or, map, take, drop, Option, Some, None, IfNone, IfSome, bytes_eq, refl}
+use Rattle.std.specs.Prelude.{◌≡◌, ◌≢◌, ◌<◌, ◌+◌, ℕ, zero, suc, Bool, true, false, cond, List, [], ◌∷◌, ◌++◌, length}
+use Rattle.std.specs.Prelude.{get_or, map, take, drop, Option, Some, None, IfNone, IfSome, bytes_eq, refl}
 use Rattle.std.specs.Option.{option_or}
 use Rattle.std.specs.List.{flat_map}
 use Rattle.std.proofs.Common.{sym, ap, subst, ◌∙◌, append_assoc, append-nil}
 use Rattle.std.proofs.lemmas.Bool.{false≢true}
 use Rattle.std.proofs.lemmas.List.{take_more}
-use Rattle.ss_outside.specs.Plans.{raised}
+use Rattle.ss_outside.specs.Plans.{raised_count}
 use Rattle.ss_laws.specs.Journal.{Journal}
 use Rattle.ss_links.specs.Stores.{Files, HasSaved}
 use Rattle.ss_site.specs.Sites.{Counts, Term}
 use Rattle.ss_words.specs.declared.commands.LogFolder.{LogFolder}
 use Rattle.ss_run_serve.specs.declared.stop.Stop.{Stop}
 use Rattle.ss_run_serve.specs.declared.stop.Stop.TheVariants as stops
-use Rattle.ss_run_serve.specs.Logs.{Named, saved_of, logs_of_term, logs_of, last_named, AreSaved, ArePartlySaved, AreLogged, AreLoggedAt, AreLoggedOnce, IsCut, HasCut}
+use Rattle.ss_run_serve.specs.Logs.{Named, saved_of, logs_of_term, logs_of, last_named, AreSaved, ArePartlySaved}
+use Rattle.ss_run_serve.specs.Logs.{AreLogged, AreLoggedAt, AreLoggedOnce, IsCut, HasCut}
 use Rattle.ss_run_serve.specs.Once.{IsUntold}
 use Rattle.ss_text.proofs.Basics.{same_text, bytes_eq-same}
 
@@ -165,17 +167,17 @@ some_holds {X} P o x some is = (let Q : Option X → Type 0 = λ (y : Option X).
 -- the number behind terms, the first of which has this one
 abbrev pub number_after : {R : Type 0} → ℕ → List (Term R) → ℕ
 number_after number [] = number
-number_after number (term ∷ terms) = number_after (raised number) terms
+number_after number (term ∷ terms) = number_after (raised_count number) terms
 
-pub number_more : {R : Type 0} (number : ℕ) (terms : List (Term R)) (term : Term R) → number_after number (terms ++ term ∷ []) ≡ raised (number_after number terms)
+pub number_more : {R : Type 0} (number : ℕ) (terms : List (Term R)) (term : Term R) → number_after number (terms ++ term ∷ []) ≡ raised_count (number_after number terms)
 number_more number [] term = refl
-number_more number (first ∷ terms) term = number_more (raised number) terms term
+number_more number (first ∷ terms) term = number_more (raised_count number) terms term
 
 pub logs_more : {R : Type 0} (number : ℕ) (terms : List (Term R)) (term : Term R) → logs_of number (terms ++ term ∷ []) ≡ logs_of number terms ++ logs_of_term (number_after number terms) term.journals
 logs_more number [] term = append-nil (logs_of_term number term.journals)
 logs_more number (first ∷ terms) term =
-    ap (λ (logs : List Named). logs_of_term number first.journals ++ logs) (logs_more (raised number) terms term)
-    ∙ sym (append_assoc (logs_of_term number first.journals) (logs_of (raised number) terms) (logs_of_term (number_after (raised number) terms) term.journals))
+    ap (λ (logs : List Named). logs_of_term number first.journals ++ logs) (logs_more (raised_count number) terms term)
+    ∙ sym (append_assoc (logs_of_term number first.journals) (logs_of (raised_count number) terms) (logs_of_term (number_after (raised_count number) terms) term.journals))
 
 -- ---- the accounts of a term
 

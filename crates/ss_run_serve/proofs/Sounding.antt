@@ -1,6 +1,7 @@
 -- The journals of an account's terms are sound logs: each is made by calls, and each after the first opens with the account that the
 -- one before leaves.
-use Rattle.std.specs.Prelude.{◌≡◌, ◌<◌, ◌≤◌, ◌+◌, ℕ, zero, suc, Bool, List, [], ◌∷◌, length, map, get_or, Option, All, Contains, ⊤, refl}
+use Rattle.std.specs.Prelude.{◌≡◌, ◌<◌, ◌≤◌, ◌+◌, ℕ, zero, suc, Bool, List, [], ◌∷◌, length, map, get_or, Option, All}
+use Rattle.std.specs.Prelude.{Contains, ⊤, refl}
 use Rattle.std.specs.List.{AllZip, AllAdjacentBelow}
 use Rattle.std.specs.List.Sorted.{IsStrictlyIncreasing}
 use Rattle.std.proofs.Common.{sym, ap, subst, ◌∙◌, arith}
@@ -28,9 +29,9 @@ use Rattle.ss_serve.specs.Terms.{uids_in}
 use Rattle.ss_serve.proofs.Crews.{at_map}
 use Rattle.ss_words.specs.declared.commands.ServeCommand.{ServeCommand}
 use Rattle.ss_run_serve.specs.Hosted.{Hosted, journal_in, left_by}
-use Rattle.ss_run_serve.specs.Opening.{IsOpened}
+use Rattle.ss_run_serve.specs.Opening.{OpensAccount}
 use Rattle.ss_run_serve.specs.Terms.{AreTerms, BeginsAnew, IsTermOf}
-use Rattle.ss_run_serve.specs.Serving.{AreServedBy, Sited}
+use Rattle.ss_run_serve.specs.Serving.{AreServedBy, ServedSite}
 use Rattle.ss_run_serve.specs.Logged.{AreJournalsOf}
 use Rattle.ss_run_serve.proofs.Handed.{contains_at}
 use Rattle.ss_run_serve.proofs.Progress.{map_there}
@@ -58,8 +59,8 @@ only_one accounts rise a b first second same =
 abbrev Roomy : List (ℕ × Hosted) → Type 0
 Roomy accounts = All (λ (account : ℕ × Hosted). account.1.fixed.most ≤ most_entries) accounts
 
-opened_roomy : (folder : List ℕ) (kept : Option Entries) (accounts : List (ℕ × Hosted)) → All (IsOpened folder kept) accounts → Roomy accounts
-opened_roomy folder kept accounts from = All-weaker (IsOpened folder kept) (λ (account : ℕ × Hosted). account.1.fixed.most ≤ most_entries) (λ account is. omega (arith, is.most)) accounts from
+opened_roomy : (folder : List ℕ) (kept : Option Entries) (accounts : List (ℕ × Hosted)) → All (OpensAccount folder kept) accounts → Roomy accounts
+opened_roomy folder kept accounts from = All-weaker (OpensAccount folder kept) (λ (account : ℕ × Hosted). account.1.fixed.most ≤ most_entries) (λ account is. omega (arith, is.most)) accounts from
 
 -- the account with this uid that was left, where the journal goes on
 record GoesOnFrom (left : List (ℕ × Hosted)) (uid : ℕ) (fixed : Terms) : Type 0 where
@@ -163,7 +164,7 @@ module _ {L : Type 0} (manner : Manner) (tells : L → Meanings) (closed : L →
         opens = (from.1.account, from.1.there, from.1.named ∙ own, subst (λ (j : Journal). SameAccount (left_by from.1.account.1) j.opening) is from.1.opening);
       }
 
-pub logs_sound : {L : Type 0} (tells : L → Meanings) (closed : L → Bool) (says : ℕ → ℕ → Bool → Type 0) (command : ServeCommand) (terms : List (Term (LinkReport L))) (old new : Sited (LinkReport L))
+pub logs_sound : {L : Type 0} (tells : L → Meanings) (closed : L → Bool) (says : ℕ → ℕ → Bool → Type 0) (command : ServeCommand) (terms : List (Term (LinkReport L))) (old new : ServedSite (LinkReport L))
     → AreServedBy tells closed says command terms old new → (uid : ℕ) (journals : List Journal) → AreJournalsOf uid terms journals → AreSound journals
 logs_sound tells closed says command terms old new served uid journals zip =
     let all = logged command.manner tells closed says served.opened served.coming terms served.handed served.coming' (opened_roomy command.folder old.kept served.opened served.from) served.are uid journals zip in

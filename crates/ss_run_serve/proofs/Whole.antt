@@ -1,5 +1,6 @@
 -- What a server did, once all that it got was given back.
-use Rattle.std.specs.Prelude.{◌≡◌, ◌≢◌, ◌⊎◌, ◌≤◌, ℕ, Bool, List, [], ◌∷◌, length, map, Option, Some, All, Any, Contains, IfSome, refl}
+use Rattle.std.specs.Prelude.{◌≡◌, ◌≢◌, ◌⊎◌, ◌≤◌, ℕ, Bool, List, [], ◌∷◌, length, map, Option, Some, All, Any, Contains}
+use Rattle.std.specs.Prelude.{IfSome, refl}
 use Rattle.std.specs.List.Sorted.{IsPermutation}
 use Rattle.std.proofs.Common.{sym, ap, subst, ◌∙◌, inl, inr, arith}
 use Rattle.std.proofs.lemmas.List.Elements.{All-contains, All-cons, All-head, All-nil, All-tail, All-weaker}
@@ -9,7 +10,7 @@ use Rattle.ss_outside.specs.Causes.{Rose}
 use Rattle.ss_links.specs.Counts.{RoseBy}
 use Rattle.ss_links.specs.Stores.{Files}
 use Rattle.ss_bso.specs.declared.changes.Kept.{Kept}
-use Rattle.ss_account.specs.Keeping.{IsKept, IsKeptBy}
+use Rattle.ss_account.specs.Keeping.{IsKeptAccount, IsKeptBy}
 use Rattle.ss_account.specs.Opening.{IsFaultOf}
 use Rattle.ss_site.specs.Sites.{Counts, Entries, IsEntry, Term}
 use Rattle.ss_words.specs.declared.commands.ServeCommand.{ServeCommand}
@@ -17,13 +18,13 @@ use Rattle.ss_serve.specs.declared.report.LinkReport.{LinkReport}
 use Rattle.ss_run_serve.specs.declared.stop.Stop.{Stop}
 use Rattle.ss_run_serve.specs.declared.stop.Stop.TheVariants as stops
 use Rattle.ss_run_serve.specs.Hosted.{Hosted, IsBegun, Stands, left_by}
-use Rattle.ss_run_serve.specs.Opening.{AreAsBefore, CountsFaults, IsOpened, IsUnopened, RefusesOne}
+use Rattle.ss_run_serve.specs.Opening.{AreAsBefore, CountsFaults, OpensAccount, IsUnopened, RefusesOne}
 use Rattle.ss_run_serve.specs.Retiring.{uids_in, ComeBack, CountsKeepers, HaveRetired}
-use Rattle.ss_run_serve.specs.Terms.{links_of, short_of, AreTerms, AreTold, IsLeft, KeeperFailed}
+use Rattle.ss_run_serve.specs.Terms.{links_of, short_of, AreTerms, AreTold, IsOneLeft, KeeperFailed}
 use Rattle.ss_run_serve.specs.Once.{HasFailed}
 use Rattle.ss_run_serve.specs.Course.{CameTo, ServedUntil}
 use Rattle.ss_run_serve.specs.Logs.{AreLoggedAt, LogsFailed}
-use Rattle.ss_run_serve.specs.Serving.{AreServedBy, AreKept, HasStopped, IsServed, NoneServed, OthersStay, Sited}
+use Rattle.ss_run_serve.specs.Serving.{AreServedBy, AreKept, HasStopped, IsServed, NoneServed, OthersStay, ServedSite}
 use Rattle.ss_run_serve.proofs.Anew.{kept_same}
 use Rattle.ss_run_serve.proofs.Retired.{all_as_before}
 use Rattle.ss_run_serve.proofs.Progress.{all_of, any_of, told_none}
@@ -36,15 +37,15 @@ failed_now h stands (inl before) = λ none. before (omega (arith, stands.rose.la
 failed_now h stands (inr now) = now
 
 -- what the keeper of an account told is the account that its journal leaves
-kept_there : (h : Hosted) (kept : Kept) → Stands h → h.told ≡ Some kept → IsKept kept (left_by h)
+kept_there : (h : Hosted) (kept : Kept) → Stands h → h.told ≡ Some kept → IsKeptAccount kept (left_by h)
 kept_there h kept stands told =
-    let is : IsKept kept h.plain = (let P : Option Kept → Type 0 = λ (t : Option Kept). IsKeptBy t h.plain in subst P told stands.kept) in
+    let is : IsKeptAccount kept h.plain = (let P : Option Kept → Type 0 = λ (t : Option Kept). IsKeptBy t h.plain in subst P told stands.kept) in
     kept_same kept (left_by h) h.plain stands.leaves is
 
-pub opened_begun : (folder : List ℕ) (kept : Option Entries) (opened : List (ℕ × Hosted)) → All (IsOpened folder kept) opened → All (λ (a : ℕ × Hosted). IsBegun a.1) opened
+pub opened_begun : (folder : List ℕ) (kept : Option Entries) (opened : List (ℕ × Hosted)) → All (OpensAccount folder kept) opened → All (λ (a : ℕ × Hosted). IsBegun a.1) opened
 opened_begun folder kept [] all = All-nil (λ (a : ℕ × Hosted). IsBegun a.1)
 opened_begun folder kept (a ∷ opened) all =
-    All-cons (λ (a : ℕ × Hosted). IsBegun a.1) a opened (All-head (IsOpened folder kept) a opened all).begun (opened_begun folder kept opened (All-tail (IsOpened folder kept) a opened all))
+    All-cons (λ (a : ℕ × Hosted). IsBegun a.1) a opened (All-head (OpensAccount folder kept) a opened all).begun (opened_begun folder kept opened (All-tail (OpensAccount folder kept) a opened all))
 
 pub opened_uids : {B : Type 0} (view : B → Hosted) (uids : List ℕ) (xs : List (ℕ × B)) → map (λ (a : ℕ × B). a.0) xs ≡ uids → uids_in (map (λ (a : ℕ × B). (a.0, view a.1)) xs) ≡ uids
 opened_uids {B} view uids xs is = same xs ∙ is
@@ -59,7 +60,7 @@ refused_same kept old new folder folder' uids uids' stop one two refused =
 
 module _ {L : Type 0} (tells : L → Meanings) (closed : L → Bool) (says : ℕ → ℕ → Bool → Type 0) where
   -- an account wasn't opened
-  pub refused_all : (command : ServeCommand) (stop : Stop) (old new : Sited (LinkReport L)) → RefusesOne command.folder old.kept old.counts new.counts command.uids stop → AreAsBefore old.kept new.kept
+  pub refused_all : (command : ServeCommand) (stop : Stop) (old new : ServedSite (LinkReport L)) → RefusesOne command.folder old.kept old.counts new.counts command.uids stop → AreAsBefore old.kept new.kept
       → CountsFaults old.counts new.counts → new.terms ≡ old.terms → new.logs ≡ old.logs → IsServed tells closed says command stop old new
   refused_all command stop old new refused before counted same unlogged = record {
     terms = [];
@@ -91,7 +92,7 @@ module _ {L : Type 0} (tells : L → Meanings) (closed : L → Bool) (says : ℕ
       stopped (inr any) = why stop any.1 (any.0, any.2, any.3) any.4
 
   -- accounts were opened, served, and given back
-  pub served_all : (command : ServeCommand) (stop : Stop) (old mid new : Sited (LinkReport L)) (opened accounts : List (ℕ × Hosted)) → uids_in opened ≡ command.uids → All (IsOpened command.folder old.kept) opened
+  pub served_all : (command : ServeCommand) (stop : Stop) (old mid new : ServedSite (LinkReport L)) (opened accounts : List (ℕ × Hosted)) → uids_in opened ≡ command.uids → All (OpensAccount command.folder old.kept) opened
       → CameTo command.manner tells closed says opened command.workers command.connections command.terms old.terms mid.terms old.counts mid.counts accounts stop (λ told. AreLoggedAt command.logs stop told old.logs mid.logs)
       → LogsFailed old.counts mid.counts stop → mid.kept ≡ old.kept → new.terms ≡ mid.terms → new.logs ≡ mid.logs
       → HaveRetired command.folder accounts mid.kept new.kept → CountsKeepers accounts mid.counts new.counts → All (λ (a : ℕ × Hosted). Stands a.1) accounts → IsServed tells closed says command stop old new
@@ -123,19 +124,19 @@ module _ {L : Type 0} (tells : L → Meanings) (closed : L → Bool) (says : ℕ
       untouched is =
           let entries : All (λ (a : ℕ × Hosted). IsEntry command.folder a.0 a.1.told mid.kept) accounts = subst (λ (k : Option Entries). All (λ (a : ℕ × Hosted). IsEntry command.folder a.0 a.1.told k) accounts) (sym unchanged)
           (subst (λ (accs : List (ℕ × Hosted)). All (λ (a : ℕ × Hosted). IsEntry command.folder a.0 a.1.told old.kept) accs) (sym is)
-          (All-weaker (IsOpened command.folder old.kept) (λ (a : ℕ × Hosted). IsEntry command.folder a.0 a.1.told old.kept) (λ a o. o.entry) opened from)) in
+          (All-weaker (OpensAccount command.folder old.kept) (λ (a : ℕ × Hosted). IsEntry command.folder a.0 a.1.told old.kept) (λ a o. o.entry) opened from)) in
           subst (λ (k : Option Entries). AreAsBefore k new.kept) unchanged (all_as_before command.folder accounts mid.kept new.kept entries retired)
 
       no_links : came.terms ≡ [] → new.counts.links ≡ old.counts.links
       no_links none = (let rose : RoseBy 0 old.counts.links new.counts.links = subst (λ (ts : List (Term (LinkReport L))). RoseBy (links_of ts) old.counts.links new.counts.links) none links in omega (arith, rose.later, rose.most))
 
       kept_of : (before entries : Entries) → ComeBack command.folder accounts before entries → (uid : ℕ) → Contains (uids_in accounts) uid
-          → Any (λ (a : ℕ × Hosted). (a.0 ≡ uid) × IsKept (entries command.folder uid) (left_by a.1)) came.handed
+          → Any (λ (a : ℕ × Hosted). (a.0 ≡ uid) × IsKeptAccount (entries command.folder uid) (left_by a.1)) came.handed
       kept_of before entries back uid listed =
           let any = back.listed uid listed in
           let there : Contains accounts any.1 = (any.0, any.2, any.3) in
-          let left = All-contains (IsLeft came.handed) accounts any.1 came.left there in
-          let kept : IsKept (entries command.folder uid) (left_by any.1.1) = kept_there any.1.1 (entries command.folder uid) (All-contains (λ (a : ℕ × Hosted). Stands a.1) accounts any.1 stand there) any.4.1 in
+          let left = All-contains (IsOneLeft came.handed) accounts any.1 came.left there in
+          let kept : IsKeptAccount (entries command.folder uid) (left_by any.1.1) = kept_there any.1.1 (entries command.folder uid) (All-contains (λ (a : ℕ × Hosted). Stands a.1) accounts any.1 stand there) any.4.1 in
           (left.0, left.1, left.2, left.3, (left.4.0 ∙ any.4.0, kept_same (entries command.folder uid) (left_by left.1.1) (left_by any.1.1) left.4.1 kept))
 
       served : (((came.terms ≡ []) × (accounts ≡ opened)) ⊎ ((coming : List (Option (List ℕ))) × (coming' : List (Option (List ℕ))) × (length coming ≡ command.workers) × AreTerms command.manner tells closed says opened coming came.terms came.handed coming'))
@@ -179,7 +180,7 @@ module _ {L : Type 0} (tells : L → Meanings) (closed : L → Bool) (says : ℕ
       stopped stops.Logs why lost = rose lost
 
   -- the same by what the site told once the accounts were opened
-  pub served_open : (command : ServeCommand) (stop : Stop) (old first mid new : Sited (LinkReport L)) (opened accounts : List (ℕ × Hosted)) → uids_in opened ≡ command.uids → All (IsOpened command.folder old.kept) opened
+  pub served_open : (command : ServeCommand) (stop : Stop) (old first mid new : ServedSite (LinkReport L)) (opened accounts : List (ℕ × Hosted)) → uids_in opened ≡ command.uids → All (OpensAccount command.folder old.kept) opened
       → first.counts ≡ old.counts → first.kept ≡ old.kept → first.terms ≡ old.terms → first.logs ≡ old.logs
       → CameTo command.manner tells closed says opened command.workers command.connections command.terms first.terms mid.terms first.counts mid.counts accounts stop (λ told. AreLoggedAt command.logs stop told first.logs mid.logs)
       → LogsFailed first.counts mid.counts stop → mid.kept ≡ first.kept → new.terms ≡ mid.terms → new.logs ≡ mid.logs

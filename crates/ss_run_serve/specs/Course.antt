@@ -15,7 +15,7 @@ use Rattle.ss_run_serve.specs.declared.stop.Stop.TheVariants as stops
 use Rattle.ss_run_serve.specs.Hosted.{Hosted, left_by}
 use Rattle.ss_run_serve.specs.Opening.{CountsFaults}
 use Rattle.ss_run_serve.specs.Retiring.{uids_in}
-use Rattle.ss_run_serve.specs.Terms.{links_of, short_of, AreTerms, AreTold, IsLeft, KeeperFailed}
+use Rattle.ss_run_serve.specs.Terms.{links_of, short_of, AreTerms, AreTold, IsOneLeft, KeeperFailed}
 use Rattle.ss_run_serve.specs.Once.{HasFailed}
 use Rattle.ss_run_serve.specs.Logs.{logs_of, AreLogged}
 
@@ -67,7 +67,7 @@ module _ {L : Type 0} where
       pub within : AreWithin connections asked terms
       pub links : RoseBy (links_of terms) 0 port.links
       pub back : IsPermutation (uids_in opened) (uids_in handed)
-      pub left : All (IsLeft handed) accounts
+      pub left : All (IsOneLeft handed) accounts
       pub failed : KeeperFailed terms → Any HasFailed accounts
       pub uids : IsPermutation (uids_in opened) (uids_in accounts)
       pub counts : CountsFaults old new
@@ -107,7 +107,7 @@ module _ {L : Type 0} where
       pub within : AreWithin connections asked terms
       pub links : RoseBy (links_of terms) old.links new.links
       pub back : IsPermutation (uids_in opened) (uids_in handed)
-      pub left : All (IsLeft handed) accounts
+      pub left : All (IsOneLeft handed) accounts
       pub failed : KeeperFailed terms → Any HasFailed accounts
       pub uids : IsPermutation (uids_in opened) (uids_in accounts)
       pub faults : old.faults ≤ new.faults

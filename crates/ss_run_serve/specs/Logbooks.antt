@@ -41,6 +41,6 @@ AreLeft false old new = new ≡ old
 AreLeft true old new = Unit {0}
 
 -- what a site counts and tells once a book was closed, of these files, whose store failed so often
-abbrev pub IsClosed : Bool → Option Files → ℕ → Counts → Counts → Option Files → Option Files → Lent → Lent → Type 0
-IsClosed false files faults counts counts' logs logs' lent lent' = (counts' ≡ counts) × (logs' ≡ logs) × (lent' ≡ lent)
-IsClosed true files faults counts counts' logs logs' lent lent' = CountsStore faults counts counts' × (logs' ≡ files) × IsBack lent lent'
+abbrev pub ClosesBook : Bool → Option Files → ℕ → Counts → Counts → Option Files → Option Files → Lent → Lent → Type 0
+ClosesBook false files faults counts counts' logs logs' lent lent' = (counts' ≡ counts) × (logs' ≡ logs) × (lent' ≡ lent)
+ClosesBook true files faults counts counts' logs logs' lent lent' = CountsStore faults counts counts' × (logs' ≡ files) × IsBack lent lent'

@@ -1,9 +1,10 @@
 -- The logs that a server saves of its terms.
-use Rattle.std.specs.Prelude.{◌≡◌, ◌≢◌, ℕ, List, [], ◌∷◌, ◌++◌, length, Option, Some, None, nat_le, codes, decimal, bytes_eq, if◌then◌else◌, ⊤}
+use Rattle.std.specs.Prelude.{◌≡◌, ◌≢◌, ℕ, List, [], ◌∷◌, ◌++◌, length, Option, Some, None, nat_le, codes, decimal}
+use Rattle.std.specs.Prelude.{bytes_eq, if◌then◌else◌, ⊤}
 use Rattle.std.specs.Option.{option_or}
 use Rattle.std.specs.List.{flat_map}
 use Rattle.ss_outside.specs.Causes.{Rose}
-use Rattle.ss_outside.specs.Plans.{raised}
+use Rattle.ss_outside.specs.Plans.{raised_count}
 use Rattle.ss_laws.specs.Journal.{Journal}
 use Rattle.ss_links.specs.Stores.{Files}
 use Rattle.ss_logs.specs.Logs.{log_text}
@@ -35,7 +36,7 @@ logs_of_term number journals = flat_map (saved_of number) journals
 -- the same of terms one after the other, the first of this number; a number that stands at the greatest u64 stays there
 abbrev pub logs_of : {R : Type 0} → ℕ → List (Term R) → List Named
 logs_of number [] = []
-logs_of number (term ∷ terms) = logs_of_term number term.journals ++ logs_of (raised number) terms
+logs_of number (term ∷ terms) = logs_of_term number term.journals ++ logs_of (raised_count number) terms
 
 -- the bytes of the last log with this name
 abbrev pub last_named : List ℕ → List Named → Option (List ℕ)

@@ -17,7 +17,7 @@ use Rattle.ss_run_serve.specs.declared.stop.Stop.{Stop}
 use Rattle.ss_run_serve.specs.declared.stop.Stop.TheVariants as stops
 use Rattle.ss_run_serve.specs.Hosted.{Hosted, journal_in}
 use Rattle.ss_run_serve.specs.Retiring.{uids_in}
-use Rattle.ss_run_serve.specs.Terms.{IsLeft}
+use Rattle.ss_run_serve.specs.Terms.{IsOneLeft}
 use Rattle.ss_run_serve.specs.Logs.{logs_of_term, AreLoggedOnce}
 
 -- a site that isn't told a term failed and counts that, or no memory was found
@@ -63,7 +63,7 @@ module _ {L : Type 0} where
     pub untold : terms' ≡ terms
     pub unlogged : logs' ≡ logs
     pub links : port'.links ≡ port.links
-    pub left : All (IsLeft given) handed
+    pub left : All (IsOneLeft given) handed
     pub uids : IsPermutation (uids_in given) (uids_in handed)
     pub failed : Any HasFailed given → Any HasFailed handed
 

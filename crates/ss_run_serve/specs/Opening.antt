@@ -14,7 +14,7 @@ use Rattle.ss_run_serve.specs.Hosted.{Hosted, IsBegun}
 
 -- an account that was opened under its uid from its entry, where the entries are told, with room for as many entries as a journal
 -- may have, over a keeper that tells the entry of the site and has not failed
-pub record IsOpened (folder : List ℕ) (kept : Option Entries) (account : ℕ × Hosted) : Type 0 where
+pub record OpensAccount (folder : List ℕ) (kept : Option Entries) (account : ℕ × Hosted) : Type 0 where
   pub own : account.1.fixed.uid ≡ account.0
   pub opening : (entries : Entries) → kept ≡ Some entries → SameAccount (opened (entries folder account.0)) account.1.fixed.opening
   pub entry : IsEntry folder account.0 account.1.told kept

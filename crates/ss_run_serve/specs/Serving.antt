@@ -5,7 +5,7 @@ use Rattle.ss_outside.specs.Told.{Meanings}
 use Rattle.ss_outside.specs.Causes.{Rose}
 use Rattle.ss_links.specs.Counts.{RoseBy}
 use Rattle.ss_links.specs.Stores.{Files}
-use Rattle.ss_account.specs.Keeping.{IsKept}
+use Rattle.ss_account.specs.Keeping.{IsKeptAccount}
 use Rattle.ss_account.specs.Opening.{IsFaultOf}
 use Rattle.ss_site.specs.Sites.{Counts, Entries, Term}
 use Rattle.ss_words.specs.declared.commands.ServeCommand.{ServeCommand}
@@ -17,14 +17,14 @@ use Rattle.ss_run_serve.specs.declared.stop.Stop.{Stop}
 use Rattle.ss_run_serve.specs.declared.stop.Stop.TheVariants as stops
 use Rattle.ss_run_serve.specs.Statuses.{status_of}
 use Rattle.ss_run_serve.specs.Hosted.{Hosted, left_by}
-use Rattle.ss_run_serve.specs.Opening.{AreAsBefore, IsBad, IsOpened, IsUnopened}
+use Rattle.ss_run_serve.specs.Opening.{AreAsBefore, IsBad, OpensAccount, IsUnopened}
 use Rattle.ss_run_serve.specs.Retiring.{uids_in}
 use Rattle.ss_run_serve.specs.Terms.{links_of, AreTerms, AreTold, KeeperFailed}
 use Rattle.ss_run_serve.specs.Course.{AreWithin, IsServedOut, IsToldOf}
 use Rattle.ss_run_serve.specs.Logs.{AreLoggedAt}
 
 -- what a site counts, the terms that it tells, the entries that it tells, and the logs
-pub record Sited (R : Type 0) : Type 0 where
+pub record ServedSite (R : Type 0) : Type 0 where
   pub counts : Counts
   pub terms : Option (List (Term R))
   pub kept : Option Entries
@@ -38,17 +38,17 @@ OthersStay folder uids old new =
 -- where the entries are told, what is kept under each of these uids is the account that the journal of its account leaves
 abbrev pub AreKept : List ℕ → List ℕ → List (ℕ × Hosted) → Option Entries → Type 0
 AreKept folder uids accounts kept =
-    (entries : Entries) → kept ≡ Some entries → (uid : ℕ) → Contains uids uid → Any (λ account. (account.0 ≡ uid) × IsKept (entries folder uid) (left_by account.1)) accounts
+    (entries : Entries) → kept ≡ Some entries → (uid : ℕ) → Contains uids uid → Any (λ account. (account.0 ≡ uid) × IsKeptAccount (entries folder uid) (left_by account.1)) accounts
 
 module _ {L : Type 0} where
   -- no account was served: there are no terms and no links, and what is kept is as it was
-  pub record NoneServed (terms : List (Term (LinkReport L))) (old new : Sited (LinkReport L)) : Type 0 where
+  pub record NoneServed (terms : List (Term (LinkReport L))) (old new : ServedSite (LinkReport L)) : Type 0 where
     pub none : terms ≡ []
     pub links : new.counts.links ≡ old.counts.links
     pub kept : AreAsBefore old.kept new.kept
 
   -- Why a server stopped. Want of memory has no cause here
-  abbrev pub HasStopped : ServeCommand → List (Term (LinkReport L)) → Sited (LinkReport L) → Sited (LinkReport L) → Stop → Type 0
+  abbrev pub HasStopped : ServeCommand → List (Term (LinkReport L)) → ServedSite (LinkReport L) → ServedSite (LinkReport L) → Stop → Type 0
   HasStopped command terms old new stops.PortEnded = Rose old.counts.ends new.counts.ends × (terms ≢ [])
   HasStopped command terms old new stops.Terms = IsServedOut command.connections command.terms terms old.counts new.counts
   HasStopped command terms old new stops.Port = Rose old.counts.faults new.counts.faults × (terms ≢ [])
@@ -63,10 +63,10 @@ module _ {L : Type 0} where
     -- the listed accounts were opened from their entries, with one clock for each worker, and then served by these terms, in the
     -- command's manner of reading conditions, no more than were asked, each of at most so many connections. There are as many reports as the port gave links, and what is kept of each
     -- listed account is what the last term left of it
-    pub record AreServedBy (command : ServeCommand) (terms : List (Term (LinkReport L))) (old new : Sited (LinkReport L)) : Type 0 where
+    pub record AreServedBy (command : ServeCommand) (terms : List (Term (LinkReport L))) (old new : ServedSite (LinkReport L)) : Type 0 where
       pub opened : List (ℕ × Hosted)
       pub uids : uids_in opened ≡ command.uids
-      pub from : All (IsOpened command.folder old.kept) opened
+      pub from : All (OpensAccount command.folder old.kept) opened
       pub coming : List (Option (List ℕ))
       pub workers : length coming ≡ command.workers
       pub handed : List (ℕ × Hosted)
@@ -78,7 +78,7 @@ module _ {L : Type 0} where
       pub kept : AreKept command.folder command.uids handed new.kept
 
     -- What a server did that stopped so, by what its site tells before and after
-    pub record IsServed (command : ServeCommand) (stop : Stop) (old new : Sited (LinkReport L)) : Type 0 where
+    pub record IsServed (command : ServeCommand) (stop : Stop) (old new : ServedSite (LinkReport L)) : Type 0 where
       -- the terms that it served, and those of them that the site was told: all, or after a fault of the site or for want of memory
       -- perhaps all but the last
       pub terms : List (Term (LinkReport L))
@@ -97,7 +97,7 @@ module _ {L : Type 0} where
 
     -- The words ask for a server, and it was one; or they ask none, and nothing was done. The same with 8, where no memory was found
     -- to read them
-    pub data Runs (words : List (List ℕ)) (status : ℕ) (old new : Sited (LinkReport L)) : Type 0 where
+    pub data Runs (words : List (List ℕ)) (status : ℕ) (old new : ServedSite (LinkReport L)) : Type 0 where
       serves : (command : ServeCommand) (stop : Stop) → Asks words (Serve command) → status ≡ status_of stop → IsServed command stop old new → Runs words status old new
       asks_nothing : ((command : ServeCommand) → Asks words (Serve command) → ⊥) → status ≡ 1 → new ≡ old → Runs words status old new
       out_of_memory : status ≡ 8 → new ≡ old → Runs words status old new

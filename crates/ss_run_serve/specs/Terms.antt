@@ -1,5 +1,6 @@
 -- The terms of a server, one after the other.
-use Rattle.std.specs.Prelude.{◌≡◌, ◌≢◌, ℕ, ◌+◌, nat_lt, if◌then◌else◌, Bool, List, [], ◌∷◌, ◌++◌, length, map, sum_by, Option, All, Any}
+use Rattle.std.specs.Prelude.{◌≡◌, ◌≢◌, ℕ, ◌+◌, nat_lt, if◌then◌else◌, Bool, List, [], ◌∷◌, ◌++◌, length, map, sum_by}
+use Rattle.std.specs.Prelude.{Option, All, Any}
 use Rattle.std.specs.Option.{option_map}
 use Rattle.std.specs.List.{AllZip}
 use Rattle.ss_outside.specs.Told.{Meanings}
@@ -14,8 +15,8 @@ use Rattle.ss_run_serve.specs.Hosted.{Hosted, IsBegun, journal_in, left_by}
 
 -- the account is one of those that were left: it has the uid of one, and is that account, whatever the order of its rows, collections
 -- and batches
-abbrev pub IsLeft : List (ℕ × Hosted) → ℕ × Hosted → Type 0
-IsLeft left account = Any (λ other. (other.0 ≡ account.0) × SameAccount (left_by other.1) (left_by account.1)) left
+abbrev pub IsOneLeft : List (ℕ × Hosted) → ℕ × Hosted → Type 0
+IsOneLeft left account = Any (λ other. (other.0 ≡ account.0) × SameAccount (left_by other.1) (left_by account.1)) left
 
 -- the account with this uid begins anew from where it was left: it is the one that it was, and opens with the account that its
 -- journal leaves, whatever the order of its rows, collections and batches, with the room that its journal had, over a keeper that

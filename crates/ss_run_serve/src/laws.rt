@@ -7,7 +7,7 @@ ghost use Rattle.ss_words.specs.declared.commands.ServeCommand.{ServeCommand};
 ghost use Rattle.ss_serve.specs.declared.report.LinkReport.{LinkReport};
 ghost use Rattle.ss_audit.specs.Sound.{AreSound};
 ghost use Rattle.ss_run_serve.specs.Logged.{AreJournalsOf};
-ghost use Rattle.ss_run_serve.specs.Serving.{AreServedBy, Sited};
+ghost use Rattle.ss_run_serve.specs.Serving.{AreServedBy, ServedSite};
 
 use ss_links::{Closable, Gate};
 
@@ -15,7 +15,7 @@ use ss_links::{Closable, Gate};
 /// account, term by term, are a history of which `audit` says yes.
 pub fn logs_of_a_server_are_sound<L: Closable, G: Gate>()
     ensures { (gate : G) (command : ServeCommand) (terms : List (Term (LinkReport L)))
-        (old new : Sited (LinkReport L))
+        (old new : ServedSite (LinkReport L))
         → AreServedBy L.Told.told L.closed (G.says gate) command terms old new
         → (uid : ℕ) (journals : List Journal) → AreJournalsOf uid terms journals → AreSound journals }
 {}

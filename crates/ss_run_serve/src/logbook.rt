@@ -1,13 +1,14 @@
 //! The book of a server's logs: what is saved of each term.
 
 ghost use Rattle.std.specs.Prelude.{◌≡◌, ◌∷◌, [], ℕ, map, is_some, string_bytes, IfOk, IfErr, OnOk, OnErr};
-ghost use Rattle.ss_outside.specs.Plans.{raised};
+ghost use Rattle.ss_outside.specs.Plans.{raised_count};
 ghost use Rattle.ss_laws.specs.Journal.{Journal as JournalView};
 ghost use Rattle.ss_booked.specs.Booked.{journal_of};
 ghost use Rattle.ss_site.specs.Sites.{Counts};
 ghost use Rattle.ss_run_serve.specs.Logs.{log_name, saved_of, logs_of_term, AreSaved, ArePartlySaved, IsCut};
 ghost use Rattle.ss_run_serve.specs.Once.{IsUntold};
-ghost use Rattle.ss_run_serve.specs.Logbooks.{number_in, is_kept, files_in, failures_in, IsBookOf, IsLentFor, AreLeft, IsClosed};
+ghost use Rattle.ss_run_serve.specs.Logbooks.{number_in, is_kept, files_in, failures_in, IsBookOf, IsLentFor, AreLeft};
+ghost use Rattle.ss_run_serve.specs.Logbooks.{ClosesBook};
 
 use crate::lines;
 use crate::stop::Stop;
@@ -127,7 +128,7 @@ impl<S: Store> Logbook<S> {
             × JournalView} (λ account. (account.0, journal_of account.1)) accounts.now)) (files_in S.held self.old)
             (files_in S.held self.new)) }
         ensures cause { IfErr result (λ stop. IsCut (failures_in S.store_faults self.new) stop) }
-        ensures number { OnOk result (number_in self.new ≡ raised (number_in self.old)) }
+        ensures number { OnOk result (number_in self.new ≡ raised_count (number_in self.old)) }
         ensures same { is_kept self.new ≡ is_kept self.old }
     {
         if self.store.is_some() {
@@ -176,7 +177,7 @@ pub(crate) fn open_book<X: Site>(
 
 /// Gives the store of a book back to its site.
 pub(crate) fn close_book<X: Site>(site: &mut X, book: Logbook<X::Log>)
-    ensures closed { IsClosed (is_kept book) (files_in X.Log.held book) (failures_in X.Log.store_faults book)
+    ensures closed { ClosesBook (is_kept book) (files_in X.Log.held book) (failures_in X.Log.store_faults book)
         (X.counts site.old) (X.counts site.new) (X.logs site.old) (X.logs site.new) (X.lent site.old) (X.lent site.new) }
     ensures terms { X.terms site.new ≡ X.terms site.old }
     ensures kept { X.kept site.new ≡ X.kept site.old }

@@ -1,6 +1,7 @@
 //! The accounts of a server: how they are opened from its site.
 
-ghost use Rattle.std.specs.Prelude.{◌≡◌, ◌≤◌, ℕ, [], map, length, vec_len, vec_capacity, All, Contains, Some, IfOk, IfErr, IfSome, OnOk, OnErr};
+ghost use Rattle.std.specs.Prelude.{◌≡◌, ◌≤◌, ℕ, [], map, length, vec_len, vec_capacity, All, Contains, Some, IfOk};
+ghost use Rattle.std.specs.Prelude.{IfErr, IfSome, OnOk, OnErr};
 ghost use Rattle.ss_outside.specs.Causes.{Rose};
 ghost use Rattle.ss_bso.specs.Changes.{opened};
 ghost use Rattle.ss_bso.specs.Validity.{SameAccount};
@@ -9,7 +10,7 @@ ghost use Rattle.ss_booked.specs.Sizes.{most_entries};
 ghost use Rattle.ss_site.specs.Sites.{Counts, Entries, IsBack, IsEntry};
 ghost use Rattle.ss_run_serve.specs.Hosted.{hosted, hosted_at, IsBegun};
 ghost use Rattle.ss_run_serve.specs.Lending.{AllAreBack, AreOut};
-ghost use Rattle.ss_run_serve.specs.Opening.{IsOpened, IsUnopened, RefusesOne, CountsFaults, AreAsBefore, stop_at};
+ghost use Rattle.ss_run_serve.specs.Opening.{OpensAccount, IsUnopened, RefusesOne, CountsFaults, AreAsBefore, stop_at};
 
 use crate::retiring::retire_all;
 use crate::stop::Stop;
@@ -103,7 +104,7 @@ fn open_account<X: Site>(
     folder: &str,
     uid: u32,
 ) -> Result<Booked<X::Keeper>, Stop>
-    ensures opened { IfOk result (λ b. IsOpened folder.now (X.kept site.old)
+    ensures opened { IfOk result (λ b. OpensAccount folder.now (X.kept site.old)
         (uid, hosted X.Keeper.told X.Keeper.keep_faults b)) }
     ensures unchanged { OnOk result ((X.counts site.new ≡ X.counts site.old) × (X.kept site.new ≡ X.kept site.old)) }
     ensures refused { IfErr result (IsUnopened folder.now (X.kept site.old) (X.counts site.old) (X.counts site.new)
@@ -135,7 +136,7 @@ pub(crate) fn open_accounts<X: Site>(
     uids: &[u32],
 ) -> Result<Vec<(u32, Booked<X::Keeper>)>, Stop>
     ensures uids { IfOk result (λ accounts. map (λ account. account.0) accounts.items ≡ uids.now) }
-    ensures opened { IfOk result (λ accounts. All (IsOpened folder.now (X.kept site.old))
+    ensures opened { IfOk result (λ accounts. All (OpensAccount folder.now (X.kept site.old))
         (map (hosted_at X.Keeper.told X.Keeper.keep_faults) accounts.items)) }
     ensures unchanged { OnOk result ((X.counts site.new ≡ X.counts site.old) × (X.kept site.new ≡ X.kept site.old)) }
     ensures refused { IfErr result (λ stop. RefusesOne folder.now (X.kept site.old) (X.counts site.old)

@@ -6,7 +6,7 @@ ghost use Rattle.ss_booked.specs.Booked.{journal_of};
 ghost use Rattle.ss_links.specs.Ports.{Accepts};
 ghost use Rattle.ss_town.specs.Opening.{AreBare};
 ghost use Rattle.ss_site.specs.Sites.{HasAdded};
-ghost use Rattle.ss_outside.specs.Plans.{raised};
+ghost use Rattle.ss_outside.specs.Plans.{raised_count};
 ghost use Rattle.ss_run_serve.specs.Logs.{HasCut};
 ghost use Rattle.ss_run_serve.specs.Logbooks.{number_in, is_kept, files_in, failures_in};
 ghost use Rattle.ss_run_serve.specs.Watched.{port_in};
@@ -130,7 +130,7 @@ where
         (map (hosted_at X.Keeper.told X.Keeper.keep_faults) result.0.accounts.items) (map X.Clock.coming crew.clocks.items) (map X.Clock.coming result.0.clocks.items)
         (X.terms site.old) (X.terms site.new) (X.counts site.old) (X.counts site.new) connections (X.Port.counts (port_in port.old)) (X.Port.counts (port_in port.new)) result.1
         (number_in book.old) (files_in X.Log.held book.old) (files_in X.Log.held book.new) }
-    ensures number { IfNone result.1 (number_in book.new ≡ raised (number_in book.old)) }
+    ensures number { IfNone result.1 (number_in book.new ≡ raised_count (number_in book.old)) }
     ensures cut { IfSome result.1 (HasCut (failures_in X.Log.store_faults book.new)) }
     ensures same { is_kept book.new ≡ is_kept book.old }
     ensures kept { X.kept site.new ≡ X.kept site.old }

@@ -5,7 +5,7 @@ use Rattle.std.proofs.lemmas.List.{map-append}
 use Rattle.ss_links.specs.Dials.{Address, IsBehind, HasAsked}
 use Rattle.ss_links.specs.declared.dial.DialFault.{DialFault}
 use Rattle.ss_links.specs.declared.dial.DialFault.TheVariants.{Fault, Memory}
-use Rattle.ss_run_sync.specs.Links.{Used, Dials, missed, came_of}
+use Rattle.ss_run_sync.specs.Links.{Used, Dials, missed_address, came_of}
 
 pub dials_none : (address : Address) (a b : Option (List Address)) → b ≡ a → Dials address [] [] a b
 dials_none address a b e = λ y told. (y, sym e ∙ told, sym (append-nil y))
@@ -15,13 +15,13 @@ pub dials_one : (address : Address) (used : Used) (a b c : Option (List Address)
 dials_one address used a b c h same = λ y told. h y (sym same ∙ told)
 
 -- no link
-dials_missed : (L : Type 0) (address : Address) (fault : DialFault) (a b : Option (List Address)) → HasAsked {L = L} address (Err fault) a b → Dials address [] (missed address None (came_of fault)) a b
+dials_missed : (L : Type 0) (address : Address) (fault : DialFault) (a b : Option (List Address)) → HasAsked {L = L} address (Err fault) a b → Dials address [] (missed_address address None (came_of fault)) a b
 dials_missed L address Fault a b h = h
 dials_missed L address Memory a b h = dials_none address a b h
 
 -- the same, where it was dialled under another name of the same host
 pub dials_failed : (L : Type 0) (host named : List ℕ) (port : ℕ) (fault : DialFault) (a b : Option (List Address)) → named ≡ host
-    → HasAsked {L = L} (record { host = named; port = port }) (Err fault) a b → Dials (record { host = host; port = port }) [] (missed (record { host = host; port = port }) None (came_of fault)) a b
+    → HasAsked {L = L} (record { host = named; port = port }) (Err fault) a b → Dials (record { host = host; port = port }) [] (missed_address (record { host = host; port = port }) None (came_of fault)) a b
 dials_failed L host named port fault a b e h =
     dials_missed L (record { host = host; port = port }) fault a b (subst (λ x. HasAsked {L = L} (record { host = x; port = port }) (Err fault) a b) e h)
 

@@ -19,11 +19,13 @@ use Rattle.ss_run_sync.specs.declared.reports.Trouble.{Trouble}
 use Rattle.ss_run_sync.specs.declared.reports.Trouble.TheVariants as trouble
 use Rattle.ss_run_sync.specs.declared.reports.Report.{Report}
 use Rattle.ss_run_sync.specs.declared.reports.Report.TheVariants.{Line, Short}
-use Rattle.ss_run_sync.specs.Endings.{Ending, Synced, Stopped, Failed, status_of, status_of_stop, status_of_size, too_large, line_of, status_told, line_told, Tells, Reports, Prints}
+use Rattle.ss_run_sync.specs.Endings.{Ending, Synced, Stopped, Failed, status_of, status_of_stop, status_of_size}
+use Rattle.ss_run_sync.specs.Endings.{too_large, line_of, status_told, line_told, Tells, Reports, Prints}
 use Rattle.ss_run_sync.specs.Naming.{host_named}
 use Rattle.ss_links.specs.Dials.{Address}
 use Rattle.ss_run_sync.specs.Links.{IsRun}
-use Rattle.ss_run_sync.specs.Syncs.{Outside, Starts, Loads, Saves, IsKept, Closes, Syncs, Went, undialled, dialled, account_of, address_of, machine_of, fetch_of}
+use Rattle.ss_run_sync.specs.Syncs.{Outside, Starts, Loads, Saves, KeepsFiles, Closes, Syncs, Went, undialled, dialled}
+use Rattle.ss_run_sync.specs.Syncs.{account_of, address_of, machine_of, fetch_of}
 use Rattle.ss_run_sync.specs.Runs.{Runs, Causes, syncs, asks_nothing, out_of_memory}
 
 -- what is told of an ending is printed
@@ -74,14 +76,14 @@ went_done command d summary (Short trouble.Memory) old new held faults r h f s =
 went_done command d summary (Short trouble.Wire) old new held faults r h f s = absurd s
 went_done command d summary (Short trouble.Device) old new held faults r h f s = absurd s
 
-pub went_stopped : (command : SyncCommand) (f : SyncFault) (report : Report) (old new : Outside) → Ran command (came.Stop f) old new → IsKept old new → Reports f report → Went command report old new
+pub went_stopped : (command : SyncCommand) (f : SyncFault) (report : Report) (old new : Outside) → Ran command (came.Stop f) old new → KeepsFiles old new → Reports f report → Went command report old new
 went_stopped command f (Line status line) old new r k s = went command (came.Stop f) (Stopped f) (Line status line) old new r (s.0, s.1) (refl, k)
 went_stopped command f (Short what) old new r k s = went command (came.Stop f) (Failed trouble.Memory) (Short what) old new r (ap Failed (sym s)) k
 
-pub went_wire : (command : SyncCommand) (old new : Outside) → Ran command came.Wire old new → IsKept old new → Went command (Short trouble.Wire) old new
+pub went_wire : (command : SyncCommand) (old new : Outside) → Ran command came.Wire old new → KeepsFiles old new → Went command (Short trouble.Wire) old new
 went_wire command old new r k = went command came.Wire (Failed trouble.Wire) (Short trouble.Wire) old new r refl k
 
-pub went_memory : (command : SyncCommand) (old new : Outside) → Ran command came.Memory old new → IsKept old new → Went command (Short trouble.Memory) old new
+pub went_memory : (command : SyncCommand) (old new : Outside) → Ran command came.Memory old new → KeepsFiles old new → Went command (Short trouble.Memory) old new
 went_memory command old new r k = went command came.Memory (Failed trouble.Memory) (Short trouble.Memory) old new r refl k
 
 -- ---- files that are kept, and counts that rose

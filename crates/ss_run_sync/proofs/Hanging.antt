@@ -1,21 +1,22 @@
 -- Links that were hung up, and what is told and counted of them.
-use Rattle.std.proofs.Common.{◌≡◌, ◌≢◌, ℕ, ◌≤◌, List, [], ◌∷◌, ◌++◌, map, Option, Some, None, unwrap_or, refl, sym, ap, ◌∙◌, subst, append_assoc, inl, inr, arith}
+use Rattle.std.proofs.Common.{◌≡◌, ◌≢◌, ℕ, ◌≤◌, List, [], ◌∷◌, ◌++◌, map, Option, Some, None, unwrap_or, refl, sym, ap}
+use Rattle.std.proofs.Common.{◌∙◌, subst, append_assoc, inl, inr, arith}
 use Rattle.std.proofs.lemmas.List.{append-nil}
 use Rattle.std.proofs.lemmas.List.{map-append}
 use Rattle.ss_outside.specs.Told.{Meanings, Takes, Writes}
 use Rattle.ss_outside.specs.Causes.{Rose}
 use Rattle.ss_links.specs.Links.{AreNone, IsUnused}
-use Rattle.ss_links.specs.Dials.{Hung, Tells, HasHung, HangUpCounts}
+use Rattle.ss_links.specs.Dials.{HungLink, Tells, HasHung, HangUpCounts}
 use Rattle.ss_device.specs.Device.{DeviceView}
 use Rattle.ss_run_sync.specs.Moves.{Moves, IsUnfaulted, Fails}
 use Rattle.ss_run_sync.specs.Course.{Account}
-use Rattle.ss_run_sync.specs.Talks.{Talked, taken_of, written_of}
+use Rattle.ss_run_sync.specs.Talks.{TalkView, taken_of, written_of}
 use Rattle.ss_run_sync.specs.Links.{Used, hung_of, Hangs}
 
-pub hangs_none : (account : Account) (d : DeviceView) (a b : Option (List Hung)) → b ≡ a → Hangs account d [] a b
+pub hangs_none : (account : Account) (d : DeviceView) (a b : Option (List HungLink)) → b ≡ a → Hangs account d [] a b
 hangs_none account d a b e = λ y told. (y, sym e ∙ told, sym (append-nil y))
 
-pub hangs_then : (account : Account) (d : DeviceView) (ks ls : List Used) (a b c : Option (List Hung)) → Hangs account d ks a b → Hangs account d ls b c → Hangs account d (ks ++ ls) a c
+pub hangs_then : (account : Account) (d : DeviceView) (ks ls : List Used) (a b c : Option (List HungLink)) → Hangs account d ks a b → Hangs account d ls b c → Hangs account d (ks ++ ls) a c
 hangs_then account d ks ls a b c f g = λ y told.
     let n = g y told in
     let m = f n.0 n.1 in (
@@ -44,7 +45,7 @@ written_is sent old new all w n e =
 left_is : (o : Option (List ℕ)) (left : List ℕ) → o ≡ Some left → left ≡ unwrap_or o []
 left_is o left e = sym (ap (λ p. unwrap_or p []) e)
 
-hung_is : (account : Account) (d : DeviceView) (t : Talked) (link link' : Meanings) (hung : Hung) → IsUnused link → Moves (taken_of t) (written_of account d t) link link' → Tells link' hung
+hung_is : (account : Account) (d : DeviceView) (t : TalkView) (link link' : Meanings) (hung : HungLink) → IsUnused link → Moves (taken_of t) (written_of account d t) link link' → Tells link' hung
     → hung ≡ hung_of account d (record { talked = t; tells = link' })
 hung_is account d t link link' hung u m h =
     let p = taken_is (taken_of t) link.taken link'.taken hung.taken m.taken u.taken h.taken in
@@ -52,11 +53,11 @@ hung_is account d t link link' hung u m h =
     let r = written_is (written_of account d t) link.written link'.written hung.written m.written u.written h.written in
     λ i. record { taken = p i; left = q i; written = r i }
 
-pub hangs_one : (account : Account) (d : DeviceView) (t : Talked) (link link' : Meanings) (a b : Option (List Hung)) → IsUnused link → Moves (taken_of t) (written_of account d t) link link' → HasHung link' a b
+pub hangs_one : (account : Account) (d : DeviceView) (t : TalkView) (link link' : Meanings) (a b : Option (List HungLink)) → IsUnused link → Moves (taken_of t) (written_of account d t) link link' → HasHung link' a b
     → Hangs account d (record { talked = t; tells = link' } ∷ []) a b
 hangs_one account d t link link' a b u m hh = λ y told.
     let h = hh y told in
-    (h.0, h.2, h.4 ∙ ap (λ (z : Hung). h.0 ++ z ∷ []) (hung_is account d t link link' h.1 u m h.3))
+    (h.0, h.2, h.4 ∙ ap (λ (z : HungLink). h.0 ++ z ∷ []) (hung_is account d t link link' h.1 u m h.3))
 
 -- ---- counts
 

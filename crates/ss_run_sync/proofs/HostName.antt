@@ -1,5 +1,6 @@
 -- The host that requests name is one.
-use Rattle.std.proofs.Common.{◌≡◌, ℕ, ◌<◌, ◌≤◌, List, ◌++◌, length, Bool, true, false, cond, ◌&&◌, ◌==◌, codes, decimal, slice_index_or, length-append, refl, ap₂, append_assoc, ◌∙◌, arith, lit<}
+use Rattle.std.proofs.Common.{◌≡◌, ℕ, ◌<◌, ◌≤◌, List, ◌++◌, length, Bool, true, false, cond, ◌&&◌, ◌==◌, codes, decimal}
+use Rattle.std.proofs.Common.{slice_index_or, length-append, refl, ap₂, append_assoc, ◌∙◌, arith, lit<}
 use Rattle.std.specs.List.{list_all}
 use Rattle.std.specs.Char.{is_ascii_digit}
 use Rattle.std.proofs.lemmas.Bool.Decides.{nat_tests}

@@ -1,12 +1,13 @@
 -- What went over the links of a run, joined in order.
-use Rattle.std.proofs.Common.{◌≡◌, ℕ, List, [], ◌∷◌, ◌++◌, map, Option, Some, None, refl, sym, ap, ap₂, ◌∙◌, subst, append_assoc, inl, inr, arith}
+use Rattle.std.proofs.Common.{◌≡◌, ℕ, List, [], ◌∷◌, ◌++◌, map, Option, Some, None, refl, sym, ap, ap₂, ◌∙◌, subst}
+use Rattle.std.proofs.Common.{append_assoc, inl, inr, arith}
 use Rattle.std.specs.List.{All, flat_map}
 use Rattle.std.proofs.lemmas.List.{append-nil}
 use Rattle.std.proofs.lemmas.Grind.{flat_map-append}
 use Rattle.std.proofs.lemmas.List.Folds.{flat_map-map}
 use Rattle.std.proofs.lemmas.List.Elements.{All-tail}
 use Rattle.ss_outside.specs.Told.{Meanings}
-use Rattle.ss_links.specs.Dials.{Address, Hung}
+use Rattle.ss_links.specs.Dials.{Address, HungLink}
 use Rattle.ss_device.specs.Device.{DeviceView}
 use Rattle.ss_client.specs.Runs.{MachineView}
 use Rattle.ss_client.specs.Machine.{Next}
@@ -14,9 +15,9 @@ use Rattle.ss_run_sync.specs.Moves.{IsFront}
 use Rattle.ss_run_sync.specs.Course.{Account, Exchange, request_at, request_next}
 use Rattle.ss_run_sync.specs.declared.linking.Came.{Came}
 use Rattle.ss_run_sync.specs.declared.linking.Came.TheVariants as came
-use Rattle.ss_run_sync.specs.Links.{Used, hung_of, exchanges_of, IsLeft, listed, IsEnded, Comes, IsRun}
+use Rattle.ss_run_sync.specs.Links.{Used, hung_of, exchanges_of, IsLeftLink, link_in_list, IsEnded, Comes, IsRun}
 use Rattle.ss_run_sync.specs.Syncs.{Outside, undialled, dialled, account_of, address_of, machine_of}
-use Rattle.ss_run_sync.specs.Joined.{IsJoined, Joined}
+use Rattle.ss_run_sync.specs.Joined.{AreJoinedLinks, Joined}
 use Rattle.ss_run_sync.specs.Runs.{Runs, syncs, asks_nothing, out_of_memory}
 
 -- where nothing stands behind the pieces of each, all joined are the pieces of all
@@ -47,15 +48,15 @@ abbrev part_of : Option Used → List ℕ
 part_of None = []
 part_of (Some used) = used.talked.part
 
-no_more : (links : List Used) → All IsLeft links → All (λ u. u.talked.more ≡ []) links
+no_more : (links : List Used) → All IsLeftLink links → All (λ u. u.talked.more ≡ []) links
 no_more links all = λ k d h. (all k d h).whole.more
 
-no_part : (links : List Used) → All IsLeft links → All (λ u. u.talked.part ≡ []) links
+no_part : (links : List Used) → All IsLeftLink links → All (λ u. u.talked.part ≡ []) links
 no_part links all = λ k d h. (all k d h).whole.part
 
 -- the bytes of one kind, over all links
 joined_pieces : (f : Exchange → List ℕ) (p : Used → List ℕ) (behind : Option Used → List ℕ) → behind None ≡ [] → ((used : Used) → behind (Some used) ≡ p used) → (before : List Used) (last : Option Used)
-    → All (λ u. p u ≡ []) before → flat_map (λ u. flat_map f u.talked.exchanges ++ p u) (before ++ listed last) ≡ flat_map f (exchanges_of (before ++ listed last)) ++ behind last
+    → All (λ u. p u ≡ []) before → flat_map (λ u. flat_map f u.talked.exchanges ++ p u) (before ++ link_in_list last) ≡ flat_map f (exchanges_of (before ++ link_in_list last)) ++ behind last
 joined_pieces f p behind none some before None all =
     ap (flat_map (λ u. flat_map f u.talked.exchanges ++ p u)) (append-nil before) ∙ whole_pieces (λ u. u.talked.exchanges) f p before all
     ∙ ap (λ ls. flat_map f (exchanges_of ls)) (sym (append-nil before)) ∙ sym (append-nil (flat_map f (exchanges_of (before ++ []))))
@@ -86,11 +87,11 @@ front_of account d (Some used) next f f' came.Memory c = c.0.written.1
 
 -- ---- a run, and a sync
 
-pub run_joined : (account : Account) (m : MachineView) (what : Came) (f f' : ℕ) (a b : Option (List Hung)) (address : Address) (p q : Option (List Address)) → IsRun account m what f f' a b address p q
-    → (y : List Hung) → b ≡ Some y → (x : List Hung) × (links : List Hung) × (a ≡ Some x) × (y ≡ x ++ links) × IsJoined account m links
+pub run_joined : (account : Account) (m : MachineView) (what : Came) (f f' : ℕ) (a b : Option (List HungLink)) (address : Address) (p q : Option (List Address)) → IsRun account m what f f' a b address p q
+    → (y : List HungLink) → b ≡ Some y → (x : List HungLink) × (links : List HungLink) × (a ≡ Some x) × (y ≡ x ++ links) × AreJoinedLinks account m links
 run_joined account m what f f' a b address p q r y told =
     let d = m.device in
-    let all = r.before ++ listed r.last in
+    let all = r.before ++ link_in_list r.last in
     let h = r.hangs y told in (
       h.0,
       map (hung_of account d) all,

@@ -1,12 +1,13 @@
 -- A run over links, one after the other.
-use Rattle.std.proofs.Common.{◌≡◌, ◌⊎◌, ℕ, List, [], ◌∷◌, ◌++◌, Option, Some, None, Err, refl, sym, ap, ◌∙◌, subst, append_assoc, inl, inr, arith}
+use Rattle.std.proofs.Common.{◌≡◌, ◌⊎◌, ℕ, List, [], ◌∷◌, ◌++◌, Option, Some, None, Err, refl, sym, ap, ◌∙◌, subst}
+use Rattle.std.proofs.Common.{append_assoc, inl, inr, arith}
 use Rattle.std.specs.List.{All}
 use Rattle.std.proofs.lemmas.List.{append-nil}
 use Rattle.std.proofs.lemmas.Grind.{flat_map-append}
 use Rattle.std.proofs.lemmas.List.Elements.{All-append, All-cons}
 use Rattle.ss_outside.specs.Told.{Meanings}
 use Rattle.ss_links.specs.Links.{IsUnused}
-use Rattle.ss_links.specs.Dials.{Address, Hung, IsBehind, HasCause, HasHung, HangUpCounts}
+use Rattle.ss_links.specs.Dials.{Address, HungLink, IsBehind, HasCause, HasHung, HangUpCounts}
 use Rattle.ss_links.specs.declared.dial.DialFault.{DialFault}
 use Rattle.ss_links.specs.declared.dial.DialFault.TheVariants.{Fault, Memory}
 use Rattle.ss_device.specs.Device.{DeviceView}
@@ -20,7 +21,8 @@ use Rattle.ss_run_sync.specs.Talks.{EndsIn, IsWhole, IsBadReply, Talks}
 use Rattle.ss_run_sync.proofs.Coursing.{course_then}
 use Rattle.ss_run_sync.specs.declared.linking.Came.{Came}
 use Rattle.ss_run_sync.specs.declared.linking.Leg.{Leg}
-use Rattle.ss_run_sync.specs.Links.{Used, Dials, Hangs, missed, exchanges_of, IsLeft, listed, IsEnded, IsUnheard, Comes, IsRun, leg_of, came_of, Goes, IsLeg}
+use Rattle.ss_run_sync.specs.Links.{Used, Dials, Hangs, missed_address, exchanges_of, IsLeftLink, link_in_list, IsEnded}
+use Rattle.ss_run_sync.specs.Links.{IsUnheard, Comes, IsRun, leg_of, came_of, Goes, IsLeg}
 use Rattle.ss_run_sync.proofs.Hanging.{hangs_none, hangs_then, hangs_one, hung_failed, hung_fine}
 use Rattle.ss_run_sync.proofs.Dialling.{dials_none, dials_one, dials_then}
 
@@ -41,10 +43,10 @@ front_whole text part e = ([], sym e ∙ sym (append-nil part))
 one_course : (d : DeviceView) (now : Next) (used : Used) (next : Next) → IsCourse d now used.talked.exchanges next → IsCourse d now (exchanges_of (used ∷ [])) next
 one_course d now used next c = subst (λ xs. IsCourse d now xs next) (sym (append-nil used.talked.exchanges)) c
 
-none_left : All IsLeft []
+none_left : All IsLeftLink []
 none_left = λ k d h. absurd (omega arith)
 
-pub leg_is : (account : Account) (m : MachineView) (talk : Talk) (link link' : Meanings) (f g : ℕ) (a b : Option (List Hung)) (address : Address) (asked dialled left : Option (List Address))
+pub leg_is : (account : Account) (m : MachineView) (talk : Talk) (link link' : Meanings) (f g : ℕ) (a b : Option (List HungLink)) (address : Address) (asked dialled left : Option (List Address))
     → IsUnused link → Talks account m talk link link' → HasHung link' a b → HangUpCounts link' f g → IsBehind address asked dialled → left ≡ dialled → IsLeg account m (leg_of talk) f g a b address asked left
 leg_is account m (talks.Done device summary) link link' f g a b address asked dialled left u t h c e same =
     let used : Used = record { talked = t.talked; tells = link' } in
@@ -81,7 +83,7 @@ leg_is account m (talks.Anew machine request) link link' f g a b address asked d
         before = used ∷ [];
         device = t.cause.0;
         course = subst (λ n. IsCourse m.device (Send m.run m.stage) (exchanges_of (used ∷ [])) n) t.cause.1 (one_course m.device (Send m.run m.stage) used t.next t.course);
-        left = All-cons IsLeft used [] (record { last = t.cause.3; whole = t.cause.4 }) none_left;
+        left = All-cons IsLeftLink used [] (record { last = t.cause.3; whole = t.cause.4 }) none_left;
         dials = dials_one address used asked dialled left e same;
         hangs = hangs_one account m.device t.talked link link' a b u t.moves h;
         faultless = hung_fine link link' f g u t.cause.5 c;
@@ -123,12 +125,12 @@ leg_is account m (talks.Memory device) link link' f g a b address asked dialled 
     by (inr e) = front_whole (request_next account m.device t.next) t.talked.part e
 
 -- no link was made: why, and the dial's count
-unlinked : (L : Type 0) (account : Account) (m : MachineView) (fault : DialFault) (f g : ℕ) (a b : Option (List Hung)) → b ≡ a → HasCause {L = L} (Err fault) f g → Comes account m.device None (Send m.run m.stage) f g (came_of fault)
+unlinked : (L : Type 0) (account : Account) (m : MachineView) (fault : DialFault) (f g : ℕ) (a b : Option (List HungLink)) → b ≡ a → HasCause {L = L} (Err fault) f g → Comes account m.device None (Send m.run m.stage) f g (came_of fault)
 unlinked L account m Fault f g a b e r = (record { run = m.run; stage = m.stage; asks = refl; written = tt }, r)
 unlinked L account m Memory f g a b e r = (record { run = m.run; stage = m.stage; asks = refl; written = tt }, r)
 
-pub undialled_is : (L : Type 0) (account : Account) (m : MachineView) (fault : DialFault) (f g : ℕ) (a b : Option (List Hung)) (address : Address) (asked left : Option (List Address))
-    → b ≡ a → HasCause {L = L} (Err fault) f g → Dials address [] (missed address None (came_of fault)) asked left → IsRun account m (came_of fault) f g a b address asked left
+pub undialled_is : (L : Type 0) (account : Account) (m : MachineView) (fault : DialFault) (f g : ℕ) (a b : Option (List HungLink)) (address : Address) (asked left : Option (List Address))
+    → b ≡ a → HasCause {L = L} (Err fault) f g → Dials address [] (missed_address address None (came_of fault)) asked left → IsRun account m (came_of fault) f g a b address asked left
 undialled_is L account m fault f g a b address asked left e r d = record {
   before = [];
   last = None;
@@ -141,7 +143,7 @@ undialled_is L account m fault f g a b address asked left e r d = record {
 }
 
 -- a link that was dialled under another name of the same host, and what came of it
-pub leg_dialled : (account : Account) (m : MachineView) (leg : Leg) (host named : List ℕ) (port : ℕ) (f g h : ℕ) (a b c : Option (List Hung)) (p q r : Option (List Address))
+pub leg_dialled : (account : Account) (m : MachineView) (leg : Leg) (host named : List ℕ) (port : ℕ) (f g h : ℕ) (a b c : Option (List HungLink)) (p q r : Option (List Address))
     → named ≡ host → IsBehind (record { host = named; port = port }) p q → g ≡ f → b ≡ a
     → ((asked : Option (List Address)) → IsBehind (record { host = host; port = port }) asked q → IsLeg account m leg g h b c (record { host = host; port = port }) asked r)
     → IsLeg account m leg f h a c (record { host = host; port = port }) p r
@@ -152,7 +154,7 @@ leg_dialled account m leg host named port f g h a b c p q r e behind fine same o
 
 -- ---- links behind others
 
-pub no_links : (account : Account) (m : MachineView) (f : ℕ) (a : Option (List Hung)) (address : Address) (asked : Option (List Address)) → Goes account m m f f a a address asked asked
+pub no_links : (account : Account) (m : MachineView) (f : ℕ) (a : Option (List HungLink)) (address : Address) (asked : Option (List Address)) → Goes account m m f f a a address asked asked
 no_links account m f a address asked = record {
   before = [];
   device = refl;
@@ -173,7 +175,7 @@ exchanges_then ks ls = flat_map-append (λ used. used.talked.exchanges) ks ls
 courses_then : (d : DeviceView) (x : Next) (ks : List Used) (y : Next) (ls : List Used) (z : Next) → IsCourse d x (exchanges_of ks) y → IsCourse d y (exchanges_of ls) z → IsCourse d x (exchanges_of (ks ++ ls)) z
 courses_then d x ks y ls z f g = subst (λ xs. IsCourse d x xs z) (sym (exchanges_then ks ls)) (course_then d x (exchanges_of ks) y (exchanges_of ls) z f g)
 
-pub goes_then : (account : Account) (m n o : MachineView) (f g h : ℕ) (a b c : Option (List Hung)) (address : Address) (p q r : Option (List Address))
+pub goes_then : (account : Account) (m n o : MachineView) (f g h : ℕ) (a b c : Option (List HungLink)) (address : Address) (p q r : Option (List Address))
     → Goes account m n f g a b address p q → Goes account n o g h b c address q r → Goes account m o f h a c address p r
 goes_then account m n o f g h a b c address p q r k t = go (subst (λ d. Goes account (of_device d n) o g h b c address q r) k.device t)
   where
@@ -182,13 +184,13 @@ goes_then account m n o f g h a b c address p q r k t = go (subst (λ d. Goes ac
       before = k.before ++ s.before;
       device = s.device;
       course = courses_then m.device (Send m.run m.stage) k.before (Send n.run n.stage) s.before (Send o.run o.stage) k.course s.course;
-      left = All-append IsLeft k.before s.before k.left s.left;
+      left = All-append IsLeftLink k.before s.before k.left s.left;
       dials = dials_then address k.before s.before [] p q r k.dials s.dials;
       hangs = hangs_then account m.device k.before s.before a b c k.hangs s.hangs;
       faultless = s.faultless ∙ k.faultless;
     }
 
-pub run_then : (account : Account) (m n : MachineView) (what : Came) (f g h : ℕ) (a b c : Option (List Hung)) (address : Address) (p q r : Option (List Address))
+pub run_then : (account : Account) (m n : MachineView) (what : Came) (f g h : ℕ) (a b c : Option (List HungLink)) (address : Address) (p q r : Option (List Address))
     → Goes account m n f g a b address p q → IsRun account n what g h b c address q r → IsRun account m what f h a c address p r
 run_then account m n what f g h a b c address p q r k t = go (subst (λ d. IsRun account (of_device d n) what g h b c address q r) k.device t)
   where
@@ -197,12 +199,12 @@ run_then account m n what f g h a b c address p q r k t = go (subst (λ d. IsRun
       before = k.before ++ s.before;
       last = s.last;
       next = s.next;
-      course = subst (λ ls. IsCourse m.device (Send m.run m.stage) (exchanges_of ls) s.next) (sym (append_assoc k.before s.before (listed s.last)))
-          (courses_then m.device (Send m.run m.stage) k.before (Send n.run n.stage) (s.before ++ listed s.last) s.next k.course s.course);
-      left = All-append IsLeft k.before s.before k.left s.left;
-      dials = subst (λ ls. Dials address ls (missed address s.last what) p r) (sym (append_assoc k.before s.before (listed s.last)))
-          (dials_then address k.before (s.before ++ listed s.last) (missed address s.last what) p q r k.dials s.dials);
-      hangs = subst (λ ls. Hangs account m.device ls a c) (sym (append_assoc k.before s.before (listed s.last)))
-          (hangs_then account m.device k.before (s.before ++ listed s.last) a b c k.hangs s.hangs);
+      course = subst (λ ls. IsCourse m.device (Send m.run m.stage) (exchanges_of ls) s.next) (sym (append_assoc k.before s.before (link_in_list s.last)))
+          (courses_then m.device (Send m.run m.stage) k.before (Send n.run n.stage) (s.before ++ link_in_list s.last) s.next k.course s.course);
+      left = All-append IsLeftLink k.before s.before k.left s.left;
+      dials = subst (λ ls. Dials address ls (missed_address address s.last what) p r) (sym (append_assoc k.before s.before (link_in_list s.last)))
+          (dials_then address k.before (s.before ++ link_in_list s.last) (missed_address address s.last what) p q r k.dials s.dials);
+      hangs = subst (λ ls. Hangs account m.device ls a c) (sym (append_assoc k.before s.before (link_in_list s.last)))
+          (hangs_then account m.device k.before (s.before ++ link_in_list s.last) a b c k.hangs s.hangs);
       comes = subst (λ x. Comes account m.device s.last s.next x h what) k.faultless s.comes;
     }

@@ -3,7 +3,8 @@ use Rattle.std.proofs.Common.{◌≡◌, ℕ, List, [], ◌++◌, Option, refl, 
 use Rattle.std.proofs.lemmas.List.{append-nil}
 use Rattle.ss_outside.specs.Told.{Meanings, HasRead, HasWritten, Takes, Loses}
 use Rattle.ss_outside.specs.Causes.{Rose}
-use Rattle.ss_outside.proofs.Telling.{Takes-none, Takes-append, Loses-none, Loses-append, Writes-none, Writes-append, idle_append}
+use Rattle.ss_outside.proofs.Telling.{Takes-none, Takes-append, Loses-none, Loses-append, Writes-none, Writes-append}
+use Rattle.ss_outside.proofs.Telling.{idle_append}
 use Rattle.ss_run_sync.specs.Moves.{Moves, IsUnfaulted, Fails}
 
 pub moves_none : (a : Meanings) → Moves [] [] a a

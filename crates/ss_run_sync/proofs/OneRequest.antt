@@ -8,11 +8,11 @@ use Rattle.ss_http.specs.declared.heard.HeardFault.TheVariants as faults
 use Rattle.ss_http.specs.Hearing.{Hearing, EndsHearing, RisesHearing}
 use Rattle.ss_run_sync.specs.declared.asking.Missed.{Missed}
 use Rattle.ss_run_sync.specs.declared.asking.Missed.TheVariants as missed
-use Rattle.ss_run_sync.specs.Answers.{IsOfBytes, IsMissed, Asked}
+use Rattle.ss_run_sync.specs.Answers.{IsOfBytes, IsMissed, AsksOnce}
 use Rattle.ss_run_sync.proofs.Moving.{moves_none, moves_write, moves_both}
 
 -- no memory for the request
-pub unwritten : (text : List ℕ) (a : Meanings) → Asked text (Err missed.Memory) a a
+pub unwritten : (text : List ℕ) (a : Meanings) → AsksOnce text (Err missed.Memory) a a
 unwritten text a = record {
   got = [];
   sent = [];
@@ -21,7 +21,7 @@ unwritten text a = record {
 }
 
 -- a write failed
-pub cut_off : (text sent rest : List ℕ) (a b : Meanings) → text ≡ sent ++ rest → HasWritten sent a b → Rose a.write_faults b.write_faults → Asked text (Err missed.Wire) a b
+pub cut_off : (text sent rest : List ℕ) (a b : Meanings) → text ≡ sent ++ rest → HasWritten sent a b → Rose a.write_faults b.write_faults → AsksOnce text (Err missed.Wire) a b
 cut_off text sent rest a b e w r = record {
   got = [];
   sent = sent;
@@ -31,7 +31,7 @@ cut_off text sent rest a b e w r = record {
 
 -- a response was heard
 pub answered : (text : List ℕ) (h : Heard) (a b c : Meanings) → HasWritten text a b → b.write_faults ≡ a.write_faults
-    → (got : List ℕ) × HasRead got b c × Hearing (Ok h) got → c.read_faults ≡ b.read_faults → Asked text (Ok h) a c
+    → (got : List ℕ) × HasRead got b c × Hearing (Ok h) got → c.read_faults ≡ b.read_faults → AsksOnce text (Ok h) a c
 answered text h a b c w writes t reads = record {
   got = t.0;
   sent = text;
@@ -54,7 +54,7 @@ stays e before now is r = subst (λ f. RisesHearing f before now) is r
 
 -- no response was heard
 pub unheard : (text : List ℕ) (e : HeardFault) (m : Missed) (a b c : Meanings) → IsMissed e m → HasWritten text a b → b.write_faults ≡ a.write_faults
-    → (got : List ℕ) × HasRead got b c × Hearing (Err e) got → EndsHearing e c → RisesHearing e b.read_faults c.read_faults → Asked text (Err m) a c
+    → (got : List ℕ) × HasRead got b c × Hearing (Err e) got → EndsHearing e c → RisesHearing e b.read_faults c.read_faults → AsksOnce text (Err m) a c
 unheard text e missed.Unread a b c is w writes t ended r = record {
   got = t.0;
   sent = text;

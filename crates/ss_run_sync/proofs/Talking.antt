@@ -1,5 +1,6 @@
 -- A run over one link, exchange by exchange.
-use Rattle.std.proofs.Common.{◌≡◌, ◌⊎◌, ℕ, List, [], ◌∷◌, ◌++◌, Ok, Err, IsFalse, refl, sym, ap, ◌∙◌, subst, append_assoc, inl, inr, arith}
+use Rattle.std.proofs.Common.{◌≡◌, ◌⊎◌, ℕ, List, [], ◌∷◌, ◌++◌, Ok, Err, IsFalse, refl, sym, ap, ◌∙◌, subst}
+use Rattle.std.proofs.Common.{append_assoc, inl, inr, arith}
 use Rattle.std.proofs.lemmas.List.{append-nil}
 use Rattle.std.proofs.lemmas.Grind.{flat_map-append}
 use Rattle.std.proofs.lemmas.List.Elements.{All-append, All-cons}
@@ -18,8 +19,9 @@ use Rattle.ss_run_sync.specs.declared.conversing.Turn.{Turn}
 use Rattle.ss_run_sync.specs.declared.conversing.Turn.TheVariants.{On, End}
 use Rattle.ss_run_sync.specs.Moves.{Moves, IsUnfaulted}
 use Rattle.ss_run_sync.specs.Course.{Account, Exchange, request_at, request_next, requests, responses}
-use Rattle.ss_run_sync.specs.Answers.{Asked}
-use Rattle.ss_run_sync.specs.Talks.{Talked, taken_of, written_of, GoesOn, EndsIn, IsWhole, IsBadReply, IsWanting, Cause, Talks}
+use Rattle.ss_run_sync.specs.Answers.{AsksOnce}
+use Rattle.ss_run_sync.specs.Talks.{TalkView, taken_of, written_of, GoesOn, EndsIn, IsWhole, IsBadReply, IsWanting}
+use Rattle.ss_run_sync.specs.Talks.{Cause, Talks}
 use Rattle.ss_run_sync.specs.Turns.{Hearing, Comes, Turns}
 use Rattle.ss_run_sync.proofs.Moving.{moves_none, moves_then, unfaulted_none, unfaulted_then, fails_then}
 use Rattle.ss_run_sync.proofs.Coursing.{course_then, requests_then, responses_then}
@@ -46,7 +48,7 @@ ends_in_one : (x : Exchange) → EndsIn (x ∷ [])
 ends_in_one x = record { before = []; last = x; all = refl; goes_on = λ k d h. absurd (omega arith) }
 
 -- what went over the link with this exchange alone
-abbrev alone : Exchange → Talked
+abbrev alone : Exchange → TalkView
 alone x = record { exchanges = x ∷ []; more = []; part = [] }
 
 moves_one : (account : Account) (m : MachineView) (got sent : List ℕ) (heard : Heard) (a b : Meanings) → sent ≡ request_at account m.device m.run m.stage → Moves got sent a b
@@ -63,7 +65,7 @@ goes_on_one x h = All-cons (λ y. IsFalse y.heard.last) x [] h (λ k d h. absurd
 whole_alone : (x : Exchange) → IsWhole (alone x)
 whole_alone x = record { more = refl; part = refl }
 
-pub turn_heard : (account : Account) (m : MachineView) (heard : Heard) (turn : Turn) (a b : Meanings) → Asked (request_at account m.device m.run m.stage) (Ok heard) a b → Hearing m heard turn → Turns account m turn a b
+pub turn_heard : (account : Account) (m : MachineView) (heard : Heard) (turn : Turn) (a b : Meanings) → AsksOnce (request_at account m.device m.run m.stage) (Ok heard) a b → Hearing m heard turn → Turns account m turn a b
 unfolding ends_in_one
 turn_heard account m heard (On machine request) a b k h =
     let x = one m k.got heard in (
@@ -121,7 +123,7 @@ left_by m missed.Wire = talks.Wire m.device
 left_by m missed.Memory = talks.Memory m.device
 
 -- the bytes of an exchange that didn't come to a response
-abbrev begun : List ℕ → List ℕ → Talked
+abbrev begun : List ℕ → List ℕ → TalkView
 begun got sent = record { exchanges = []; more = got; part = sent }
 
 wanting : (account : Account) (m : MachineView) (got sent : List ℕ) → ((sent ≡ []) × (got ≡ [])) ⊎ (sent ≡ request_at account m.device m.run m.stage)
@@ -129,7 +131,7 @@ wanting : (account : Account) (m : MachineView) (got sent : List ℕ) → ((sent
 wanting account m got sent (inl n) = record { run = m.run; stage = m.stage; asks = refl; goes_on = λ k d h. absurd (omega arith); sent = inl (record { more = n.1; part = n.0 }) }
 wanting account m got sent (inr e) = record { run = m.run; stage = m.stage; asks = refl; goes_on = λ k d h. absurd (omega arith); sent = inr e }
 
-pub turn_missed : (account : Account) (m : MachineView) (why : Missed) (a b : Meanings) → Asked (request_at account m.device m.run m.stage) (Err why) a b → Talks account m (left_by m why) a b
+pub turn_missed : (account : Account) (m : MachineView) (why : Missed) (a b : Meanings) → AsksOnce (request_at account m.device m.run m.stage) (Err why) a b → Talks account m (left_by m why) a b
 turn_missed account m missed.Unread a b k = record {
   talked = begun k.got k.sent;
   next = Send m.run m.stage;
@@ -159,7 +161,7 @@ turn_missed account m missed.Memory a b k = record {
 -- ---- one exchange behind others
 
 -- what went over the link with these exchanges before it
-abbrev behind : List Exchange → Talked → Talked
+abbrev behind : List Exchange → TalkView → TalkView
 behind xs t = record { exchanges = xs ++ t.exchanges; more = t.more; part = t.part }
 
 goes_on_then : (xs ys : List Exchange) → GoesOn xs → GoesOn ys → GoesOn (xs ++ ys)
@@ -173,20 +175,20 @@ ends_behind xs ys g e = record {
   goes_on = goes_on_then xs e.before g e.goes_on;
 }
 
-whole_behind : (xs : List Exchange) (t : Talked) → IsWhole t → IsWhole (behind xs t)
+whole_behind : (xs : List Exchange) (t : TalkView) → IsWhole t → IsWhole (behind xs t)
 whole_behind xs t w = record { more = w.more; part = w.part }
 
-bad_behind : (account : Account) (d : DeviceView) (xs : List Exchange) (t : Talked) (next : Next) (fault : SyncFault) (c : Meanings) → GoesOn xs → IsBadReply account d t next fault c → IsBadReply account d (behind xs t) next fault c
+bad_behind : (account : Account) (d : DeviceView) (xs : List Exchange) (t : TalkView) (next : Next) (fault : SyncFault) (c : Meanings) → GoesOn xs → IsBadReply account d t next fault c → IsBadReply account d (behind xs t) next fault c
 bad_behind account d xs t next fault c g b = record { run = b.run; stage = b.stage; asks = b.asks; goes_on = goes_on_then xs t.exchanges g b.goes_on; asked = b.asked; unread = b.unread; stops = b.stops }
 
-wanting_behind : (account : Account) (d : DeviceView) (xs : List Exchange) (t : Talked) (next : Next) → GoesOn xs → IsWanting account d t next → IsWanting account d (behind xs t) next
+wanting_behind : (account : Account) (d : DeviceView) (xs : List Exchange) (t : TalkView) (next : Next) → GoesOn xs → IsWanting account d t next → IsWanting account d (behind xs t) next
 wanting_behind account d xs t next g w = record { run = w.run; stage = w.stage; asks = w.asks; goes_on = goes_on_then xs t.exchanges g w.goes_on; sent = by w.sent }
   where
     by : IsWhole t ⊎ (t.part ≡ request_next account d next) → IsWhole (behind xs t) ⊎ (t.part ≡ request_next account d next)
     by (inl n) = inl (whole_behind xs t n)
     by (inr e) = inr e
 
-cause_behind : (account : Account) (d : DeviceView) (xs : List Exchange) (t : Talked) (next : Next) (a b c : Meanings) (talk : Talk) → GoesOn xs → IsUnfaulted a b
+cause_behind : (account : Account) (d : DeviceView) (xs : List Exchange) (t : TalkView) (next : Next) (a b c : Meanings) (talk : Talk) → GoesOn xs → IsUnfaulted a b
     → Cause account d t next b c talk → Cause account d (behind xs t) next a c talk
 unfolding ends_behind
 cause_behind account d xs t next a b c (talks.Done device summary) g u k = (k.0, ends_behind xs t.exchanges g k.1, whole_behind xs t k.2, unfaulted_then a b c u k.3)
@@ -207,7 +209,7 @@ cause_behind account d xs t next a b c (talks.Memory device) g u k = (k.0, wanti
 abbrev of_device : DeviceView → MachineView → MachineView
 of_device d m = record { device = d; run = m.run; stage = m.stage }
 
-moves_behind : (account : Account) (d : DeviceView) (xs : List Exchange) (t : Talked) (a b c : Meanings) → Moves (responses xs) (requests account d xs) a b → Moves (taken_of t) (written_of account d t) b c
+moves_behind : (account : Account) (d : DeviceView) (xs : List Exchange) (t : TalkView) (a b c : Meanings) → Moves (responses xs) (requests account d xs) a b → Moves (taken_of t) (written_of account d t) b c
     → Moves (taken_of (behind xs t)) (written_of account d (behind xs t)) a c
 moves_behind account d xs t a b c m n =
     subst (λ g. Moves g (written_of account d (behind xs t)) a c) (sym (responses_then xs t.exchanges t.more))

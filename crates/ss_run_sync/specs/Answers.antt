@@ -38,7 +38,7 @@ ComesBack text (Err missed.Wire) got sent link link' = Fails text got sent link 
 ComesBack text (Err missed.Memory) got sent link link' = (((sent ≡ []) × (got ≡ [])) ⊎ (sent ≡ text)) × IsUnfaulted link link'
 
 -- a request with this text was sent over a link, and this came of it
-pub record Asked (text : List ℕ) (heard : Result Heard Missed) (link link' : Meanings) : Type 0 where
+pub record AsksOnce (text : List ℕ) (heard : Result Heard Missed) (link link' : Meanings) : Type 0 where
   pub got : List ℕ
   pub sent : List ℕ
   pub moves : Moves got sent link link'

@@ -65,12 +65,12 @@ synced_line s =
     codes "synced " ++ decimal s.items ++ codes " items, " ++ decimal s.posts ++ codes " posts, " ++ decimal s.fetches ++ codes " fetches, at " ++ stamp_text s.stamp ++ codes "\n"
 
 -- the record that was refused, where one was
-abbrev pub named : Option (List ℕ) → List ℕ
-named None = []
-named (Some id) = codes " " ++ id
+abbrev pub refused_record : Option (List ℕ) → List ℕ
+refused_record None = []
+refused_record (Some id) = codes " " ++ id
 
 unfoldable pub refused_line : ℕ → Option (List ℕ) → List ℕ
-refused_line status id = codes "stopped: refused " ++ decimal status ++ named id ++ codes "\n"
+refused_line status id = codes "stopped: refused " ++ decimal status ++ refused_record id ++ codes "\n"
 
 -- the collection's times at the four changes
 unfoldable pub changing_line : ℕ → ℕ → ℕ → ℕ → List ℕ

@@ -1,7 +1,7 @@
 -- What went over the links of a sync, joined in order.
 use Rattle.std.specs.Prelude.{◌≡◌, ◌⊎◌, ℕ, List, [], ◌++◌, Some}
 use Rattle.std.specs.List.{flat_map}
-use Rattle.ss_links.specs.Dials.{Hung}
+use Rattle.ss_links.specs.Dials.{HungLink}
 use Rattle.ss_device.specs.Device.{DeviceView}
 use Rattle.ss_client.specs.Runs.{MachineView}
 use Rattle.ss_client.specs.Machine.{Next, Send}
@@ -14,7 +14,7 @@ use Rattle.ss_run_sync.specs.Syncs.{Outside, Starts, account_of, machine_of}
 
 -- What was written to these links is, joined, the text of a machine's requests for the responses that were taken from them, each request
 -- after the response before; behind it stands at most a front of the next request, and behind the responses what is none
-pub record IsJoined (account : Account) (m : MachineView) (links : List Hung) : Type 0 where
+pub record AreJoinedLinks (account : Account) (m : MachineView) (links : List HungLink) : Type 0 where
   pub exchanges : List Exchange
   pub next : Next
   pub part : List ℕ
@@ -27,5 +27,5 @@ pub record IsJoined (account : Account) (m : MachineView) (links : List Hung) : 
 -- where it is told which links were hung up, these were, behind those before: none, or those of the run of the machine that is started
 -- for the device of the file, with the account that the words name
 abbrev pub Joined : List (List ℕ) → Outside → Outside → Type 0
-Joined words old new = (y : List Hung) → new.hung ≡ Some y → (x : List Hung) × (links : List Hung) × (old.hung ≡ Some x) × (y ≡ x ++ links)
-    × ((links ≡ []) ⊎ ((command : SyncCommand) × (d : DeviceView) × Asks words (Sync command) × Starts old.held command.file d × IsJoined (account_of command) (machine_of command d) links))
+Joined words old new = (y : List HungLink) → new.hung ≡ Some y → (x : List HungLink) × (links : List HungLink) × (old.hung ≡ Some x) × (y ≡ x ++ links)
+    × ((links ≡ []) ⊎ ((command : SyncCommand) × (d : DeviceView) × Asks words (Sync command) × Starts old.held command.file d × AreJoinedLinks (account_of command) (machine_of command d) links))

@@ -3,7 +3,7 @@ use Rattle.std.specs.Prelude.{◌≡◌, ◌⊎◌, ℕ, List, [], ◌∷◌, �
 use Rattle.std.specs.List.{flat_map}
 use Rattle.ss_outside.specs.Told.{Meanings}
 use Rattle.ss_outside.specs.Causes.{Rose}
-use Rattle.ss_links.specs.Dials.{Address, Hung}
+use Rattle.ss_links.specs.Dials.{Address, HungLink}
 use Rattle.ss_links.specs.declared.dial.DialFault.{DialFault}
 use Rattle.ss_links.specs.declared.dial.DialFault.TheVariants.{Fault, Memory}
 use Rattle.ss_device.specs.Device.{DeviceView}
@@ -17,7 +17,8 @@ use Rattle.ss_run_sync.specs.declared.talk.Talk.{Talk}
 use Rattle.ss_run_sync.specs.declared.talk.Talk.TheVariants as talks
 use Rattle.ss_run_sync.specs.Moves.{IsFront}
 use Rattle.ss_run_sync.specs.Course.{Account, Exchange, request_next, IsCourse}
-use Rattle.ss_run_sync.specs.Talks.{Talked, taken_of, written_of, GoesOn, EndsIn, IsWhole, IsLast, IsBadReply, IsCloser}
+use Rattle.ss_run_sync.specs.Talks.{TalkView, taken_of, written_of, GoesOn, EndsIn, IsWhole, IsLast, IsBadReply}
+use Rattle.ss_run_sync.specs.Talks.{IsCloser}
 use Rattle.ss_run_sync.specs.declared.linking.Came.{Came}
 use Rattle.ss_run_sync.specs.declared.linking.Came.TheVariants as came
 use Rattle.ss_run_sync.specs.declared.linking.Leg.{Leg}
@@ -25,16 +26,16 @@ use Rattle.ss_run_sync.specs.declared.linking.Leg.TheVariants.{On, End}
 
 -- a link that was used: what went over it, and what it told when it was hung up
 pub record Used : Type 0 where
-  pub talked : Talked
+  pub talked : TalkView
   pub tells : Meanings
 
 -- what is told of it once it was hung up: the bytes that were taken from it, that were left, and that were written to it
-abbrev pub hung_of : Account → DeviceView → Used → Hung
+abbrev pub hung_of : Account → DeviceView → Used → HungLink
 hung_of account d used = record { taken = taken_of used.talked; left = unwrap_or used.tells.left []; written = written_of account d used.talked }
 
 -- where it is told which links were hung up, these were, behind those before
-abbrev pub Hangs : Account → DeviceView → List Used → Option (List Hung) → Option (List Hung) → Type 0
-Hangs account d links hung hung' = (y : List Hung) → hung' ≡ Some y → (x : List Hung) × (hung ≡ Some x) × (y ≡ x ++ map (hung_of account d) links)
+abbrev pub Hangs : Account → DeviceView → List Used → Option (List HungLink) → Option (List HungLink) → Type 0
+Hangs account d links hung hung' = (y : List HungLink) → hung' ≡ Some y → (x : List HungLink) × (hung ≡ Some x) × (y ≡ x ++ map (hung_of account d) links)
 
 -- where it is told which addresses a dial was asked for, this one was asked for each of these links, and then these were, behind those before
 abbrev pub Dials : Address → List Used → List Address → Option (List Address) → Option (List Address) → Type 0
@@ -46,14 +47,14 @@ exchanges_of links = flat_map (λ used. used.talked.exchanges) links
 
 -- a link that was left for the next one: all that went over it are exchanges, and its last response said that it is the last; none
 -- before it did
-pub record IsLeft (used : Used) : Type 0 where
+pub record IsLeftLink (used : Used) : Type 0 where
   pub last : IsLast used.talked.exchanges
   pub whole : IsWhole used.talked
 
 -- the link, if there was one, is in a list of them
-abbrev pub listed : Option Used → List Used
-listed None = []
-listed (Some used) = used ∷ []
+abbrev pub link_in_list : Option Used → List Used
+link_in_list None = []
+link_in_list (Some used) = used ∷ []
 
 -- the run asked for more; over the last link, if there was one, no response said that it is the last, and a front of the next request
 -- was written behind the exchanges
@@ -84,22 +85,22 @@ Comes account d last next faults faults' came.Wire = IsAsking account d last nex
 Comes account d last next faults faults' came.Memory = IsAsking account d last next × (faults' ≡ faults)
 
 -- what a dial was asked for beside the links of a run: its address once more, where the run ended since that dial failed
-abbrev pub missed : Address → Option Used → Came → List Address
-missed address (Some used) what = []
-missed address None came.Wire = address ∷ []
-missed address None what = []
+abbrev pub missed_address : Address → Option Used → Came → List Address
+missed_address address (Some used) what = []
+missed_address address None came.Wire = address ∷ []
+missed_address address None what = []
 
 -- A run over links, from the request whose reply its machine awaits: the links that were left for the next one, the one on which it
 -- ended, if it ended on one, and what it came to. All exchanges together are one course of the machine. Each link was dialled once, at
 -- this address
-pub record IsRun (account : Account) (m : MachineView) (what : Came) (faults faults' : ℕ) (hung hung' : Option (List Hung)) (address : Address) (asked asked' : Option (List Address)) : Type 0 where
+pub record IsRun (account : Account) (m : MachineView) (what : Came) (faults faults' : ℕ) (hung hung' : Option (List HungLink)) (address : Address) (asked asked' : Option (List Address)) : Type 0 where
   pub before : List Used
   pub last : Option Used
   pub next : Next
-  pub course : IsCourse m.device (Send m.run m.stage) (exchanges_of (before ++ listed last)) next
-  pub left : All IsLeft before
-  pub dials : Dials address (before ++ listed last) (missed address last what) asked asked'
-  pub hangs : Hangs account m.device (before ++ listed last) hung hung'
+  pub course : IsCourse m.device (Send m.run m.stage) (exchanges_of (before ++ link_in_list last)) next
+  pub left : All IsLeftLink before
+  pub dials : Dials address (before ++ link_in_list last) (missed_address address last what) asked asked'
+  pub hangs : Hangs account m.device (before ++ link_in_list last) hung hung'
   pub comes : Comes account m.device last next faults faults' what
 
 -- ---- one link
@@ -117,17 +118,17 @@ came_of Fault = came.Wire
 came_of Memory = came.Memory
 
 -- a run came from one machine to another over links that were left for the next one
-pub record Goes (account : Account) (m machine : MachineView) (faults faults' : ℕ) (hung hung' : Option (List Hung)) (address : Address) (asked asked' : Option (List Address)) : Type 0 where
+pub record Goes (account : Account) (m machine : MachineView) (faults faults' : ℕ) (hung hung' : Option (List HungLink)) (address : Address) (asked asked' : Option (List Address)) : Type 0 where
   pub before : List Used
   pub device : machine.device ≡ m.device
   pub course : IsCourse m.device (Send m.run m.stage) (exchanges_of before) (Send machine.run machine.stage)
-  pub left : All IsLeft before
+  pub left : All IsLeftLink before
   pub dials : Dials address before [] asked asked'
   pub hangs : Hangs account m.device before hung hung'
   pub faultless : faults' ≡ faults
 
 -- what comes of one link
-abbrev pub IsLeg : Account → MachineView → Leg → ℕ → ℕ → Option (List Hung) → Option (List Hung) → Address → Option (List Address) → Option (List Address) → Type 0
+abbrev pub IsLeg : Account → MachineView → Leg → ℕ → ℕ → Option (List HungLink) → Option (List HungLink) → Address → Option (List Address) → Option (List Address) → Type 0
 IsLeg account m (On machine request) faults faults' hung hung' address asked asked' = Goes account m machine faults faults' hung hung' address asked asked' × (request ≡ ask machine)
 IsLeg account m (End what) faults faults' hung hung' address asked asked' = IsRun account m what faults faults' hung hung' address asked asked'
 

@@ -2,13 +2,13 @@
 use Rattle.std.specs.Prelude.{◌≡◌, ◌≢◌, ℕ, List, Option, Some, None, Result, Ok, Err, MatchOption, if◌then◌else◌, ⊤}
 use Rattle.std.specs.Global.{Vec}
 use Rattle.ss_outside.specs.Causes.{Rose}
-use Rattle.ss_links.specs.Dials.{Address, Hung}
+use Rattle.ss_links.specs.Dials.{Address, HungLink}
 use Rattle.ss_links.specs.Stores.{Files, HasSaved}
 use Rattle.ss_device.specs.Device.{DeviceView, IsNew}
 use Rattle.ss_device.specs.Writing.{device_text}
 use Rattle.ss_device_file.specs.declared.faults.DeviceFault.{DeviceFault}
 use Rattle.ss_device_file.specs.declared.faults.DeviceFault.TheVariants as refused
-use Rattle.ss_device_file.specs.Files.{IsFileOf, IsRefused}
+use Rattle.ss_device_file.specs.Files.{IsFileOf, IsWhyNoDevice}
 use Rattle.ss_client.specs.declared.summaries.Fetch.{Fetch}
 use Rattle.ss_client.specs.declared.summaries.Fetch.TheVariants.{Whole, Newer}
 use Rattle.ss_client.specs.declared.summaries.Summary.{Summary}
@@ -30,7 +30,7 @@ use Rattle.ss_run_sync.specs.Links.{IsRun}
 -- calls failed
 pub record Outside : Type 0 where
   pub asked : Option (List Address)
-  pub hung : Option (List Hung)
+  pub hung : Option (List HungLink)
   pub dial_faults : ℕ
   pub held : Option Files
   pub store_faults : ℕ
@@ -41,7 +41,7 @@ pub record Outside : Type 0 where
 pub record IsNoFile (bytes : List ℕ) : Type 0 where
   pub fault : DeviceFault
   pub of_bytes : fault ≢ refused.Memory
-  pub cause : IsRefused bytes fault
+  pub cause : IsWhyNoDevice bytes fault
 
 -- the device of a file, a new one where there is none, or why there is none
 abbrev pub IsDeviceIn : Option (Vec ℕ) → Result DeviceView Trouble → Type 0
@@ -79,19 +79,19 @@ Saves name d summary (Short trouble.Memory) held held' faults faults' = (held' �
 Saves name d summary (Short what) held held' faults faults' = ⊥
 
 -- the files and the store's count are as before
-abbrev pub IsKept : Outside → Outside → Type 0
-IsKept old new = (new.held ≡ old.held) × (new.store_faults ≡ old.store_faults)
+abbrev pub KeepsFiles : Outside → Outside → Type 0
+KeepsFiles old new = (new.held ≡ old.held) × (new.store_faults ≡ old.store_faults)
 
 -- How a sync ends by what its run came to: one that is done is saved, unless the store fails or memory is wanting; one that stopped is
 -- told so, unless no memory is found for its line; and unless it is saved the files are as before
 abbrev pub Closes : List ℕ → Came → Ending → Outside → Outside → Type 0
 Closes file (came.Done d summary) (Synced s) old new = (s ≡ summary) × HasSaved file (device_text d) old.held new.held × (new.store_faults ≡ old.store_faults)
 Closes file (came.Done d summary) (Failed trouble.Store) old new = (new.held ≡ old.held) × Rose old.store_faults new.store_faults
-Closes file (came.Done d summary) (Failed trouble.Memory) old new = IsKept old new
-Closes file (came.Stop f) (Stopped g) old new = (g ≡ f) × IsKept old new
-Closes file (came.Stop f) (Failed trouble.Memory) old new = IsKept old new
-Closes file came.Wire (Failed trouble.Wire) old new = IsKept old new
-Closes file came.Memory (Failed trouble.Memory) old new = IsKept old new
+Closes file (came.Done d summary) (Failed trouble.Memory) old new = KeepsFiles old new
+Closes file (came.Stop f) (Stopped g) old new = (g ≡ f) × KeepsFiles old new
+Closes file (came.Stop f) (Failed trouble.Memory) old new = KeepsFiles old new
+Closes file came.Wire (Failed trouble.Wire) old new = KeepsFiles old new
+Closes file came.Memory (Failed trouble.Memory) old new = KeepsFiles old new
 Closes file what ending old new = ⊥
 
 -- ---- the sync

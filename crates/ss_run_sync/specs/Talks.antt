@@ -18,16 +18,16 @@ use Rattle.ss_run_sync.specs.Answers.{IsUnread}
 
 -- what went over a link: the exchanges, the bytes that were taken behind the last response, and those that were written behind
 -- the last request that was answered
-pub record Talked : Type 0 where
+pub record TalkView : Type 0 where
   pub exchanges : List Exchange
   pub more : List ℕ
   pub part : List ℕ
 
 -- all bytes that were taken of the link, and that were written to it
-abbrev pub taken_of : Talked → List ℕ
+abbrev pub taken_of : TalkView → List ℕ
 taken_of t = responses t.exchanges ++ t.more
 
-abbrev pub written_of : Account → DeviceView → Talked → List ℕ
+abbrev pub written_of : Account → DeviceView → TalkView → List ℕ
 written_of account d t = requests account d t.exchanges ++ t.part
 
 -- no response is the link's last
@@ -42,12 +42,12 @@ pub record EndsIn (exchanges : List Exchange) : Type 0 where
   pub goes_on : GoesOn before
 
 -- no byte was taken or written beside the exchanges
-pub record IsWhole (t : Talked) : Type 0 where
+pub record IsWhole (t : TalkView) : Type 0 where
   pub more : t.more ≡ []
   pub part : t.part ≡ []
 
 -- the run asked for more, and no response is read of what came: it stops with the number of that request
-pub record IsBadReply (account : Account) (d : DeviceView) (t : Talked) (next : Next) (fault : SyncFault) (link' : Meanings) : Type 0 where
+pub record IsBadReply (account : Account) (d : DeviceView) (t : TalkView) (next : Next) (fault : SyncFault) (link' : Meanings) : Type 0 where
   pub run : Run
   pub stage : Stage
   pub asks : next ≡ Send run stage
@@ -57,7 +57,7 @@ pub record IsBadReply (account : Account) (d : DeviceView) (t : Talked) (next : 
   pub stops : fault ≡ BadReply run.number
 
 -- the run asked for more, and a write of its request or a read of the response failed
-pub record IsFailed (account : Account) (d : DeviceView) (t : Talked) (next : Next) (link link' : Meanings) : Type 0 where
+pub record IsFailed (account : Account) (d : DeviceView) (t : TalkView) (next : Next) (link link' : Meanings) : Type 0 where
   pub run : Run
   pub stage : Stage
   pub asks : next ≡ Send run stage
@@ -65,7 +65,7 @@ pub record IsFailed (account : Account) (d : DeviceView) (t : Talked) (next : Ne
   pub fails : Fails (request_next account d next) t.more t.part link link'
 
 -- the run asked for more, and memory was wanting: before its request was begun, or after it was written
-pub record IsWanting (account : Account) (d : DeviceView) (t : Talked) (next : Next) : Type 0 where
+pub record IsWanting (account : Account) (d : DeviceView) (t : TalkView) (next : Next) : Type 0 where
   pub run : Run
   pub stage : Stage
   pub asks : next ≡ Send run stage
@@ -78,7 +78,7 @@ IsLast exchanges = (end : EndsIn exchanges) × IsTrue end.last.heard.last
 
 -- Why a device left a link, over what went over it, what the run does next, and what the link tells. The device that comes back
 -- is the one that was started, until the run is done
-abbrev pub Cause : Account → DeviceView → Talked → Next → Meanings → Meanings → Talk → Type 0
+abbrev pub Cause : Account → DeviceView → TalkView → Next → Meanings → Meanings → Talk → Type 0
 Cause account d t next link link' (talks.Done device summary) = (next ≡ Done device summary) × EndsIn t.exchanges × IsWhole t × IsUnfaulted link link'
 Cause account d t next link link' (talks.Stop device fault) =
     (device ≡ d) × (((next ≡ Stop fault) × EndsIn t.exchanges × IsWhole t) ⊎ IsBadReply account d t next fault link') × IsUnfaulted link link'
@@ -89,7 +89,7 @@ Cause account d t next link link' (talks.Memory device) = (device ≡ d) × IsWa
 
 -- a machine's requests over a link, from the one whose reply it awaits: what went over it, what the run does next, and why it was left
 pub record Talks (account : Account) (m : MachineView) (talk : Talk) (link link' : Meanings) : Type 0 where
-  pub talked : Talked
+  pub talked : TalkView
   pub next : Next
   pub course : IsCourse m.device (Send m.run m.stage) talked.exchanges next
   pub moves : Moves (taken_of talked) (written_of account m.device talked) link link'

@@ -2,7 +2,7 @@
 
 ghost use Rattle.ss_client.specs.Told.{CanSend};
 ghost use Rattle.ss_route.specs.Sending.{IsHost, request_sent};
-ghost use Rattle.ss_run_sync.specs.Answers.{Asked, IsMissed};
+ghost use Rattle.ss_run_sync.specs.Answers.{AsksOnce, IsMissed};
 
 use ss_http::{Heard, HeardFault, read_response};
 use ss_outside::{Sink, Source, write_all};
@@ -45,7 +45,7 @@ pub(crate) fn ask<L: Source + Sink>(
 ) -> Result<Heard, Missed>
     requires sent { CanSend request.now }
     requires host { IsHost host.now }
-    ensures { Asked (request_sent uid host.now request.now) result (L.Told.told link.old) (L.Told.told link.new) }
+    ensures { AsksOnce (request_sent uid host.now request.now) result (L.Told.told link.old) (L.Told.told link.new) }
 {
     let Ok(text) = write_request(alloc, uid, host, request) else {
         return Err(Missed::Memory);

@@ -2,7 +2,8 @@
 
 ghost use Rattle.std.specs.Prelude.{◌≡◌, ◌++◌, OnOk, IfOk, decimal};
 ghost use Rattle.ss_text.specs.Time.{stamp_text};
-ghost use Rattle.ss_run_sync.specs.Endings.{named, synced_line, refused_line, changing_line, numbered_line, stopped_line, status_of_stop, too_large};
+ghost use Rattle.ss_run_sync.specs.Endings.{refused_record, synced_line, refused_line, changing_line, numbered_line};
+ghost use Rattle.ss_run_sync.specs.Endings.{stopped_line, status_of_stop, too_large};
 
 use itoa::Buffer;
 use ss_client::{Summary, SyncFault};
@@ -37,7 +38,7 @@ pub(crate) fn synced(alloc: Global, summary: &Summary) -> Result<Vec<u8>, AllocE
 
 /// The record that was refused, where one was.
 fn push_named(out: &mut Vec<u8>, id: &Option<Id>) -> Result<(), AllocError>
-    ensures { OnOk result (out.new.items ≡ out.old.items ++ named id.now) }
+    ensures { OnOk result (out.new.items ≡ out.old.items ++ refused_record id.now) }
 {
     match id {
         Some(id) => {

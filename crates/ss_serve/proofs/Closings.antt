@@ -1,5 +1,7 @@
 -- The town is closed, and what the reports say holds of the journals that are handed back.
-use Rattle.std.proofs.Common.{Bool, cond, eq-eqb, ne_eqb, ◌≡◌, ◌≢◌, ◌⊎◌, inl, inr, ℕ, zero, suc, ◌+◌, ◌<◌, ◌≤◌, List, [], ◌∷◌, ◌++◌, length, map, refl, sym, ap, ◌∙◌, subst, append_assoc, arith, Option, Some, None, All}
+use Rattle.std.proofs.Common.{Bool, cond, eq-eqb, ne_eqb, ◌≡◌, ◌≢◌, ◌⊎◌, inl, inr, ℕ, zero, suc, ◌+◌, ◌<◌, ◌≤◌, List}
+use Rattle.std.proofs.Common.{[], ◌∷◌, ◌++◌, length, map, refl, sym, ap, ◌∙◌, subst, append_assoc, arith, Option, Some}
+use Rattle.std.proofs.Common.{None, All}
 use Rattle.std.specs.List.Sorted.{IsStrictlyIncreasing}
 use mathlib.Core.Option.{some, some-ne-none, some-injective}
 use lib.ListN.{get_elem?}

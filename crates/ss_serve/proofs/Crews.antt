@@ -1,5 +1,6 @@
 -- Lists of workers, and what stays of them.
-use Rattle.std.proofs.Common.{◌≡◌, inl, inr, ℕ, zero, suc, ◌≤◌, List, [], ◌∷◌, ◌++◌, length, map, set, get_or, length-append, append_assoc, reverse, refl, sym, ap, ◌∙◌, subst, arith, All, Option}
+use Rattle.std.proofs.Common.{◌≡◌, inl, inr, ℕ, zero, suc, ◌≤◌, List, [], ◌∷◌, ◌++◌, length, map, set, get_or}
+use Rattle.std.proofs.Common.{length-append, append_assoc, reverse, refl, sym, ap, ◌∙◌, subst, arith, All, Option}
 use Rattle.std.proofs.lemmas.List.{map-append, reverse-append}
 use mathlib.Core.Option.{some, some-injective, some-ne-none}
 use lib.ListN.{get_elem?}

@@ -1,5 +1,6 @@
 -- A turn that says that an account was full with as many entries as it has says that it is full.
-use Rattle.std.proofs.Common.{◌≡◌, ℕ, zero, suc, List, [], ◌∷◌, ◌++◌, length, length-append, cond, eq-eqb, ne_eqb, refl, sym, ap, ◌∙◌, subst, arith, Bool, true, false, Some, None, Option, if◌then◌else◌}
+use Rattle.std.proofs.Common.{◌≡◌, ℕ, zero, suc, List, [], ◌∷◌, ◌++◌, length, length-append, cond, eq-eqb, ne_eqb, refl}
+use Rattle.std.proofs.Common.{sym, ap, ◌∙◌, subst, arith, Bool, true, false, Some, None, Option, if◌then◌else◌}
 use mathlib.Core.Option.{some, some-injective, some-ne-none}
 use mathlib.Core.Logic.{dite}
 use native.Mathlib.Decide.{ℕ_discrete}

@@ -1,5 +1,6 @@
 -- What ties the parts of a term together.
-use Rattle.std.proofs.Common.{◌≡◌, ℕ, zero, suc, ◌+◌, ◌<◌, ◌≤◌, List, [], ◌∷◌, ◌++◌, length, length-append, map, set, get_or, ne_eqb, cond, refl, sym, ap, ◌∙◌, subst, arith, Some, Option, All, Bool}
+use Rattle.std.proofs.Common.{◌≡◌, ℕ, zero, suc, ◌+◌, ◌<◌, ◌≤◌, List, [], ◌∷◌, ◌++◌, length, length-append, map, set}
+use Rattle.std.proofs.Common.{get_or, ne_eqb, cond, refl, sym, ap, ◌∙◌, subst, arith, Some, Option, All, Bool}
 use mathlib.Core.Option.{some, some-injective, some-ne-none}
 use lib.ListN.{get_elem?}
 use mathlib.Core.Logic.{dite}
@@ -20,7 +21,8 @@ use Rattle.ss_serve.specs.declared.report.LinkReport.{LinkReport}
 use Rattle.ss_serve.specs.declared.report.TermStop.{TermStop}
 use Rattle.ss_serve.specs.declared.report.TermStop.TheVariants as stop
 use Rattle.ss_serve.specs.declared.worker.Worker.{Worker}
-use Rattle.ss_serve.specs.Crew.{Signed, sign, fixed_at, IsWhole, IsStart, AreLeft, HasWorked, Have, AreHanded, count_reports}
+use Rattle.ss_serve.specs.Crew.{Signed, sign, fixed_at, IsWhole, IsStart, AreLeft, HasWorked, Have, AreHanded}
+use Rattle.ss_serve.specs.Crew.{count_reports}
 use Rattle.ss_serve.specs.Fullness.{IsOpenStop, FullKind}
 use Rattle.ss_serve.specs.Reports.{AreReports, reports_by}
 use Rattle.ss_serve.specs.Terms.{AreServed, IsTerm, TermSays, FullSays, IsFull, Smallest, known_after, uids_in}

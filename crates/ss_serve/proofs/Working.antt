@@ -1,5 +1,6 @@
 -- One more report of a worker.
-use Rattle.std.proofs.Common.{◌≡◌, inl, inr, ℕ, ◌<◌, List, [], ◌∷◌, ◌++◌, refl, sym, ap, ◌∙◌, subst, append_assoc, Option, Bool}
+use Rattle.std.proofs.Common.{◌≡◌, inl, inr, ℕ, ◌<◌, List, [], ◌∷◌, ◌++◌, refl, sym, ap, ◌∙◌, subst, append_assoc}
+use Rattle.std.proofs.Common.{Option, Bool}
 use Rattle.ss_desk.specs.declared.pass.RawPass.{RawPass}
 use Rattle.ss_desk.proofs.Lists.{at_end, append_nil}
 use Rattle.ss_outside.specs.Told.{Meanings}

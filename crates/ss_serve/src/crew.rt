@@ -1,12 +1,14 @@
 //! The workers of a term: they are made, and their places at the channel come back.
 
-ghost use Rattle.std.specs.Prelude.{◌≡◌, ◌≤◌, ◌<◌, ◌+◌, ◌-◌, ℕ, [], ◌++◌, All, map, IfOk, IfErr, OnErr, true, length, vec_len, vec_capacity};
+ghost use Rattle.std.specs.Prelude.{◌≡◌, ◌≤◌, ◌<◌, ◌+◌, ◌-◌, ℕ, [], ◌++◌, All, map, IfOk, IfErr, OnErr, true, length};
+ghost use Rattle.std.specs.Prelude.{vec_len, vec_capacity};
 ghost use Rattle.crossbeam_channel.specs.Claims.{view, IsSeatAt};
 ghost use Rattle.crossbeam_channel.specs.Ends.{sends_on};
 ghost use Rattle.ss_desk.specs.Passes.{AreOf, view_at};
 ghost use Rattle.ss_town.specs.Town.{uids_of, desks_of, passes_of};
 ghost use Rattle.ss_serve.specs.Tallies.{tally};
-ghost use Rattle.ss_serve.specs.Crew.{IsReady, HasWorked, IsStart, AreLeft, Signed, fixed_at, sign, starts, count_reports};
+ghost use Rattle.ss_serve.specs.Crew.{IsReady, HasWorked, IsStart, AreLeft, Signed, fixed_at, sign, starts};
+ghost use Rattle.ss_serve.specs.Crew.{count_reports};
 
 use crate::channel::{Bare, Cut, Job, Links, Tally};
 use crate::worker::Worker;

@@ -1,5 +1,6 @@
 -- The bodies of replies as JSON values: each body's text is its value's.
-use Rattle.std.proofs.Common.{◌≡◌, ℕ, ℤ, true, false, List, [], ◌∷◌, ◌++◌, map, Option, Some, None, codes, decimal, refl, sym, ap, ap₂, ◌∙◌, append_assoc}
+use Rattle.std.proofs.Common.{◌≡◌, ℕ, ℤ, true, false, List, [], ◌∷◌, ◌++◌, map, Option, Some, None, codes, decimal}
+use Rattle.std.proofs.Common.{refl, sym, ap, ap₂, ◌∙◌, append_assoc}
 use Rattle.std.specs.Fmt.{signed_decimal}
 use Rattle.std.specs.List.{join_with_byte}
 use Rattle.json.specs.Json.{Json, number, string, array, object, Items, no_items, item, Members, no_members, member}
@@ -10,7 +11,8 @@ use Rattle.ss_bso.specs.declared.parts.Reason.{Reason}
 use Rattle.ss_route.specs.Posts.{token}
 use Rattle.ss_route.specs.Texts as texts
 use Rattle.ss_query.specs.Reasons.{reason_name}
-use Rattle.ss_route.specs.Texts.{list_text, object_text, member_text, row_text, sortindex_text, failure_text, records_text, limits, limits_text}
+use Rattle.ss_route.specs.Texts.{list_text, object_text, member_text, row_text, sortindex_text, failure_text}
+use Rattle.ss_route.specs.Texts.{records_text, limits, limits_text}
 use Rattle.ss_serving.proofs.JsonTexts.{json_text, items_text, members_text}
 
 -- ---- pieces in a row

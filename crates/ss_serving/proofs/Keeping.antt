@@ -1,5 +1,6 @@
 -- An account with its keeper stays steady, and serves a sync client.
-use Rattle.std.specs.Prelude.{◌≡◌, ℕ, ◌≤◌, Bool, true, false, ◌&&◌, ◌||◌, List, [], ◌∷◌, ◌++◌, Option, Some, None, option_map, is_none, refl}
+use Rattle.std.specs.Prelude.{◌≡◌, ℕ, ◌≤◌, Bool, true, false, ◌&&◌, ◌||◌, List, [], ◌∷◌, ◌++◌, Option, Some, None}
+use Rattle.std.specs.Prelude.{option_map, is_none, refl}
 use Rattle.std.proofs.Common.{sym, ap, subst, ◌∙◌, inr, arith}
 use Rattle.std.proofs.lemmas.Bool.{false≢true}
 use Rattle.ss_bso.specs.declared.parts.Part.{Part}
@@ -28,11 +29,13 @@ use Rattle.ss_laws.proofs.Commit.{passes}
 use Rattle.ss_account.specs.Keeping.{IsWhole, is_for_keeper}
 use Rattle.ss_account.specs.Opening.{IsGood as MayOpen}
 use Rattle.ss_account.proofs.Opened.{numbers-good, given-good}
-use Rattle.ss_plan.specs.Written.{IsWritten}
+use Rattle.ss_plan.specs.Written.{AreRowsAfter}
 use Rattle.ss_hearing.specs.declared.answer.Answer.{Answer}
-use Rattle.ss_hearing.specs.declared.answer.Answer.TheVariants.{Configured, Paged, Listed, Held, Written, Changed, Refused}
-use Rattle.ss_serving.specs.Bookmarks.{bookmarks, sheets_of, Shown, shown, Server, shown_by}
-use Rattle.ss_serving.specs.Asking.{Ask, Configure, FirstPage, NextPage, ListIds, PostAll, PostFirst, PostNext, PostLast, IsAskable, request_of, awaited_of, told_by, touches}
+use Rattle.ss_hearing.specs.declared.answer.Answer.TheVariants.{Configured, Paged, Listed, Held, Written, Changed}
+use Rattle.ss_hearing.specs.declared.answer.Answer.TheVariants.{Refused}
+use Rattle.ss_serving.specs.Bookmarks.{bookmarks, sheets_of, ShownAccount, shown_account, Server, shown_by}
+use Rattle.ss_serving.specs.Asking.{Ask, Configure, FirstPage, NextPage, ListIds, PostAll, PostFirst, PostNext}
+use Rattle.ss_serving.specs.Asking.{PostLast, IsAskable, request_of, awaited_of, told_by, touches}
 use Rattle.ss_serving.proofs.Good.{good_from}
 use Rattle.ss_serving.specs.Good.{Lasts, OtherNumber, IsGoodBatch, IsGood, IsSteady}
 use Rattle.ss_serving.specs.Serving.{IsQuiet, Ages, Writes, Serves}
@@ -55,23 +58,23 @@ names-back : (account other : Plain) → IsValid other → SameAccount account o
 names-back account other v s = Pairs-reordered NamedApart named_turned (reordered-sym s.collections) (Pairs-from_AllPairs NamedApart other.collections v.names)
 
 -- both show the same, the batches apart
-pub record ShowAlike (one other : Shown) : Type 0 where
+pub record ShowAlike (one other : ShownAccount) : Type 0 where
   pub rows : one.rows ≡ other.rows
   pub store : one.store ≡ other.store
   pub target : one.target ≡ other.target
   pub counter : one.counter ≡ other.counter
   pub staged : (n : ℕ) → one.staged n ≡ other.staged n
 
-pub alike : (one other : Shown) → ShowAlike one other → one ≡ other
+pub alike : (one other : ShownAccount) → ShowAlike one other → one ≡ other
 alike one other e = λ i. record { rows = e.rows i; store = e.store i; target = e.target i; counter = e.counter i; staged = λ n. e.staged n i }
 
-quiet-self : (a : Shown) → IsQuiet a a
+quiet-self : (a : ShownAccount) → IsQuiet a a
 quiet-self a = record { rows = refl; target = omega arith; counter = omega arith; staged = λ n parts e. e }
 
 -- ---- after the keeper was asked
 
 -- the server shows what the account by itself does
-whole-shown : {first : ℕ} (account : Plain) (server : Server) → IsGood first account → IsValid server.account → SameAccount account server.account → IsWhole server.kept server.account → ShowAlike (shown_by server) (shown account)
+whole-shown : {first : ℕ} (account : Plain) (server : Server) → IsGood first account → IsValid server.account → SameAccount account server.account → IsWhole server.kept server.account → ShowAlike (shown_by server) (shown_account account)
 whole-shown account server g v s w = record {
   rows = sym (sheets-reordered account.rows server.account.rows s.rows g.places);
   store = sym s.store;
@@ -108,16 +111,16 @@ whole-steady {first} server v g w =
 -- ---- a server that is steady
 
 module _ {first : ℕ} (before : Server) (h : IsSteady first before) where
-  more : (n : ℕ) (ps : List Part) → (shown before.account).staged n ≡ Some ps → (shown_by before).staged n ≡ Some ps
+  more : (n : ℕ) (ps : List Part) → (shown_account before.account).staged n ≡ Some ps → (shown_by before).staged n ≡ Some ps
   more n ps e = staged_before (batch_in bookmarks n before.account.batches) (batch_in bookmarks n before.kept.batches) (λ batch k. h.live n batch k) ps e
 
-  quiet-more : (b : Shown) → IsQuiet (shown before.account) b → IsQuiet (shown_by before) b
+  quiet-more : (b : ShownAccount) → IsQuiet (shown_account before.account) b → IsQuiet (shown_by before) b
   quiet-more b q = record { rows = q.rows; target = q.target; counter = q.counter; staged = λ n ps e. more n ps (q.staged n ps e) }
 
-  ages-more : (b : Shown) → Ages (shown before.account) b → Ages (shown_by before) b
+  ages-more : (b : ShownAccount) → Ages (shown_account before.account) b → Ages (shown_by before) b
   ages-more b g = record { store = g.store; rows = g.rows }
 
-  writes-more : (parts : List Part) (b : Shown) (stamp : ℕ) → Writes parts (shown before.account) b stamp → Writes parts (shown_by before) b stamp
+  writes-more : (parts : List Part) (b : ShownAccount) (stamp : ℕ) → Writes parts (shown_account before.account) b stamp → Writes parts (shown_by before) b stamp
   writes-more parts b stamp w = record {
     rows = w.rows;
     same = w.same;
@@ -126,7 +129,7 @@ module _ {first : ℕ} (before : Server) (h : IsSteady first before) where
   }
 
   -- what the account by itself answers, it answers with its keeper
-  serves-more : (ask : Ask) (b : Shown) (answer : Answer) → Serves (shown before.account) ask b answer → Serves (shown_by before) ask b answer
+  serves-more : (ask : Ask) (b : ShownAccount) (answer : Answer) → Serves (shown_account before.account) ask b answer → Serves (shown_by before) ask b answer
   serves-more ask b (Refused status) s = quiet-more b s
   serves-more ask b (Changed time) s = quiet-more b s
   serves-more Configure b (Configured limits) s = (quiet-more b s.0, s.1)
@@ -250,7 +253,7 @@ module _ {first : ℕ} (before : Server) (h : IsSteady first before) where
     quietly (PostAll condition []) None e f = (
       unmodified condition (collection_time (tick before.account now) bookmarks) (passes (tick before.account now) (request_of (PostAll condition [])) e).condition,
       record {
-        rows = subst (λ rows. IsWritten rows [] (collection_time (tick before.account now) bookmarks) (sheets_of (tick before.account now).rows)) (rows_ticked before.account h.good now)
+        rows = subst (λ rows. AreRowsAfter rows [] (collection_time (tick before.account now) bookmarks) (sheets_of (tick before.account now).rows)) (rows_ticked before.account h.good now)
             (nothing_written (sheets_of (tick before.account now).rows) (collection_time (tick before.account now) bookmarks) (sheets-apart (tick before.account now).rows ticked.places));
         same = refl;
         later = record { target = still-quiet.target; rows = inr still-quiet.rows; counter = still-quiet.counter };
@@ -274,12 +277,12 @@ module _ {first : ℕ} (before : Server) (h : IsSteady first before) where
         go true b =
             let w = turn before.account (tick before.account now) (ticks_quiet before.account h.good now) (ticks_ages before.account h.good now) ticked ask ok in
             let g : IsGood first after.account = good-same (api before.account now (request_of ask)).account after.account (names-back (api before.account now (request_of ask)).account after.account s.valid s.account) s.account w.0 in
-            let e : shown_by after ≡ shown (api before.account now (request_of ask)).account =
-            alike (shown_by after) (shown (api before.account now (request_of ask)).account) (whole-shown (api before.account now (request_of ask)).account after w.0 s.valid s.account (s.kept b)) in (
+            let e : shown_by after ≡ shown_account (api before.account now (request_of ask)).account =
+            alike (shown_by after) (shown_account (api before.account now (request_of ask)).account) (whole-shown (api before.account now (request_of ask)).account after w.0 s.valid s.account (s.kept b)) in (
               whole-steady after s.valid g (s.kept b),
               subst (λ x. Serves (shown_by before) ask x (told_by (awaited_of ask) (api before.account now (request_of ask)).reply)) (sym e)
-                  (serves-more ask (shown (api before.account now (request_of ask)).account) (told_by (awaited_of ask) (api before.account now (request_of ask)).reply) w.1),
-              subst (Ages (shown_by before)) (sym e) (ages-more (shown (api before.account now (request_of ask)).account) w.2),
+                  (serves-more ask (shown_account (api before.account now (request_of ask)).account) (told_by (awaited_of ask) (api before.account now (request_of ask)).reply) w.1),
+              subst (Ages (shown_by before)) (sym e) (ages-more (shown_account (api before.account now (request_of ask)).account) w.2),
             )
         go false b =
             let same : (api before.account now (request_of ask)).account ≡ tick before.account now = unasked (request_of ask) (refusal (tick before.account now) (request_of ask)) refl b in
@@ -298,11 +301,11 @@ module _ {first : ℕ} (before : Server) (h : IsSteady first before) where
         go true b =
             let w = turn_calm before.account (tick before.account now) (ticks_quiet before.account h.good now) (ticks_ages before.account h.good now) ticked request ok in
             let g : IsGood first after.account = good-same (api before.account now request).account after.account (names-back (api before.account now request).account after.account s.valid s.account) s.account w.0 in
-            let e : shown_by after ≡ shown (api before.account now request).account =
-            alike (shown_by after) (shown (api before.account now request).account) (whole-shown (api before.account now request).account after w.0 s.valid s.account (s.kept b)) in (
+            let e : shown_by after ≡ shown_account (api before.account now request).account =
+            alike (shown_by after) (shown_account (api before.account now request).account) (whole-shown (api before.account now request).account after w.0 s.valid s.account (s.kept b)) in (
               whole-steady after s.valid g (s.kept b),
-              subst (IsQuiet (shown_by before)) (sym e) (quiet-more (shown (api before.account now request).account) w.1),
-              subst (Ages (shown_by before)) (sym e) (ages-more (shown (api before.account now request).account) w.2),
+              subst (IsQuiet (shown_by before)) (sym e) (quiet-more (shown_account (api before.account now request).account) w.1),
+              subst (Ages (shown_by before)) (sym e) (ages-more (shown_account (api before.account now request).account) w.2),
             )
         go false b =
             let same : (api before.account now request).account ≡ tick before.account now = unasked request (refusal (tick before.account now) request) refl b in
@@ -339,7 +342,7 @@ module _ {first : ℕ} (before : Server) (h : IsSteady first before) where
         counter = sym s.account.counter ∙ h.counter;
         staged = λ n. ap (λ (kept : Kept). option_map parts_in (batch_in bookmarks n kept.batches)) s.left;
       }) in
-      (steady, subst (IsQuiet (shown_by before)) (sym e) (quiet-self (shown_by before)), ages_same (shown_by before) (shown_by after) (ap (λ (x : Shown). x.rows) e) (subst (λ x. before.account.store ≤ x) (sym (ap (λ (x : Shown). x.store) e)) (omega arith)))
+      (steady, subst (IsQuiet (shown_by before)) (sym e) (quiet-self (shown_by before)), ages_same (shown_by before) (shown_by after) (ap (λ (x : ShownAccount). x.rows) e) (subst (λ x. before.account.store ≤ x) (sym (ap (λ (x : ShownAccount). x.store) e)) (omega arith)))
 
 -- ---- an opening
 

@@ -1,5 +1,6 @@
 -- Membership, and what filters, maps and finds keep.
-use Rattle.std.specs.Prelude.{◌≡◌, ◌⊎◌, Bool, true, false, cond, List, [], ◌∷◌, ◌++◌, map, filter, find, Some, option_map, refl}
+use Rattle.std.specs.Prelude.{◌≡◌, ◌⊎◌, Bool, true, false, cond, List, [], ◌∷◌, ◌++◌, map, filter, find, Some}
+use Rattle.std.specs.Prelude.{option_map, refl}
 use Rattle.std.proofs.Common.{subst, sym, ap, ◌∙◌, inl, inr}
 use Rattle.ss_text.specs.Texts.{Reordered, nothing, head, swapped, chain}
 use Rattle.ss_bso.specs.Lists.{Each}

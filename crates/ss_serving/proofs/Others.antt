@@ -1,5 +1,7 @@
 -- Requests that leave the bookmarks alone.
-use Rattle.std.specs.Prelude.{◌≡◌, ℕ, ◌+◌, ◌≤◌, Bool, true, false, not, ◌&&◌, ◌==◌, cond, List, [], ◌∷◌, ◌++◌, length, map, filter, filter_map, Option, Some, None, option_map, is_none, is_some, unwrap_or, bytes_eq, refl}
+use Rattle.std.specs.Prelude.{◌≡◌, ℕ, ◌+◌, ◌≤◌, Bool, true, false, not, ◌&&◌, ◌==◌, cond, List, [], ◌∷◌, ◌++◌, length}
+use Rattle.std.specs.Prelude.{map, filter, filter_map, Option, Some, None, option_map, is_none, is_some, unwrap_or}
+use Rattle.std.specs.Prelude.{bytes_eq, refl}
 use Rattle.std.proofs.Common.{sym, ap, subst, ◌∙◌, arith}
 use Rattle.ss_bso.specs.declared.rows.Row.{Row}
 use Rattle.ss_bso.specs.declared.parts.Part.{Part}
@@ -10,13 +12,15 @@ use Rattle.ss_bso.specs.Batches.{batch_in, grown}
 use Rattle.ss_bso.specs.Limits.{rows_of}
 use Rattle.ss_bso.specs.Write.{ids_of, is_among, rows_written, rows_without, stamped}
 use Rattle.ss_query.specs.declared.requests.Request.{Request}
-use Rattle.ss_query.specs.declared.requests.Request.TheVariants.{Info, DeleteAll, List as ListOf, Post, DeleteCollection, DeleteIds, Get, Put, Delete}
+use Rattle.ss_query.specs.declared.requests.Request.TheVariants.{Info, DeleteAll, List as ListOf, Post}
+use Rattle.ss_query.specs.declared.requests.Request.TheVariants.{DeleteCollection, DeleteIds, Get, Put, Delete}
 use Rattle.ss_query.specs.declared.requests.Mode.TheVariants.{Plain as PlainPost, Begin, Append, Commit}
 use Rattle.ss_query.specs.Refused.{Refusal, collection_time, staged_parts}
 use Rattle.ss_query.specs.Effect.{effect, is_empty, write_some, stamp_in}
 use Rattle.ss_query.specs.Api.{outcome, refusal}
 use Rattle.ss_bso.specs.Lists.{Each, Pairs}
-use Rattle.ss_bso.proofs.Lists.{Each-and, Each-imp, Each-map, Each-append, Each-filter, Each-filter_map, Pairs-filter, find-last_not}
+use Rattle.ss_bso.proofs.Lists.{Each-and, Each-imp, Each-map, Each-append, Each-filter, Each-filter_map, Pairs-filter}
+use Rattle.ss_bso.proofs.Lists.{find-last_not}
 use Rattle.ss_laws.proofs.Times.{time_of-with_other, time_of-without}
 use Rattle.ss_bso.specs.Lists.{Apart}
 use Rattle.ss_bso.proofs.Lists.{Each-any}
@@ -24,13 +28,15 @@ use Rattle.ss_laws.proofs.Written.{made, made_named, places-written}
 use Rattle.ss_laws.proofs.Commit.{Passes, passes}
 use Rattle.ss_laws.proofs.CommitLaw.{over_from}
 use Rattle.ss_bso.specs.Limits.{most_rows_and_collections}
-use Rattle.ss_serving.specs.Bookmarks.{bookmarks, sheets_of, shown}
+use Rattle.ss_serving.specs.Bookmarks.{bookmarks, sheets_of, shown_account}
 use Rattle.ss_serving.specs.Asking.{touches}
 use Rattle.ss_serving.specs.Good.{Lasts, OtherNumber, IsGoodBatch, IsGood}
 use Rattle.ss_serving.specs.Serving.{IsQuiet, Ages}
-use Rattle.ss_serving.proofs.Lists.{Among, each_among, among_find, filter_within, filter_none, filter_append, append_none}
+use Rattle.ss_serving.proofs.Lists.{Among, each_among, among_find, filter_within, filter_none, filter_append}
+use Rattle.ss_serving.proofs.Lists.{append_none}
 use Rattle.ss_serving.proofs.Seen.{sheets_same}
-use Rattle.ss_serving.proofs.Batches.{parts_in, is_it, found_before, found_number, found_collection, found_grown, grown_not, one_number}
+use Rattle.ss_serving.proofs.Batches.{parts_in, is_it, found_before, found_number, found_collection, found_grown}
+use Rattle.ss_serving.proofs.Batches.{grown_not, one_number}
 use Rattle.ss_serving.proofs.Ticking.{staged_before, ages_same}
 use Rattle.ss_serving.proofs.Posting.{room_in, good_grown, numbers_grown, numbers_more, batches_more}
 use Rattle.ss_text.proofs.Basics.{and_false, bytes_eq-flip, same_text, no_way, length-filter_le}
@@ -78,9 +84,9 @@ module _ (collection : List ℕ) (else : bytes_eq bookmarks collection ≡ false
       (Each-filter_map (λ (id : List ℕ). Unit {0}) Lasts (made collection parts time rows) (λ id row _ e here. no_way (bytes_eq row.collection bookmarks) here (made_other parts time rows id row e)) (ids_of parts) (Each-any (ids_of parts)))
 
 -- a is an account, and t what the clock leaves of it
-module _ {first : ℕ} (a t : Plain) (quiet : IsQuiet (shown a) (shown t)) (ages : Ages (shown a) (shown t)) (good : IsGood first t) where
+module _ {first : ℕ} (a t : Plain) (quiet : IsQuiet (shown_account a) (shown_account t)) (ages : Ages (shown_account a) (shown_account t)) (good : IsGood first t) where
   abbrev pub Calm : Plain → Type 0
-  Calm b = IsGood first b × IsQuiet (shown a) (shown b) × Ages (shown a) (shown b)
+  Calm b = IsGood first b × IsQuiet (shown_account a) (shown_account b) × Ages (shown_account a) (shown_account b)
 
   -- rows, the target's time and the store's time that may be left
   record Stays (rows : List Row) (target store : ℕ) : Type 0 where
@@ -104,7 +110,7 @@ module _ {first : ℕ} (a t : Plain) (quiet : IsQuiet (shown a) (shown t)) (ages
       let rows : sheets_of b.rows ≡ sheets_of a.rows = sheets_same b.rows t.rows s.same ∙ quiet.rows in (
         record { places = s.places; number = s.number; lasting = s.lasting; below = s.below; since = omega (arith, good.since, r.count); numbers = r.numbers; batches = r.each },
         record { rows = rows; target = omega (arith, quiet.target, s.time); counter = omega (arith, quiet.counter, r.count); staged = λ n parts e. quiet.staged n parts (r.less n parts e) },
-        ages_same (shown a) (shown b) rows (omega (arith, ages.store, s.later)),
+        ages_same (shown_account a) (shown_account b) rows (omega (arith, ages.store, s.later)),
       )
 
   -- rows

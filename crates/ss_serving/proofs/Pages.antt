@@ -1,5 +1,7 @@
 -- Pages and ids.
-use Rattle.std.specs.Prelude.{◌≡◌, ◌||◌, [], ◌∷◌, find, is_some, ℕ, ◌+◌, ◌<◌, ◌≤◌, Bool, true, false, ◌&&◌, cond, nat_lt, bytes_eq, List, length, map, filter, take, drop, Option, Some, None, option_map, refl}
+use Rattle.std.specs.Prelude.{◌≡◌, ◌||◌, [], ◌∷◌, find, is_some, ℕ, ◌+◌, ◌<◌, ◌≤◌, Bool, true, false, ◌&&◌, cond}
+use Rattle.std.specs.Prelude.{nat_lt, bytes_eq, List, length, map, filter, take, drop, Option, Some, None, option_map}
+use Rattle.std.specs.Prelude.{refl}
 use Rattle.std.proofs.Common.{sym, ap, subst, ◌∙◌, arith}
 use Rattle.std.proofs.lemmas.Bool.Decides.{nat_tests}
 use Rattle.std.proofs.lemmas.List.{take-map, drop-map, length-map}

@@ -1,5 +1,6 @@
 -- What an account answers to a sync client.
-use Rattle.std.specs.Prelude.{◌≡◌, ℕ, ◌+◌, ◌<◌, ◌≤◌, Bool, true, false, not, ◌&&◌, ◌==◌, cond, List, [], ◌∷◌, ◌++◌, length, map, Option, Some, None, option_map, is_none, unwrap_or, bytes_eq, refl}
+use Rattle.std.specs.Prelude.{◌≡◌, ℕ, ◌+◌, ◌<◌, ◌≤◌, Bool, true, false, not, ◌&&◌, ◌==◌, cond, List, [], ◌∷◌, ◌++◌}
+use Rattle.std.specs.Prelude.{length, map, Option, Some, None, option_map, is_none, unwrap_or, bytes_eq, refl}
 use Rattle.std.specs.Option.{option_map_or}
 use Rattle.std.proofs.Common.{sym, ap, subst, ◌∙◌, inl, inr, arith}
 use Rattle.ss_bso.specs.declared.parts.Part.{Part}
@@ -12,27 +13,31 @@ use Rattle.ss_bso.specs.Lists.{Each, Pairs}
 use Rattle.ss_bso.specs.Validity.{IsWithinLimits}
 use Rattle.ss_bso.specs.Write.{rows_written}
 use Rattle.ss_bso.proofs.Full.{within-number}
-use Rattle.ss_bso.proofs.Lists.{Each-imp, Each-map, Each-append, Each-filter, Each-find, Each-from_All, Pairs-append, Pairs-filter, Pairs-map, find-skip, find-last_not}
+use Rattle.ss_bso.proofs.Lists.{Each-imp, Each-map, Each-append, Each-filter, Each-find, Each-from_All, Pairs-append}
+use Rattle.ss_bso.proofs.Lists.{Pairs-filter, Pairs-map, find-skip, find-last_not}
 use Rattle.ss_query.specs.declared.replies.Reply.{Reply}
-use Rattle.ss_query.specs.Refused.{status_of, Refusal, NoItem, NotModified, WasModified, NoMoreBatches, NoBatch, BatchFull, ClockEnded, AccountFull, collection_time, staged_parts}
+use Rattle.ss_query.specs.Refused.{status_of, Refusal, NoItem, NotModified, WasModified, NoMoreBatches, NoBatch}
+use Rattle.ss_query.specs.Refused.{BatchFull, ClockEnded, AccountFull, collection_time, staged_parts}
 use Rattle.ss_query.specs.Effect.{effect, is_empty, write_some, stamp_in}
-use Rattle.ss_query.specs.Api.{Outcome, refused, done, outcome, refusal}
+use Rattle.ss_query.specs.Api.{Outcome, refused_outcome, done_outcome, outcome, refusal}
 use Rattle.ss_laws.proofs.Times.{time_of-with_same}
 use Rattle.ss_laws.proofs.Written.{places-written}
 use Rattle.ss_laws.proofs.Commit.{Passes, passes}
 use Rattle.ss_laws.proofs.CommitLaw.{over_from}
 use Rattle.ss_query.specs.Answer.{answer}
 use Rattle.ss_route.specs.Sending.{IsUpload, page}
-use Rattle.ss_plan.specs.Written.{IsWritten, sheet}
+use Rattle.ss_plan.specs.Written.{AreRowsAfter, sheet}
 use Rattle.ss_hearing.specs.declared.answer.Awaited.{Awaited}
 use Rattle.ss_hearing.specs.declared.answer.Awaited.TheVariants as awaits
 use Rattle.ss_hearing.specs.declared.answer.Answer.TheVariants.{Paged, Changed, Refused, Unread}
 use Rattle.ss_hearing.specs.Hearing.{status_of as awaited_status, is_conditional}
-use Rattle.ss_serving.specs.Bookmarks.{bookmarks, sheet_of, sheets_of, Shown, shown}
-use Rattle.ss_serving.specs.Asking.{Ask, Configure, FirstPage, NextPage, ListIds, PostAll, PostFirst, PostNext, PostLast, IsAskable, request_of, awaited_of, is_offset, page_told, said_by, told_by}
+use Rattle.ss_serving.specs.Bookmarks.{bookmarks, sheet_of, sheets_of, ShownAccount, shown_account}
+use Rattle.ss_serving.specs.Asking.{Ask, Configure, FirstPage, NextPage, ListIds, PostAll, PostFirst, PostNext}
+use Rattle.ss_serving.specs.Asking.{PostLast, IsAskable, request_of, awaited_of, is_offset, page_told, said_by, told_by}
 use Rattle.ss_serving.specs.Good.{PutsPayloads, OtherNumber, IsGoodBatch, IsGood}
 use Rattle.ss_serving.specs.Serving.{IsQuiet, Writes, Begins, Appends, Ages, Serves}
-use Rattle.ss_serving.proofs.Batches.{parts_in, is_it, found_before, found_number, found_collection, found_grown, collection_grown, grown_it, grown_not}
+use Rattle.ss_serving.proofs.Batches.{parts_in, is_it, found_before, found_number, found_collection, found_grown}
+use Rattle.ss_serving.proofs.Batches.{collection_grown, grown_it, grown_not}
 use Rattle.ss_serving.proofs.Ticking.{staged_before, ages_same}
 use Rattle.ss_serving.proofs.Pages.{unmodified, page_is, offset_is, ids_are}
 use Rattle.ss_serving.proofs.Seen.{sheets-apart}
@@ -110,7 +115,7 @@ never_awaited awaited why = by awaited
     by awaits.Writing = ok why
 
 -- a reply of another status than the awaited one says that nothing was done
-pub quiet-told : (a b : Shown) → IsQuiet a b → (ask : Ask) (reply : Reply) → (reply.status == awaited_status (awaited_of ask)) ≡ false → Serves a ask b (told_by (awaited_of ask) reply)
+pub quiet-told : (a b : ShownAccount) → IsQuiet a b → (ask : Ask) (reply : Reply) → (reply.status == awaited_status (awaited_of ask)) ≡ false → Serves a ask b (told_by (awaited_of ask) reply)
 unfolding told_by
 quiet-told a b quiet ask reply ne =
     subst (λ v. Serves a ask b (cond v (said_by (awaited_of ask) reply reply.body) (cond (is_conditional (awaited_of ask) && (reply.status == 412)) (Changed (unwrap_or reply.modified 0)) (Refused reply.status)))) (sym ne)
@@ -121,16 +126,16 @@ quiet-told a b quiet ask reply ne =
     either false = quiet
 
 -- a page whose next offset is small is told as one
-pub page-told : (a b : Shown) (ask : Ask) (next : Option ℕ) (rows : List Row) (time : ℕ) → is_offset next ≡ true → Serves a ask b (Paged (map sheet_of rows) next time) → Serves a ask b (page_told next rows time)
+pub page-told : (a b : ShownAccount) (ask : Ask) (next : Option ℕ) (rows : List Row) (time : ℕ) → is_offset next ≡ true → Serves a ask b (Paged (map sheet_of rows) next time) → Serves a ask b (page_told next rows time)
 page-told a b ask next rows time small s = subst (λ v. Serves a ask b (cond v (Paged (map sheet_of rows) next time) Unread)) (sym small) s
 
 -- a is an account, and t what the clock leaves of it
-module _ {first : ℕ} (a t : Plain) (quiet : IsQuiet (shown a) (shown t)) (ages : Ages (shown a) (shown t)) (good : IsGood first t) where
+module _ {first : ℕ} (a t : Plain) (quiet : IsQuiet (shown_account a) (shown_account t)) (ages : Ages (shown_account a) (shown_account t)) (good : IsGood first t) where
   abbrev pub Well : Ask → Outcome → Type 0
-  Well ask o = IsGood first o.account × Serves (shown a) ask (shown o.account) (told_by (awaited_of ask) o.reply) × Ages (shown a) (shown o.account)
+  Well ask o = IsGood first o.account × Serves (shown_account a) ask (shown_account o.account) (told_by (awaited_of ask) o.reply) × Ages (shown_account a) (shown_account o.account)
 
-  refused_well : (ask : Ask) (why : Refusal) → Well ask (refused t (request_of ask) why)
-  refused_well ask why = (good, quiet-told (shown a) (shown t) quiet ask (refused t (request_of ask) why).reply (never_awaited (awaited_of ask) why), ages)
+  refused_well : (ask : Ask) (why : Refusal) → Well ask (refused_outcome t (request_of ask) why)
+  refused_well ask why = (good, quiet-told (shown_account a) (shown_account t) quiet ask (refused_outcome t (request_of ask) why).reply (never_awaited (awaited_of ask) why), ages)
 
   -- the collection's time isn't above a condition that holds
   holds : (condition : ℕ) → collection_time t bookmarks ≤ condition → collection_time a bookmarks ≤ condition
@@ -145,8 +150,8 @@ module _ {first : ℕ} (a t : Plain) (quiet : IsQuiet (shown a) (shown t)) (ages
 
   record Wrote (parts : List Part) (b : Plain) (stamp : ℕ) : Type 0 where
     keeps : IsGood first b
-    writes : Writes parts (shown a) (shown b) stamp
-    later : Ages (shown a) (shown b)
+    writes : Writes parts (shown_account a) (shown_account b) stamp
+    later : Ages (shown_account a) (shown_account b)
 
   abbrev AreFewer : List Staged → Type 0
   AreFewer batches = (n : ℕ) (ps : List Part) → option_map parts_in (batch_in bookmarks n batches) ≡ Some ps → option_map parts_in (batch_in bookmarks n a.batches) ≡ Some ps
@@ -156,12 +161,12 @@ module _ {first : ℕ} (a t : Plain) (quiet : IsQuiet (shown a) (shown t)) (ages
   wrote batches less numbers each [] ups room = record {
     keeps = record { places = good.places; number = good.number; lasting = good.lasting; below = good.below; since = good.since; numbers = numbers; batches = each };
     writes = record {
-      rows = subst (λ rows. IsWritten rows [] (collection_time t bookmarks) (sheets_of t.rows)) quiet.rows (nothing_written (sheets_of t.rows) (collection_time t bookmarks) (sheets-apart t.rows good.places));
+      rows = subst (λ rows. AreRowsAfter rows [] (collection_time t bookmarks) (sheets_of t.rows)) quiet.rows (nothing_written (sheets_of t.rows) (collection_time t bookmarks) (sheets-apart t.rows good.places));
       same = refl;
       later = record { target = quiet.target; rows = inr quiet.rows; counter = quiet.counter };
       staged = less;
     };
-    later = ages_same (shown a) (shown (left batches [])) quiet.rows ages.store;
+    later = ages_same (shown_account a) (shown_account (left batches [])) quiet.rows ages.store;
   }
   wrote batches less numbers each (part ∷ parts) ups room =
       let at : collection_time (left batches (part ∷ parts)) bookmarks ≡ stamp_in t = ap (λ (o : Option ℕ). unwrap_or o t.last_delete) (time_of-with_same t.collections bookmarks (stamp_in t)) in
@@ -179,7 +184,7 @@ module _ {first : ℕ} (a t : Plain) (quiet : IsQuiet (shown a) (shown t)) (ages
           batches = each;
         };
         writes = record {
-          rows = subst (λ rows. IsWritten rows (part ∷ parts) (stamp_in t) (sheets_of (rows_written bookmarks (part ∷ parts) (stamp_in t) t.rows))) quiet.rows put;
+          rows = subst (λ rows. AreRowsAfter rows (part ∷ parts) (stamp_in t) (sheets_of (rows_written bookmarks (part ∷ parts) (stamp_in t) t.rows))) quiet.rows put;
           same = at;
           later = record { target = subst (λ n. collection_time a bookmarks ≤ n) (sym at) (omega arith); rows = inl (subst (λ n. collection_time a bookmarks < n) (sym at) rises); counter = quiet.counter };
           staged = less;
@@ -206,7 +211,7 @@ module _ {first : ℕ} (a t : Plain) (quiet : IsQuiet (shown a) (shown t)) (ages
   abbrev begun : List Part → Plain
   begun parts = record t { batches = t.batches ++ newly parts ∷ []; counter = t.counter + 1 }
 
-  begins : (parts : List Part) → Begins parts (shown a) (shown (begun parts)) (t.counter + 1)
+  begins : (parts : List Part) → Begins parts (shown_account a) (shown_account (begun parts)) (t.counter + 1)
   begins parts = record {
     rows = quiet.rows;
     target = quiet.target;
@@ -240,7 +245,7 @@ module _ {first : ℕ} (a t : Plain) (quiet : IsQuiet (shown a) (shown t)) (ages
   abbrev more : ℕ → List Part → Plain
   more number parts = record t { batches = map (grown number parts) t.batches }
 
-  appends : (number : ℕ) (parts : List Part) (found : Option Staged) → batch_in bookmarks number t.batches ≡ found → is_none found ≡ false → Appends number parts (shown a) (shown (more number parts))
+  appends : (number : ℕ) (parts : List Part) (found : Option Staged) → batch_in bookmarks number t.batches ≡ found → is_none found ≡ false → Appends number parts (shown_account a) (shown_account (more number parts))
   appends number parts None e f = cc
   appends number parts (Some batch) e f = record {
     rows = quiet.rows;
@@ -287,17 +292,17 @@ module _ {first : ℕ} (a t : Plain) (quiet : IsQuiet (shown a) (shown t)) (ages
       let are : staged_parts t bookmarks number ≡ batch.parts = ap (λ (o : Option Staged). option_map_or (λ (one : Staged). one.parts) o []) e in
       record { found = ap (option_map parts_in) e ∙ ap (λ (ps : List Part). Some ps) (sym are); puts = subst (Each IsUpload) (sym are) plain }
 
-  pub done_well : (ask : Ask) → IsAskable first ask → Passes t (request_of ask) → Well ask (done t (request_of ask))
+  pub done_well : (ask : Ask) → IsAskable first ask → Passes t (request_of ask) → Well ask (done_outcome t (request_of ask))
   unfolding told_by
   done_well Configure late p = (good, (quiet, refl), ages)
   done_well (FirstPage since) late p = (
     good,
-    page-told (shown a) (shown t) (FirstPage since) (answer (rows_of bookmarks t.rows) (page since 0)).next (answer (rows_of bookmarks t.rows) (page since 0)).rows (collection_time t bookmarks) (offset_is t.rows good.number since 0) (quiet, refl, page_is t.rows since 0),
+    page-told (shown_account a) (shown_account t) (FirstPage since) (answer (rows_of bookmarks t.rows) (page since 0)).next (answer (rows_of bookmarks t.rows) (page since 0)).rows (collection_time t bookmarks) (offset_is t.rows good.number since 0) (quiet, refl, page_is t.rows since 0),
     ages,
   )
   done_well (NextPage since condition offset) late p = (
     good,
-    page-told (shown a) (shown t) (NextPage since condition offset) (answer (rows_of bookmarks t.rows) (page since offset)).next (answer (rows_of bookmarks t.rows) (page since offset)).rows (collection_time t bookmarks) (offset_is t.rows good.number since offset)
+    page-told (shown_account a) (shown_account t) (NextPage since condition offset) (answer (rows_of bookmarks t.rows) (page since offset)).next (answer (rows_of bookmarks t.rows) (page since offset)).rows (collection_time t bookmarks) (offset_is t.rows good.number since offset)
         (quiet, unmodified condition (collection_time t bookmarks) p.condition, page_is t.rows since offset),
     ages,
   )
@@ -306,9 +311,9 @@ module _ {first : ℕ} (a t : Plain) (quiet : IsQuiet (shown a) (shown t)) (ages
       let w = wrote t.batches quiet.staged good.numbers good.batches parts (Each-from_All IsUpload parts late) (λ e. (room_in (left t.batches parts) (over_from (not (is_empty parts)) (effect t (request_of (PostAll condition parts))) p.over e))) in
       (w.keeps, (holds condition (unmodified condition (collection_time t bookmarks) p.condition), w.writes), w.later)
   done_well (PostFirst condition parts) late p =
-      (begun_well parts (Each-from_All IsUpload parts late), (holds condition (unmodified condition (collection_time t bookmarks) p.condition), begins parts), ages_same (shown a) (shown (begun parts)) quiet.rows ages.store)
+      (begun_well parts (Each-from_All IsUpload parts late), (holds condition (unmodified condition (collection_time t bookmarks) p.condition), begins parts), ages_same (shown_account a) (shown_account (begun parts)) quiet.rows ages.store)
   done_well (PostNext condition number parts) late p =
-      (more_well number parts (Each-from_All IsUpload parts late.1), (holds condition (unmodified condition (collection_time t bookmarks) p.condition), appends number parts (batch_in bookmarks number t.batches) refl p.batch), ages_same (shown a) (shown (more number parts)) quiet.rows ages.store)
+      (more_well number parts (Each-from_All IsUpload parts late.1), (holds condition (unmodified condition (collection_time t bookmarks) p.condition), appends number parts (batch_in bookmarks number t.batches) refl p.batch), ages_same (shown_account a) (shown_account (more number parts)) quiet.rows ages.store)
   done_well (PostLast condition number parts) late p =
       let c = committed number late.0 (batch_in bookmarks number t.batches) refl p.batch in
       let w = wrote (batches_without number t.batches) (less_one number) (Pairs-filter OtherNumber (λ one. not (one.number == number)) t.batches good.numbers)

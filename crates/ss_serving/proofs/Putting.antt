@@ -1,5 +1,6 @@
 -- What a write makes of the rows that are shown.
-use Rattle.std.specs.Prelude.{◌≡◌, ◌⊎◌, ◌+◌, ◌*◌, ℕ, true, false, not, ◌&&◌, cond, List, [], ◌∷◌, map, filter_map, fold, Option, Some, None, option_map, bytes_eq, refl}
+use Rattle.std.specs.Prelude.{◌≡◌, ◌⊎◌, ◌+◌, ◌*◌, ℕ, true, false, not, ◌&&◌, cond, List, [], ◌∷◌, map, filter_map, fold}
+use Rattle.std.specs.Prelude.{Option, Some, None, option_map, bytes_eq, refl}
 use Rattle.std.proofs.Common.{sym, ap, subst, ◌∙◌, inl, inr}
 use Rattle.ss_record.specs.declared.readings.Sheet.{Sheet}
 use Rattle.ss_record.specs.Ids.{Apart as IdsApart}
@@ -13,7 +14,7 @@ use Rattle.ss_bso.proofs.Lists.{Each-any, Each-append, Each-filter, Each-filter_
 use Rattle.ss_laws.proofs.Reading.{write_law}
 use Rattle.ss_laws.proofs.Written.{made, places-written, row_at-named}
 use Rattle.ss_route.specs.Sending.{IsUpload}
-use Rattle.ss_plan.specs.Written.{IsWritten, sheet_after, sheet_put}
+use Rattle.ss_plan.specs.Written.{AreRowsAfter, sheet_after, sheet_put}
 use Rattle.ss_serving.specs.Bookmarks.{bookmarks, sheet_of, sheets_of}
 use Rattle.ss_serving.specs.Good.{Lasts}
 use Rattle.ss_serving.proofs.Seen.{sheet-shown, sheets-apart}
@@ -30,7 +31,7 @@ sheet-put_all stamp (part ∷ parts) old =
     sheet-put_all stamp parts (Some (put old bookmarks part stamp)) ∙ ap (λ s. fold (λ row p. Some (sheet_put stamp row p)) (Some s) parts) (sheet-put stamp old part)
 
 -- the rows that are shown after a write are those that the parts leave
-pub written : (rows : List Row) → Pairs Apart rows → (parts : List Part) (stamp : ℕ) → IsWritten (sheets_of rows) parts stamp (sheets_of (rows_written bookmarks parts stamp rows))
+pub written : (rows : List Row) → Pairs Apart rows → (parts : List Part) (stamp : ℕ) → AreRowsAfter (sheets_of rows) parts stamp (sheets_of (rows_written bookmarks parts stamp rows))
 unfolding sheet_after
 written rows places parts stamp = record {
   apart = sheets-apart (rows_written bookmarks parts stamp rows) (places-written bookmarks parts stamp rows places);
@@ -42,7 +43,7 @@ written rows places parts stamp = record {
 }
 
 -- without parts nothing changes
-pub nothing_written : (sheets : List Sheet) (stamp : ℕ) → IdsApart (map (λ s. s.id) sheets) → IsWritten sheets [] stamp sheets
+pub nothing_written : (sheets : List Sheet) (stamp : ℕ) → IdsApart (map (λ s. s.id) sheets) → AreRowsAfter sheets [] stamp sheets
 unfolding sheet_after
 nothing_written sheets stamp apart = record { apart = apart; each = λ x. refl }
 

@@ -11,7 +11,8 @@ use Rattle.ss_bso.specs.Limits.{rows_of, most_rows_and_collections}
 use Rattle.ss_bso.specs.Lists.{Each, Pairs, Apart}
 use Rattle.ss_bso.specs.Validity.{SameAccount}
 use Rattle.ss_bso.proofs.Lists.{Each-any, Pairs-imp}
-use Rattle.ss_bso.proofs.Reordering.{NotBoth, Each-reordered, Pairs-reordered, find-reordered, length-reordered, reordered-filter}
+use Rattle.ss_bso.proofs.Reordering.{NotBoth, Each-reordered, Pairs-reordered, find-reordered, length-reordered}
+use Rattle.ss_bso.proofs.Reordering.{reordered-filter}
 use Rattle.ss_query.specs.declared.requests.Query.{Query}
 use Rattle.ss_query.specs.declared.requests.Sort.TheVariants.{Oldest}
 use Rattle.ss_query.specs.declared.replies.Picked.{Picked}

@@ -1,5 +1,6 @@
 -- The rows that are shown, by their ids.
-use Rattle.std.specs.Prelude.{◌≡◌, ℕ, true, false, cond, Bool, ◌&&◌, ◌||◌, List, [], ◌∷◌, map, filter, find, Some, option_map, bytes_eq, refl}
+use Rattle.std.specs.Prelude.{◌≡◌, ℕ, true, false, cond, Bool, ◌&&◌, ◌||◌, List, [], ◌∷◌, map, filter, find, Some}
+use Rattle.std.specs.Prelude.{option_map, bytes_eq, refl}
 use Rattle.std.proofs.Common.{sym, ap, ap₂, ◌∙◌}
 use Rattle.std.proofs.lemmas.List.Sorted.{ranks_by}
 use Rattle.std.specs.Cmp.{IsStrictWeakOrder}

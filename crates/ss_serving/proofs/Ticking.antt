@@ -13,7 +13,7 @@ use Rattle.ss_bso.specs.Limits.{rows_of}
 use Rattle.ss_bso.specs.Lists.{Apart}
 use Rattle.ss_bso.proofs.Lists.{Each-imp, Each-filter, Pairs-filter}
 use Rattle.ss_plan.specs.Written.{sheet}
-use Rattle.ss_serving.specs.Bookmarks.{bookmarks, sheets_of, Shown, shown}
+use Rattle.ss_serving.specs.Bookmarks.{bookmarks, sheets_of, ShownAccount, shown_account}
 use Rattle.ss_serving.specs.Good.{Lasts, OtherNumber, IsGoodBatch, IsGood}
 use Rattle.ss_serving.specs.Serving.{IsQuiet, Ages}
 use Rattle.ss_serving.proofs.Lists.{filter_within}
@@ -27,7 +27,7 @@ staged_before None before h parts e = cc
 staged_before (Some batch) before h parts e = ap (option_map parts_in) (h batch refl) ∙ e
 
 -- the same rows leave the same store's time or a later one
-pub ages_same : (a b : Shown) → b.rows ≡ a.rows → a.store ≤ b.store → Ages a b
+pub ages_same : (a b : ShownAccount) → b.rows ≡ a.rows → a.store ≤ b.store → Ages a b
 ages_same a b e later = record { store = later; rows = λ x s h. inl (subst (λ rows. sheet x rows ≡ Some s) e h) }
 
 -- rows that last are alive
@@ -43,7 +43,7 @@ module _ {first : ℕ} (account : Plain) (good : IsGood first account) where
   pub rows_ticked : (now : ℕ) → sheets_of (tick account now).rows ≡ sheets_of account.rows
   rows_ticked now = sheets_same (tick account now).rows account.rows (bookmarks_ticked now)
 
-  pub ticks_quiet : (now : ℕ) → IsQuiet (shown account) (shown (tick account now))
+  pub ticks_quiet : (now : ℕ) → IsQuiet (shown_account account) (shown_account (tick account now))
   ticks_quiet now = record {
     rows = rows_ticked now;
     target = omega arith;
@@ -52,8 +52,8 @@ module _ {first : ℕ} (account : Plain) (good : IsGood first account) where
         (λ batch h. found_before bookmarks n (is_open (after account.moment now)) account.batches good.numbers batch h) parts e;
   }
 
-  pub ticks_ages : (now : ℕ) → Ages (shown account) (shown (tick account now))
-  ticks_ages now = ages_same (shown account) (shown (tick account now)) (rows_ticked now) (omega arith)
+  pub ticks_ages : (now : ℕ) → Ages (shown_account account) (shown_account (tick account now))
+  ticks_ages now = ages_same (shown_account account) (shown_account (tick account now)) (rows_ticked now) (omega arith)
 
   pub good_ticked : (now : ℕ) → IsGood first (tick account now)
   good_ticked now = record {

@@ -1,5 +1,6 @@
 -- The id of a batch is UTF-8 and needs no escape.
-use Rattle.std.proofs.Common.{◌≡◌, ℕ, ◌+◌, ◌*◌, ◌/◌, ◌%◌, ◌^◌, ◌<◌, ◌==◌, List, [], ◌∷◌, ◌++◌, get_or, Bool, true, ◌&&◌, not, leb, decimal, refl, ap, ap₂, ◌∙◌, arith, append-nil, IsUtf8}
+use Rattle.std.proofs.Common.{◌≡◌, ℕ, ◌+◌, ◌*◌, ◌/◌, ◌%◌, ◌^◌, ◌<◌, ◌==◌, List, [], ◌∷◌, ◌++◌, get_or, Bool, true, ◌&&◌}
+use Rattle.std.proofs.Common.{not, leb, decimal, refl, ap, ap₂, ◌∙◌, arith, append-nil, IsUtf8}
 use Rattle.std.proofs.lemmas.Bool.{and_parts, leb-true, lt-ltb, not-true, eqb-false}
 use Rattle.std.proofs.lemmas.List.Sums.{AllPass-from_list_all}
 use Rattle.std.proofs.lemmas.List.Folds.{list_all-append}

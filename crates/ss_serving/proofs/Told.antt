@@ -1,5 +1,6 @@
 -- What a client hears in the response to a reply is what the reply says.
-use Rattle.std.proofs.Common.{◌≡◌, ℕ, ◌^◌, ◌<◌, ◌≤◌, ◌==◌, inl, inr, Bool, true, false, cond, List, map, Option, Some, None, option_map, option_and_then, decimal, refl, sym, ap, ap₂, ◌∙◌, arith}
+use Rattle.std.proofs.Common.{◌≡◌, ℕ, ◌^◌, ◌<◌, ◌≤◌, ◌==◌, inl, inr, Bool, true, false, cond, List, map, Option, Some}
+use Rattle.std.proofs.Common.{None, option_map, option_and_then, decimal, refl, sym, ap, ap₂, ◌∙◌, arith}
 use Rattle.std.specs.Prelude.{IfSome, unwrap_or, All}
 use Rattle.std.proofs.lemmas.List.Elements.{recursion_from_All}
 use Rattle.std.proofs.lemmas.Bool.{eqb-true, cases_lt, lt-ltb, le-ltb}
@@ -18,7 +19,8 @@ use Rattle.ss_route.specs.Posts.{token, batch_of}
 use Rattle.ss_route.specs.Texts.{body_text}
 use Rattle.ss_route.specs.Wire.{content, heard_of}
 use Rattle.ss_hearing.specs.declared.answer.Awaited.{Awaited}
-use Rattle.ss_hearing.specs.declared.answer.Awaited.TheVariants.{Configuration, FirstPage, LaterPage, AllIds, Staging, Writing}
+use Rattle.ss_hearing.specs.declared.answer.Awaited.TheVariants.{Configuration, FirstPage, LaterPage, AllIds, Staging}
+use Rattle.ss_hearing.specs.declared.answer.Awaited.TheVariants.{Writing}
 use Rattle.ss_hearing.specs.declared.answer.Answer.{Answer}
 use Rattle.ss_hearing.specs.declared.answer.Answer.TheVariants.{Configured, Paged, Listed, Held, Written, Unread}
 use Rattle.ss_hearing.specs.Bodies.{json_of, ◌>>=◌}
@@ -26,19 +28,25 @@ use Rattle.ss_hearing.specs.Lists.{next_of}
 use Rattle.ss_hearing.specs.Hearing.{answer_of, understood, status_of, told, page_of}
 use Rattle.ss_bso.specs.declared.account.Plain.{Plain}
 use Rattle.ss_bso.specs.Account.{tick}
-use Rattle.ss_query.specs.Refused.{Refusal, NoItem, NotModified, WasModified, NoMoreBatches, NoBatch, BatchFull, ClockEnded, AccountFull}
+use Rattle.ss_query.specs.Refused.{Refusal, NoItem, NotModified, WasModified, NoMoreBatches, NoBatch, BatchFull}
+use Rattle.ss_query.specs.Refused.{ClockEnded, AccountFull}
 use Rattle.ss_query.specs.Refused.{status_of as refused_with}
 use Rattle.ss_query.specs.Api.{api, outcome, refusal}
-use Rattle.ss_serving.specs.Asking.{Ask, Configure, NextPage, ListIds, PostAll, PostFirst, PostNext, PostLast, request_of, awaited_of}
+use Rattle.ss_serving.specs.Asking.{Ask, Configure, NextPage, ListIds, PostAll, PostFirst, PostNext, PostLast}
+use Rattle.ss_serving.specs.Asking.{request_of, awaited_of}
 use Rattle.ss_serving.specs.Asking.{FirstPage as AskFirst}
 use Rattle.ss_serving.specs.Asking.{told_by, said_by, page_told}
 use Rattle.ss_serving.specs.Bookmarks.{sheet_of}
 use Rattle.ss_serving.specs.Typed.{IsTyped, IsTypedBody, IsTypedRow, IsOfKind}
 use Rattle.ss_serving.proofs.JsonTexts.{json_text}
-use Rattle.ss_serving.proofs.Bodies.{rows_json, ids_json, posted_json, staged_json, limits_json, rows_are, ids_are, posted_is, staged_is, limits_are}
+use Rattle.ss_serving.proofs.Bodies.{rows_json, ids_json, posted_json, staged_json, limits_json, rows_are, ids_are}
+use Rattle.ss_serving.proofs.Bodies.{posted_is, staged_is, limits_are}
 use Rattle.ss_serving.proofs.Clean.{IsClean, json_of-text}
 use Rattle.ss_serving.proofs.Tokens.{token_unescaped, token_utf8}
-use Rattle.ss_serving.proofs.Understood.{rows_are_heard, rows_clean, rows_depth, ids_are_heard, ids_clean, ids_depth, posted_clean, posted_depth, staged_clean, staged_depth, posted_failure, staged_failure, posted_time, staged_batch, offset_heard, offset_unread, limits_heard, limits_clean}
+use Rattle.ss_serving.proofs.Understood.{rows_are_heard, rows_clean, rows_depth, ids_are_heard, ids_clean, ids_depth}
+use Rattle.ss_serving.proofs.Understood.{posted_clean, posted_depth, staged_clean, staged_depth, posted_failure}
+use Rattle.ss_serving.proofs.Understood.{staged_failure, posted_time, staged_batch, offset_heard, offset_unread}
+use Rattle.ss_serving.proofs.Understood.{limits_heard, limits_clean}
 
 -- what is heard in a body, once it is known which JSON value it is
 heard_in : (awaited : Awaited) (heard : Heard) (j : Json) (answer : Answer) → heard.body ≡ json_text j → IsClean j → depth j ≤ 128

@@ -1,5 +1,7 @@
 -- What is heard in the bodies of replies.
-use Rattle.std.proofs.Common.{◌≡◌, ℕ, ℤ, ◌^◌, ◌<◌, ◌≤◌, Bool, true, false, ◌&&◌, cond, List, [], ◌∷◌, map, length, Option, Some, None, option_map, option_and_then, codes, decimal, refl, ap, ap₂, ◌∙◌, arith, IsUtf8, lit<, le-leb, leb}
+use Rattle.std.proofs.Common.{◌≡◌, ℕ, ℤ, ◌^◌, ◌<◌, ◌≤◌, Bool, true, false, ◌&&◌, cond, List, [], ◌∷◌, map, length}
+use Rattle.std.proofs.Common.{Option, Some, None, option_map, option_and_then, codes, decimal, refl, ap, ap₂, ◌∙◌}
+use Rattle.std.proofs.Common.{arith, IsUtf8, lit<, le-leb, leb}
 use Rattle.std.specs.Prelude.{IfSome}
 use Rattle.std.specs.Int.Signed.{mag}
 use Rattle.std.specs.List.{AllByRecursion}
@@ -26,12 +28,14 @@ use Rattle.ss_hearing.specs.Lists as lists
 use Rattle.ss_hearing.specs.Lists.{ids_of, next_of}
 use Rattle.ss_hearing.specs.Limits.{limits_of, limit_in}
 use Rattle.ss_hearing.specs.Posts.{are_words, are_failures, first_name, failure_of, failure_in, batch_in}
-use Rattle.ss_bso.specs.declared.limits.TheConstants.{MOST_RECORD_PAYLOAD_BYTES, MOST_POST_RECORDS, MOST_POST_BYTES, MOST_BATCH_RECORDS, MOST_BATCH_BYTES}
+use Rattle.ss_bso.specs.declared.limits.TheConstants.{MOST_RECORD_PAYLOAD_BYTES, MOST_POST_RECORDS, MOST_POST_BYTES}
+use Rattle.ss_bso.specs.declared.limits.TheConstants.{MOST_BATCH_RECORDS, MOST_BATCH_BYTES}
 use Rattle.ss_http.specs.declared.limits.TheConstants.{BODY_ROOM}
 use Rattle.ss_serving.specs.Asking.{first_failed, our_limits}
 use Rattle.ss_serving.specs.Typed.{IsTypedRow}
 use Rattle.ss_serving.proofs.JsonNumbers.{signed_is_utf8, IsNumber-stamp}
-use Rattle.ss_serving.proofs.Bodies.{items_of, members_of, sortindex_json, row_json, rows_json, ids_json, failure_json, failed_json, records_json, posted_json, staged_json, limits_json}
+use Rattle.ss_serving.proofs.Bodies.{items_of, members_of, sortindex_json, row_json, rows_json, ids_json, failure_json}
+use Rattle.ss_serving.proofs.Bodies.{failed_json, records_json, posted_json, staged_json, limits_json}
 use Rattle.ss_serving.proofs.Clean.{IsClean, AreClean, HasClean}
 use Rattle.ss_text.proofs.StampTexts.{all_three, decimal_is_utf8, decimal_digits, stamp_is_utf8, stamp_again}
 

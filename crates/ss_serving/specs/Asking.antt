@@ -1,17 +1,20 @@
 -- What a sync client asks of the bookmarks, and what it is told (SyncStorage API 1.5).
-use Rattle.std.specs.Prelude.{ℕ, ◌<◌, ◌&&◌, ◌==◌, Bool, List, [], ◌∷◌, map, nat_lt, bytes_eq, true, false, Option, Some, None, unwrap_or, if◌then◌else◌, All, ⊤}
+use Rattle.std.specs.Prelude.{ℕ, ◌<◌, ◌&&◌, ◌==◌, Bool, List, [], ◌∷◌, map, nat_lt, bytes_eq, true, false, Option, Some}
+use Rattle.std.specs.Prelude.{None, unwrap_or, if◌then◌else◌, All, ⊤}
 use Rattle.ss_text.specs.declared.stamps.Cond.TheVariants.{Free, IfUnmodified}
 use Rattle.std.specs.Option.{option_map_or}
 use Rattle.ss_bso.specs.declared.rows.Row.{Row}
 use Rattle.ss_bso.specs.declared.parts.Part.{Part}
 use Rattle.ss_bso.specs.declared.parts.Records.{Records}
 use Rattle.ss_bso.specs.declared.parts.Reason.{Reason}
-use Rattle.ss_bso.specs.Limits.{most_record_payload_bytes, most_post_records, most_post_bytes, most_batch_records, most_batch_bytes}
+use Rattle.ss_bso.specs.Limits.{most_record_payload_bytes, most_post_records, most_post_bytes, most_batch_records}
+use Rattle.ss_bso.specs.Limits.{most_batch_bytes}
 use Rattle.ss_http.specs.Limits.{most_body_bytes}
 use Rattle.ss_query.specs.declared.requests.Info.TheVariants.{Configuration}
 use Rattle.ss_query.specs.declared.requests.Mode.TheVariants.{Plain, Begin, Append, Commit}
 use Rattle.ss_query.specs.declared.requests.Request.{Request}
-use Rattle.ss_query.specs.declared.requests.Request.TheVariants.{Info, DeleteAll, List as ListOf, Post, DeleteCollection, DeleteIds, Get, Put, Delete}
+use Rattle.ss_query.specs.declared.requests.Request.TheVariants.{Info, DeleteAll, List as ListOf, Post}
+use Rattle.ss_query.specs.declared.requests.Request.TheVariants.{DeleteCollection, DeleteIds, Get, Put, Delete}
 use Rattle.ss_query.specs.declared.replies.Body.{Body}
 use Rattle.ss_query.specs.declared.replies.Body.TheVariants.{Limits, Ids, Rows, Posted, Staged}
 use Rattle.ss_query.specs.declared.replies.Reply.{Reply}
@@ -20,7 +23,8 @@ use Rattle.ss_plan.specs.declared.limits.Limits.{Limits as Most}
 use Rattle.ss_hearing.specs.declared.answer.Awaited.{Awaited}
 use Rattle.ss_hearing.specs.declared.answer.Awaited.TheVariants as awaited
 use Rattle.ss_hearing.specs.declared.answer.Answer.{Answer}
-use Rattle.ss_hearing.specs.declared.answer.Answer.TheVariants.{Configured, Paged, Listed, Held, Written, Changed, Refused, Unread}
+use Rattle.ss_hearing.specs.declared.answer.Answer.TheVariants.{Configured, Paged, Listed, Held, Written, Changed}
+use Rattle.ss_hearing.specs.declared.answer.Answer.TheVariants.{Refused, Unread}
 use Rattle.ss_hearing.specs.Hearing.{status_of, is_conditional, told}
 use Rattle.ss_serving.specs.Bookmarks.{bookmarks, sheet_of}
 

@@ -32,7 +32,7 @@ staged_in batches number = option_map (λ batch. batch.parts) (batch_in bookmark
 
 -- what is seen of an account: the rows; the store's time; the collection's time, or the last deletion's where it is absent; the
 -- number of the last batch that began; and the parts of the batch of a number
-pub record Shown : Type 0 where
+pub record ShownAccount : Type 0 where
   pub rows : List Sheet
   pub store : ℕ
   pub target : ℕ
@@ -40,8 +40,8 @@ pub record Shown : Type 0 where
   pub staged : ℕ → Option (List Part)
 
 -- an account by itself
-abbrev pub shown : Plain → Shown
-shown account = record {
+abbrev pub shown_account : Plain → ShownAccount
+shown_account account = record {
   rows = sheets_of account.rows;
   store = account.store;
   target = collection_time account bookmarks;
@@ -56,7 +56,7 @@ pub record Server : Type 0 where
 
 -- an account with its keeper: its batches are those that the keeper tells, also where they have ended, since they may be there
 -- again once the account is opened anew
-abbrev pub shown_by : Server → Shown
+abbrev pub shown_by : Server → ShownAccount
 shown_by server = record {
   rows = sheets_of server.account.rows;
   store = server.account.store;

@@ -1,30 +1,33 @@
 -- What an account of which a sync client asks something may show and answer, and what every other step of it leaves.
-use Rattle.std.specs.Prelude.{◌≡◌, ◌≢◌, ℕ, ◌+◌, ◌<◌, ◌≤◌, ◌⊎◌, List, ◌++◌, length, filter, nat_lt, take, drop, Option, Some, None, is_some}
+use Rattle.std.specs.Prelude.{◌≡◌, ◌≢◌, ℕ, ◌+◌, ◌<◌, ◌≤◌, ◌⊎◌, List, ◌++◌, length, filter, nat_lt, take, drop, Option}
+use Rattle.std.specs.Prelude.{Some, None, is_some}
 use Rattle.ss_record.specs.declared.readings.Sheet.{Sheet}
 use Rattle.ss_record.specs.Ids.{has}
 use Rattle.ss_bso.specs.declared.parts.Part.{Part}
-use Rattle.ss_plan.specs.Written.{IsWritten, sheet}
+use Rattle.ss_plan.specs.Written.{AreRowsAfter, sheet}
 use Rattle.ss_hearing.specs.declared.answer.Answer.{Answer}
-use Rattle.ss_hearing.specs.declared.answer.Answer.TheVariants.{Configured, Paged, Listed, Held, Written, Changed, Refused}
-use Rattle.ss_serving.specs.Bookmarks.{Shown}
-use Rattle.ss_serving.specs.Asking.{Ask, Configure, FirstPage, NextPage, ListIds, PostAll, PostFirst, PostNext, PostLast, our_limits}
+use Rattle.ss_hearing.specs.declared.answer.Answer.TheVariants.{Configured, Paged, Listed, Held, Written, Changed}
+use Rattle.ss_hearing.specs.declared.answer.Answer.TheVariants.{Refused}
+use Rattle.ss_serving.specs.Bookmarks.{ShownAccount}
+use Rattle.ss_serving.specs.Asking.{Ask, Configure, FirstPage, NextPage, ListIds, PostAll, PostFirst, PostNext}
+use Rattle.ss_serving.specs.Asking.{PostLast, our_limits}
 
 -- the rows are the same, or the collection's time has risen; no time and no number falls
-pub record IsLater (a b : Shown) : Type 0 where
+pub record IsLater (a b : ShownAccount) : Type 0 where
   pub target : a.target ≤ b.target
   pub rows : (a.target < b.target) ⊎ (b.rows ≡ a.rows)
   pub counter : a.counter ≤ b.counter
 
 -- no row has changed, and no batch has come or grown; time may have passed, a batch may have ended, and another collection may
 -- have changed
-pub record IsQuiet (a b : Shown) : Type 0 where
+pub record IsQuiet (a b : ShownAccount) : Type 0 where
   pub rows : b.rows ≡ a.rows
   pub target : a.target ≤ b.target
   pub counter : a.counter ≤ b.counter
   pub staged : (n : ℕ) (parts : List Part) → b.staged n ≡ Some parts → a.staged n ≡ Some parts
 
 -- each row was there before, or its time is above the store's time before
-pub record Ages (a b : Shown) : Type 0 where
+pub record Ages (a b : ShownAccount) : Type 0 where
   pub store : a.store ≤ b.store
   pub rows : (x : List ℕ) (s : Sheet) → sheet x b.rows ≡ Some s → (sheet x a.rows ≡ Some s) ⊎ (a.store < s.modified)
 
@@ -44,14 +47,14 @@ abbrev pub AreIdsOf : List Sheet → List (List ℕ) → Type 0
 AreIdsOf rows ids = (x : List ℕ) → has x ids ≡ is_some (sheet x rows)
 
 -- the parts are written with one stamp, which is the collection's time then; without parts nothing is, and the stamp is that time
-pub record Writes (parts : List Part) (a b : Shown) (stamp : ℕ) : Type 0 where
-  pub rows : IsWritten a.rows parts stamp b.rows
+pub record Writes (parts : List Part) (a b : ShownAccount) (stamp : ℕ) : Type 0 where
+  pub rows : AreRowsAfter a.rows parts stamp b.rows
   pub same : b.target ≡ stamp
   pub later : IsLater a b
   pub staged : (n : ℕ) (ps : List Part) → b.staged n ≡ Some ps → a.staged n ≡ Some ps
 
 -- a batch with a new number and these parts; the others are as they were, or gone
-pub record Begins (parts : List Part) (a b : Shown) (batch : ℕ) : Type 0 where
+pub record Begins (parts : List Part) (a b : ShownAccount) (batch : ℕ) : Type 0 where
   pub rows : b.rows ≡ a.rows
   pub target : a.target ≤ b.target
   pub number : a.counter < batch
@@ -60,7 +63,7 @@ pub record Begins (parts : List Part) (a b : Shown) (batch : ℕ) : Type 0 where
   pub others : (n : ℕ) (ps : List Part) → n ≤ a.counter → b.staged n ≡ Some ps → a.staged n ≡ Some ps
 
 -- the parts go to the end of a batch that is there
-pub record Appends (batch : ℕ) (parts : List Part) (a b : Shown) : Type 0 where
+pub record Appends (batch : ℕ) (parts : List Part) (a b : ShownAccount) : Type 0 where
   pub rows : b.rows ≡ a.rows
   pub target : a.target ≤ b.target
   pub counter : a.counter ≤ b.counter
@@ -70,14 +73,14 @@ pub record Appends (batch : ℕ) (parts : List Part) (a b : Shown) : Type 0 wher
   pub others : (n : ℕ) (ps : List Part) → n ≢ batch → b.staged n ≡ Some ps → a.staged n ≡ Some ps
 
 -- the parts of a batch that is there and then these are written
-pub record Commits (batch : ℕ) (parts : List Part) (a b : Shown) (stamp : ℕ) : Type 0 where
+pub record Commits (batch : ℕ) (parts : List Part) (a b : ShownAccount) (stamp : ℕ) : Type 0 where
   pub before : List Part
   pub was : a.staged batch ≡ Some before
   pub wrote : Writes (before ++ parts) a b stamp
 
 -- From a the account may give this answer to what is asked and go on to b. A condition holds wherever the answer is neither a
 -- refusal nor that something has changed, and no other answer is given.
-abbrev pub Serves : Shown → Ask → Shown → Answer → Type 0
+abbrev pub Serves : ShownAccount → Ask → ShownAccount → Answer → Type 0
 Serves a ask b (Refused status) = IsQuiet a b
 Serves a ask b (Changed time) = IsQuiet a b
 Serves a Configure b (Configured limits) = IsQuiet a b × (limits ≡ our_limits)

@@ -10,7 +10,8 @@ use Rattle.ss_query.specs.declared.replies.Body.{Body}
 use Rattle.ss_query.specs.declared.replies.Body.TheVariants.{Limits, Ids, Rows, Posted, Staged}
 use Rattle.ss_query.specs.declared.replies.Reply.{Reply}
 use Rattle.ss_hearing.specs.declared.answer.Awaited.{Awaited}
-use Rattle.ss_hearing.specs.declared.answer.Awaited.TheVariants.{Configuration, FirstPage, LaterPage, AllIds, Staging, Writing}
+use Rattle.ss_hearing.specs.declared.answer.Awaited.TheVariants.{Configuration, FirstPage, LaterPage, AllIds, Staging}
+use Rattle.ss_hearing.specs.declared.answer.Awaited.TheVariants.{Writing}
 
 -- a row: an id in form, a time, a payload in UTF-8 and a sortindex of 32 bits
 pub record IsTypedRow (row : Row) : Type 0 where

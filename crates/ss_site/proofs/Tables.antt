@@ -1,28 +1,30 @@
 -- What is kept once an entry was put or added.
-use Rattle.std.specs.Prelude.{◌≡◌, ◌≢◌, ◌<◌, ◌≤◌, ◌⊎◌, ℕ, zero, suc, Bool, true, false, cond, List, [], ◌∷◌, ◌++◌, length, get_or, set, bytes_eq, Some, None, if◌then◌else◌, Result, Ok, Err, IfOk, OnErr, refl}
+use Rattle.std.specs.Prelude.{◌≡◌, ◌≢◌, ◌<◌, ◌≤◌, ◌⊎◌, ℕ, zero, suc, Bool, true, false, cond, List, [], ◌∷◌, ◌++◌}
+use Rattle.std.specs.Prelude.{length, get_or, set, bytes_eq, Some, None, if◌then◌else◌, Result, Ok, Err, IfOk, OnErr}
+use Rattle.std.specs.Prelude.{refl}
 use Rattle.std.proofs.Common.{sym, ap, subst, ◌∙◌, arith, inl, inr}
 use Rattle.std.proofs.lemmas.Bool.{eqb-true}
 use Rattle.ss_bso.specs.declared.changes.Kept.{Kept}
 use Rattle.ss_bso.specs.Changes.{fresh_kept}
 use Rattle.ss_site.specs.Sites.{IsEntry, IsWith}
-use Rattle.ss_site.specs.Tables.{Held, is_at, entries_of, NoneBefore, IsPlace}
+use Rattle.ss_site.specs.Tables.{TableEntry, is_at, entries_of, NoneBefore, IsPlace}
 use Rattle.ss_text.proofs.Basics.{both_left, both_right, same_text}
 
 -- an entry stands at one place
-one_place : (folder : List ℕ) (uid : ℕ) (f : List ℕ) (u : ℕ) (held : Held) (b : Bool) → is_at folder uid held ≡ true → ((f ≢ folder) ⊎ (u ≢ uid)) → is_at f u held ≡ b → is_at f u held ≡ false
+one_place : (folder : List ℕ) (uid : ℕ) (f : List ℕ) (u : ℕ) (held : TableEntry) (b : Bool) → is_at folder uid held ≡ true → ((f ≢ folder) ⊎ (u ≢ uid)) → is_at f u held ≡ b → is_at f u held ≡ false
 one_place folder uid f u held false is apart seen = seen
 one_place folder uid f u held true is apart seen =
     let same_folder : f ≡ folder = sym (same_text held.folder f (both_left _ _ seen)) ∙ same_text held.folder folder (both_left _ _ is) in
     let same_uid : u ≡ uid = sym (eqb-true held.uid u (both_right (bytes_eq held.folder f) _ seen)) ∙ eqb-true held.uid uid (both_right (bytes_eq held.folder folder) _ is) in
     absurd (elim apart [ inl h ↦ h same_folder | inr h ↦ h same_uid ])
 
-apart_from : (folder : List ℕ) (uid : ℕ) (f : List ℕ) (u : ℕ) (held : Held) → is_at folder uid held ≡ true → ((f ≢ folder) ⊎ (u ≢ uid)) → is_at f u held ≡ false
+apart_from : (folder : List ℕ) (uid : ℕ) (f : List ℕ) (u : ℕ) (held : TableEntry) → is_at folder uid held ≡ true → ((f ≢ folder) ⊎ (u ≢ uid)) → is_at f u held ≡ false
 apart_from folder uid f u held is apart = one_place folder uid f u held (is_at f u held) is apart refl
 
-later : (folder : List ℕ) (uid : ℕ) (held : Held) (entries : List Held) (i : ℕ) → NoneBefore folder uid (held ∷ entries) (suc i) → NoneBefore folder uid entries i
+later : (folder : List ℕ) (uid : ℕ) (held : TableEntry) (entries : List TableEntry) (i : ℕ) → NoneBefore folder uid (held ∷ entries) (suc i) → NoneBefore folder uid entries i
 later folder uid held entries i none = λ k below d. none (suc k) (omega (arith, below)) d
 
-pub set_there : (folder : List ℕ) (uid : ℕ) (entries : List Held) (i : ℕ) (new d : Held) → i < length entries → is_at folder uid (get_or entries i d) ≡ true → NoneBefore folder uid entries i
+pub set_there : (folder : List ℕ) (uid : ℕ) (entries : List TableEntry) (i : ℕ) (new d : TableEntry) → i < length entries → is_at folder uid (get_or entries i d) ≡ true → NoneBefore folder uid entries i
     → is_at folder uid new ≡ true → IsWith folder uid new.kept (entries_of entries) (entries_of (set entries i new))
 set_there folder uid [] i new d inside is none at = absurd (omega (arith, inside))
 set_there folder uid (held ∷ entries) zero new d inside is none at = record {
@@ -37,7 +39,7 @@ set_there folder uid (held ∷ entries) (suc i) new d inside is none at =
       others = λ f u apart. ap (λ kept. cond (is_at f u held) held.kept kept) (rest.others f u apart);
     }
 
-pub found_there : (folder : List ℕ) (uid : ℕ) (entries : List Held) (i : ℕ) (d : Held) → i < length entries → is_at folder uid (get_or entries i d) ≡ true → NoneBefore folder uid entries i
+pub found_there : (folder : List ℕ) (uid : ℕ) (entries : List TableEntry) (i : ℕ) (d : TableEntry) → i < length entries → is_at folder uid (get_or entries i d) ≡ true → NoneBefore folder uid entries i
     → (get_or entries i d).kept ≡ entries_of entries folder uid
 found_there folder uid [] i d inside is none = absurd (omega (arith, inside))
 found_there folder uid (held ∷ entries) zero d inside is none = sym (ap (λ b. cond b held.kept (entries_of entries folder uid)) is)
@@ -45,54 +47,54 @@ found_there folder uid (held ∷ entries) (suc i) d inside is none =
     found_there folder uid entries i d (omega (arith, inside)) is (later folder uid held entries i none)
     ∙ sym (ap (λ b. cond b held.kept (entries_of entries folder uid)) (none 0 (omega arith) held))
 
-pub none_there : (folder : List ℕ) (uid : ℕ) (entries : List Held) (n : ℕ) → length entries ≤ n → NoneBefore folder uid entries n → fresh_kept ≡ entries_of entries folder uid
+pub none_there : (folder : List ℕ) (uid : ℕ) (entries : List TableEntry) (n : ℕ) → length entries ≤ n → NoneBefore folder uid entries n → fresh_kept ≡ entries_of entries folder uid
 none_there folder uid [] n long none = refl
 none_there folder uid (held ∷ entries) zero long none = absurd (omega (arith, long))
 none_there folder uid (held ∷ entries) (suc n) long none =
     none_there folder uid entries n (omega (arith, long)) (later folder uid held entries n none)
     ∙ sym (ap (λ b. cond b held.kept (entries_of entries folder uid)) (none 0 (omega arith) held))
 
-with_fresh : (entries : List Held) (held : Held) → held.kept ≡ fresh_kept → (f : List ℕ) (u : ℕ) → entries_of (entries ++ held ∷ []) f u ≡ entries_of entries f u
+with_fresh : (entries : List TableEntry) (held : TableEntry) → held.kept ≡ fresh_kept → (f : List ℕ) (u : ℕ) → entries_of (entries ++ held ∷ []) f u ≡ entries_of entries f u
 with_fresh [] held fresh f u = elim (is_at f u held) as (λ b. cond b held.kept fresh_kept ≡ fresh_kept) [ true ↦ fresh | false ↦ refl ]
 with_fresh (first ∷ entries) held fresh f u = ap (λ kept. cond (is_at f u first) first.kept kept) (with_fresh entries held fresh f u)
 
-pub added_there : (entries : List Held) (held : Held) → held.kept ≡ fresh_kept → entries_of (entries ++ held ∷ []) ≡ entries_of entries
+pub added_there : (entries : List TableEntry) (held : TableEntry) → held.kept ≡ fresh_kept → entries_of (entries ++ held ∷ []) ≡ entries_of entries
 added_there entries held fresh = λ i f u. with_fresh entries held fresh f u i
 
 -- once the first entry of a place was changed
-pub set_told : (folder : List ℕ) (uid : ℕ) (was entries : List Held) (i : ℕ) (element new : Held) (kept : Kept) → was ≡ entries → IsPlace folder uid was (Some i) → element ≡ get_or entries i element
+pub set_told : (folder : List ℕ) (uid : ℕ) (was entries : List TableEntry) (i : ℕ) (element new : TableEntry) (kept : Kept) → was ≡ entries → IsPlace folder uid was (Some i) → element ≡ get_or entries i element
     → new ≡ record element { kept = kept } → IsWith folder uid kept (entries_of was) (entries_of (set entries i new))
 set_told folder uid was entries i element new kept same place here is =
-    let Q : List Held → Type 0 = λ old. IsPlace folder uid old (Some i) → IsWith folder uid kept (entries_of old) (entries_of (set entries i new)) in
+    let Q : List TableEntry → Type 0 = λ old. IsPlace folder uid old (Some i) → IsWith folder uid kept (entries_of old) (entries_of (set entries i new)) in
     let there : Q entries = λ place. (let at : is_at folder uid new ≡ true = ap (is_at folder uid) is ∙ ap (is_at folder uid) here ∙ place.1 element in
-    subst (λ (k : Kept). IsWith folder uid k (entries_of entries) (entries_of (set entries i new))) (ap (λ (h : Held). h.kept) is)
+    subst (λ (k : Kept). IsWith folder uid k (entries_of entries) (entries_of (set entries i new))) (ap (λ (h : TableEntry). h.kept) is)
     (set_there folder uid entries i new element place.0 (place.1 element) place.2 at)) in
     subst Q (sym same) there place
 
 -- what the first entry of a place keeps
-pub found_told : (folder : List ℕ) (uid : ℕ) (was entries : List Held) (i : ℕ) (element : Held) → was ≡ entries → IsPlace folder uid was (Some i) → element ≡ get_or entries i element
+pub found_told : (folder : List ℕ) (uid : ℕ) (was entries : List TableEntry) (i : ℕ) (element : TableEntry) → was ≡ entries → IsPlace folder uid was (Some i) → element ≡ get_or entries i element
     → element.kept ≡ entries_of was folder uid
 found_told folder uid was entries i element same place here =
-    let Q : List Held → Type 0 = λ old. IsPlace folder uid old (Some i) → element.kept ≡ entries_of old folder uid in
-    let there : Q entries = λ place. ap (λ (h : Held). h.kept) here ∙ found_there folder uid entries i element place.0 (place.1 element) place.2 in
+    let Q : List TableEntry → Type 0 = λ old. IsPlace folder uid old (Some i) → element.kept ≡ entries_of old folder uid in
+    let there : Q entries = λ place. ap (λ (h : TableEntry). h.kept) here ∙ found_there folder uid entries i element place.0 (place.1 element) place.2 in
     subst Q (sym same) there place
 
 -- an element put in its own place
-put_back : (entries : List Held) (i : ℕ) (element : Held) → element ≡ get_or entries i element → i < length entries → set entries i element ≡ entries
+put_back : (entries : List TableEntry) (i : ℕ) (element : TableEntry) → element ≡ get_or entries i element → i < length entries → set entries i element ≡ entries
 put_back [] i element here inside = absurd (omega (arith, inside))
-put_back (held ∷ entries) zero element here inside = ap (λ (h : Held). h ∷ entries) here
-put_back (held ∷ entries) (suc i) element here inside = ap (λ (hs : List Held). held ∷ hs) (put_back entries i element here (omega (arith, inside)))
+put_back (held ∷ entries) zero element here inside = ap (λ (h : TableEntry). h ∷ entries) here
+put_back (held ∷ entries) (suc i) element here inside = ap (λ (hs : List TableEntry). held ∷ hs) (put_back entries i element here (omega (arith, inside)))
 
-pub same_told : (folder : List ℕ) (uid : ℕ) (was entries : List Held) (i : ℕ) (element new : Held) → was ≡ entries → IsPlace folder uid was (Some i) → element ≡ get_or entries i element → new ≡ element
+pub same_told : (folder : List ℕ) (uid : ℕ) (was entries : List TableEntry) (i : ℕ) (element new : TableEntry) → was ≡ entries → IsPlace folder uid was (Some i) → element ≡ get_or entries i element → new ≡ element
     → entries_of (set entries i new) ≡ entries_of was
 same_told folder uid was entries i element new same place here is =
-    let inside : i < length entries = subst (λ (old : List Held). i < length old) same place.0 in
-    ap (λ (h : Held). entries_of (set entries i h)) is ∙ ap entries_of (put_back entries i element here inside) ∙ ap entries_of (sym same)
+    let inside : i < length entries = subst (λ (old : List TableEntry). i < length old) same place.0 in
+    ap (λ (h : TableEntry). entries_of (set entries i h)) is ∙ ap entries_of (put_back entries i element here inside) ∙ ap entries_of (sym same)
 
-pub no_place : (folder : List ℕ) (uid : ℕ) (entries : List Held) → IsPlace folder uid entries None → fresh_kept ≡ entries_of entries folder uid
+pub no_place : (folder : List ℕ) (uid : ℕ) (entries : List TableEntry) → IsPlace folder uid entries None → fresh_kept ≡ entries_of entries folder uid
 no_place folder uid entries none = none_there folder uid entries (length entries) (omega arith) none
 
-pub added_or_not : {E : Type 0} (r : Result (Unit {0}) E) (old new : List Held) (held : Held) → held.kept ≡ fresh_kept → IfOk r (λ done. new ≡ old ++ held ∷ []) → OnErr r (new ≡ old) → entries_of new ≡ entries_of old
+pub added_or_not : {E : Type 0} (r : Result (Unit {0}) E) (old new : List TableEntry) (held : TableEntry) → held.kept ≡ fresh_kept → IfOk r (λ done. new ≡ old ++ held ∷ []) → OnErr r (new ≡ old) → entries_of new ≡ entries_of old
 added_or_not (Ok done) old new held fresh added refused = ap entries_of added ∙ added_there old held fresh
 added_or_not (Err fault) old new held fresh added refused = ap entries_of refused
 
@@ -101,6 +103,6 @@ with_ok (Ok value) P Q so is = so value is
 with_ok (Err fault) P Q so is = is
 
 -- what a table keeps is the entry, told or not
-pub entry_told : (folder : List ℕ) (uid : ℕ) (kept : Kept) (told : Bool) (table : List Held) → kept ≡ entries_of table folder uid → IsEntry folder uid (Some kept) (if told then Some (entries_of table) else None)
+pub entry_told : (folder : List ℕ) (uid : ℕ) (kept : Kept) (told : Bool) (table : List TableEntry) → kept ≡ entries_of table folder uid → IsEntry folder uid (Some kept) (if told then Some (entries_of table) else None)
 entry_told folder uid kept true table same = ap Some same
 entry_told folder uid kept false table same = tt

@@ -1,7 +1,7 @@
 //! Keepers that tell how often they failed.
 
 ghost use Rattle.std.specs.Prelude.{◌≡◌, ◌≢◌, ◌↔◌, IsTrue, IfOk, OnOk, OnErr};
-ghost use Rattle.ss_keeper.specs.Keeping.{HasCause, IsTold, changed_by};
+ghost use Rattle.ss_keeper.specs.Keeping.{HasCause, TellsKept, changed_by};
 
 use ss_bso::{Changes, Kept};
 use ss_keeper::{KeepFault, Keeper};

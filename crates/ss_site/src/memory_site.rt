@@ -4,7 +4,8 @@ ghost use Rattle.std.specs.Prelude.{◌≡◌, ◌⊎◌, ℕ, [], Some, None, I
 ghost use Rattle.std.specs.Option.{option_copied};
 ghost use Rattle.ss_links.specs.Counts.{RoseBy};
 ghost use Rattle.ss_links.specs.Stores.{Files, files_of};
-ghost use Rattle.ss_site.specs.Sites.{Counts, Lent, Term, HasCause, HasLent, IsBack, IsEntry, HasRetired, CountsKeeper, CountsPort, CountsStore, AddsTerm};
+ghost use Rattle.ss_site.specs.Sites.{Counts, Lent, Term, HasCause, HasLent, IsBack, IsEntry, HasRetired, CountsKeeper};
+ghost use Rattle.ss_site.specs.Sites.{CountsPort, CountsStore, AddsTerm};
 ghost use Rattle.ss_site.specs.Memories.{site_counts, site_lent, site_terms, site_kept, site_logs};
 ghost use Rattle.ss_site.specs.Tables.{entries_of, held_of};
 

@@ -3,7 +3,8 @@
 ghost use Rattle.std.specs.Prelude.{◌≡◌, ℕ, Option, List, IfOk, OnOk, OnErr};
 ghost use Rattle.ss_links.specs.Ports.{idle_port};
 ghost use Rattle.ss_links.specs.Stores.{Files};
-ghost use Rattle.ss_site.specs.Sites.{Counts, Lent, Term, Entries, HasCause, HasLent, Listens, IsBack, IsEntry, HasRetired, CountsKeeper, CountsPort, CountsStore, AddsTerm};
+ghost use Rattle.ss_site.specs.Sites.{Counts, Lent, Term, Entries, HasCause, HasLent, Listens, IsBack, IsEntry};
+ghost use Rattle.ss_site.specs.Sites.{HasRetired, CountsKeeper, CountsPort, CountsStore, AddsTerm};
 
 use ss_keeper::Keeper;
 use ss_laws::Journal;

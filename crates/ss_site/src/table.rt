@@ -22,9 +22,9 @@ pub(crate) struct Entry {
 
 impl Model for Entry {
     ghost use Rattle.std.specs.Prelude.{string_bytes};
-    ghost use Rattle.ss_site.specs.Tables.{Held};
+    ghost use Rattle.ss_site.specs.Tables.{TableEntry};
 
-    ghost Value = { Held };
+    ghost Value = { TableEntry };
 
     ghost view = { λ e. record { folder = string_bytes e.folder; uid = e.uid; kept = e.keeper.keeper.kept } };
 }
@@ -68,9 +68,9 @@ pub(crate) struct Table {
 
 impl Model for Table {
     ghost use Rattle.std.specs.Prelude.{List};
-    ghost use Rattle.ss_site.specs.Tables.{Held};
+    ghost use Rattle.ss_site.specs.Tables.{TableEntry};
 
-    ghost Value = { List Held };
+    ghost Value = { List TableEntry };
 
     ghost view = { λ t. t.entries.items };
 }

@@ -1,12 +1,14 @@
 -- Rows that are fetched one after the other, each id once.
-use Rattle.std.proofs.Common.{◌≡◌, ℕ, ◌+◌, ◌<◌, List, [], ◌∷◌, ◌++◌, length, take, drop, get_or, Bool, true, false, cond, not, ◌&&◌, ◌||◌, bytes_eq, refl, sym, ap, ap₂, ◌∙◌, append_assoc, append-nil}
+use Rattle.std.proofs.Common.{◌≡◌, ℕ, ◌+◌, ◌<◌, List, [], ◌∷◌, ◌++◌, length, take, drop, get_or, Bool, true, false}
+use Rattle.std.proofs.Common.{cond, not, ◌&&◌, ◌||◌, bytes_eq, refl, sym, ap, ap₂, ◌∙◌, append_assoc, append-nil}
 use Rattle.std.proofs.lemmas.List.{take_more, drop_more, take-append-drop}
 use Rattle.std.proofs.lemmas.Bool.{false≢true}
 use Rattle.std.specs.List.{list_any}
 use Rattle.indexmap.specs.IndexSet.{insert_key}
 use Rattle.ss_record.specs.declared.readings.Sheet.{Sheet}
 use Rattle.ss_record.specs.Ids.{Apart, has}
-use Rattle.ss_record.proofs.IdLists.{has-nil, has-cons, has-append, bytes_eq-refl, Apart-nil, Apart-cons, Apart-head, Apart-tail}
+use Rattle.ss_record.proofs.IdLists.{has-nil, has-cons, has-append, bytes_eq-refl, Apart-nil, Apart-cons, Apart-head}
+use Rattle.ss_record.proofs.IdLists.{Apart-tail}
 use Rattle.ss_sync.specs.Rows.{ids_of}
 use Rattle.ss_sync.specs.Fetched.{are_apart, kept}
 use Rattle.ss_text.proofs.Basics.{and_false, or_false, or_true, bytes_eq-sym, same_text, take_push}

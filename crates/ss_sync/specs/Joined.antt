@@ -3,20 +3,20 @@ use Rattle.std.specs.Prelude.{List, [], ◌∷◌, ◌++◌}
 use Rattle.ss_record.specs.declared.readings.Sheet.{Sheet}
 use Rattle.ss_record.specs.Ids.{by_id, firsts}
 use Rattle.ss_tree.specs.declared.entries.Entry.{Entry}
-use Rattle.ss_tree.specs.Trees.{Placed, IsSame, IsValidTree, node_ids}
+use Rattle.ss_tree.specs.Trees.{PlacedItem, IsSame, IsValidTree, node_ids}
 use Rattle.ss_tree.specs.Entries.{tree}
 use Rattle.ss_build.specs.Rows.{rows_of, dead}
 use Rattle.ss_build.specs.Built.{built}
 use Rattle.ss_dupe.specs.Looks.{Id}
 use Rattle.ss_dupe.specs.Sides.{sides}
 use Rattle.ss_dupe.specs.Pairs.{ArePairs}
-use Rattle.ss_dupe.specs.Renaming.{named, renamed}
-use Rattle.ss_merge.specs.Merged.{merged}
+use Rattle.ss_dupe.specs.Renaming.{named, tree_renamed}
+use Rattle.ss_merge.specs.Merged.{entries_merged}
 
 -- the merged tree of three trees and the deleted ids of two sides, where these are the duplicate pairs
-abbrev pub merged_of : List (Id × Id) → List Placed → List Placed → List Placed → List Id → List Id → List Placed
+abbrev pub merged_of : List (Id × Id) → List PlacedItem → List PlacedItem → List PlacedItem → List Id → List Id → List PlacedItem
 merged_of pairs mirror local remote local_dead remote_dead =
-    merged (sides mirror (renamed (named pairs) local) remote local_dead remote_dead) (by_id (firsts (node_ids (renamed (named pairs) local) ++ node_ids remote)))
+    entries_merged (sides mirror (tree_renamed (named pairs) local) remote local_dead remote_dead) (by_id (firsts (node_ids (tree_renamed (named pairs) local) ++ node_ids remote)))
 
 -- the rows of the mirror that count: where no row was fetched, none
 abbrev pub counting : List Sheet → List Sheet → List Sheet
@@ -25,7 +25,7 @@ counting mirror (row ∷ rows) = mirror
 
 -- A tree is what merging makes of a device's mirror, tree and deleted ids, and of fetched rows with their tombstones. The
 -- mirror and the remote tree are those that are built from rows, with the times of the rows; trees are compared by ids.
-pub record IsJoined (mirror : List Sheet) (local : List Entry) (local_dead : List Id) (rows : List Sheet) (joined : List Entry) : Type 0 where
+pub record IsJoinedTree (mirror : List Sheet) (local : List Entry) (local_dead : List Id) (rows : List Sheet) (joined : List Entry) : Type 0 where
   pub before : List Entry
   pub remote : List Entry
   pub pairs : List (Id × Id)

@@ -5,7 +5,7 @@ ghost use Rattle.ss_record.specs.Ids.{Apart};
 ghost use Rattle.ss_tree.specs.Entries.{IsTree};
 ghost use Rattle.ss_build.specs.Rows.{readings, rows_of};
 ghost use Rattle.ss_sync.specs.Rows.{ids_of};
-ghost use Rattle.ss_sync.specs.Joined.{IsJoined, counting};
+ghost use Rattle.ss_sync.specs.Joined.{IsJoinedTree, counting};
 
 use ss_build::{Built, build};
 use ss_merge::merge;
@@ -42,7 +42,7 @@ pub fn join(
 ) -> Result<Joined, AllocError>
     requires mirror { Apart (ids_of mirror.now) }
     requires rows { Apart (ids_of rows.now) }
-    ensures joined { IfOk result (λ j. IsJoined mirror.now local.now local_dead.now rows.now j.tree) }
+    ensures joined { IfOk result (λ j. IsJoinedTree mirror.now local.now local_dead.now rows.now j.tree) }
     ensures readings { IfOk result (λ j. j.remote.readings.items ≡ readings (rows_of rows.now)) }
 {
     let remote = build(alloc, rows)?;

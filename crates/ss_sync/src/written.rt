@@ -3,7 +3,7 @@
 ghost use Rattle.std.specs.Prelude.{◌≡◌, [], ◌∷◌, ℕ, List, IfOk, OnOk};
 ghost use Rattle.std.specs.Option.{option_map_or};
 ghost use Rattle.ss_bso.specs.Put.{field_value};
-ghost use Rattle.ss_plan.specs.Written.{IsWritten, sheet, sheet_after};
+ghost use Rattle.ss_plan.specs.Written.{AreRowsAfter, sheet, sheet_after};
 ghost use Rattle.ss_sync.specs.Rows.{AreById};
 ghost use Rattle.ss_sync.specs.Told.{row_at, rows_of};
 ghost use Rattle.std.specs.BTreeMap.{IsOrdered};
@@ -115,7 +115,7 @@ pub fn rows_after(
     parts: &[Part],
     stamp: Stamp,
 ) -> Result<Vec<Sheet>, AllocError>
-    ensures written { IfOk result (λ after. IsWritten sheets.items parts.now stamp after.items) }
+    ensures written { IfOk result (λ after. AreRowsAfter sheets.items parts.now stamp after.items) }
     ensures by_id { IfOk result (λ after. AreById after.items) }
 {
     let mut rows = gathered(alloc, sheets)?;

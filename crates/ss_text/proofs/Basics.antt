@@ -1,5 +1,7 @@
 -- Laws of tests, options, numbers, lists and bytes that the proofs of many crates use.
-use Rattle.std.specs.Prelude.{◌≡◌, ◌≢◌, ℕ, ◌+◌, ◌<◌, ◌≤◌, ◌==◌, nat_lt, Bool, true, false, not, ◌&&◌, ◌||◌, cond, List, [], ◌∷◌, ◌++◌, length, take, get_or, map, filter, filter_map, Option, Some, None, is_some, option_map, option_and_then, bytes_eq, refl}
+use Rattle.std.specs.Prelude.{◌≡◌, ◌≢◌, ℕ, ◌+◌, ◌<◌, ◌≤◌, ◌==◌, nat_lt, Bool, true, false, not, ◌&&◌, ◌||◌, cond, List}
+use Rattle.std.specs.Prelude.{[], ◌∷◌, ◌++◌, length, take, get_or, map, filter, filter_map, Option, Some, None, is_some}
+use Rattle.std.specs.Prelude.{option_map, option_and_then, bytes_eq, refl}
 use Rattle.std.specs.List.{cons_option}
 use Rattle.std.specs.Option.{option_to_list}
 use Rattle.std.specs.Ordering.{is_lt}

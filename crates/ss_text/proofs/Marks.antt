@@ -1,11 +1,16 @@
 -- What was marked and is unmarked is the text, and each is UTF-8 where the text is.
-use Rattle.std.proofs.Common.{◌≡◌, ℕ, zero, suc, ◌+◌, ◌<◌, List, [], ◌∷◌, ◌++◌, length, take, drop, get_or, Bool, true, false, cond, ◌&&◌, ◌==◌, bytes_eq, refl, sym, ap, ap₂, ◌∙◌, subst, arith, lit<, append_assoc, append-nil, length-append}
+use Rattle.std.proofs.Common.{◌≡◌, ℕ, zero, suc, ◌+◌, ◌<◌, List, [], ◌∷◌, ◌++◌, length, take, drop, get_or, Bool, true}
+use Rattle.std.proofs.Common.{false, cond, ◌&&◌, ◌==◌, bytes_eq, refl, sym, ap, ap₂, ◌∙◌, subst, arith, lit<}
+use Rattle.std.proofs.Common.{append_assoc, append-nil, length-append}
 use Rattle.std.proofs.lemmas.Bool.{true≢false, and_parts, eqb-true}
 use Rattle.std.specs.List.{flat_map, list_all}
 use Rattle.std.specs.Str.{IsUtf8}
-use Rattle.std.proofs.lemmas.Str.{IsUtf8-append, IsUtf8-take, IsUtf8-drop, IsUtf8-from_ascii, IsCharBoundary-before_ascii, IsCharBoundary-after_ascii}
+use Rattle.std.proofs.lemmas.Str.{IsUtf8-append, IsUtf8-take, IsUtf8-drop, IsUtf8-from_ascii}
+use Rattle.std.proofs.lemmas.Str.{IsCharBoundary-before_ascii, IsCharBoundary-after_ascii}
 use Rattle.std.proofs.lemmas.List.{get_or_at, take_at, drop_at, drop-drop, take-append-drop}
-use Rattle.ss_text.specs.Decimals.{is_number_byte, outside, Piece, run, text, unended, byte, pieces, spelled, is_decimal, escape_mark, begins_marked, marked_piece, unmarked_piece, changed, written, wrapped, marked, unmarked}
+use Rattle.ss_text.specs.Decimals.{is_number_byte, outside, Piece, run, text, unended, byte, pieces, bytes_of_piece}
+use Rattle.ss_text.specs.Decimals.{is_decimal, escape_mark, begins_marked, marked_piece, unmarked_piece, changed_piece}
+use Rattle.ss_text.specs.Decimals.{changed_text, wrapped, marked, unmarked_text}
 use Rattle.ss_text.specs.declared.decimals.Change.{Change}
 use Rattle.ss_text.specs.declared.decimals.Change.TheVariants.{Wrap, Mark, Unmark}
 use Rattle.ss_text.proofs.Pieces.{small_byte, begins_run, raw_run, Cut, cut_pieces, pieces_text, recut}
@@ -25,45 +30,45 @@ pub run_unmarked : (r : List ℕ) → list_all is_number_byte r ≡ true → beg
 run_unmarked [] h = refl
 run_unmarked (x ∷ r) h = ap (λ b. b && bytes_eq (take 5 r) (117 ∷ 48 ∷ 48 ∷ 48 ∷ 49 ∷ [])) (number_is_no_mark x (and_parts (is_number_byte x) (list_all is_number_byte r) h).0)
 
-marked_no_run : (ps : List Piece) → begins_run ps ≡ false → begins_run (flat_map (changed Mark) ps) ≡ false
+marked_no_run : (ps : List Piece) → begins_run ps ≡ false → begins_run (flat_map (changed_piece Mark) ps) ≡ false
 marked_no_run [] h = refl
 marked_no_run (run r ∷ ps) h = absurd (true≢false h)
 marked_no_run (text s ∷ ps) h = go (begins_marked s)
   where
-    go : (b : Bool) → begins_run (cond b (text (escape_mark ++ s)) (text s) ∷ flat_map (changed Mark) ps) ≡ false
+    go : (b : Bool) → begins_run (cond b (text (escape_mark ++ s)) (text s) ∷ flat_map (changed_piece Mark) ps) ≡ false
     go true = refl
     go false = refl
 marked_no_run (unended s ∷ ps) h = refl
 marked_no_run (byte b ∷ ps) h = refl
 
-pub mark_cut : (ps : List Piece) → Cut ps → Cut (flat_map (changed Mark) ps)
+pub mark_cut : (ps : List Piece) → Cut ps → Cut (flat_map (changed_piece Mark) ps)
 mark_cut [] h = tt
 mark_cut (run r ∷ ps) h = go (is_decimal r) (mark_cut ps h.3)
   where
-    go : (b : Bool) → Cut (flat_map (changed Mark) ps) → Cut (cond b (text (escape_mark ++ r)) (run r) ∷ flat_map (changed Mark) ps)
+    go : (b : Bool) → Cut (flat_map (changed_piece Mark) ps) → Cut (cond b (text (escape_mark ++ r)) (run r) ∷ flat_map (changed_piece Mark) ps)
     go true ih = (raw_run r h.0, ih)
     go false ih = (h.0, h.1, marked_no_run ps h.2, ih)
 mark_cut (text s ∷ ps) h = go (begins_marked s) (mark_cut ps h.1)
   where
-    go : (b : Bool) → Cut (flat_map (changed Mark) ps) → Cut (cond b (text (escape_mark ++ s)) (text s) ∷ flat_map (changed Mark) ps)
+    go : (b : Bool) → Cut (flat_map (changed_piece Mark) ps) → Cut (cond b (text (escape_mark ++ s)) (text s) ∷ flat_map (changed_piece Mark) ps)
     go true ih = (h.0, ih)
     go false ih = (h.0, ih)
 mark_cut (unended s ∷ []) h = (h.0, tt)
 mark_cut (unended s ∷ p ∷ ps) h = absurd h.1
 mark_cut (byte b ∷ ps) h = (h.0, h.1, mark_cut ps h.2)
 
-pub wrap_cut : (ps : List Piece) → Cut ps → Cut (flat_map (changed Wrap) ps)
+pub wrap_cut : (ps : List Piece) → Cut ps → Cut (flat_map (changed_piece Wrap) ps)
 wrap_cut [] h = tt
 wrap_cut (run r ∷ ps) h = go (is_decimal r) (wrap_cut ps h.3)
   where
-    no_run : (qs : List Piece) → begins_run qs ≡ false → begins_run (flat_map (changed Wrap) qs) ≡ false
+    no_run : (qs : List Piece) → begins_run qs ≡ false → begins_run (flat_map (changed_piece Wrap) qs) ≡ false
     no_run [] k = refl
     no_run (run q ∷ qs) k = absurd (true≢false k)
     no_run (text s ∷ qs) k = refl
     no_run (unended s ∷ qs) k = refl
     no_run (byte b ∷ qs) k = refl
 
-    go : (b : Bool) → Cut (flat_map (changed Wrap) ps) → Cut (cond b (byte 91 ∷ text r ∷ byte 93 ∷ []) (run r ∷ []) ++ flat_map (changed Wrap) ps)
+    go : (b : Bool) → Cut (flat_map (changed_piece Wrap) ps) → Cut (cond b (byte 91 ∷ text r ∷ byte 93 ∷ []) (run r ∷ []) ++ flat_map (changed_piece Wrap) ps)
     go true ih = (refl, refl, (raw_run r h.0, (refl, refl, ih)))
     go false ih = (h.0, h.1, no_run ps h.2, ih)
 wrap_cut (text s ∷ ps) h = (h.0, wrap_cut ps h.1)
@@ -71,11 +76,11 @@ wrap_cut (unended s ∷ []) h = (h.0, tt)
 wrap_cut (unended s ∷ p ∷ ps) h = absurd h.1
 wrap_cut (byte b ∷ ps) h = (h.0, h.1, wrap_cut ps h.2)
 
-pub marked_pieces : (t : List ℕ) → pieces outside (marked t) ≡ flat_map (changed Mark) (pieces outside t)
-marked_pieces t = recut (flat_map (changed Mark) (pieces outside t)) (mark_cut (pieces outside t) (cut_pieces t outside))
+pub marked_pieces : (t : List ℕ) → pieces outside (marked t) ≡ flat_map (changed_piece Mark) (pieces outside t)
+marked_pieces t = recut (flat_map (changed_piece Mark) (pieces outside t)) (mark_cut (pieces outside t) (cut_pieces t outside))
 
-pub wrapped_pieces_are : (t : List ℕ) → pieces outside (wrapped t) ≡ flat_map (changed Wrap) (pieces outside t)
-wrapped_pieces_are t = recut (flat_map (changed Wrap) (pieces outside t)) (wrap_cut (pieces outside t) (cut_pieces t outside))
+pub wrapped_pieces_are : (t : List ℕ) → pieces outside (wrapped t) ≡ flat_map (changed_piece Wrap) (pieces outside t)
+wrapped_pieces_are t = recut (flat_map (changed_piece Wrap) (pieces outside t)) (wrap_cut (pieces outside t) (cut_pieces t outside))
 
 -- ---- marked and unmarked
 
@@ -100,26 +105,26 @@ cut_rest (unended s) [] h = tt
 cut_rest (unended s) (p ∷ ps) h = absurd h.1
 cut_rest (byte b) ps h = h.2
 
-pieces_back : (ps : List Piece) → Cut ps → flat_map (changed Unmark) (flat_map (changed Mark) ps) ≡ ps
+pieces_back : (ps : List Piece) → Cut ps → flat_map (changed_piece Unmark) (flat_map (changed_piece Mark) ps) ≡ ps
 pieces_back [] h = refl
 pieces_back (p ∷ ps) h = ap₂ (λ q qs. q ∷ qs) (piece_back p ps h) (pieces_back ps (cut_rest p ps h))
 
-pub unmarked-marked : (t : List ℕ) → unmarked (marked t) ≡ t
+pub unmarked-marked : (t : List ℕ) → unmarked_text (marked t) ≡ t
 unmarked-marked t =
-    ap (λ ps. flat_map spelled (flat_map (changed Unmark) ps)) (marked_pieces t)
-    ∙ ap (flat_map spelled) (pieces_back (pieces outside t) (cut_pieces t outside)) ∙ pieces_text t
+    ap (λ ps. flat_map bytes_of_piece (flat_map (changed_piece Unmark) ps)) (marked_pieces t)
+    ∙ ap (flat_map bytes_of_piece) (pieces_back (pieces outside t) (cut_pieces t outside)) ∙ pieces_text t
 
 -- each piece marked, and each unmarked
 abbrev pub all_marked : List Piece → List Piece
-all_marked ps = flat_map (changed Mark) ps
+all_marked ps = flat_map (changed_piece Mark) ps
 
 abbrev pub all_unmarked : List Piece → List Piece
-all_unmarked ps = flat_map (changed Unmark) ps
+all_unmarked ps = flat_map (changed_piece Unmark) ps
 
 -- a text whose pieces are marked again into what they were
-pub marked-unmarked : (ps : List Piece) → Cut (flat_map (changed Unmark) ps) → flat_map (changed Mark) (flat_map (changed Unmark) ps) ≡ ps → marked (flat_map spelled (flat_map (changed Unmark) ps)) ≡ flat_map spelled ps
+pub marked-unmarked : (ps : List Piece) → Cut (flat_map (changed_piece Unmark) ps) → flat_map (changed_piece Mark) (flat_map (changed_piece Unmark) ps) ≡ ps → marked (flat_map bytes_of_piece (flat_map (changed_piece Unmark) ps)) ≡ flat_map bytes_of_piece ps
 marked-unmarked ps h e =
-    ap (λ qs. flat_map spelled (flat_map (changed Mark) qs)) (recut (flat_map (changed Unmark) ps) h) ∙ ap (flat_map spelled) e
+    ap (λ qs. flat_map bytes_of_piece (flat_map (changed_piece Mark) qs)) (recut (flat_map (changed_piece Unmark) ps) h) ∙ ap (flat_map bytes_of_piece) e
 
 -- ---- what is changed is UTF-8
 
@@ -168,60 +173,60 @@ begins_split s e = sym (take-append-drop 6 s) ∙ ap (λ m. m ++ drop 6 s) (same
 rest_utf8 : (s : List ℕ) → begins_marked s ≡ true → IsUtf8 s → IsUtf8 (drop 6 s)
 rest_utf8 s e u = (cut_at_byte (92 ∷ 117 ∷ 48 ∷ 48 ∷ 48 ∷ []) (drop 6 s) 49 (lit< tt) (subst IsUtf8 (begins_split s e) u)).1
 
-text_utf8 : (change : Change) (s : List ℕ) → IsUtf8 s → IsUtf8 (flat_map spelled (changed change (text s)))
+text_utf8 : (change : Change) (s : List ℕ) → IsUtf8 s → IsUtf8 (flat_map bytes_of_piece (changed_piece change (text s)))
 text_utf8 Wrap s u = subst IsUtf8 (sym (append-nil (34 ∷ (s ++ 34 ∷ [])))) (quoted_utf8 s u)
 text_utf8 Mark s u = go (begins_marked s)
   where
-    go : (b : Bool) → IsUtf8 (flat_map spelled (cond b (text (escape_mark ++ s)) (text s) ∷ []))
+    go : (b : Bool) → IsUtf8 (flat_map bytes_of_piece (cond b (text (escape_mark ++ s)) (text s) ∷ []))
     go true = subst IsUtf8 (sym (append-nil (34 ∷ ((escape_mark ++ s) ++ 34 ∷ [])))) (quoted_utf8 (escape_mark ++ s) (IsUtf8-append escape_mark s mark_utf8 u))
     go false = subst IsUtf8 (sym (append-nil (34 ∷ (s ++ 34 ∷ [])))) (quoted_utf8 s u)
 text_utf8 Unmark s u = go (begins_marked s) (begins_marked (drop 6 s)) refl
   where
-    go : (b c : Bool) → begins_marked s ≡ b → IsUtf8 (flat_map spelled (cond b (cond c (text (drop 6 s)) (run (drop 6 s))) (text s) ∷ []))
+    go : (b c : Bool) → begins_marked s ≡ b → IsUtf8 (flat_map bytes_of_piece (cond b (cond c (text (drop 6 s)) (run (drop 6 s))) (text s) ∷ []))
     go true true e = subst IsUtf8 (sym (append-nil (34 ∷ (drop 6 s ++ 34 ∷ [])))) (quoted_utf8 (drop 6 s) (rest_utf8 s e u))
     go true false e = subst IsUtf8 (sym (append-nil (drop 6 s))) (rest_utf8 s e u)
     go false c e = subst IsUtf8 (sym (append-nil (34 ∷ (s ++ 34 ∷ [])))) (quoted_utf8 s u)
 
-run_utf8 : (change : Change) (r : List ℕ) → IsUtf8 r → IsUtf8 (flat_map spelled (changed change (run r)))
+run_utf8 : (change : Change) (r : List ℕ) → IsUtf8 r → IsUtf8 (flat_map bytes_of_piece (changed_piece change (run r)))
 run_utf8 Wrap r u = go (is_decimal r)
   where
-    go : (b : Bool) → IsUtf8 (flat_map spelled (cond b (byte 91 ∷ text r ∷ byte 93 ∷ []) (run r ∷ [])))
+    go : (b : Bool) → IsUtf8 (flat_map bytes_of_piece (cond b (byte 91 ∷ text r ∷ byte 93 ∷ []) (run r ∷ [])))
     go true = IsUtf8-append (91 ∷ []) (34 ∷ (r ++ 34 ∷ []) ++ 93 ∷ []) (one_ascii 91 (lit< tt)) (IsUtf8-append (34 ∷ (r ++ 34 ∷ [])) (93 ∷ []) (quoted_utf8 r u) (one_ascii 93 (lit< tt)))
     go false = subst IsUtf8 (sym (append-nil r)) u
 run_utf8 Mark r u = go (is_decimal r)
   where
-    go : (b : Bool) → IsUtf8 (flat_map spelled (cond b (text (escape_mark ++ r)) (run r) ∷ []))
+    go : (b : Bool) → IsUtf8 (flat_map bytes_of_piece (cond b (text (escape_mark ++ r)) (run r) ∷ []))
     go true = subst IsUtf8 (sym (append-nil (34 ∷ ((escape_mark ++ r) ++ 34 ∷ [])))) (quoted_utf8 (escape_mark ++ r) (IsUtf8-append escape_mark r mark_utf8 u))
     go false = subst IsUtf8 (sym (append-nil r)) u
 run_utf8 Unmark r u = subst IsUtf8 (sym (append-nil r)) u
 
-pub flat-append : (ps qs : List Piece) → flat_map spelled (ps ++ qs) ≡ flat_map spelled ps ++ flat_map spelled qs
+pub flat-append : (ps qs : List Piece) → flat_map bytes_of_piece (ps ++ qs) ≡ flat_map bytes_of_piece ps ++ flat_map bytes_of_piece qs
 flat-append [] qs = refl
-flat-append (p ∷ ps) qs = ap (λ t. spelled p ++ t) (flat-append ps qs) ∙ sym (append_assoc (spelled p) (flat_map spelled ps) (flat_map spelled qs))
+flat-append (p ∷ ps) qs = ap (λ t. bytes_of_piece p ++ t) (flat-append ps qs) ∙ sym (append_assoc (bytes_of_piece p) (flat_map bytes_of_piece ps) (flat_map bytes_of_piece qs))
 
 -- the front a stands before the piece already; what comes after is changed
-utf8_joined : (change : Change) (a : List ℕ) (p : Piece) (ps : List Piece) → IsUtf8 a → IsUtf8 (flat_map spelled (changed change p)) → IsUtf8 (flat_map spelled (flat_map (changed change) ps))
-    → IsUtf8 (a ++ flat_map spelled (changed change p ++ flat_map (changed change) ps))
+utf8_joined : (change : Change) (a : List ℕ) (p : Piece) (ps : List Piece) → IsUtf8 a → IsUtf8 (flat_map bytes_of_piece (changed_piece change p)) → IsUtf8 (flat_map bytes_of_piece (flat_map (changed_piece change) ps))
+    → IsUtf8 (a ++ flat_map bytes_of_piece (changed_piece change p ++ flat_map (changed_piece change) ps))
 utf8_joined change a p ps u v w =
-    subst (λ t. IsUtf8 (a ++ t)) (sym (flat-append (changed change p) (flat_map (changed change) ps)))
-    (IsUtf8-append a _ u (IsUtf8-append (flat_map spelled (changed change p)) _ v w))
+    subst (λ t. IsUtf8 (a ++ t)) (sym (flat-append (changed_piece change p) (flat_map (changed_piece change) ps)))
+    (IsUtf8-append a _ u (IsUtf8-append (flat_map bytes_of_piece (changed_piece change p)) _ v w))
 
-changed_utf8 : (change : Change) (a : List ℕ) (ps : List Piece) → Cut ps → IsUtf8 (a ++ flat_map spelled ps) → IsUtf8 (a ++ flat_map spelled (flat_map (changed change) ps))
+changed_utf8 : (change : Change) (a : List ℕ) (ps : List Piece) → Cut ps → IsUtf8 (a ++ flat_map bytes_of_piece ps) → IsUtf8 (a ++ flat_map bytes_of_piece (flat_map (changed_piece change) ps))
 changed_utf8 change a [] h u = u
 changed_utf8 change a (run r ∷ ps) h u =
-    let c = cut_at_run a r (flat_map spelled ps) h.0 h.1 u in
+    let c = cut_at_run a r (flat_map bytes_of_piece ps) h.0 h.1 u in
     utf8_joined change a (run r) ps c.0 (run_utf8 change r c.1) (changed_utf8 change [] ps h.3 c.2)
 changed_utf8 change a (text s ∷ ps) h u =
-    let first = cut_at_byte a ((s ++ 34 ∷ []) ++ flat_map spelled ps) 34 (lit< tt) u in
-    let second = cut_at_byte s (flat_map spelled ps) 34 (lit< tt) (subst IsUtf8 (append_assoc s (34 ∷ []) (flat_map spelled ps)) first.1) in
+    let first = cut_at_byte a ((s ++ 34 ∷ []) ++ flat_map bytes_of_piece ps) 34 (lit< tt) u in
+    let second = cut_at_byte s (flat_map bytes_of_piece ps) 34 (lit< tt) (subst IsUtf8 (append_assoc s (34 ∷ []) (flat_map bytes_of_piece ps)) first.1) in
     utf8_joined change a (text s) ps first.0 (text_utf8 change s second.0) (changed_utf8 change [] ps h.1 second.1)
 changed_utf8 Wrap a (unended s ∷ []) h u = u
 changed_utf8 Mark a (unended s ∷ []) h u = u
 changed_utf8 Unmark a (unended s ∷ []) h u = u
 changed_utf8 change a (unended s ∷ p ∷ ps) h u = absurd h.1
-changed_utf8 Wrap a (byte b ∷ ps) h u = subst IsUtf8 (append_assoc a (b ∷ []) _) (changed_utf8 Wrap (a ++ b ∷ []) ps h.2 (subst IsUtf8 (sym (append_assoc a (b ∷ []) (flat_map spelled ps))) u))
-changed_utf8 Mark a (byte b ∷ ps) h u = subst IsUtf8 (append_assoc a (b ∷ []) _) (changed_utf8 Mark (a ++ b ∷ []) ps h.2 (subst IsUtf8 (sym (append_assoc a (b ∷ []) (flat_map spelled ps))) u))
-changed_utf8 Unmark a (byte b ∷ ps) h u = subst IsUtf8 (append_assoc a (b ∷ []) _) (changed_utf8 Unmark (a ++ b ∷ []) ps h.2 (subst IsUtf8 (sym (append_assoc a (b ∷ []) (flat_map spelled ps))) u))
+changed_utf8 Wrap a (byte b ∷ ps) h u = subst IsUtf8 (append_assoc a (b ∷ []) _) (changed_utf8 Wrap (a ++ b ∷ []) ps h.2 (subst IsUtf8 (sym (append_assoc a (b ∷ []) (flat_map bytes_of_piece ps))) u))
+changed_utf8 Mark a (byte b ∷ ps) h u = subst IsUtf8 (append_assoc a (b ∷ []) _) (changed_utf8 Mark (a ++ b ∷ []) ps h.2 (subst IsUtf8 (sym (append_assoc a (b ∷ []) (flat_map bytes_of_piece ps))) u))
+changed_utf8 Unmark a (byte b ∷ ps) h u = subst IsUtf8 (append_assoc a (b ∷ []) _) (changed_utf8 Unmark (a ++ b ∷ []) ps h.2 (subst IsUtf8 (sym (append_assoc a (b ∷ []) (flat_map bytes_of_piece ps))) u))
 
-pub written_utf8 : (change : Change) (t : List ℕ) → IsUtf8 t → IsUtf8 (written change t)
+pub written_utf8 : (change : Change) (t : List ℕ) → IsUtf8 t → IsUtf8 (changed_text change t)
 written_utf8 change t u = changed_utf8 change [] (pieces outside t) (cut_pieces t outside) (subst IsUtf8 (sym (pieces_text t)) u)

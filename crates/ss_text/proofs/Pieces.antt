@@ -1,6 +1,8 @@
 -- The pieces of a text: what stands at its front, that they are the text, and that a text put together of such pieces
 -- is cut into them again.
-use Rattle.std.proofs.Common.{◌≡◌, ℕ, suc, ◌+◌, ◌<◌, ◌≤◌, List, [], ◌∷◌, ◌++◌, length, drop, get_or, Bool, true, false, cond, ◌&&◌, ◌||◌, ◌==◌, ◌⊎◌, inl, inr, ⊎_elim, refl, sym, ap, ap₂, ◌∙◌, subst, arith, lit<, leb, append_assoc, append-nil}
+use Rattle.std.proofs.Common.{◌≡◌, ℕ, suc, ◌+◌, ◌<◌, ◌≤◌, List, [], ◌∷◌, ◌++◌, length, drop, get_or, Bool, true, false}
+use Rattle.std.proofs.Common.{cond, ◌&&◌, ◌||◌, ◌==◌, ◌⊎◌, inl, inr, ⊎_elim, refl, sym, ap, ap₂, ◌∙◌, subst, arith}
+use Rattle.std.proofs.Common.{lit<, leb, append_assoc, append-nil}
 use Rattle.std.proofs.lemmas.Bool.{true≢false, and_parts, or_cases, eqb-true, leb-true, ne_eqb, cases_lt}
 use Rattle.std.proofs.lemmas.List.{get_or_past}
 use Rattle.std.specs.Char.{is_ascii_digit}
@@ -8,7 +10,8 @@ use Rattle.std.specs.Bool.{⊤}
 use Rattle.std.specs.List.{prefix_len, list_all, AllPass, flat_map}
 use Rattle.std.specs.Str.{IsUtf8}
 use Rattle.std.proofs.lemmas.Str.{IsUtf8-from_ascii}
-use Rattle.ss_text.specs.Decimals.{is_number_byte, Place, outside, inside, escaped, next_place, Piece, run, text, unended, byte, with_front, with_character, pieces, spelled}
+use Rattle.ss_text.specs.Decimals.{is_number_byte, Place, outside, inside, escaped, next_place, Piece, run, text}
+use Rattle.ss_text.specs.Decimals.{unended, byte, with_front, with_character, pieces, bytes_of_piece}
 
 -- ---- bytes of numbers
 
@@ -249,18 +252,18 @@ cut_pieces (x ∷ xs) inside = go (x == 34) (x == 92) refl refl (cut_pieces xs o
 -- ---- the pieces are the text
 
 abbrev SpelledAt : Place → List Piece → List ℕ → Type 0
-SpelledAt outside ps xs = flat_map spelled ps ≡ xs
-SpelledAt inside ps xs = flat_map spelled ps ≡ 34 ∷ xs
-SpelledAt escaped ps xs = flat_map spelled ps ≡ 34 ∷ xs
+SpelledAt outside ps xs = flat_map bytes_of_piece ps ≡ xs
+SpelledAt inside ps xs = flat_map bytes_of_piece ps ≡ 34 ∷ xs
+SpelledAt escaped ps xs = flat_map bytes_of_piece ps ≡ 34 ∷ xs
 
-front_spelled : (x : ℕ) (ps : List Piece) → flat_map spelled (with_front x ps) ≡ x ∷ flat_map spelled ps
+front_spelled : (x : ℕ) (ps : List Piece) → flat_map bytes_of_piece (with_front x ps) ≡ x ∷ flat_map bytes_of_piece ps
 front_spelled x [] = refl
 front_spelled x (run r ∷ ps) = refl
 front_spelled x (text s ∷ ps) = refl
 front_spelled x (unended s ∷ ps) = refl
 front_spelled x (byte b ∷ ps) = refl
 
-character_spelled : (x : ℕ) (ps : List Piece) (xs : List ℕ) (place : Place) → StringCut place ps → flat_map spelled ps ≡ 34 ∷ xs → flat_map spelled (with_character x ps) ≡ 34 ∷ x ∷ xs
+character_spelled : (x : ℕ) (ps : List Piece) (xs : List ℕ) (place : Place) → StringCut place ps → flat_map bytes_of_piece ps ≡ 34 ∷ xs → flat_map bytes_of_piece (with_character x ps) ≡ 34 ∷ x ∷ xs
 character_spelled x [] xs place h e = absurd h
 character_spelled x (run r ∷ ps) xs place h e = absurd h
 character_spelled x (text s ∷ ps) xs place h e = ap (λ l. 34 ∷ x ∷ drop 1 l) e
@@ -275,36 +278,36 @@ spelled_at [] escaped = refl
 spelled_at (x ∷ xs) escaped = character_spelled x (pieces inside xs) xs inside (cut_pieces xs inside) (spelled_at xs inside)
 spelled_at (x ∷ xs) outside = go (x == 34) (is_number_byte x) refl (spelled_at xs inside) (spelled_at xs outside)
   where
-    go : (q n : Bool) → (x == 34) ≡ q → flat_map spelled (pieces inside xs) ≡ 34 ∷ xs → flat_map spelled (pieces outside xs) ≡ xs
-        → flat_map spelled (cond q (pieces (cond q inside outside) xs) (cond n (with_front x (pieces (cond q inside outside) xs)) (byte x ∷ pieces (cond q inside outside) xs))) ≡ x ∷ xs
+    go : (q n : Bool) → (x == 34) ≡ q → flat_map bytes_of_piece (pieces inside xs) ≡ 34 ∷ xs → flat_map bytes_of_piece (pieces outside xs) ≡ xs
+        → flat_map bytes_of_piece (cond q (pieces (cond q inside outside) xs) (cond n (with_front x (pieces (cond q inside outside) xs)) (byte x ∷ pieces (cond q inside outside) xs))) ≡ x ∷ xs
     go true n e i o = i ∙ ap (λ y. y ∷ xs) (sym (eqb-true x 34 e))
     go false true e i o = front_spelled x (pieces outside xs) ∙ ap (λ l. x ∷ l) o
     go false false e i o = ap (λ l. x ∷ l) o
 spelled_at (x ∷ xs) inside = go (x == 34) (x == 92) refl (spelled_at xs outside) (spelled_at xs escaped) (spelled_at xs inside)
   where
-    go : (q b : Bool) → (x == 34) ≡ q → flat_map spelled (pieces outside xs) ≡ xs → flat_map spelled (pieces escaped xs) ≡ 34 ∷ xs → flat_map spelled (pieces inside xs) ≡ 34 ∷ xs
-        → flat_map spelled (cond q (text [] ∷ pieces (cond q outside (cond b escaped inside)) xs) (with_character x (pieces (cond q outside (cond b escaped inside)) xs))) ≡ 34 ∷ x ∷ xs
+    go : (q b : Bool) → (x == 34) ≡ q → flat_map bytes_of_piece (pieces outside xs) ≡ xs → flat_map bytes_of_piece (pieces escaped xs) ≡ 34 ∷ xs → flat_map bytes_of_piece (pieces inside xs) ≡ 34 ∷ xs
+        → flat_map bytes_of_piece (cond q (text [] ∷ pieces (cond q outside (cond b escaped inside)) xs) (with_character x (pieces (cond q outside (cond b escaped inside)) xs))) ≡ 34 ∷ x ∷ xs
     go true b e o k i = ap (λ l. 34 ∷ 34 ∷ l) o ∙ ap (λ y. 34 ∷ y ∷ xs) (sym (eqb-true x 34 e))
     go false true e o k i = character_spelled x (pieces escaped xs) xs escaped (cut_pieces xs escaped) k
     go false false e o k i = character_spelled x (pieces inside xs) xs inside (cut_pieces xs inside) i
 
-pub pieces_text : (t : List ℕ) → flat_map spelled (pieces outside t) ≡ t
+pub pieces_text : (t : List ℕ) → flat_map bytes_of_piece (pieces outside t) ≡ t
 pieces_text t = spelled_at t outside
 
 -- ---- a text of such pieces is cut into them again
 
-pub no_front : (ps : List Piece) → Cut ps → begins_run ps ≡ false → prefix_len is_number_byte (flat_map spelled ps) ≡ 0
+pub no_front : (ps : List Piece) → Cut ps → begins_run ps ≡ false → prefix_len is_number_byte (flat_map bytes_of_piece ps) ≡ 0
 no_front [] h e = refl
 no_front (run r ∷ ps) h e = absurd (true≢false e)
 no_front (text s ∷ ps) h e = refl
 no_front (unended s ∷ ps) h e = refl
-no_front (byte b ∷ ps) h e = ap (λ t. cond t (1 + prefix_len is_number_byte (flat_map spelled ps)) 0) h.1
+no_front (byte b ∷ ps) h e = ap (λ t. cond t (1 + prefix_len is_number_byte (flat_map bytes_of_piece ps)) 0) h.1
 
-pub recut : (ps : List Piece) → Cut ps → pieces outside (flat_map spelled ps) ≡ ps
+pub recut : (ps : List Piece) → Cut ps → pieces outside (flat_map bytes_of_piece ps) ≡ ps
 unfolding pieces
 recut [] h = refl
-recut (run r ∷ ps) h = run_there r (flat_map spelled ps) h.0 h.1 (no_front ps h.3 h.2) ∙ ap (λ qs. run r ∷ qs) (recut ps h.3)
-recut (text s ∷ ps) h = ap (λ t. pieces outside (34 ∷ t)) (append_assoc s (34 ∷ []) (flat_map spelled ps)) ∙ string_there s (flat_map spelled ps) h.0 ∙ ap (λ qs. text s ∷ qs) (recut ps h.1)
+recut (run r ∷ ps) h = run_there r (flat_map bytes_of_piece ps) h.0 h.1 (no_front ps h.3 h.2) ∙ ap (λ qs. run r ∷ qs) (recut ps h.3)
+recut (text s ∷ ps) h = ap (λ t. pieces outside (34 ∷ t)) (append_assoc s (34 ∷ []) (flat_map bytes_of_piece ps)) ∙ string_there s (flat_map bytes_of_piece ps) h.0 ∙ ap (λ qs. text s ∷ qs) (recut ps h.1)
 recut (unended s ∷ []) h = ap (pieces inside) (append-nil s) ∙ h.0
 recut (unended s ∷ p ∷ ps) h = absurd h.1
-recut (byte b ∷ ps) h = at_byte b (flat_map spelled ps) h.0 h.1 ∙ ap (λ qs. byte b ∷ qs) (recut ps h.2)
+recut (byte b ∷ ps) h = at_byte b (flat_map bytes_of_piece ps) h.0 h.1 ∙ ap (λ qs. byte b ∷ qs) (recut ps h.2)

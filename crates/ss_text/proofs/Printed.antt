@@ -1,14 +1,19 @@
 -- A printed text whose numbers are not to be wrapped stays as it is.
-use Rattle.std.proofs.Common.{◌≡◌, ℕ, ◌+◌, ◌/◌, ◌%◌, ◌<◌, ◌≤◌, List, [], ◌∷◌, ◌++◌, length, filter, Bool, true, false, cond, ◌==◌, ltb, refl, sym, ap, ap₂, ◌∙◌, subst, arith, lit<, append_assoc, inl, inr, ◌⊎◌, lt-ltb, le-ltb, ne_eqb}
+use Rattle.std.proofs.Common.{◌≡◌, ℕ, ◌+◌, ◌/◌, ◌%◌, ◌<◌, ◌≤◌, List, [], ◌∷◌, ◌++◌, length, filter, Bool, true, false}
+use Rattle.std.proofs.Common.{cond, ◌==◌, ltb, refl, sym, ap, ap₂, ◌∙◌, subst, arith, lit<, append_assoc, inl, inr, ◌⊎◌}
+use Rattle.std.proofs.Common.{lt-ltb, le-ltb, ne_eqb}
 use Rattle.std.proofs.lemmas.Bool.{true≢false, cases_eq, cases_lt}
 use Rattle.std.specs.Char.{digit_char}
 use Rattle.std.specs.List.{flat_map, prefix_len}
-use Rattle.json.specs.Token.{Token, begin_object, end_object, begin_array, end_array, key, string, number, boolean, null, bad}
+use Rattle.json.specs.Token.{Token, begin_object, end_object, begin_array, end_array, key, string, number, boolean}
+use Rattle.json.specs.Token.{null, bad}
 use Rattle.json.specs.Lex.{tokens}
-use Rattle.json.specs.Print.{escape_letter, escape_byte, escape, quoted, token_text, ends, separator, print, print_from, ArePrintable, IsPrintable}
+use Rattle.json.specs.Print.{escape_letter, escape_byte, escape, quoted, token_text, ends, separator, print, print_from}
+use Rattle.json.specs.Print.{ArePrintable, IsPrintable}
 use Rattle.json.specs.Word.{after_number}
 use Rattle.json.proofs.Printed.Strings.{escape_byte_plain}
-use Rattle.ss_text.specs.Decimals.{is_number_byte, outside, inside, escaped, Piece, run, text, unended, byte, pieces, spelled, is_decimal, is_wrapped, wrapped_pieces, wrapped, count_of}
+use Rattle.ss_text.specs.Decimals.{is_number_byte, outside, inside, escaped, Piece, run, text, unended, byte, pieces}
+use Rattle.ss_text.specs.Decimals.{bytes_of_piece, is_decimal, is_wrapped, wrapped_pieces, wrapped, count_of}
 use Rattle.ss_text.specs.Tokens.{IsWhole, AreWhole}
 use Rattle.ss_text.proofs.Pieces.{at_byte, run_there, Raw, string_there, pieces_text}
 use Rattle.ss_text.proofs.WholeTokens.{Kept, number_bytes, some_front, tokens_are_whole}
@@ -36,9 +41,9 @@ count_from_kept (byte b ∷ ps) h = count_from_kept ps h
 pub kept_from_count : (t : List ℕ) → count_of t ≡ 0 → Kept (pieces outside t)
 kept_from_count t h = kept_pieces (pieces outside t) h
 
-kept_text : (ps : List Piece) → Kept ps → flat_map spelled (flat_map wrapped_pieces ps) ≡ flat_map spelled ps
+kept_text : (ps : List Piece) → Kept ps → flat_map bytes_of_piece (flat_map wrapped_pieces ps) ≡ flat_map bytes_of_piece ps
 kept_text [] h = refl
-kept_text (run r ∷ ps) h = ap (λ b. flat_map spelled (cond b (byte 91 ∷ text r ∷ byte 93 ∷ []) (run r ∷ []) ++ flat_map wrapped_pieces ps)) h.0 ∙ ap (λ t. r ++ t) (kept_text ps h.1)
+kept_text (run r ∷ ps) h = ap (λ b. flat_map bytes_of_piece (cond b (byte 91 ∷ text r ∷ byte 93 ∷ []) (run r ∷ []) ++ flat_map wrapped_pieces ps)) h.0 ∙ ap (λ t. r ++ t) (kept_text ps h.1)
 kept_text (text s ∷ ps) h = ap (λ t. 34 ∷ ((s ++ 34 ∷ []) ++ t)) (kept_text ps h)
 kept_text (unended s ∷ ps) h = ap (λ t. 34 ∷ (s ++ t)) (kept_text ps h)
 kept_text (byte b ∷ ps) h = ap (λ t. b ∷ t) (kept_text ps h)

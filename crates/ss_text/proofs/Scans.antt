@@ -1,10 +1,14 @@
 -- What the scan finds: the end of a string, the end of a run, and the piece that begins at a place.
-use Rattle.std.proofs.Common.{◌≡◌, ℕ, suc, ◌+◌, ◌-◌, ◌<◌, ◌≤◌, List, [], ◌∷◌, ◌++◌, length, take, drop, get_or, Bool, true, false, cond, ◌&&◌, ◌==◌, refl, sym, ap, ap₂, ◌∙◌, subst, arith, lit≤, append_assoc, filter}
+use Rattle.std.proofs.Common.{◌≡◌, ℕ, suc, ◌+◌, ◌-◌, ◌<◌, ◌≤◌, List, [], ◌∷◌, ◌++◌, length, take, drop, get_or, Bool}
+use Rattle.std.proofs.Common.{true, false, cond, ◌&&◌, ◌==◌, refl, sym, ap, ap₂, ◌∙◌, subst, arith, lit≤, append_assoc}
+use Rattle.std.proofs.Common.{filter}
 use Rattle.std.proofs.lemmas.Bool.{eqb-true}
-use Rattle.std.proofs.lemmas.List.{take-append-drop, drop_more, drop-drop, drop_all, length-drop, length-take, get_or-take}
+use Rattle.std.proofs.lemmas.List.{take-append-drop, drop_more, drop-drop, drop_all, length-drop, length-take}
+use Rattle.std.proofs.lemmas.List.{get_or-take}
 use Rattle.std.proofs.lemmas.List.Sums.{prefix_len_passes, prefix_len-drop_yes, prefix_len-le-length}
 use Rattle.std.specs.List.{prefix_len, list_all, AllPass, flat_map}
-use Rattle.ss_text.specs.Decimals.{is_number_byte, Place, outside, inside, escaped, next_place, Piece, run, text, unended, byte, with_character, pieces, spelled, changed, is_wrapped}
+use Rattle.ss_text.specs.Decimals.{is_number_byte, Place, outside, inside, escaped, next_place, Piece, run, text}
+use Rattle.ss_text.specs.Decimals.{unended, byte, with_character, pieces, bytes_of_piece, changed_piece, is_wrapped}
 use Rattle.ss_text.specs.declared.decimals.Change.{Change}
 use Rattle.ss_text.specs.Scan.{inside_len}
 use Rattle.ss_text.proofs.Pieces.{Raw, text_there, run_there, at_byte}
@@ -158,15 +162,15 @@ pub nothing_left : (t : List ℕ) (at : ℕ) → length t ≤ at → pieces outs
 unfolding pieces
 nothing_left t at past = ap (pieces outside) (drop_all at t past)
 
-pub step_text : (change : Change) (out : List ℕ) (p : Piece) (ps qs : List Piece) (all : List ℕ) → ps ≡ p ∷ qs → out ++ flat_map spelled (flat_map (changed change) ps) ≡ all
-    → (out ++ flat_map spelled (changed change p)) ++ flat_map spelled (flat_map (changed change) qs) ≡ all
+pub step_text : (change : Change) (out : List ℕ) (p : Piece) (ps qs : List Piece) (all : List ℕ) → ps ≡ p ∷ qs → out ++ flat_map bytes_of_piece (flat_map (changed_piece change) ps) ≡ all
+    → (out ++ flat_map bytes_of_piece (changed_piece change p)) ++ flat_map bytes_of_piece (flat_map (changed_piece change) qs) ≡ all
 step_text change out p ps qs all e h =
-    append_assoc out (flat_map spelled (changed change p)) (flat_map spelled (flat_map (changed change) qs))
-    ∙ ap (λ t. out ++ t) (sym (join (changed change p) (flat_map (changed change) qs)) ∙ sym (ap (λ l. flat_map spelled (flat_map (changed change) l)) e)) ∙ h
+    append_assoc out (flat_map bytes_of_piece (changed_piece change p)) (flat_map bytes_of_piece (flat_map (changed_piece change) qs))
+    ∙ ap (λ t. out ++ t) (sym (join (changed_piece change p) (flat_map (changed_piece change) qs)) ∙ sym (ap (λ l. flat_map bytes_of_piece (flat_map (changed_piece change) l)) e)) ∙ h
   where
-    join : (ks bs : List Piece) → flat_map spelled (ks ++ bs) ≡ flat_map spelled ks ++ flat_map spelled bs
+    join : (ks bs : List Piece) → flat_map bytes_of_piece (ks ++ bs) ≡ flat_map bytes_of_piece ks ++ flat_map bytes_of_piece bs
     join [] bs = refl
-    join (k ∷ ks) bs = ap (λ t. spelled k ++ t) (join ks bs) ∙ sym (append_assoc (spelled k) (flat_map spelled ks) (flat_map spelled bs))
+    join (k ∷ ks) bs = ap (λ t. bytes_of_piece k ++ t) (join ks bs) ∙ sym (append_assoc (bytes_of_piece k) (flat_map bytes_of_piece ks) (flat_map bytes_of_piece bs))
 
 pub step_count : (count : ℕ) (p : Piece) (ps qs : List Piece) (total : ℕ) → ps ≡ p ∷ qs → count + length (filter is_wrapped ps) ≡ total
     → (is_wrapped p ≡ true → count + 1 + length (filter is_wrapped qs) ≡ total) × (is_wrapped p ≡ false → count + length (filter is_wrapped qs) ≡ total)

@@ -1,11 +1,12 @@
 -- What a stable sort leaves is the sorted list.
-use Rattle.std.proofs.Common.{◌≡◌, ℕ, suc, ◌<◌, ◌≤◌, List, [], ◌∷◌, length, filter, get_or, Bool, true, false, not, ◌&&◌, cond, refl, sym, ap, ap₂, ◌∙◌, subst, arith}
+use Rattle.std.proofs.Common.{◌≡◌, ℕ, suc, ◌<◌, ◌≤◌, List, [], ◌∷◌, length, filter, get_or, Bool, true, false, not}
+use Rattle.std.proofs.Common.{◌&&◌, cond, refl, sym, ap, ap₂, ◌∙◌, subst, arith}
 use Rattle.std.proofs.lemmas.Bool.{true≢false, and_parts, not-true}
 use Rattle.std.proofs.lemmas.List.Sorted.{sorted_far}
 use Rattle.std.specs.Cmp.{IsStrictWeakOrder}
 use Rattle.std.specs.List.{AllByRecursion}
 use Rattle.std.specs.List.Sorted.{IsSortedBy, IsStableBy, ties}
-use Rattle.ss_text.specs.Texts.{placed, sorted}
+use Rattle.ss_text.specs.Texts.{list_with, sorted}
 
 each_from : {X : Type 0} (P : X → Type 0) (xs : List X) → ((j : ℕ) (d : X) → j < length xs → P (get_or xs j d)) → AllByRecursion P xs
 each_from P [] h = tt
@@ -75,15 +76,15 @@ module _ {X : Type 0} (lt : X → X → Bool) (order : IsStrictWeakOrder lt) whe
   each_step P true x y ys more h g all later = (g, later)
   each_step P false x y ys more h g all later = (h, (g, all))
 
-  each_placed : (P : X → Type 0) (x : X) (ys : List X) → P x → AllByRecursion P ys → AllByRecursion P (placed lt x ys)
+  each_placed : (P : X → Type 0) (x : X) (ys : List X) → P x → AllByRecursion P ys → AllByRecursion P (list_with lt x ys)
   each_placed P x [] h all = (h, tt)
-  each_placed P x (y ∷ ys) h all = each_step P (lt y x) x y ys (placed lt x ys) h all.0 all.1 (each_placed P x ys h all.1)
+  each_placed P x (y ∷ ys) h all = each_step P (lt y x) x y ys (list_with lt x ys) h all.0 all.1 (each_placed P x ys h all.1)
 
-  in_order_step : (b : Bool) (x y : X) (ys : List X) → lt y x ≡ b → InOrder (y ∷ ys) → InOrder (placed lt x ys) → InOrder (cond b (y ∷ placed lt x ys) (x ∷ y ∷ ys))
+  in_order_step : (b : Bool) (x y : X) (ys : List X) → lt y x ≡ b → InOrder (y ∷ ys) → InOrder (list_with lt x ys) → InOrder (cond b (y ∷ list_with lt x ys) (x ∷ y ∷ ys))
   in_order_step true x y ys t o later = (each_placed (λ z. lt z y ≡ false) x ys (order.one_way y x t) o.0, later)
   in_order_step false x y ys t o later = ((t, each_imp (λ z. lt z y ≡ false) (λ z. lt z x ≡ false) (λ z h. order.chain z y x h t) ys o.0), o)
 
-  in_order-placed : (x : X) (ys : List X) → InOrder ys → InOrder (placed lt x ys)
+  in_order-placed : (x : X) (ys : List X) → InOrder ys → InOrder (list_with lt x ys)
   in_order-placed x [] o = (tt, tt)
   in_order-placed x (y ∷ ys) o = in_order_step (lt y x) x y ys refl o (in_order-placed x ys o.1)
 
@@ -101,13 +102,13 @@ module _ {X : Type 0} (lt : X → X → Bool) (order : IsStrictWeakOrder lt) whe
   passed true false x y l f never e = e
   passed false b x y l f never e = ap (λ m. cond b (y ∷ m) m) e
 
-  ties_step : (b : Bool) (w x y : X) (ys : List X) → lt y x ≡ b → filter (ties lt w) (placed lt x ys) ≡ filter (ties lt w) (x ∷ ys)
-      → filter (ties lt w) (cond b (y ∷ placed lt x ys) (x ∷ y ∷ ys)) ≡ filter (ties lt w) (x ∷ y ∷ ys)
+  ties_step : (b : Bool) (w x y : X) (ys : List X) → lt y x ≡ b → filter (ties lt w) (list_with lt x ys) ≡ filter (ties lt w) (x ∷ ys)
+      → filter (ties lt w) (cond b (y ∷ list_with lt x ys) (x ∷ y ∷ ys)) ≡ filter (ties lt w) (x ∷ y ∷ ys)
   ties_step true w x y ys t later =
-      passed (ties lt w x) (ties lt w y) x y (filter (ties lt w) (placed lt x ys)) (filter (ties lt w) ys) (λ a b. true≢false (sym t ∙ both_tied w x y a b)) later
+      passed (ties lt w x) (ties lt w y) x y (filter (ties lt w) (list_with lt x ys)) (filter (ties lt w) ys) (λ a b. true≢false (sym t ∙ both_tied w x y a b)) later
   ties_step false w x y ys t later = refl
 
-  ties-placed : (w x : X) (ys : List X) → filter (ties lt w) (placed lt x ys) ≡ filter (ties lt w) (x ∷ ys)
+  ties-placed : (w x : X) (ys : List X) → filter (ties lt w) (list_with lt x ys) ≡ filter (ties lt w) (x ∷ ys)
   ties-placed w x [] = refl
   ties-placed w x (y ∷ ys) = ties_step (lt y x) w x y ys refl (ties-placed w x ys)
 

@@ -1,5 +1,7 @@
 -- Numbers and times as text are ASCII digits, and are read back.
-use Rattle.std.proofs.Common.{◌≡◌, ℕ, ◌-◌, ◌<◌, true, ◌&&◌, ap₂, le-leb, List, [], ◌∷◌, refl, ◌^◌, decimal, ◌+◌, ◌/◌, ◌%◌, arith, Bool, cond, Option, None, ap, ◌∙◌, ◌++◌, false, ◌==◌, leb, Some, ne_eqb, ◌*◌, ◌≤◌, length, lit<, IsUtf8}
+use Rattle.std.proofs.Common.{◌≡◌, ℕ, ◌-◌, ◌<◌, true, ◌&&◌, ap₂, le-leb, List, [], ◌∷◌, refl, ◌^◌, decimal, ◌+◌, ◌/◌}
+use Rattle.std.proofs.Common.{◌%◌, arith, Bool, cond, Option, None, ap, ◌∙◌, ◌++◌, false, ◌==◌, leb, Some, ne_eqb, ◌*◌}
+use Rattle.std.proofs.Common.{◌≤◌, length, lit<, IsUtf8}
 use Rattle.std.proofs.lemmas.Str.Parse.{digit_from_value}
 use Rattle.std.specs.Char.{is_ascii_digit, digit_value}
 use Rattle.std.specs.List.{list_all}

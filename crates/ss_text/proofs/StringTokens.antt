@@ -1,10 +1,13 @@
 -- A string of a text by what stands between its quotes: where it ends, what it says, and whether it begins with the mark.
-use Rattle.std.proofs.Common.{◌≡◌, ℕ, zero, suc, ◌+◌, ◌*◌, ◌/◌, ◌<◌, ◌≤◌, List, [], ◌∷◌, ◌++◌, length, Bool, true, false, cond, ◌&&◌, ◌||◌, ◌==◌, ltb, Option, Some, None, is_some, option_and_then, refl, sym, ap, ap₂, ◌∙◌, subst, arith, lit<}
+use Rattle.std.proofs.Common.{◌≡◌, ℕ, zero, suc, ◌+◌, ◌*◌, ◌/◌, ◌<◌, ◌≤◌, List, [], ◌∷◌, ◌++◌, length, Bool, true}
+use Rattle.std.proofs.Common.{false, cond, ◌&&◌, ◌||◌, ◌==◌, ltb, Option, Some, None, is_some, option_and_then, refl}
+use Rattle.std.proofs.Common.{sym, ap, ap₂, ◌∙◌, subst, arith, lit<}
 use Rattle.std.proofs.lemmas.Bool.{true≢false, false≢true, and_parts, eqb-true, ne_eqb}
 use Rattle.std.proofs.lemmas.Str.{digit_value_digit}
 use Rattle.std.proofs.lemmas.Str.Parse.{digit_from_value}
 use Rattle.std.specs.Char.{digit_value, is_digit, encode_utf8}
-use Rattle.json.specs.Text.{content, plain, after_backslash, after_u, after_high, code_unit, short_escape, is_high_surrogate, is_low_surrogate, surrogate_pair, prepend}
+use Rattle.json.specs.Text.{content, plain, after_backslash, after_u, after_high, code_unit, short_escape}
+use Rattle.json.specs.Text.{is_high_surrogate, is_low_surrogate, surrogate_pair, prepend}
 use Rattle.json.specs.Lex.{lex, lex_byte, between, in_string, in_escape, quote, backslash, operator, space, other}
 use Rattle.json.specs.Word.{is_operator, is_space}
 use Rattle.ss_text.specs.Decimals.{inside, outside, escaped, next_place, begins_marked}

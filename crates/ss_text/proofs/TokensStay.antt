@@ -1,24 +1,33 @@
 -- Wrapping and marking, token by token.
-use Rattle.std.proofs.Common.{◌≡◌, ℕ, zero, suc, ◌-◌, ◌<◌, ◌≤◌, List, [], ◌∷◌, ◌++◌, length, map, drop, take, Bool, true, false, cond, ◌&&◌, ◌||◌, ◌==◌, Option, Some, None, is_some, ◌⊎◌, ⊎_elim, leb, ltb, le-ltb, ne_eqb, refl, sym, ap, ap₂, ◌∙◌, subst, arith, lit<, append_assoc, append-nil, length-append}
+use Rattle.std.proofs.Common.{◌≡◌, ℕ, zero, suc, ◌-◌, ◌<◌, ◌≤◌, List, [], ◌∷◌, ◌++◌, length, map, drop, take, Bool}
+use Rattle.std.proofs.Common.{true, false, cond, ◌&&◌, ◌||◌, ◌==◌, Option, Some, None, is_some, ◌⊎◌, ⊎_elim, leb, ltb}
+use Rattle.std.proofs.Common.{le-ltb, ne_eqb, refl, sym, ap, ap₂, ◌∙◌, subst, arith, lit<, append_assoc, append-nil}
+use Rattle.std.proofs.Common.{length-append}
 use Rattle.std.specs.Prelude.{nat_eq}
 use Rattle.std.specs.List.{flat_map, list_all, starts_with}
 use Rattle.std.proofs.lemmas.Bool.{true≢false, false≢true, and_parts, or_cases, leb-true, eqb-true}
-use Rattle.json.specs.Token.{Token, begin_object, end_object, begin_array, end_array, key, string, number, boolean, null, bad}
+use Rattle.json.specs.Token.{Token, begin_object, end_object, begin_array, end_array, key, string, number, boolean}
+use Rattle.json.specs.Token.{null, bad}
 use Rattle.json.specs.Align.{is_good}
 use Rattle.std.specs.Char.{is_ascii_digit, encode_utf8}
 use Rattle.json.specs.Text.{content, plain, after_backslash, code_unit, prepend}
 use Rattle.json.specs.Word.{is_operator, is_space, ends_word, after_number, number_before, literal, word}
-use Rattle.json.specs.Lex.{Lexeme, token, comma, colon, Class, quote, backslash, operator, space, other, class, string_token, between, in_word, in_string, lex_byte, lex, Place, fresh, after_value, after_comma, after_key, begins_colon, may_begin, may_close, if_allowed, place_token, punctuate, tokens, operator_lexeme}
+use Rattle.json.specs.Lex.{Lexeme, token, comma, colon, Class, quote, backslash, operator, space, other, class}
+use Rattle.json.specs.Lex.{string_token, between, in_word, in_string, lex_byte, lex, Place, fresh, after_value}
+use Rattle.json.specs.Lex.{after_comma, after_key, begins_colon, may_begin, may_close, if_allowed, place_token}
+use Rattle.json.specs.Lex.{punctuate, tokens, operator_lexeme}
 use Rattle.json.specs.Print.{IsNumber}
 use Rattle.json.proofs.Printed.Numbers.{number_alone, lex-number, in_word-ended}
 use Rattle.ss_text.specs.declared.decimals.Change.{Change}
 use Rattle.ss_text.specs.declared.decimals.Change.TheVariants.{Wrap, Mark}
 use Rattle.ss_text.specs.Decimals as at
-use Rattle.ss_text.specs.Decimals.{is_number_byte, Piece, run, text, byte, spelled, pieces, changed, written, wrapped, marked, is_decimal, begins_marked, escape_mark}
+use Rattle.ss_text.specs.Decimals.{is_number_byte, Piece, run, text, byte, bytes_of_piece, pieces, changed_piece}
+use Rattle.ss_text.specs.Decimals.{changed_text, wrapped, marked, is_decimal, begins_marked, escape_mark}
 use Rattle.ss_text.specs.Tokens.{Lexes, wrapped_token, marked_once_more, marked_token}
 use Rattle.ss_text.proofs.Marks.{flat-append, begins_split}
 use Rattle.ss_text.proofs.Pieces.{at_byte, string_there, raw_run, Raw}
-use Rattle.ss_text.proofs.WholeTokens.{Eats, EatsIf, if_number, one_of_six, one_of_four, end_is_no_part, run_front, literal_is, some_front}
+use Rattle.ss_text.proofs.WholeTokens.{Eats, EatsIf, if_number, one_of_six, one_of_four, end_is_no_part, run_front}
+use Rattle.ss_text.proofs.WholeTokens.{literal_is, some_front}
 use Rattle.ss_text.proofs.StringTokens.{ended, skip_string, begins_one}
 
 -- ---- the two changes, of pieces and of tokens
@@ -38,7 +47,7 @@ lexemes m colon = colon ∷ []
 
 -- the text with its pieces changed
 abbrev now : Bool → List ℕ → List ℕ
-now m u = flat_map spelled (flat_map (changed (change m)) (pieces at.outside u))
+now m u = flat_map bytes_of_piece (flat_map (changed_piece (change m)) (pieces at.outside u))
 
 -- what is made of the tokens
 abbrev made : Bool → List Lexeme → List Lexeme
@@ -54,8 +63,8 @@ Fine (colon ∷ ls) = Fine ls
 -- ---- what stands at the front
 
 now_byte : (m : Bool) (x : ℕ) (xs : List ℕ) → (x == 34) ≡ false → is_number_byte x ≡ false → now m (x ∷ xs) ≡ x ∷ now m xs
-now_byte false x xs q n = ap (λ ps. flat_map spelled (flat_map (changed Wrap) ps)) (at_byte x xs q n)
-now_byte true x xs q n = ap (λ ps. flat_map spelled (flat_map (changed Mark) ps)) (at_byte x xs q n)
+now_byte false x xs q n = ap (λ ps. flat_map bytes_of_piece (flat_map (changed_piece Wrap) ps)) (at_byte x xs q n)
+now_byte true x xs q n = ap (λ ps. flat_map bytes_of_piece (flat_map (changed_piece Mark) ps)) (at_byte x xs q n)
 
 end_apart : (x : ℕ) → (is_operator x || is_space x) ≡ true → (x == 34) ≡ false
 end_apart x h = ⊎_elim (one_of_six (λ y. (y == 34) ≡ false) refl refl refl refl refl refl x) (one_of_four (λ y. (y == 34) ≡ false) refl refl refl refl x) (or_cases (is_operator x) (is_space x) h)
@@ -118,15 +127,15 @@ quoted_lex s t v raw e =
 -- ---- numbers
 
 module _ (m : Bool) (s rest : List ℕ) (is_number : IsNumber s) (bytes : list_all is_number_byte s ≡ true) (some : 0 < length s) (ends : ends_word rest ≡ true) where
-  now_number : now m (s ++ rest) ≡ flat_map spelled (changed (change m) (run s)) ++ now m rest
-  now_number = ap (λ ps. flat_map spelled (flat_map (changed (change m)) ps)) (run_front s rest bytes some ends) ∙ flat-append (changed (change m) (run s)) (flat_map (changed (change m)) (pieces at.outside rest))
+  now_number : now m (s ++ rest) ≡ flat_map bytes_of_piece (changed_piece (change m) (run s)) ++ now m rest
+  now_number = ap (λ ps. flat_map bytes_of_piece (flat_map (changed_piece (change m)) ps)) (run_front s rest bytes some ends) ∙ flat-append (changed_piece (change m) (run s)) (flat_map (changed_piece (change m)) (pieces at.outside rest))
 
   plain_lex : (r : List ℕ) → ends_word r ≡ true → lex between ((s ++ []) ++ r) ≡ token (number s) ∷ lex between r
   plain_lex r e = ap (λ u. lex between (u ++ r)) (append-nil s) ∙ lex-number s r is_number e
 
   -- the changed number, before what ends a word
   wrapped_lex : (d : Bool) (r : List ℕ) → ends_word r ≡ true
-      → lex between (flat_map spelled (cond d (byte 91 ∷ text s ∷ byte 93 ∷ []) (run s ∷ [])) ++ r) ≡ map token (cond d (begin_array ∷ string s ∷ end_array ∷ []) (number s ∷ [])) ++ lex between r
+      → lex between (flat_map bytes_of_piece (cond d (byte 91 ∷ text s ∷ byte 93 ∷ []) (run s ∷ [])) ++ r) ≡ map token (cond d (begin_array ∷ string s ∷ end_array ∷ []) (number s ∷ [])) ++ lex between r
   unfolding lex
   wrapped_lex true r e =
       ap (λ u. token begin_array ∷ lex between (34 ∷ u)) (append_assoc (s ++ 34 ∷ []) (93 ∷ []) r)
@@ -134,7 +143,7 @@ module _ (m : Bool) (s rest : List ℕ) (is_number : IsNumber s) (bytes : list_a
   wrapped_lex false r e = plain_lex r e
 
   marked_lex : (d : Bool) (r : List ℕ) → ends_word r ≡ true
-      → lex between (flat_map spelled (cond d (text (escape_mark ++ s)) (run s) ∷ []) ++ r) ≡ token (cond d (string (1 ∷ s)) (number s)) ∷ lex between r
+      → lex between (flat_map bytes_of_piece (cond d (text (escape_mark ++ s)) (run s) ∷ []) ++ r) ≡ token (cond d (string (1 ∷ s)) (number s)) ∷ lex between r
   marked_lex true r e =
       ap (λ u. lex between (34 ∷ (u ++ r))) (append-nil ((escape_mark ++ s) ++ 34 ∷ []))
       ∙ quoted_lex (escape_mark ++ s) r (1 ∷ s) (raw_run s bytes) (mark_content (s ++ 34 ∷ r) ∙ ap (prepend (1 ∷ [])) (number_content s r bytes))
@@ -150,7 +159,7 @@ number_stays m s rest is_number bytes some ends ih fine =
     let good : Fine (token (number s) ∷ lex between rest) = subst Fine read fine in
     go m (now_number m s rest is_number bytes some ends) (now_ends m rest ends) (ih good.1) ∙ ap (made m) (sym read)
   where
-    go : (k : Bool) → now k (s ++ rest) ≡ flat_map spelled (changed (change k) (run s)) ++ now k rest → ends_word (now k rest) ≡ true → lex between (now k rest) ≡ made k (lex between rest)
+    go : (k : Bool) → now k (s ++ rest) ≡ flat_map bytes_of_piece (changed_piece (change k) (run s)) ++ now k rest → ends_word (now k rest) ≡ true → lex between (now k rest) ≡ made k (lex between rest)
         → lex between (now k (s ++ rest)) ≡ made k (token (number s) ∷ lex between rest)
     go false e ended h = ap (lex between) e ∙ wrapped_lex false s rest is_number bytes some ends (is_decimal s) (now false rest) ended ∙ ap (λ l. map token (wrapped_token (number s)) ++ l) h
     go true e ended h = ap (lex between) e ∙ marked_lex true s rest is_number bytes some ends (is_decimal s) (now true rest) ended ∙ ap (λ l. token (marked_token (number s)) ∷ l) h
@@ -183,14 +192,14 @@ module _ (s rest v : List ℕ) (raw : Raw at.inside s) (again : (t : List ℕ) �
   string_lex : (r : List ℕ) → lex between ((34 ∷ (s ++ 34 ∷ []) ++ []) ++ r) ≡ token (string v) ∷ lex between r
   string_lex r = ap (λ u. lex between (34 ∷ (u ++ r))) (append-nil (s ++ 34 ∷ [])) ∙ quoted_lex s r v raw (again r)
 
-  more_lex : (b : Bool) → begins_marked s ≡ b → (r : List ℕ) → lex between (flat_map spelled (cond b (text (escape_mark ++ s)) (text s) ∷ []) ++ r) ≡ token (string (marked_once_more v)) ∷ lex between r
+  more_lex : (b : Bool) → begins_marked s ≡ b → (r : List ℕ) → lex between (flat_map bytes_of_piece (cond b (text (escape_mark ++ s)) (text s) ∷ []) ++ r) ≡ token (string (marked_once_more v)) ∷ lex between r
   more_lex true e r =
       ap (λ u. lex between (34 ∷ (u ++ r))) (append-nil ((escape_mark ++ s) ++ 34 ∷ []))
       ∙ quoted_lex (escape_mark ++ s) r (marked_once_more v) raw (mark_content (s ++ 34 ∷ r) ∙ ap (prepend (1 ∷ [])) (again r) ∙ ap Some (sym (marked_value s v e again)))
   more_lex false e r = string_lex r ∙ ap (λ u. token (string u) ∷ lex between r) (sym (unmarked_value v (not_one v s marks e)))
 
-  now_string : (m : Bool) → now m (34 ∷ (s ++ 34 ∷ rest)) ≡ flat_map spelled (changed (change m) (text s)) ++ now m rest
-  now_string m = ap (λ ps. flat_map spelled (flat_map (changed (change m)) ps)) (string_there s rest raw) ∙ flat-append (changed (change m) (text s)) (flat_map (changed (change m)) (pieces at.outside rest))
+  now_string : (m : Bool) → now m (34 ∷ (s ++ 34 ∷ rest)) ≡ flat_map bytes_of_piece (changed_piece (change m) (text s)) ++ now m rest
+  now_string m = ap (λ ps. flat_map bytes_of_piece (flat_map (changed_piece (change m)) ps)) (string_there s rest raw) ∙ flat-append (changed_piece (change m) (text s)) (flat_map (changed_piece (change m)) (pieces at.outside rest))
 
   string_read : lex between (34 ∷ (s ++ 34 ∷ rest)) ≡ token (string v) ∷ lex between rest
   unfolding lex
@@ -221,13 +230,13 @@ lex_null r e = ap (λ b. token (cond b null bad) ∷ lex in_word r) e ∙ ap (λ
 
 now_true : (m : Bool) (r : List ℕ) → ends_word r ≡ true → now m (116 ∷ 114 ∷ 117 ∷ 101 ∷ r) ≡ 116 ∷ 114 ∷ 117 ∷ 101 ∷ now m r
 unfolding pieces is_decimal after_number
-now_true false r e = ap (λ ps. 116 ∷ 114 ∷ 117 ∷ flat_map spelled (flat_map (changed Wrap) ps)) (run_front (101 ∷ []) r refl (lit< tt) e)
-now_true true r e = ap (λ ps. 116 ∷ 114 ∷ 117 ∷ flat_map spelled (flat_map (changed Mark) ps)) (run_front (101 ∷ []) r refl (lit< tt) e)
+now_true false r e = ap (λ ps. 116 ∷ 114 ∷ 117 ∷ flat_map bytes_of_piece (flat_map (changed_piece Wrap) ps)) (run_front (101 ∷ []) r refl (lit< tt) e)
+now_true true r e = ap (λ ps. 116 ∷ 114 ∷ 117 ∷ flat_map bytes_of_piece (flat_map (changed_piece Mark) ps)) (run_front (101 ∷ []) r refl (lit< tt) e)
 
 now_false : (m : Bool) (r : List ℕ) → ends_word r ≡ true → now m (102 ∷ 97 ∷ 108 ∷ 115 ∷ 101 ∷ r) ≡ 102 ∷ 97 ∷ 108 ∷ 115 ∷ 101 ∷ now m r
 unfolding pieces is_decimal after_number
-now_false false r e = ap (λ ps. 102 ∷ 97 ∷ 108 ∷ 115 ∷ flat_map spelled (flat_map (changed Wrap) ps)) (run_front (101 ∷ []) r refl (lit< tt) e)
-now_false true r e = ap (λ ps. 102 ∷ 97 ∷ 108 ∷ 115 ∷ flat_map spelled (flat_map (changed Mark) ps)) (run_front (101 ∷ []) r refl (lit< tt) e)
+now_false false r e = ap (λ ps. 102 ∷ 97 ∷ 108 ∷ 115 ∷ flat_map bytes_of_piece (flat_map (changed_piece Wrap) ps)) (run_front (101 ∷ []) r refl (lit< tt) e)
+now_false true r e = ap (λ ps. 102 ∷ 97 ∷ 108 ∷ 115 ∷ flat_map bytes_of_piece (flat_map (changed_piece Mark) ps)) (run_front (101 ∷ []) r refl (lit< tt) e)
 
 now_null : (m : Bool) (r : List ℕ) → now m (110 ∷ 117 ∷ 108 ∷ 108 ∷ r) ≡ 110 ∷ 117 ∷ 108 ∷ 108 ∷ now m r
 unfolding pieces

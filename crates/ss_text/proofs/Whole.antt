@@ -1,5 +1,8 @@
 -- A number that is not to be wrapped is a whole one.
-use Rattle.std.proofs.Common.{◌≡◌, ℕ, zero, suc, ◌+◌, ◌*◌, ◌^◌, ◌<◌, ◌≤◌, ◌≢◌, List, [], ◌∷◌, ◌++◌, length, filter, get_or, drop, Bool, true, false, cond, ◌&&◌, ◌||◌, ◌==◌, leb, ltb, codes, Option, Some, None, is_some, bytes_eq, option_and_then, refl, sym, ap, ap₂, ◌∙◌, subst, arith, lit<, inl, inr, ◌⊎◌, append-nil, lt-ltb, le-leb, ne_eqb}
+use Rattle.std.proofs.Common.{◌≡◌, ℕ, zero, suc, ◌+◌, ◌*◌, ◌^◌, ◌<◌, ◌≤◌, ◌≢◌, List, [], ◌∷◌, ◌++◌, length, filter}
+use Rattle.std.proofs.Common.{get_or, drop, Bool, true, false, cond, ◌&&◌, ◌||◌, ◌==◌, leb, ltb, codes, Option, Some}
+use Rattle.std.proofs.Common.{None, is_some, bytes_eq, option_and_then, refl, sym, ap, ap₂, ◌∙◌, subst, arith, lit<}
+use Rattle.std.proofs.Common.{inl, inr, ◌⊎◌, append-nil, lt-ltb, le-leb, ne_eqb}
 use Rattle.std.proofs.lemmas.Bool.{true≢false, false≢true, and_parts, or_parts, leb-true, eqb-true, cases_eq, ltb-false}
 use Rattle.std.proofs.lemmas.List.{length-drop, nil_from_length}
 use Rattle.std.proofs.lemmas.List.Sums.{length-filter, prefix_len-le-length}

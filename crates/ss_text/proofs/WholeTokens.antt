@@ -1,18 +1,27 @@
 -- The tokens of a text whose runs are not to be wrapped have no number that is.
-use Rattle.std.proofs.Common.{◌≡◌, ℕ, zero, suc, ◌+◌, ◌-◌, ◌<◌, ◌≤◌, List, [], ◌∷◌, ◌++◌, length, take, drop, Bool, true, false, cond, ◌&&◌, ◌||◌, ◌==◌, Option, Some, None, is_some, option_and_then, refl, sym, ap, ap₂, ◌∙◌, subst, arith, lit<, ◌⊎◌, ⊎_elim, append_assoc, append-nil, length-append}
+use Rattle.std.proofs.Common.{◌≡◌, ℕ, zero, suc, ◌+◌, ◌-◌, ◌<◌, ◌≤◌, List, [], ◌∷◌, ◌++◌, length, take, drop, Bool}
+use Rattle.std.proofs.Common.{true, false, cond, ◌&&◌, ◌||◌, ◌==◌, Option, Some, None, is_some, option_and_then, refl}
+use Rattle.std.proofs.Common.{sym, ap, ap₂, ◌∙◌, subst, arith, lit<, ◌⊎◌, ⊎_elim, append_assoc, append-nil}
+use Rattle.std.proofs.Common.{length-append}
 use Rattle.std.proofs.lemmas.Bool.{true≢false, false≢true, and_parts, or_cases, eqb-true}
 use Rattle.std.specs.List.{prefix_len, flat_map, list_all, starts_with}
 use Rattle.std.specs.Cmp.Lexicographic.{pointwise}
 use Rattle.std.specs.Prelude.{nat_eq}
 use Rattle.std.specs.Char.{is_ascii_digit}
-use Rattle.json.specs.Token.{Token, begin_object, end_object, begin_array, end_array, key, string, number, boolean, null, bad}
+use Rattle.json.specs.Token.{Token, begin_object, end_object, begin_array, end_array, key, string, number, boolean}
+use Rattle.json.specs.Token.{null, bad}
 use Rattle.json.specs.Text.{content, plain}
-use Rattle.json.specs.Word.{is_operator, is_space, head, ends_word, after_digits, after_minus, after_sign, after_whole, after_fraction, after_exponent, after_number, number_before, literal, word}
-use Rattle.json.specs.Lex.{Lexeme, token, comma, colon, Class, quote, backslash, operator, space, other, class, string_token, between, in_word, in_string, in_escape, lex_byte, lex, Place, fresh, after_value, after_comma, after_key, begins_colon, if_allowed, place_token, punctuate, tokens, operator_lexeme}
+use Rattle.json.specs.Word.{is_operator, is_space, head, ends_word, after_digits, after_minus, after_sign, after_whole}
+use Rattle.json.specs.Word.{after_fraction, after_exponent, after_number, number_before, literal, word}
+use Rattle.json.specs.Lex.{Lexeme, token, comma, colon, Class, quote, backslash, operator, space, other, class}
+use Rattle.json.specs.Lex.{string_token, between, in_word, in_string, in_escape, lex_byte, lex, Place, fresh}
+use Rattle.json.specs.Lex.{after_value, after_comma, after_key, begins_colon, if_allowed, place_token, punctuate}
+use Rattle.json.specs.Lex.{tokens, operator_lexeme}
 use Rattle.json.specs.Print.{IsNumber}
 use Rattle.json.proofs.Printed.Numbers.{number_alone, lex-number, in_word-ended}
 use Rattle.ss_text.specs.Decimals as at
-use Rattle.ss_text.specs.Decimals.{is_number_byte, Piece, run, text, unended, byte, with_character, pieces, is_decimal, wrapped_pieces}
+use Rattle.ss_text.specs.Decimals.{is_number_byte, Piece, run, text, unended, byte, with_character, pieces, is_decimal}
+use Rattle.ss_text.specs.Decimals.{wrapped_pieces}
 use Rattle.ss_text.proofs.Pieces.{run_there}
 use Rattle.ss_text.proofs.Marks.{wrapped_pieces_are, marked_pieces, all_marked}
 use Rattle.ss_text.specs.Tokens.{IsWhole, AreWhole}

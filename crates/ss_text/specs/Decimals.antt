@@ -1,7 +1,8 @@
 -- The numbers of a JSON text that are kept as the characters that they have: each made a list of one string, or a
 -- string with a mark at its front.
 -- A text is cut into its strings, the longest runs of a number's bytes outside them, and the bytes between.
-use Rattle.std.specs.Prelude.{ℕ, List, [], ◌∷◌, ◌++◌, Bool, true, false, ◌&&◌, ◌||◌, ◌==◌, nat_lt, if◌then◌else◌, Option, Some, None, bytes_eq, codes, count_by, length, take, drop, filter}
+use Rattle.std.specs.Prelude.{ℕ, List, [], ◌∷◌, ◌++◌, Bool, true, false, ◌&&◌, ◌||◌, ◌==◌, nat_lt, if◌then◌else◌}
+use Rattle.std.specs.Prelude.{Option, Some, None, bytes_eq, codes, count_by, length, take, drop, filter}
 use Rattle.std.specs.List.{flat_map, list_any}
 use Rattle.std.specs.Char.{is_ascii_digit}
 use Rattle.json.specs.Word.{after_number}
@@ -67,11 +68,11 @@ pieces place [] = at_end place
 pieces place (x ∷ xs) = with_byte place x (pieces (next_place place x) xs)
 
 -- the bytes of a piece
-abbrev pub spelled : Piece → List ℕ
-spelled (run r) = r
-spelled (text s) = 34 ∷ (s ++ 34 ∷ [])
-spelled (unended s) = 34 ∷ s
-spelled (byte b) = b ∷ []
+abbrev pub bytes_of_piece : Piece → List ℕ
+bytes_of_piece (run r) = r
+bytes_of_piece (text s) = 34 ∷ (s ++ 34 ∷ [])
+bytes_of_piece (unended s) = 34 ∷ s
+bytes_of_piece (byte b) = b ∷ []
 
 -- ---- decimals
 
@@ -124,26 +125,26 @@ unmarked_piece (text s) = if begins_marked s then (if begins_marked (drop 6 s) t
 unmarked_piece (unended s) = unended s
 unmarked_piece (byte b) = byte b
 
-abbrev pub changed : Change → Piece → List Piece
-changed Wrap p = wrapped_pieces p
-changed Mark p = marked_piece p ∷ []
-changed Unmark p = unmarked_piece p ∷ []
+abbrev pub changed_piece : Change → Piece → List Piece
+changed_piece Wrap p = wrapped_pieces p
+changed_piece Mark p = marked_piece p ∷ []
+changed_piece Unmark p = unmarked_piece p ∷ []
 
 -- the text with its pieces changed
-abbrev pub written : Change → List ℕ → List ℕ
-written change t = flat_map spelled (flat_map (changed change) (pieces outside t))
+abbrev pub changed_text : Change → List ℕ → List ℕ
+changed_text change t = flat_map bytes_of_piece (flat_map (changed_piece change) (pieces outside t))
 
 -- the text with its decimals wrapped
 abbrev pub wrapped : List ℕ → List ℕ
-wrapped t = written Wrap t
+wrapped t = changed_text Wrap t
 
 -- the text with its decimals marked
 abbrev pub marked : List ℕ → List ℕ
-marked t = written Mark t
+marked t = changed_text Mark t
 
 -- the text with its marked decimals as numbers again
-abbrev pub unmarked : List ℕ → List ℕ
-unmarked t = written Unmark t
+abbrev pub unmarked_text : List ℕ → List ℕ
+unmarked_text t = changed_text Unmark t
 
 -- whether a piece is a decimal
 abbrev pub is_wrapped : Piece → Bool

@@ -14,11 +14,11 @@ inside_len inside (x ∷ xs) = if x == 34 then 0 else suc (inside_len (next_plac
 inside_len escaped (x ∷ xs) = suc (inside_len inside xs)
 
 -- the piece that the scan found
-abbrev pub seen : Piece → piece.Piece
-seen (Run r) = piece.run r.now
-seen (Text s) = piece.text s.now
-seen (Unended s) = piece.unended s.now
-seen (Byte b) = piece.byte b
+abbrev pub scanned_piece : Piece → piece.Piece
+scanned_piece (Run r) = piece.run r.now
+scanned_piece (Text s) = piece.text s.now
+scanned_piece (Unended s) = piece.unended s.now
+scanned_piece (Byte b) = piece.byte b
 
 -- a run has bytes of numbers alone
 abbrev pub HasRun : Piece → Type 0

@@ -15,14 +15,14 @@ once_by key [] = []
 once_by key (x ∷ xs) = x ∷ filter (λ y. not (bytes_eq (key y) (key x))) (once_by key xs)
 
 -- a list in order with one more element, before the first that doesn't come before it
-abbrev pub placed : {X : Type 0} → (X → X → Bool) → X → List X → List X
-placed before x [] = x ∷ []
-placed before x (y ∷ ys) = if before y x then y ∷ placed before x ys else x ∷ y ∷ ys
+abbrev pub list_with : {X : Type 0} → (X → X → Bool) → X → List X → List X
+list_with before x [] = x ∷ []
+list_with before x (y ∷ ys) = if before y x then y ∷ list_with before x ys else x ∷ y ∷ ys
 
 -- the list in order, of equal elements the earlier first
 abbrev pub sorted : {X : Type 0} → (X → X → Bool) → List X → List X
 sorted before [] = []
-sorted before (x ∷ xs) = placed before x (sorted before xs)
+sorted before (x ∷ xs) = list_with before x (sorted before xs)
 
 -- the same elements, in whatever order
 pub data Reordered {X : Type 0} : List X → List X → Type 0 where

@@ -1,14 +1,17 @@
 //! Numbers that serde_json would read as floats: wrapped, each a list of one string; or marked, each a string that
 //! begins with U+0001.
 
-ghost use Rattle.std.specs.Prelude.{◌≡◌, ◌∷◌, ◌+◌, ◌<◌, ◌≤◌, ◌++◌, ◌==◌, not, false, length, drop, slice_index, count_by, filter, IfOk, OnOk};
+ghost use Rattle.std.specs.Prelude.{◌≡◌, ◌∷◌, ◌+◌, ◌<◌, ◌≤◌, ◌++◌, ◌==◌, not, false, length, drop, slice_index};
+ghost use Rattle.std.specs.Prelude.{count_by, filter, IfOk, OnOk};
 ghost use Rattle.std.specs.List.{prefix_len, list_any, AllPass, flat_map};
 ghost use Rattle.std.specs.Char.{is_ascii_digit};
 ghost use Rattle.std.specs.Str.{IsUtf8};
 ghost use Rattle.json.specs.Word.{after_number};
-ghost use Rattle.ss_text.specs.Decimals.{is_number_byte, outside, inside, pieces, spelled, is_all, is_point, is_inexact, is_decimal, begins_marked, changed, written, wrapped, marked, unmarked, is_wrapped, count_of};
+ghost use Rattle.ss_text.specs.Decimals.{is_number_byte, outside, inside, pieces, bytes_of_piece, is_all, is_point};
+ghost use Rattle.ss_text.specs.Decimals.{is_inexact, is_decimal, begins_marked, changed_piece, changed_text, wrapped};
+ghost use Rattle.ss_text.specs.Decimals.{marked, unmarked_text, is_wrapped, count_of};
 ghost use Rattle.ss_text.specs.Decimals as cut;
-ghost use Rattle.ss_text.specs.Scan.{inside_len, seen, HasRun};
+ghost use Rattle.ss_text.specs.Scan.{inside_len, scanned_piece, HasRun};
 
 use std::alloc::{AllocError, Global};
 
@@ -91,7 +94,7 @@ fn string_at(text: &[u8], at: usize) -> (Piece<'_>, usize)
     requires quote { slice_index text.now at ≡ 34 }
     ensures later { at < result.1 }
     ensures within { result.1 ≤ length text.now }
-    ensures cut { pieces outside (drop at text.now) ≡ seen result.0 ∷ pieces outside (drop result.1 text.now) }
+    ensures cut { pieces outside (drop at text.now) ≡ scanned_piece result.0 ∷ pieces outside (drop result.1 text.now) }
     ensures run { HasRun result.0 }
 {
     let end = inside_end(text, at + 1);
@@ -107,7 +110,7 @@ fn next_piece(text: &[u8], at: usize) -> (Piece<'_>, usize)
     requires { at < length text.now }
     ensures later { at < result.1 }
     ensures within { result.1 ≤ length text.now }
-    ensures cut { pieces outside (drop at text.now) ≡ seen result.0 ∷ pieces outside (drop result.1 text.now) }
+    ensures cut { pieces outside (drop at text.now) ≡ scanned_piece result.0 ∷ pieces outside (drop result.1 text.now) }
     ensures run { HasRun result.0 }
 {
     let byte = text[at];
@@ -175,7 +178,7 @@ fn begins_marked(inside: &[u8]) -> bool
 
 /// Appends a string that has these characters behind others.
 fn push_string(out: &mut Vec<u8>, front: &[u8], inside: &[u8]) -> Result<(), AllocError>
-    ensures { OnOk result (out.new.items ≡ out.old.items ++ spelled (cut.text (front.now ++ inside.now))) }
+    ensures { OnOk result (out.new.items ≡ out.old.items ++ bytes_of_piece (cut.text (front.now ++ inside.now))) }
 {
     out.push(b'"')?;
     out.extend_from_slice(front)?;
@@ -187,7 +190,7 @@ fn push_string(out: &mut Vec<u8>, front: &[u8], inside: &[u8]) -> Result<(), All
 /// Appends a run, changed.
 fn push_run(out: &mut Vec<u8>, change: Change, run: &[u8]) -> Result<(), AllocError>
     requires { AllPass is_number_byte run.now }
-    ensures { OnOk result (out.new.items ≡ out.old.items ++ flat_map spelled (changed change (cut.run run.now))) }
+    ensures { OnOk result (out.new.items ≡ out.old.items ++ flat_map bytes_of_piece (changed_piece change (cut.run run.now))) }
 {
     match change {
         Change::Wrap if is_to_wrap(run) => {
@@ -203,7 +206,7 @@ fn push_run(out: &mut Vec<u8>, change: Change, run: &[u8]) -> Result<(), AllocEr
 
 /// Appends a string by what stands between its quotes, changed.
 fn push_text(out: &mut Vec<u8>, change: Change, inside: &[u8]) -> Result<(), AllocError>
-    ensures { OnOk result (out.new.items ≡ out.old.items ++ flat_map spelled (changed change (cut.text inside.now))) }
+    ensures { OnOk result (out.new.items ≡ out.old.items ++ flat_map bytes_of_piece (changed_piece change (cut.text inside.now))) }
 {
     match change {
         Change::Mark if begins_marked(inside) => push_string(out, ESCAPE_MARK, inside),
@@ -222,7 +225,7 @@ fn push_text(out: &mut Vec<u8>, change: Change, inside: &[u8]) -> Result<(), All
 /// Appends a piece, changed.
 fn push_piece(out: &mut Vec<u8>, change: Change, piece: Piece<'_>) -> Result<(), AllocError>
     requires { HasRun piece }
-    ensures { OnOk result (out.new.items ≡ out.old.items ++ flat_map spelled (changed change (seen piece.entry))) }
+    ensures { OnOk result (out.new.items ≡ out.old.items ++ flat_map bytes_of_piece (changed_piece change (scanned_piece piece.entry))) }
 {
     match piece {
         Piece::Run(run) => push_run(out, change, run),
@@ -238,7 +241,7 @@ fn push_piece(out: &mut Vec<u8>, change: Change, piece: Piece<'_>) -> Result<(),
 
 /// The text with its pieces changed, in one pass.
 fn rewrite(alloc: Global, text: &[u8], change: Change) -> Result<Vec<u8>, AllocError>
-    ensures { IfOk result (λ out. out.items ≡ written change text.now) }
+    ensures { IfOk result (λ out. out.items ≡ changed_text change text.now) }
 {
     let mut out = Vec::with_capacity(alloc, text.len())?;
     let mut at = 0;
@@ -252,7 +255,7 @@ fn rewrite(alloc: Global, text: &[u8], change: Change) -> Result<Vec<u8>, AllocE
 
 fn is_wrapped(piece: Piece<'_>) -> bool
     requires { HasRun piece }
-    ensures { result ≡ is_wrapped (seen piece.entry) }
+    ensures { result ≡ is_wrapped (scanned_piece piece.entry) }
 {
     match piece {
         Piece::Run(run) => is_to_wrap(run),
@@ -304,7 +307,7 @@ pub fn mark_decimals(alloc: Global, text: &[u8]) -> Result<Vec<u8>, AllocError>
 /// The text with its marks undone: a string that begins with exactly one escape `\u0001` becomes the characters after
 /// it, without quotes, and one that begins with two or more loses the first. All else stays.
 pub fn unmark_decimals(alloc: Global, text: &[u8]) -> Result<Vec<u8>, AllocError>
-    ensures text { IfOk result (λ u. u.items ≡ unmarked text.now) }
+    ensures text { IfOk result (λ u. u.items ≡ unmarked_text text.now) }
     ensures utf8 { IsUtf8 text.now → IfOk result (λ u. IsUtf8 u.items) }
 {
     rewrite(alloc, text, Change::Unmark)

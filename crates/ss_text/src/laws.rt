@@ -8,7 +8,7 @@ ghost use Rattle.json.specs.Token.{Token};
 ghost use Rattle.serde_json.specs.Data.{Data};
 ghost use Rattle.serde_json.specs.Read.{read};
 ghost use Rattle.serde_json.specs.Written.{has_float};
-ghost use Rattle.ss_text.specs.Decimals.{wrapped, count_of, marked, unmarked};
+ghost use Rattle.ss_text.specs.Decimals.{wrapped, count_of, marked, unmarked_text};
 ghost use Rattle.ss_text.specs.Tokens.{AreWhole, Lexes, wrapped_token, marked_token};
 
 /// A wrapped text that serde_json reads holds no float.
@@ -31,7 +31,7 @@ pub fn unwrapped_is_same()
 
 /// Unmarking a marked text gives the text back.
 pub fn unmarking_undoes_marking()
-    ensures { (text : List ℕ) → unmarked (marked text) ≡ text }
+    ensures { (text : List ℕ) → unmarked_text (marked text) ≡ text }
 {}
 
 /// Wrapping and marking, in JSON's own words (RFC 8259): of a text that lexes, the tokens of the wrapped text are its

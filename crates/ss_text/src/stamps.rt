@@ -1,10 +1,12 @@
 //! Times in hundredths of a second, and conditions on them.
 
-ghost use Rattle.std.specs.Prelude.{◌≡◌, ◌≤◌, ◌<◌, ◌^◌, ◌++◌, true, length, min, option_map, IfOk, OnOk, OnErr, SomeIff};
+ghost use Rattle.std.specs.Prelude.{◌≡◌, ◌≤◌, ◌<◌, ◌^◌, ◌++◌, true, length, min, option_map, IfOk, OnOk, OnErr};
+ghost use Rattle.std.specs.Prelude.{SomeIff};
 ghost use Rattle.std.specs.Char.{is_ascii_digit};
 ghost use Rattle.std.specs.List.{list_all};
 ghost use Rattle.std.specs.Str.Parse.{digits_value};
-ghost use Rattle.ss_text.specs.Time.{last_stamp, stamp_text, split_point, is_seconds, hundredths, with_fraction, stamp_of, stops};
+ghost use Rattle.ss_text.specs.Time.{last_stamp, stamp_text, split_point, is_seconds, hundredths, with_fraction};
+ghost use Rattle.ss_text.specs.Time.{stamp_of, stops};
 
 use crate::numbers::{are_digits, value_of};
 use itoa::Buffer;

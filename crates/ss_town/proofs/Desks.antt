@@ -1,5 +1,6 @@
 -- What the loops over the desks keep.
-use Rattle.std.proofs.Common.{◌≡◌, ◌≢◌, ◌⊎◌, inl, inr, ℕ, zero, suc, ◌+◌, ◌<◌, ◌≤◌, List, [], ◌∷◌, ◌++◌, length, length-append, append_assoc, set, get_or, refl, ap, sym, ◌∙◌, subst, arith, min, le_trans}
+use Rattle.std.proofs.Common.{◌≡◌, ◌≢◌, ◌⊎◌, inl, inr, ℕ, zero, suc, ◌+◌, ◌<◌, ◌≤◌, List, [], ◌∷◌, ◌++◌, length}
+use Rattle.std.proofs.Common.{length-append, append_assoc, set, get_or, refl, ap, sym, ◌∙◌, subst, arith, min, le_trans}
 use Rattle.std.proofs.lemmas.List.{get_or-set_other}
 use Rattle.std.proofs.lemmas.Grind.{get_or-set_at}
 use mathlib.Core.Logic.{dite}
@@ -15,7 +16,8 @@ use Rattle.ss_desk.specs.Calls.{Finished}
 use Rattle.ss_desk.specs.Views.{CoversAll}
 use Rattle.ss_desk.proofs.Lists.{at_end, at_length, append_nil}
 use Rattle.ss_desk.specs.Passes.{AreOf, view_at}
-use Rattle.ss_desk.proofs.Beside.{get_left, get_last, last_long, view_left, view_last, view_here, view_else, view_is, length_set, are_set, are_but, are_more}
+use Rattle.ss_desk.proofs.Beside.{get_left, get_last, last_long, view_left, view_last, view_here, view_else, view_is}
+use Rattle.ss_desk.proofs.Beside.{length_set, are_set, are_but, are_more}
 use Rattle.ss_town.specs.Places.{Handed}
 use Rattle.ss_town.specs.Steps.{Joining, Halving, LeastBelow}
 

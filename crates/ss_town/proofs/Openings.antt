@@ -1,5 +1,6 @@
 -- What is opened, and what comes back where it is not.
-use Rattle.std.proofs.Common.{◌≡◌, ◌≢◌, ℕ, zero, suc, ◌+◌, ◌<◌, ◌≤◌, List, [], ◌∷◌, ◌++◌, length, length-append, get_or, refl, ap, sym, ◌∙◌, subst, inl, inr, arith, Some, Option}
+use Rattle.std.proofs.Common.{◌≡◌, ◌≢◌, ℕ, zero, suc, ◌+◌, ◌<◌, ◌≤◌, List, [], ◌∷◌, ◌++◌, length, length-append, get_or}
+use Rattle.std.proofs.Common.{refl, ap, sym, ◌∙◌, subst, inl, inr, arith, Some, Option}
 use mathlib.Core.Option.{some, some-injective, some-ne-none}
 use mathlib.Core.Logic.{dite}
 use native.Mathlib.Decide.{ℕ_discrete, dec_lt}
@@ -16,7 +17,8 @@ use Rattle.ss_desk.specs.Passes.{AreOf, view_at}
 use Rattle.ss_desk.proofs.Beside.{last_long, view_left, view_last, at_left, at_last, there_is, are_more}
 use Rattle.ss_desk.proofs.Served.{unserved}
 use Rattle.ss_town.specs.Places.{At, Handed}
-use Rattle.ss_town.specs.Opening.{HasUid, AreDistinct, DistinctBelow, FaultSays, RefusedSays, MayOpen, IsOpened, AreBare, AreReturned}
+use Rattle.ss_town.specs.Opening.{HasUid, AreDistinct, DistinctBelow, FaultSays, RefusedSays, MayOpen, IsOpened}
+use Rattle.ss_town.specs.Opening.{AreBare, AreReturned}
 use Rattle.ss_town.specs.declared.opening.TownFault.{TownFault}
 use Rattle.ss_town.specs.declared.opening.TownFault.TheVariants.{Empty, TooMany, Twice, Zero, Memory}
 

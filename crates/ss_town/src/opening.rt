@@ -1,7 +1,8 @@
 // How a town is opened, and why it is not.
 ghost use Rattle.std.specs.Prelude.{◌≡◌, ◌≤◌, ◌<◌, [], MatchOption, IfOk, IfErr, vec_len, vec_capacity};
 ghost use Rattle.std.specs.List.Sorted.{IsPermutation, IsNonDecreasingBy};
-ghost use Rattle.ss_town.specs.Opening.{FaultSays, MayOpen, IsOpened, IsTown, AreReturned, AreBare, BackAfter, ComeBack, RefusedSays};
+ghost use Rattle.ss_town.specs.Opening.{FaultSays, MayOpen, IsOpened, IsTown, AreReturned, AreBare, BackAfter};
+ghost use Rattle.ss_town.specs.Opening.{ComeBack, RefusedSays};
 
 use crate::limits::MOST_ACCOUNTS;
 use crate::passes::Passes;

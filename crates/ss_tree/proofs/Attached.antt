@@ -1,11 +1,13 @@
 -- A node that is put into a row.
-use Rattle.std.proofs.Common.{◌≡◌, ◌≢◌, ℕ, ◌<◌, ◌≤◌, ◌==◌, List, [], ◌∷◌, ◌++◌, Bool, true, false, cond, refl, sym, ap, subst, ◌∙◌, arith, inl, inr, Option, Some, None}
+use Rattle.std.proofs.Common.{◌≡◌, ◌≢◌, ℕ, ◌<◌, ◌≤◌, ◌==◌, List, [], ◌∷◌, ◌++◌, Bool, true, false, cond, refl, sym, ap}
+use Rattle.std.proofs.Common.{subst, ◌∙◌, arith, inl, inr, Option, Some, None}
 use Rattle.std.proofs.lemmas.Bool.{eqb-true}
 use Rattle.std.proofs.lemmas.Bool.Decides.{eqb_tells}
 use Rattle.ss_list.specs.Chain.{times}
 use Rattle.ss_list.specs.Links.{Becomes}
 use Rattle.ss_list.proofs.Times.{times-here, times-apart, times-append, at_head, below-head, cut}
-use Rattle.ss_list.proofs.Paths.{Path, becomes_here, becomes_other, path_split, path_joined, path_kept, path_turned, path_push, last_there}
+use Rattle.ss_list.proofs.Paths.{Path, becomes_here, becomes_other, path_split, path_joined, path_kept, path_turned}
+use Rattle.ss_list.proofs.Paths.{path_push, last_there}
 use Rattle.ss_tree.specs.Entries.{put_before}
 use Rattle.ss_tree.specs.declared.cells.Cell.{Cell}
 use Rattle.ss_tree.specs.declared.cells.TheConstants.{END}

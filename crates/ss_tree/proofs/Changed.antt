@@ -1,5 +1,7 @@
 -- What the calls make of cells.
-use Rattle.std.proofs.Common.{◌≡◌, ◌≢◌, ℕ, ◌+◌, ◌<◌, ◌≤◌, ◌==◌, List, [], ◌∷◌, ◌++◌, length, true, false, cond, refl, sym, ap, subst, ◌∙◌, arith, inl, inr, Option, Some, None, option_map, option_and_then, unwrap_or, is_some, length-append, bytes_eq}
+use Rattle.std.proofs.Common.{◌≡◌, ◌≢◌, ℕ, ◌+◌, ◌<◌, ◌≤◌, ◌==◌, List, [], ◌∷◌, ◌++◌, length, true, false, cond, refl}
+use Rattle.std.proofs.Common.{sym, ap, subst, ◌∙◌, arith, inl, inr, Option, Some, None, option_map, option_and_then}
+use Rattle.std.proofs.Common.{unwrap_or, is_some, length-append, bytes_eq}
 use Rattle.std.proofs.lemmas.Bool.{false≢true, cases_lt, eq-eqb, or_parts}
 use Rattle.std.proofs.lemmas.Bool.Decides.{eqb_tells}
 use Rattle.std.proofs.lemmas.List.{get_or_append_left, get_or_push, get_or_past}
@@ -7,13 +9,17 @@ use Rattle.ss_list.specs.Chain.{times}
 use Rattle.ss_list.proofs.Times.{times-apart, cut}
 use Rattle.ss_list.proofs.Paths.{Path, path_kept}
 use Rattle.ss_tree.specs.declared.entries.Entry.{Entry}
-use Rattle.ss_tree.specs.Entries.{entry, is_live, stands_under, kids, above, put_before, without_node, under, revised, insert_fault, move_fault, remove_fault, takes_children, is_place, is_node, is_fixed, is_fit_with, node_of, IsTree, IsKept}
+use Rattle.ss_tree.specs.Entries.{entry, is_live, stands_under, kids, above, put_before, without_node, under}
+use Rattle.ss_tree.specs.Entries.{revised_entry, insert_fault, move_fault, remove_fault, takes_children, is_place}
+use Rattle.ss_tree.specs.Entries.{is_node, is_fixed, is_fit_with, node_of, IsTree, KeepsTree}
 use Rattle.ss_tree.proofs.Lists.{put_entry, without_entry, revise_entry}
 use Rattle.ss_tree.proofs.Edits.{entry_put, entry_without, kids_without}
-use Rattle.ss_tree.proofs.Kept.{insert_free, move_free, remove_free, takes_parts, kept_insert, insert_kids, kept_move, move_kids, moved_entry, kept_remove, kept_set, entry_revise, kids_revise}
+use Rattle.ss_tree.proofs.Kept.{insert_free, move_free, remove_free, takes_parts, kept_insert, insert_kids, kept_move}
+use Rattle.ss_tree.proofs.Kept.{move_kids, moved_entry, kept_remove, kept_set, entry_revise, kids_revise}
 use Rattle.ss_tree.specs.declared.cells.Cell.{Cell}
 use Rattle.ss_tree.specs.declared.cells.TheConstants.{END}
-use Rattle.ss_tree.specs.Cells.{IsPlace, blank, cell_at, next_of, prev_of, seat, seat_at, link_of, Joins, Attaches, Frees, SameLinks, Seats, listing, Lies, IsLinked}
+use Rattle.ss_tree.specs.Cells.{IsPlace, blank, cell_at, next_of, prev_of, seat, seat_at, link_of, Joins, Attaches}
+use Rattle.ss_tree.specs.Cells.{Frees, SameLinks, Seats, listing, Lies, IsLinked}
 use Rattle.ss_tree.proofs.Kin.{entry_kid, kid_entry, kid_once, kid_apart}
 use Rattle.ss_tree.proofs.Listed.{absent}
 use Rattle.ss_tree.proofs.Sibs.{times-gone, times-kept, times-without}
@@ -27,7 +33,7 @@ use Rattle.std.proofs.lemmas.Option.{none-some}
 use Rattle.ss_tree.proofs.Valid.{under_from}
 
 -- the rows of a tree's nodes share no node
-pub strung_from : (cells : List Cell) (es : List Entry) → IsKept es (length cells) → Lies cells es → Strung cells (λ p. kids p es)
+pub strung_from : (cells : List Cell) (es : List Entry) → KeepsTree es (length cells) → Lies cells es → Strung cells (λ p. kids p es)
 strung_from cells es kept lies = record {
   rows = lies.rows;
   once = λ p. kid_once p es kept.is_tree.nodes;
@@ -58,7 +64,7 @@ row_place cells lists p u low there inner = low u (omega (arith, times-apart u E
 
 -- cells that hold the entries es, which are a tree
 pub record Holds (cells : List Cell) (es : List Entry) : Type 0 where
-  pub kept : IsKept es (length cells)
+  pub kept : KeepsTree es (length cells)
   pub lies : Lies cells es
 
 pub holds_linked : {cells : List Cell} {es : List Entry} → Holds cells es → IsLinked cells
@@ -194,7 +200,7 @@ module _ (cells : List Cell) (p : ℕ) (b : Option ℕ) (e : Entry) (linked : Is
 
     pub inserted : Holds new (put_entry b e (listing cells))
     inserted = record {
-      kept = subst (IsKept (put_entry b e (listing cells))) (sym inserted_long) (kept_insert (listing cells) (length cells) (length seated) p b e linked.kept free gone seats.inside seats.longer under_p);
+      kept = subst (KeepsTree (put_entry b e (listing cells))) (sym inserted_long) (kept_insert (listing cells) (length cells) (length seated) p b e linked.kept free gone seats.inside seats.longer under_p);
       lies = record {
         seats = inserted_seat;
         rows = λ j. subst (λ ks. Path (next_of new j) (prev_of new j) END ks END) (sym (insert_kids (listing cells) p b e free under_p j)) (inserted_strung.rows j);
@@ -307,7 +313,7 @@ module _ (cells : List Cell) (k p : ℕ) (linked : IsLinked cells) (up : above (
 
         pub moved : Holds new (put_entry b (under q d) (without_entry k (listing cells)))
         moved = record {
-          kept = subst (IsKept (put_entry b (under q d) (without_entry k (listing cells)))) (sym moved_long) (kept_move (listing cells) (length cells) k q b d linked.kept free at);
+          kept = subst (KeepsTree (put_entry b (under q d) (without_entry k (listing cells)))) (sym moved_long) (kept_move (listing cells) (length cells) k q b d linked.kept free at);
           lies = record {
             seats = moved_seat;
             rows = λ j. subst (λ ks. Path (next_of new j) (prev_of new j) END ks END) (sym (move_kids (listing cells) k q b d at free j)) (moved_strung.rows j);
@@ -332,7 +338,7 @@ module _ (cells : List Cell) (k p : ℕ) (linked : IsLinked cells) (up : above (
 
       pub removed : Holds new (without_entry k (listing cells))
       removed = record {
-        kept = subst (IsKept (without_entry k (listing cells))) (sym removed_long) (kept_remove (listing cells) (length cells) k linked.kept free);
+        kept = subst (KeepsTree (without_entry k (listing cells))) (sym removed_long) (kept_remove (listing cells) (length cells) k linked.kept free);
         lies = record {
           seats = λ j. entry_without k (listing cells) j ∙ (ap (cond (k == j) None) (linked.lies.seats j ∙ sym (joins.seats j)) ∙ sym (seats j));
           rows = λ j. let strung = strung_off left_strung k node_inner (λ p. times-gone k (kids p (listing cells))) same.next same.prev in subst (λ ks. Path (next_of new j) (prev_of new j) END ks END) (sym (kids_without j k (listing cells))) (strung.rows j);
@@ -351,22 +357,22 @@ module _ (cells : List Cell) (k p : ℕ) (linked : IsLinked cells) (up : above (
 
 -- ---- another content and time
 
-module _ (cells : List Cell) (k : ℕ) (content : List ℕ) (time : ℕ) (new : List Cell) (linked : IsLinked cells) (inside : (k == 0) ≡ false) (fit : is_fit_with content k (listing cells) ≡ true) (same : SameLinks cells new) (seats : (j : ℕ) → seat_at new j ≡ cond (j == k) (option_map (revised content time) (seat_at cells j)) (seat_at cells j)) where
+module _ (cells : List Cell) (k : ℕ) (content : List ℕ) (time : ℕ) (new : List Cell) (linked : IsLinked cells) (inside : (k == 0) ≡ false) (fit : is_fit_with content k (listing cells) ≡ true) (same : SameLinks cells new) (seats : (j : ℕ) → seat_at new j ≡ cond (j == k) (option_map (revised_entry content time) (seat_at cells j)) (seat_at cells j)) where
   pub revised_holds : Holds new (revise_entry k content time (listing cells))
   revised_holds = record {
-    kept = subst (IsKept (revise_entry k content time (listing cells))) (sym same.long) (kept_set (listing cells) (length cells) k content time linked.kept inside fit);
+    kept = subst (KeepsTree (revise_entry k content time (listing cells))) (sym same.long) (kept_set (listing cells) (length cells) k content time linked.kept inside fit);
     lies = record {
-      seats = λ j. entry_revise k content time (listing cells) j ∙ (ap (λ o. cond (j == k) (option_map (revised content time) o) o) (linked.lies.seats j) ∙ sym (seats j));
+      seats = λ j. entry_revise k content time (listing cells) j ∙ (ap (λ o. cond (j == k) (option_map (revised_entry content time) o) o) (linked.lies.seats j) ∙ sym (seats j));
       rows = λ j. let strung = strung_same (strung_from cells (listing cells) linked.kept linked.lies) same.next same.prev in subst (λ ks. Path (next_of new j) (prev_of new j) END ks END) (sym (kids_revise k content time (listing cells) j)) (strung.rows j);
       room = let long = same.long in let room = linked.lies.room in omega arith;
     };
   }
 
-  pub revised_entries : (j : ℕ) → entry j (listing new) ≡ cond (j == k) (option_map (revised content time) (entry j (listing cells))) (entry j (listing cells))
+  pub revised_entries : (j : ℕ) → entry j (listing new) ≡ cond (j == k) (option_map (revised_entry content time) (entry j (listing cells))) (entry j (listing cells))
   revised_entries j = holds_entry revised_holds j ∙ entry_revise k content time (listing cells) j
 
   pub revised_kids : (j : ℕ) → kids j (listing new) ≡ kids j (listing cells)
   revised_kids j = holds_kids revised_holds j ∙ kids_revise k content time (listing cells) j
 
   pub revised_ids : (x : List ℕ) → node_of x (listing new) ≡ node_of x (listing cells)
-  revised_ids x = node_kept (listing cells) (listing new) linked.kept.is_tree (holds_linked revised_holds).kept.is_tree x k (revised content time) (λ e. refl) revised_entries
+  revised_ids x = node_kept (listing cells) (listing new) linked.kept.is_tree (holds_linked revised_holds).kept.is_tree x k (revised_entry content time) (λ e. refl) revised_entries

@@ -1,5 +1,6 @@
 -- Edits keep a tree a tree.
-use Rattle.std.proofs.Common.{◌≡◌, ◌≢◌, ℕ, zero, suc, ◌==◌, List, Bool, true, false, cond, refl, sym, ap, ◌∙◌, subst, Option, Some, None, option_and_then, unwrap_or, is_some}
+use Rattle.std.proofs.Common.{◌≡◌, ◌≢◌, ℕ, zero, suc, ◌==◌, List, Bool, true, false, cond, refl, sym, ap, ◌∙◌, subst}
+use Rattle.std.proofs.Common.{Option, Some, None, option_and_then, unwrap_or, is_some}
 use Rattle.std.proofs.lemmas.Bool.{false≢true, eqb-true, eqb-false}
 use Rattle.ss_record.specs.Ids.{Apart, roots}
 use Rattle.ss_record.specs.Kinds.{is_folder}

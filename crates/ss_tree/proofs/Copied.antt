@@ -1,5 +1,6 @@
 -- The index that is made of the cells in turn.
-use Rattle.std.proofs.Common.{◌≡◌, ◌≢◌, ℕ, ◌+◌, ◌<◌, List, Bool, true, false, cond, nat_lt, refl, sym, ap, ◌∙◌, arith, inl, inr, Option, Some, None, option_map, is_some, bytes_eq}
+use Rattle.std.proofs.Common.{◌≡◌, ◌≢◌, ℕ, ◌+◌, ◌<◌, List, Bool, true, false, cond, nat_lt, refl, sym, ap, ◌∙◌, arith}
+use Rattle.std.proofs.Common.{inl, inr, Option, Some, None, option_map, is_some, bytes_eq}
 use Rattle.std.proofs.lemmas.Bool.{false≢true, cases_lt, lt-ltb, le-ltb}
 use Rattle.ss_record.specs.Items.{ItemView}
 use Rattle.ss_tree.specs.declared.entries.Entry.{Entry}

@@ -1,11 +1,13 @@
 -- What a list of entries with one more, or one less, says of each node.
-use Rattle.std.proofs.Common.{◌≡◌, ◌≢◌, ℕ, ◌==◌, List, [], ◌∷◌, ◌++◌, map, Bool, true, false, not, cond, ◌||◌, refl, sym, ap, ◌∙◌, filter, bytes_eq, Option, Some, None, option_map, unwrap_or, is_some}
+use Rattle.std.proofs.Common.{◌≡◌, ◌≢◌, ℕ, ◌==◌, List, [], ◌∷◌, ◌++◌, map, Bool, true, false, not, cond, ◌||◌, refl}
+use Rattle.std.proofs.Common.{sym, ap, ◌∙◌, filter, bytes_eq, Option, Some, None, option_map, unwrap_or, is_some}
 use Rattle.std.proofs.lemmas.Bool.{false≢true, eqb-true, or_parts, eqb-false}
 use Rattle.ss_record.specs.Ids.{has, Apart}
 use Rattle.ss_record.specs.Items.{is_fit}
 use Rattle.ss_record.proofs.IdLists.{bytes_eq-refl, has-cons, Apart-cons, Apart-head, Apart-tail}
 use Rattle.ss_tree.specs.declared.entries.Entry.{Entry}
-use Rattle.ss_tree.specs.Entries.{entry, stands_under, kids, kid_ids, entry_ids, NodesApart, put_before, without_node, is_place, is_live, is_fit_with}
+use Rattle.ss_tree.specs.Entries.{entry, stands_under, kids, kid_ids, entry_ids, NodesApart, put_before, without_node}
+use Rattle.ss_tree.specs.Entries.{is_place, is_live, is_fit_with}
 use Rattle.ss_tree.proofs.Lists.{put_entry, without_entry}
 use Rattle.ss_text.proofs.Basics.{bytes_eq-flip, same_text, number_turned}
 

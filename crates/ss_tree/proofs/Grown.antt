@@ -1,5 +1,7 @@
 -- What one entry more makes of cells.
-use Rattle.std.proofs.Common.{◌≡◌, ℕ, ◌+◌, ◌<◌, ◌≤◌, ◌==◌, List, [], ◌∷◌, ◌++◌, length, map, find, Bool, true, false, cond, ◌||◌, refl, sym, ap, ap₂, subst, ◌∙◌, arith, inl, inr, Option, Some, None, option_map, unwrap_or, is_some, length-append, append-nil, get_or, bytes_eq}
+use Rattle.std.proofs.Common.{◌≡◌, ℕ, ◌+◌, ◌<◌, ◌≤◌, ◌==◌, List, [], ◌∷◌, ◌++◌, length, map, find, Bool, true, false}
+use Rattle.std.proofs.Common.{cond, ◌||◌, refl, sym, ap, ap₂, subst, ◌∙◌, arith, inl, inr, Option, Some, None}
+use Rattle.std.proofs.Common.{option_map, unwrap_or, is_some, length-append, append-nil, get_or, bytes_eq}
 use Rattle.std.specs.Option.{IfSome}
 use Rattle.std.proofs.Math.Seq.{get_or-append_seam}
 use Rattle.std.proofs.lemmas.Bool.{false≢true, cases_lt}

@@ -1,5 +1,7 @@
 -- What the calls make of the places that were left.
-use Rattle.std.proofs.Common.{◌≡◌, ◌≢◌, ℕ, ◌+◌, ◌<◌, ◌≤◌, ◌==◌, List, [], ◌∷◌, length, map, Bool, true, false, cond, refl, sym, ap, ap₂, subst, ◌∙◌, arith, inl, inr, Option, Some, None, option_map, is_some, nat_lt}
+use Rattle.std.proofs.Common.{◌≡◌, ◌≢◌, ℕ, ◌+◌, ◌<◌, ◌≤◌, ◌==◌, List, [], ◌∷◌, length, map, Bool, true, false, cond}
+use Rattle.std.proofs.Common.{refl, sym, ap, ap₂, subst, ◌∙◌, arith, inl, inr, Option, Some, None, option_map, is_some}
+use Rattle.std.proofs.Common.{nat_lt}
 use Rattle.std.proofs.lemmas.Bool.{false≢true, cases_lt, eq-eqb, ne_eqb, lt-ltb, ltb-true}
 use Rattle.std.proofs.lemmas.Bool.Decides.{eqb_tells}
 use Rattle.std.proofs.lemmas.List.{get_or_past}
@@ -10,8 +12,10 @@ use Rattle.ss_list.proofs.Paths.{becomes_other, runs_kept}
 use Rattle.ss_tree.specs.declared.entries.Entry.{Entry}
 use Rattle.ss_tree.specs.declared.cells.Cell.{Cell}
 use Rattle.ss_tree.specs.declared.cells.TheConstants.{END}
-use Rattle.ss_tree.specs.Entries.{above, entry, insert_fault, kids, move_fault, revised, under, without_node, NodesApart}
-use Rattle.ss_tree.specs.Cells.{blank, blank_at, cell_at, next_of, prev_of, link_of, seat_at, Attaches, Frees, Hangs, Joins, SameLinks, Seats, IsLinked, listing}
+use Rattle.ss_tree.specs.Entries.{above, entry, insert_fault, kids, move_fault, revised_entry, under, without_node}
+use Rattle.ss_tree.specs.Entries.{NodesApart}
+use Rattle.ss_tree.specs.Cells.{blank, blank_at, cell_at, next_of, prev_of, link_of, seat_at, Attaches, Frees, Hangs}
+use Rattle.ss_tree.specs.Cells.{Joins, SameLinks, Seats, IsLinked, listing}
 use Rattle.ss_tree.proofs.Changed.{Holds, insert_left, leave_left, move_left, node_low, parent_there}
 use Rattle.ss_tree.proofs.Edits.{entry-cons}
 use Rattle.ss_tree.proofs.Kin.{kid_entry}
@@ -289,6 +293,6 @@ module _ (cells : List Cell) (k p : ℕ) (linked : IsLinked cells) (up : above (
       let long = joins.long in
       hangs_freed left_hangs middle_room k (omega arith) (ap is_some (joins.seats k) ∙ here_full) frees seats
 
-pub revised_hangs : (cells : List Cell) (k : ℕ) (content : List ℕ) (time : ℕ) (new : List Cell) → IsLinked cells → SameLinks cells new → ((j : ℕ) → seat_at new j ≡ cond (j == k) (option_map (revised content time) (seat_at cells j)) (seat_at cells j)) → (v : ℕ) → Hangs cells v → Hangs new v
+pub revised_hangs : (cells : List Cell) (k : ℕ) (content : List ℕ) (time : ℕ) (new : List Cell) → IsLinked cells → SameLinks cells new → ((j : ℕ) → seat_at new j ≡ cond (j == k) (option_map (revised_entry content time) (seat_at cells j)) (seat_at cells j)) → (v : ℕ) → Hangs cells v → Hangs new v
 revised_hangs cells k content time new linked same seats v h =
-    hangs_linked h linked.lies.room same (λ j. ap is_some (seats j) ∙ some_kept (revised content time) (j == k) (seat_at cells j))
+    hangs_linked h linked.lies.room same (λ j. ap is_some (seats j) ∙ some_kept (revised_entry content time) (j == k) (seat_at cells j))

@@ -1,5 +1,7 @@
 -- The calls keep a tree.
-use Rattle.std.proofs.Common.{◌≡◌, ◌≢◌, ℕ, zero, suc, ◌-◌, ◌<◌, ◌≤◌, ◌==◌, List, [], ◌∷◌, map, Bool, true, false, not, cond, ◌||◌, ◌⊎◌, inl, inr, refl, sym, ap, ap₂, ◌∙◌, subst, arith, Option, Some, None, option_map, unwrap_or, is_some, codes, lit<}
+use Rattle.std.proofs.Common.{◌≡◌, ◌≢◌, ℕ, zero, suc, ◌-◌, ◌<◌, ◌≤◌, ◌==◌, List, [], ◌∷◌, map, Bool, true, false, not}
+use Rattle.std.proofs.Common.{cond, ◌||◌, ◌⊎◌, inl, inr, refl, sym, ap, ap₂, ◌∙◌, subst, arith, Option, Some, None}
+use Rattle.std.proofs.Common.{option_map, unwrap_or, is_some, codes, lit<}
 use Rattle.std.specs.List.{flat_map}
 use Rattle.std.proofs.lemmas.Bool.{false≢true, eqb-true, or_parts, and_parts, not-true, eqb-false, eq-eqb}
 use Rattle.ss_record.specs.Ids.{has, Apart, places, roots}
@@ -10,9 +12,14 @@ use Rattle.ss_tree.specs.declared.faults.TreeFault.TheVariants.{NotFolder, Twice
 use Rattle.ss_tree.specs.declared.faults.MoveFault.TheVariants.{Root, NotFolder as NoFolder, Under, BadPlace as NoPlace}
 use Rattle.ss_tree.specs.declared.faults.RemoveFault.TheVariants.{Root as Fixed, NotEmpty}
 use Rattle.ss_tree.specs.Trees.{steps, Reaches, empty_tree, places_node}
-use Rattle.ss_tree.specs.Entries.{entry, is_live, stands_under, kids, kid_ids, up, placed, tree, NodesApart, entry_ids, top_entry, IsTree, IsKept, under, revised, put_before, without_node, first_of, is_below, takes_children, is_fixed, is_place, insert_fault, is_node, move_fault, remove_fault, new_entries, is_fit_with, preorder}
+use Rattle.ss_tree.specs.Entries.{entry, is_live, stands_under, kids, kid_ids, up, placed, tree, NodesApart, entry_ids}
+use Rattle.ss_tree.specs.Entries.{top_entry, IsTree, KeepsTree, under, revised_entry, put_before, without_node}
+use Rattle.ss_tree.specs.Entries.{first_of, is_below, takes_children, is_fixed, is_place, insert_fault, is_node}
+use Rattle.ss_tree.specs.Entries.{move_fault, remove_fault, new_entries, is_fit_with, preorder}
 use Rattle.ss_tree.proofs.Lists.{put_entry, without_entry, revise_entry}
-use Rattle.ss_tree.proofs.Edits.{entry-nil, entry-cons, entry_put, entry_without, kids-cons, kids_put, kids_without, kid_ids-cons, kid_ids_put, kid_ids_without, nodes_put, nodes_without, ids_put, ids_without, id_is_free}
+use Rattle.ss_tree.proofs.Edits.{entry-nil, entry-cons, entry_put, entry_without, kids-cons, kids_put, kids_without}
+use Rattle.ss_tree.proofs.Edits.{kid_ids-cons, kid_ids_put, kid_ids_without, nodes_put, nodes_without, ids_put}
+use Rattle.ss_tree.proofs.Edits.{ids_without, id_is_free}
 use Rattle.ss_tree.proofs.Changes.{onward, up_of, live_steps, changed_tree, leafless_tree, revised_tree}
 use Rattle.ss_tree.proofs.Ways.{never_met}
 use Rattle.ss_tree.proofs.Edits.{live_entry}
@@ -92,7 +99,7 @@ dead j es h = go (entry j es) refl
 
 -- ---- insert
 
-pub kept_insert : (es : List Entry) (next m p : ℕ) (b : Option ℕ) (e : Entry) → IsKept es next → insert_fault es p b e.item.id ≡ None → entry e.node es ≡ None → e.node < m → next ≤ m → e.parent ≡ Some p → IsKept (put_entry b e es) m
+pub kept_insert : (es : List Entry) (next m p : ℕ) (b : Option ℕ) (e : Entry) → KeepsTree es next → insert_fault es p b e.item.id ≡ None → entry e.node es ≡ None → e.node < m → next ≤ m → e.parent ≡ Some p → KeepsTree (put_entry b e es) m
 kept_insert es next m p b e h free none inside longer under_p = record { is_tree = kept; below = low }
   where
     look : (j : ℕ) → entry j (put_entry b e es) ≡ cond (j == e.node) (Some e) (entry j es)
@@ -165,7 +172,7 @@ move_kids es k p b d q free j =
     kids_put j b (under p d) (without_entry k es) (λ u. ap (λ i. is_place i b (without_entry k es)) (eqb-true j p u) ∙ still_place es k p b f.place f.other)
     ∙ ap₂ (λ x ks. cond (j == p) (put_before b x ks) ks) ((entry_in k es d q).1) (kids_without j k es)
 
-pub kept_move : (es : List Entry) (next k p : ℕ) (b : Option ℕ) (d : Entry) → IsKept es next → move_fault es k p b ≡ None → entry k es ≡ Some d → IsKept (put_entry b (under p d) (without_entry k es)) next
+pub kept_move : (es : List Entry) (next k p : ℕ) (b : Option ℕ) (d : Entry) → KeepsTree es next → move_fault es k p b ≡ None → entry k es ≡ Some d → KeepsTree (put_entry b (under p d) (without_entry k es)) next
 kept_move es next k p b d h free q = record { is_tree = kept; below = low }
   where
     at : d.node ≡ k
@@ -204,7 +211,7 @@ first_there k j (f ∷ fs) g q r = ap (λ ks. is_some (first_of ks)) (kids-cons 
     go true false w e ih = absurd (false≢true (sym w ∙ (ap (λ x. stands_under k x) (some_same e) ∙ (ap (λ o. unwrap_or (option_map (λ p. k == p) o) false) r ∙ own_number k))))
     go false false w e ih = ih e
 
-pub kept_remove : (es : List Entry) (next k : ℕ) → IsKept es next → remove_fault es k ≡ None → IsKept (without_entry k es) next
+pub kept_remove : (es : List Entry) (next k : ℕ) → KeepsTree es next → remove_fault es k ≡ None → KeepsTree (without_entry k es) next
 kept_remove es next k h free = record { is_tree = kept; below = low }
   where
     kept : IsTree (without_entry k es)
@@ -223,43 +230,43 @@ kept_remove es next k h free = record { is_tree = kept; below = low }
 
 -- ---- another content or time
 
-pub entry_revise : (k : ℕ) (content : List ℕ) (time : ℕ) (es : List Entry) (j : ℕ) → entry j (revise_entry k content time es) ≡ cond (j == k) (option_map (revised content time) (entry j es)) (entry j es)
+pub entry_revise : (k : ℕ) (content : List ℕ) (time : ℕ) (es : List Entry) (j : ℕ) → entry j (revise_entry k content time es) ≡ cond (j == k) (option_map (revised_entry content time) (entry j es)) (entry j es)
 entry_revise k content time [] j = entry-nil j ∙ go (j == k)
   where
-    go : (c : Bool) → None ≡ cond c (option_map (revised content time) (entry j [])) (entry j [])
-    go true = sym (ap (option_map (revised content time)) (entry-nil j))
+    go : (c : Bool) → None ≡ cond c (option_map (revised_entry content time) (entry j [])) (entry j [])
+    go true = sym (ap (option_map (revised_entry content time)) (entry-nil j))
     go false = sym (entry-nil j)
 entry_revise k content time (f ∷ fs) j = go (k == f.node) refl (entry_revise k content time fs j)
   where
-    both : (x y : Bool) → (j == f.node) ≡ x → (j == k) ≡ y → (k == f.node) ≡ true → cond x (Some (revised content time f)) (cond y (option_map (revised content time) (entry j fs)) (entry j fs)) ≡ cond y (option_map (revised content time) (cond x (Some f) (entry j fs))) (cond x (Some f) (entry j fs))
+    both : (x y : Bool) → (j == f.node) ≡ x → (j == k) ≡ y → (k == f.node) ≡ true → cond x (Some (revised_entry content time f)) (cond y (option_map (revised_entry content time) (entry j fs)) (entry j fs)) ≡ cond y (option_map (revised_entry content time) (cond x (Some f) (entry j fs))) (cond x (Some f) (entry j fs))
     both true true p q c = refl
     both true false p q c = absurd (eqb-false j k q (eqb-true j f.node p ∙ sym (eqb-true k f.node c)))
     both false y p q c = refl
 
-    none : (x y : Bool) → (j == f.node) ≡ x → (j == k) ≡ y → (k == f.node) ≡ false → cond x (Some f) (cond y (option_map (revised content time) (entry j fs)) (entry j fs)) ≡ cond y (option_map (revised content time) (cond x (Some f) (entry j fs))) (cond x (Some f) (entry j fs))
+    none : (x y : Bool) → (j == f.node) ≡ x → (j == k) ≡ y → (k == f.node) ≡ false → cond x (Some f) (cond y (option_map (revised_entry content time) (entry j fs)) (entry j fs)) ≡ cond y (option_map (revised_entry content time) (cond x (Some f) (entry j fs))) (cond x (Some f) (entry j fs))
     none true true p q c = absurd (eqb-false k f.node c (sym (eqb-true j k q) ∙ eqb-true j f.node p))
     none true false p q c = refl
     none false y p q c = refl
 
-    go : (c : Bool) → (k == f.node) ≡ c → entry j (revise_entry k content time fs) ≡ cond (j == k) (option_map (revised content time) (entry j fs)) (entry j fs)
-        → entry j (cond c (revised content time f) f ∷ revise_entry k content time fs) ≡ cond (j == k) (option_map (revised content time) (entry j (f ∷ fs))) (entry j (f ∷ fs))
-    go true c ih = entry-cons j (revised content time f) (revise_entry k content time fs) ∙ (ap (cond (j == f.node) (Some (revised content time f))) ih ∙ (both (j == f.node) (j == k) refl refl c ∙ ap (λ o. cond (j == k) (option_map (revised content time) o) o) (sym (entry-cons j f fs))))
-    go false c ih = entry-cons j f (revise_entry k content time fs) ∙ (ap (cond (j == f.node) (Some f)) ih ∙ (none (j == f.node) (j == k) refl refl c ∙ ap (λ o. cond (j == k) (option_map (revised content time) o) o) (sym (entry-cons j f fs))))
+    go : (c : Bool) → (k == f.node) ≡ c → entry j (revise_entry k content time fs) ≡ cond (j == k) (option_map (revised_entry content time) (entry j fs)) (entry j fs)
+        → entry j (cond c (revised_entry content time f) f ∷ revise_entry k content time fs) ≡ cond (j == k) (option_map (revised_entry content time) (entry j (f ∷ fs))) (entry j (f ∷ fs))
+    go true c ih = entry-cons j (revised_entry content time f) (revise_entry k content time fs) ∙ (ap (cond (j == f.node) (Some (revised_entry content time f))) ih ∙ (both (j == f.node) (j == k) refl refl c ∙ ap (λ o. cond (j == k) (option_map (revised_entry content time) o) o) (sym (entry-cons j f fs))))
+    go false c ih = entry-cons j f (revise_entry k content time fs) ∙ (ap (cond (j == f.node) (Some f)) ih ∙ (none (j == f.node) (j == k) refl refl c ∙ ap (λ o. cond (j == k) (option_map (revised_entry content time) o) o) (sym (entry-cons j f fs))))
 
 pub kids_revise : (k : ℕ) (content : List ℕ) (time : ℕ) (es : List Entry) (j : ℕ) → kids j (revise_entry k content time es) ≡ kids j es
 kids_revise k content time [] j = refl
 kids_revise k content time (f ∷ fs) j = go (k == f.node) (kids_revise k content time fs j)
   where
-    go : (c : Bool) → kids j (revise_entry k content time fs) ≡ kids j fs → kids j (cond c (revised content time f) f ∷ revise_entry k content time fs) ≡ kids j (f ∷ fs)
-    go true ih = kids-cons j (revised content time f) (revise_entry k content time fs) ∙ (ap (λ ks. cond (stands_under j f) (f.node ∷ ks) ks) ih ∙ sym (kids-cons j f fs))
+    go : (c : Bool) → kids j (revise_entry k content time fs) ≡ kids j fs → kids j (cond c (revised_entry content time f) f ∷ revise_entry k content time fs) ≡ kids j (f ∷ fs)
+    go true ih = kids-cons j (revised_entry content time f) (revise_entry k content time fs) ∙ (ap (λ ks. cond (stands_under j f) (f.node ∷ ks) ks) ih ∙ sym (kids-cons j f fs))
     go false ih = kids-cons j f (revise_entry k content time fs) ∙ (ap (λ ks. cond (stands_under j f) (f.node ∷ ks) ks) ih ∙ sym (kids-cons j f fs))
 
 kid_ids_revise : (k : ℕ) (content : List ℕ) (time : ℕ) (es : List Entry) (j : ℕ) → kid_ids j (revise_entry k content time es) ≡ kid_ids j es
 kid_ids_revise k content time [] j = refl
 kid_ids_revise k content time (f ∷ fs) j = go (k == f.node) (kid_ids_revise k content time fs j)
   where
-    go : (c : Bool) → kid_ids j (revise_entry k content time fs) ≡ kid_ids j fs → kid_ids j (cond c (revised content time f) f ∷ revise_entry k content time fs) ≡ kid_ids j (f ∷ fs)
-    go true ih = kid_ids-cons j (revised content time f) (revise_entry k content time fs) ∙ (ap (λ ks. cond (stands_under j f) (f.item.id ∷ ks) ks) ih ∙ sym (kid_ids-cons j f fs))
+    go : (c : Bool) → kid_ids j (revise_entry k content time fs) ≡ kid_ids j fs → kid_ids j (cond c (revised_entry content time f) f ∷ revise_entry k content time fs) ≡ kid_ids j (f ∷ fs)
+    go true ih = kid_ids-cons j (revised_entry content time f) (revise_entry k content time fs) ∙ (ap (λ ks. cond (stands_under j f) (f.item.id ∷ ks) ks) ih ∙ sym (kid_ids-cons j f fs))
     go false ih = kid_ids-cons j f (revise_entry k content time fs) ∙ (ap (λ ks. cond (stands_under j f) (f.item.id ∷ ks) ks) ih ∙ sym (kid_ids-cons j f fs))
 
 ids_revise : (k : ℕ) (content : List ℕ) (time : ℕ) (es : List Entry) → entry_ids (revise_entry k content time es) ≡ entry_ids es
@@ -267,7 +274,7 @@ unfolding entry_ids
 ids_revise k content time [] = refl
 ids_revise k content time (f ∷ fs) = go (k == f.node) (ids_revise k content time fs)
   where
-    go : (c : Bool) → map (λ e. e.item.id) (revise_entry k content time fs) ≡ map (λ e. e.item.id) fs → map (λ e. e.item.id) (cond c (revised content time f) f ∷ revise_entry k content time fs) ≡ f.item.id ∷ map (λ e. e.item.id) fs
+    go : (c : Bool) → map (λ e. e.item.id) (revise_entry k content time fs) ≡ map (λ e. e.item.id) fs → map (λ e. e.item.id) (cond c (revised_entry content time f) f ∷ revise_entry k content time fs) ≡ f.item.id ∷ map (λ e. e.item.id) fs
     go true ih = ap (λ r. f.item.id ∷ r) ih
     go false ih = ap (λ r. f.item.id ∷ r) ih
 
@@ -279,33 +286,33 @@ nodes_revise k content time (f ∷ fs) a = go (k == f.node) (nodes_revise k cont
     none : entry f.node (revise_entry k content time fs) ≡ None
     none = entry_revise k content time fs f.node ∙ pick (f.node == k)
       where
-        pick : (c : Bool) → cond c (option_map (revised content time) (entry f.node fs)) (entry f.node fs) ≡ None
-        pick true = ap (option_map (revised content time)) a.0
+        pick : (c : Bool) → cond c (option_map (revised_entry content time) (entry f.node fs)) (entry f.node fs) ≡ None
+        pick true = ap (option_map (revised_entry content time)) a.0
         pick false = a.0
 
-    go : (c : Bool) → NodesApart (revise_entry k content time fs) → NodesApart (cond c (revised content time f) f ∷ revise_entry k content time fs)
+    go : (c : Bool) → NodesApart (revise_entry k content time fs) → NodesApart (cond c (revised_entry content time f) f ∷ revise_entry k content time fs)
     go true ih = (none, ih)
     go false ih = (none, ih)
 
-pub kept_revise : (es : List Entry) (next k : ℕ) (content : List ℕ) (time : ℕ) (d : Entry) → IsKept es next → (k == 0) ≡ false → entry k es ≡ Some d → IsKept (revise_entry k content time es) next
+pub kept_revise : (es : List Entry) (next k : ℕ) (content : List ℕ) (time : ℕ) (d : Entry) → KeepsTree es next → (k == 0) ≡ false → entry k es ≡ Some d → KeepsTree (revise_entry k content time es) next
 kept_revise es next k content time d h inside q = record { is_tree = kept; below = low }
   where
-    look : (j : ℕ) → entry j (revise_entry k content time es) ≡ cond (j == k) (Some (revised content time d)) (entry j es)
+    look : (j : ℕ) → entry j (revise_entry k content time es) ≡ cond (j == k) (Some (revised_entry content time d)) (entry j es)
     look j = entry_revise k content time es j ∙ pick (j == k) refl
       where
-        pick : (c : Bool) → (j == k) ≡ c → cond c (option_map (revised content time) (entry j es)) (entry j es) ≡ cond c (Some (revised content time d)) (entry j es)
-        pick true r = ap (option_map (revised content time)) (ap (λ i. entry i es) (eqb-true j k r) ∙ q)
+        pick : (c : Bool) → (j == k) ≡ c → cond c (option_map (revised_entry content time) (entry j es)) (entry j es) ≡ cond c (Some (revised_entry content time d)) (entry j es)
+        pick true r = ap (option_map (revised_entry content time)) (ap (λ i. entry i es) (eqb-true j k r) ∙ q)
         pick false r = refl
 
     kept : IsTree (revise_entry k content time es)
     kept =
-        revised_tree es (revise_entry k content time es) h.is_tree k (revised content time d) d look (nodes_revise k content time es h.is_tree.nodes) (subst Apart (sym (ids_revise k content time es)) h.is_tree.ids)
+        revised_tree es (revise_entry k content time es) h.is_tree k (revised_entry content time d) d look (nodes_revise k content time es h.is_tree.nodes) (subst Apart (sym (ids_revise k content time es)) h.is_tree.ids)
         (kid_ids_revise k content time es 0 ∙ h.is_tree.under_top) inside q refl refl
 
     low : (j : ℕ) → is_live j (revise_entry k content time es) ≡ true → j < next
     low j l = pick (j == k) refl (sym (ap is_some (look j)) ∙ l)
       where
-        pick : (c : Bool) → (j == k) ≡ c → is_some (cond c (Some (revised content time d)) (entry j es)) ≡ true → j < next
+        pick : (c : Bool) → (j == k) ≡ c → is_some (cond c (Some (revised_entry content time d)) (entry j es)) ≡ true → j < next
         pick true r m = h.below j (ap (λ i. is_some (entry i es)) (eqb-true j k r) ∙ ap is_some q)
         pick false r m = h.below j m
 
@@ -391,10 +398,10 @@ new_same = refl
 
 -- ---- with the premises as the calls have them
 
-pub kept_set : (es : List Entry) (next k : ℕ) (content : List ℕ) (time : ℕ) → IsKept es next → (k == 0) ≡ false → is_fit_with content k es ≡ true → IsKept (revise_entry k content time es) next
+pub kept_set : (es : List Entry) (next k : ℕ) (content : List ℕ) (time : ℕ) → KeepsTree es next → (k == 0) ≡ false → is_fit_with content k es ≡ true → KeepsTree (revise_entry k content time es) next
 kept_set es next k content time h inside fit = go (entry k es) refl (live_entry k es content fit)
   where
-    go : (o : Option Entry) → entry k es ≡ o → is_some o ≡ true → IsKept (revise_entry k content time es) next
+    go : (o : Option Entry) → entry k es ≡ o → is_some o ≡ true → KeepsTree (revise_entry k content time es) next
     go None q l = absurd (false≢true l)
     go (Some d) q l = kept_revise es next k content time d h inside q
 

@@ -1,6 +1,6 @@
 -- A list of entries with one more, one less, or one revised.
 use Rattle.std.specs.Prelude.{◌==◌, ℕ, List, [], ◌∷◌, ◌++◌, not, map, filter, Option, Some, None, if◌then◌else◌}
-use Rattle.ss_tree.specs.Entries.{revised}
+use Rattle.ss_tree.specs.Entries.{revised_entry}
 use Rattle.ss_tree.specs.declared.entries.Entry.{Entry}
 
 -- the list with e before the entry of a node, or last
@@ -15,4 +15,4 @@ without_entry k es = filter (λ e. not (k == e.node)) es
 
 -- the list with another content and time for a node's item
 abbrev pub revise_entry : ℕ → List ℕ → ℕ → List Entry → List Entry
-revise_entry k content time es = map (λ e. if k == e.node then revised content time e else e) es
+revise_entry k content time es = map (λ e. if k == e.node then revised_entry content time e else e) es

@@ -1,11 +1,14 @@
 -- The nodes that the look-ups give are in the tree.
-use Rattle.std.proofs.Common.{◌≡◌, ℕ, zero, suc, ◌==◌, List, [], ◌∷◌, ◌++◌, Bool, true, false, cond, ◌⊎◌, inl, inr, refl, sym, ap, ◌∙◌, subst, find, bytes_eq, Option, Some, None, option_and_then, option_map, is_some}
+use Rattle.std.proofs.Common.{◌≡◌, ℕ, zero, suc, ◌==◌, List, [], ◌∷◌, ◌++◌, Bool, true, false, cond, ◌⊎◌, inl, inr}
+use Rattle.std.proofs.Common.{refl, sym, ap, ◌∙◌, subst, find, bytes_eq, Option, Some, None, option_and_then}
+use Rattle.std.proofs.Common.{option_map, is_some}
 use Rattle.std.specs.Option.{IfSome}
 use Rattle.std.specs.List.{AllByRecursion, All, flat_map}
 use Rattle.std.proofs.lemmas.Bool.{eqb-true, eqb-false}
 use Rattle.std.proofs.lemmas.List.Elements.{All-from_recursion}
 use Rattle.ss_tree.specs.declared.entries.Entry.{Entry}
-use Rattle.ss_tree.specs.Entries.{entry, is_live, node_of, stands_under, kids, above, first_of, next_after, preorder, IsTree}
+use Rattle.ss_tree.specs.Entries.{entry, is_live, node_of, stands_under, kids, above, first_of, next_after, preorder}
+use Rattle.ss_tree.specs.Entries.{IsTree}
 use Rattle.ss_tree.proofs.Edits.{kids-cons, kids-nil}
 use Rattle.ss_tree.proofs.Valid.{In, in_entry}
 use Rattle.std.proofs.lemmas.Option.{none-some}

@@ -1,5 +1,6 @@
 -- What a look at a tree finds: an entry, and a place among those listed.
-use Rattle.std.proofs.Common.{◌≡◌, ℕ, List, [], ◌∷◌, map, refl, ap, ◌∙◌, is_some, true, Option, Some, None, ◌⊎◌, inl, inr, ◌+◌, ◌<◌, ◌++◌, length, take, get_or, sym, subst}
+use Rattle.std.proofs.Common.{◌≡◌, ℕ, List, [], ◌∷◌, map, refl, ap, ◌∙◌, is_some, true, Option, Some, None, ◌⊎◌, inl}
+use Rattle.std.proofs.Common.{inr, ◌+◌, ◌<◌, ◌++◌, length, take, get_or, sym, subst}
 use Rattle.ss_record.specs.Ids.{has}
 use Rattle.ss_tree.specs.declared.entries.Entry.{Entry}
 use Rattle.ss_tree.specs.Trees.{node, node_ids}

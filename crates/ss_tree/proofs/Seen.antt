@@ -1,12 +1,15 @@
 -- What the look-ups read of cells that are a tree.
-use Rattle.std.proofs.Common.{◌↔◌, ◌≡◌, ◌≢◌, ℕ, zero, suc, ◌<◌, ◌≤◌, ◌==◌, List, [], ◌∷◌, length, Bool, true, false, cond, ◌||◌, refl, sym, ap, subst, ◌∙◌, arith, inl, inr, Option, Some, None, option_map, option_and_then, is_some, unwrap_or}
+use Rattle.std.proofs.Common.{◌↔◌, ◌≡◌, ◌≢◌, ℕ, zero, suc, ◌<◌, ◌≤◌, ◌==◌, List, [], ◌∷◌, length, Bool, true, false}
+use Rattle.std.proofs.Common.{cond, ◌||◌, refl, sym, ap, subst, ◌∙◌, arith, inl, inr, Option, Some, None, option_map}
+use Rattle.std.proofs.Common.{option_and_then, is_some, unwrap_or}
 use Rattle.std.proofs.lemmas.Bool.{false≢true, eq-eqb, ne_eqb, eqb-true}
 use Rattle.ss_record.specs.Items.{ItemView, is_fit}
 use Rattle.ss_list.specs.Chain.{times}
 use Rattle.ss_list.proofs.Times.{times-here, at_head, below-head}
 use Rattle.ss_list.proofs.Paths.{Path}
 use Rattle.ss_tree.specs.declared.entries.Entry.{Entry}
-use Rattle.ss_tree.specs.Entries.{entry, is_live, kids, above, first_of, next_after, met, is_below, is_fit_with, ancestor, IsBelow, IsTree}
+use Rattle.ss_tree.specs.Entries.{entry, is_live, kids, above, first_of, next_after, met, is_below, is_fit_with}
+use Rattle.ss_tree.specs.Entries.{ancestor, IsBelow, IsTree}
 use Rattle.ss_tree.proofs.Ways.{below_is, above_met}
 use Rattle.ss_tree.specs.declared.cells.Cell.{Cell}
 use Rattle.ss_tree.specs.declared.cells.TheConstants.{END}

@@ -1,5 +1,7 @@
 -- The listing of cells that have the entries of a tree is that tree.
-use Rattle.std.proofs.Common.{◌≡◌, ◌≢◌, ℕ, zero, suc, ◌<◌, ◌≤◌, List, [], ◌∷◌, length, map, Bool, true, false, cond, refl, sym, ap, ap₂, subst, ◌∙◌, arith, inl, inr, Option, Some, None, option_map, option_and_then, unwrap_or, is_some}
+use Rattle.std.proofs.Common.{◌≡◌, ◌≢◌, ℕ, zero, suc, ◌<◌, ◌≤◌, List, [], ◌∷◌, length, map, Bool, true, false, cond}
+use Rattle.std.proofs.Common.{refl, sym, ap, ap₂, subst, ◌∙◌, arith, inl, inr, Option, Some, None, option_map}
+use Rattle.std.proofs.Common.{option_and_then, unwrap_or, is_some}
 use Rattle.std.specs.List.{flat_map}
 use Rattle.std.proofs.lemmas.Bool.{cases_lt}
 use Rattle.std.proofs.lemmas.List.{length-map}
@@ -9,16 +11,19 @@ use Rattle.ss_list.specs.Chain.{times}
 use Rattle.ss_list.proofs.Times.{at_head}
 use Rattle.ss_tree.specs.declared.entries.Entry.{Entry}
 use Rattle.ss_tree.specs.Trees.{steps}
-use Rattle.ss_tree.specs.Entries.{entry, stands_under, kids, kid_ids, above, up, entry_ids, NodesApart, IsTree, IsKept, top_entry}
+use Rattle.ss_tree.specs.Entries.{entry, stands_under, kids, kid_ids, above, up, entry_ids, NodesApart, IsTree}
+use Rattle.ss_tree.specs.Entries.{KeepsTree, top_entry}
 use Rattle.ss_tree.proofs.Edits.{kids-cons, kid_ids-cons}
 use Rattle.ss_tree.proofs.Valid.{In, entry_in, in_entry, one_entry}
 use Rattle.ss_tree.specs.declared.cells.Cell.{Cell}
 use Rattle.ss_tree.specs.declared.cells.TheConstants.{END}
-use Rattle.ss_tree.specs.Cells.{cell_at, next_of, prev_of, seat_at, full_at, row_of, down, order_of, listing, Lies, IsLinked}
+use Rattle.ss_tree.specs.Cells.{cell_at, next_of, prev_of, seat_at, full_at, row_of, down, order_of, listing, Lies}
+use Rattle.ss_tree.specs.Cells.{IsLinked}
 use Rattle.ss_list.proofs.Paths.{Path}
 use Rattle.ss_tree.proofs.Rows.{row_path, length_within}
 use Rattle.ss_tree.proofs.Kin.{kid_entry, entry_kid, kid_once, kid_apart}
-use Rattle.ss_tree.proofs.Listed.{absent, nobody, entry_there, entry_absent, nodes_apart, ids_apart, kids_past, kids_row, row_there, row_found, rows_once}
+use Rattle.ss_tree.proofs.Listed.{absent, nobody, entry_there, entry_absent, nodes_apart, ids_apart, kids_past}
+use Rattle.ss_tree.proofs.Listed.{kids_row, row_there, row_found, rows_once}
 use Rattle.std.proofs.lemmas.Option.{none-some}
 use Rattle.ss_text.proofs.Basics.{some_same}
 
@@ -81,7 +86,7 @@ full_is cells k e q = go (cell_at cells k).item q
     go None r = absurd (none-some _ r)
     go (Some i) r = some_same r
 
-module _ (cells : List Cell) (es : List Entry) (kept : IsKept es (length cells)) (lies : Lies cells es) where
+module _ (cells : List Cell) (es : List Entry) (kept : KeepsTree es (length cells)) (lies : Lies cells es) where
   t : IsTree es
   t = kept.is_tree
 

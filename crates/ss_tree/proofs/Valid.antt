@@ -1,13 +1,18 @@
 -- Entries that are a tree give a valid tree of ids.
-use Rattle.std.proofs.Common.{◌≡◌, ◌≢◌, ℕ, zero, suc, ◌==◌, List, [], ◌∷◌, map, Bool, true, false, cond, ◌||◌, ◌⊎◌, inl, inr, refl, sym, ap, ◌∙◌, subst, find, bytes_eq, codes, Option, Some, None, option_and_then, option_map, unwrap_or}
+use Rattle.std.proofs.Common.{◌≡◌, ◌≢◌, ℕ, zero, suc, ◌==◌, List, [], ◌∷◌, map, Bool, true, false, cond, ◌||◌, ◌⊎◌, inl}
+use Rattle.std.proofs.Common.{inr, refl, sym, ap, ◌∙◌, subst, find, bytes_eq, codes, Option, Some, None}
+use Rattle.std.proofs.Common.{option_and_then, option_map, unwrap_or}
 use Rattle.std.proofs.lemmas.Bool.{false≢true, eqb-true, eqb-false, eq-eqb}
 use Rattle.ss_record.specs.declared.kinds.Kind.TheVariants.{Folder}
 use Rattle.ss_record.specs.Ids.{has, Apart, places}
 use Rattle.ss_record.specs.Kinds.{is_folder}
-use Rattle.ss_record.proofs.IdLists.{bytes_eq-apart, has-nil, has-cons, has-head, has-tail, Apart-nil, Apart-cons, Apart-head, Apart-tail}
+use Rattle.ss_record.proofs.IdLists.{bytes_eq-apart, has-nil, has-cons, has-head, has-tail, Apart-nil, Apart-cons}
+use Rattle.ss_record.proofs.IdLists.{Apart-head, Apart-tail}
 use Rattle.ss_tree.specs.declared.entries.Entry.{Entry}
-use Rattle.ss_tree.specs.Trees.{Placed, node_ids, node, parent_in, places_node, IsUnder, steps, Reaches, IsValidTree}
-use Rattle.ss_tree.specs.Entries.{entry, stands_under, kid_ids, up, placed, tree, entry_ids, NodesApart, IsTree, top_entry}
+use Rattle.ss_tree.specs.Trees.{PlacedItem, node_ids, node, parent_in, places_node, IsUnder, steps, Reaches}
+use Rattle.ss_tree.specs.Trees.{IsValidTree}
+use Rattle.ss_tree.specs.Entries.{entry, stands_under, kid_ids, up, placed, tree, entry_ids, NodesApart, IsTree}
+use Rattle.ss_tree.specs.Entries.{top_entry}
 use Rattle.ss_tree.proofs.Edits.{entry-cons, entry-nil, kid_ids-cons}
 use Rattle.ss_tree.proofs.Changes.{up_of}
 use Rattle.std.proofs.lemmas.Option.{none-some}
@@ -70,7 +75,7 @@ one_entry es e f a i j q = some_same (sym (in_by_id es e a i) ∙ (ap (λ x. by_
 -- ---- items by their ids
 
 module _ (es : List Entry) where
-  found_in : (fs : List Entry) (x : List ℕ) (m : Placed) → find (λ n. bytes_eq x n.id) (map (placed es) fs) ≡ Some m → (e : Entry) × In e fs × (e.item.id ≡ x) × (m ≡ placed es e)
+  found_in : (fs : List Entry) (x : List ℕ) (m : PlacedItem) → find (λ n. bytes_eq x n.id) (map (placed es) fs) ≡ Some m → (e : Entry) × In e fs × (e.item.id ≡ x) × (m ≡ placed es e)
   unfolding In placed
   found_in [] x m q = cc
   found_in (f ∷ fs) x m q = go (bytes_eq x f.item.id) refl q (found_in fs x m)
@@ -89,7 +94,7 @@ module _ (es : List Entry) where
       ne : e.item.id ≢ f.item.id
       ne q = false≢true (sym (Apart-head f.item.id (map (λ d. d.item.id) fs) a) ∙ (ap (λ x. has x (map (λ d. d.item.id) fs)) (sym q) ∙ in_ids fs e i))
 
-pub node_found : (es : List Entry) (x : List ℕ) (m : Placed) → node x (tree es) ≡ Some m → (e : Entry) × In e es × (e.item.id ≡ x) × (m ≡ placed es e)
+pub node_found : (es : List Entry) (x : List ℕ) (m : PlacedItem) → node x (tree es) ≡ Some m → (e : Entry) × In e es × (e.item.id ≡ x) × (m ≡ placed es e)
 unfolding node tree
 node_found es x m q = found_in es es x m q
 
@@ -158,7 +163,7 @@ kids_once y (f ∷ fs) a = subst Apart (sym (kid_ids-cons y f fs)) (go (stands_u
 
 -- ---- validity
 
-with_children : List (List ℕ) → Placed
+with_children : List (List ℕ) → PlacedItem
 with_children cs = record { id = places; kind = Folder; content = codes "{}"; parent = None; children = cs; time = 0 }
 
 tree_ids : (es : List Entry) → node_ids (tree es) ≡ entry_ids es
@@ -202,13 +207,13 @@ module _ (es : List Entry) (t : IsTree es) where
   unfolding IsUnder
   under e i f q j = (placed es e, node_at es e t.ids i, parent_of e f f.node q (in_entry es f t.nodes j))
 
-  stands_to : (y : List ℕ) (m : Placed) → node y (tree es) ≡ Some m → (x : List ℕ) → has x m.children ≡ true → IsUnder (tree es) y x
+  stands_to : (y : List ℕ) (m : PlacedItem) → node y (tree es) ≡ Some m → (x : List ℕ) → has x m.children ≡ true → IsUnder (tree es) y x
   stands_to y m q x h =
       let f = node_found es y m q in
       let e = kid_found f.0.node es x (ap (has x) (sym (ap (λ n. n.children) f.3 ∙ children_of f.0)) ∙ h) in
       subst (λ w. IsUnder (tree es) w x) f.2 (subst (IsUnder (tree es) f.0.item.id) e.3 (under e.0 e.1 f.0 e.2 f.1))
 
-  stands_from : (y : List ℕ) (m : Placed) → node y (tree es) ≡ Some m → (x : List ℕ) → IsUnder (tree es) y x → has x m.children ≡ true
+  stands_from : (y : List ℕ) (m : PlacedItem) → node y (tree es) ≡ Some m → (x : List ℕ) → IsUnder (tree es) y x → has x m.children ≡ true
   unfolding IsUnder
   stands_from y m q x u =
       let f = node_found es y m q in

@@ -1,5 +1,7 @@
 -- The way by links is the preorder.
-use Rattle.std.proofs.Common.{◌≡◌, ◌≢◌, ℕ, zero, suc, ◌-◌, ◌<◌, ◌≤◌, ◌==◌, List, [], ◌∷◌, ◌++◌, length, map, Bool, true, false, cond, refl, sym, ap, subst, ◌∙◌, arith, inl, inr, Option, Some, None, option_and_then, is_some, append_assoc, append-nil, length-append, nat_eq, ◌||◌}
+use Rattle.std.proofs.Common.{◌≡◌, ◌≢◌, ℕ, zero, suc, ◌-◌, ◌<◌, ◌≤◌, ◌==◌, List, [], ◌∷◌, ◌++◌, length, map, Bool, true}
+use Rattle.std.proofs.Common.{false, cond, refl, sym, ap, subst, ◌∙◌, arith, inl, inr, Option, Some, None}
+use Rattle.std.proofs.Common.{option_and_then, is_some, append_assoc, append-nil, length-append, nat_eq, ◌||◌}
 use Rattle.std.specs.List.{flat_map, IsDistinct}
 use Rattle.std.proofs.lemmas.Bool.{eq-eqb, ne_eqb, eqb-true}
 use Rattle.std.specs.Set.{is_member}
@@ -12,7 +14,8 @@ use Rattle.ss_tree.specs.Trees.{steps}
 use Rattle.ss_tree.specs.Entries.{entry, above, up, kids, first_of, next_after, preorder, IsTree, top_entry}
 use Rattle.ss_tree.proofs.Changes.{live_steps}
 use Rattle.ss_tree.proofs.Kept.{preorder_more}
-use Rattle.ss_tree.proofs.Ways.{walk, length-walk, member_walk, all_apart, distinct_walk, live_member, length-nodes, up_some}
+use Rattle.ss_tree.proofs.Ways.{walk, length-walk, member_walk, all_apart, distinct_walk, live_member, length-nodes}
+use Rattle.ss_tree.proofs.Ways.{up_some}
 use Rattle.ss_tree.specs.Walks.{sibling, after, follower}
 use Rattle.ss_tree.proofs.Kin.{kid_entry, kid_once}
 use Rattle.std.proofs.lemmas.Option.{none-some}

@@ -1,12 +1,13 @@
 -- How a tree lies in a list of cells.
-use Rattle.std.specs.Prelude.{◌≡◌, ◌≢◌, ◌==◌, ◌<◌, ◌≤◌, ◌+◌, ℕ, zero, suc, List, [], ◌∷◌, length, Option, Some, None, Bool, false, option_map, unwrap_or, is_some, map, nat_lt, slice_index_or, if◌then◌else◌}
+use Rattle.std.specs.Prelude.{◌≡◌, ◌≢◌, ◌==◌, ◌<◌, ◌≤◌, ◌+◌, ℕ, zero, suc, List, [], ◌∷◌, length, Option, Some, None}
+use Rattle.std.specs.Prelude.{Bool, false, option_map, unwrap_or, is_some, map, nat_lt, slice_index_or, if◌then◌else◌}
 use Rattle.std.specs.List.{flat_map}
 use Rattle.ss_tree.specs.declared.cells.Cell.{Cell}
 use Rattle.ss_tree.specs.declared.cells.TheConstants.{END}
 use Rattle.ss_record.specs.Ids.{places}
 use Rattle.ss_record.specs.Items.{ItemView, empty_folder, is_fit}
 use Rattle.ss_tree.specs.declared.entries.Entry.{Entry}
-use Rattle.ss_tree.specs.Entries.{entry, kids, IsKept}
+use Rattle.ss_tree.specs.Entries.{entry, kids, KeepsTree}
 use Rattle.ss_list.specs.Chain.{times}
 use Rattle.ss_list.specs.Links.{Becomes, Runs}
 use Rattle.ss_list.proofs.Paths.{Path}
@@ -138,7 +139,7 @@ pub record Lies (cells : List Cell) (es : List Entry) : Type 0 where
 
 -- cells that are a tree
 pub record IsLinked (cells : List Cell) : Type 0 where
-  pub kept : IsKept (listing cells) (length cells)
+  pub kept : KeepsTree (listing cells) (length cells)
   pub lies : Lies cells (listing cells)
 
 -- ---- the places that were left

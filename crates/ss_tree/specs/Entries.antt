@@ -1,5 +1,7 @@
 -- Trees of items by their nodes: each node's item, its parent's node, and the nodes under it in their order.
-use Rattle.std.specs.Prelude.{◌≡◌, ◌≢◌, ◌==◌, ◌<◌, ◌&&◌, ◌||◌, ℕ, zero, suc, List, [], ◌∷◌, ◌++◌, Bool, true, false, not, if◌then◌else◌, Option, Some, None, map, filter, find, length, bytes_eq, codes, unwrap_or, option_map, option_and_then, is_some}
+use Rattle.std.specs.Prelude.{◌≡◌, ◌≢◌, ◌==◌, ◌<◌, ◌&&◌, ◌||◌, ℕ, zero, suc, List, [], ◌∷◌, ◌++◌, Bool, true, false}
+use Rattle.std.specs.Prelude.{not, if◌then◌else◌, Option, Some, None, map, filter, find, length, bytes_eq, codes}
+use Rattle.std.specs.Prelude.{unwrap_or, option_map, option_and_then, is_some}
 use Rattle.std.specs.List.{flat_map}
 use Rattle.std.specs.Bool.{⊤}
 use Rattle.ss_record.specs.Ids.{has, Apart, places, roots}
@@ -12,7 +14,7 @@ use Rattle.ss_tree.specs.declared.faults.MoveFault.{MoveFault}
 use Rattle.ss_tree.specs.declared.faults.MoveFault.TheVariants.{Root, NotFolder as NoFolder, Under, BadPlace as NoPlace}
 use Rattle.ss_tree.specs.declared.faults.RemoveFault.{RemoveFault}
 use Rattle.ss_tree.specs.declared.faults.RemoveFault.TheVariants.{Root as Fixed, NotEmpty}
-use Rattle.ss_tree.specs.Trees.{Placed, Reaches}
+use Rattle.ss_tree.specs.Trees.{PlacedItem, Reaches}
 
 -- the entry of a node
 unfoldable pub entry : ℕ → List Entry → Option Entry
@@ -47,7 +49,7 @@ unfoldable pub up : List Entry → ℕ → ℕ
 up es k = unwrap_or (above es k) 0
 
 -- an entry as an item in its place
-unfoldable pub placed : List Entry → Entry → Placed
+unfoldable pub placed : List Entry → Entry → PlacedItem
 placed es e = record {
   id = e.item.id;
   kind = e.item.kind;
@@ -58,7 +60,7 @@ placed es e = record {
 }
 
 -- the tree by ids
-unfoldable pub tree : List Entry → List Placed
+unfoldable pub tree : List Entry → List PlacedItem
 tree es = map (placed es) es
 
 -- no node stands twice
@@ -89,7 +91,7 @@ pub record IsTree (es : List Entry) : Type 0 where
   pub reaches : (k : ℕ) (e : Entry) → entry k es ≡ Some e → Reaches (up es) 0 k
 
 -- entries that are a tree, and a number above their nodes
-pub record IsKept (es : List Entry) (next : ℕ) : Type 0 where
+pub record KeepsTree (es : List Entry) (next : ℕ) : Type 0 where
   pub is_tree : IsTree es
   pub below : (k : ℕ) → is_live k es ≡ true → k < next
 
@@ -100,8 +102,8 @@ abbrev pub under : ℕ → Entry → Entry
 under p e = record { node = e.node; parent = Some p; item = e.item; time = e.time }
 
 -- an entry with another content and time
-abbrev pub revised : List ℕ → ℕ → Entry → Entry
-revised content time e = record { node = e.node; parent = e.parent; item = record { id = e.item.id; kind = e.item.kind; content = content }; time = time }
+abbrev pub revised_entry : List ℕ → ℕ → Entry → Entry
+revised_entry content time e = record { node = e.node; parent = e.parent; item = record { id = e.item.id; kind = e.item.kind; content = content }; time = time }
 
 -- whether the item of a node is fit with this content
 unfoldable pub is_fit_with : List ℕ → ℕ → List Entry → Bool

@@ -1,6 +1,7 @@
 //! Cells from a list of entries.
 
-ghost use Rattle.std.specs.Prelude.{◌≡◌, ◌≢◌, ◌==◌, ◌<◌, ◌≤◌, ◌^◌, ◌-◌, ℕ, List, Some, None, OnOk, IfOk, IfSome, IfNone, vec_len, length, bytes_eq, get_or, if◌then◌else◌};
+ghost use Rattle.std.specs.Prelude.{◌≡◌, ◌≢◌, ◌==◌, ◌<◌, ◌≤◌, ◌^◌, ◌-◌, ℕ, List, Some, None, OnOk, IfOk, IfSome};
+ghost use Rattle.std.specs.Prelude.{IfNone, vec_len, length, bytes_eq, get_or, if◌then◌else◌};
 ghost use Rattle.std.specs.HashMap.{get};
 ghost use Rattle.ss_tree.specs.Entries.{IsTree, entry, kids, node_of};
 ghost use Rattle.ss_tree.specs.Cells.{blank, cell_at};

@@ -1,8 +1,10 @@
 //! Cells of a tree in a list, linked by their places.
 
-ghost use Rattle.ss_tree.specs.Entries.{revised, under};
-ghost use Rattle.std.specs.Prelude.{true, IsSome, ◌≡◌, ◌≢◌, ◌==◌, ◌<◌, ◌≤◌, ℕ, vec_len, vec_capacity, Some, None, length, option_map, option_and_then, IfOk, if◌then◌else◌};
-ghost use Rattle.ss_tree.specs.Cells.{Attaches, Frees, IsPlace, is_fit_item, Joins, SameLinks, Seats, SetsNext, SetsPrev, cell_at, link_of, next_of, prev_of, seat_at};
+ghost use Rattle.ss_tree.specs.Entries.{revised_entry, under};
+ghost use Rattle.std.specs.Prelude.{true, IsSome, ◌≡◌, ◌≢◌, ◌==◌, ◌<◌, ◌≤◌, ℕ, vec_len, vec_capacity, Some, None};
+ghost use Rattle.std.specs.Prelude.{length, option_map, option_and_then, IfOk, if◌then◌else◌};
+ghost use Rattle.ss_tree.specs.Cells.{Attaches, Frees, IsPlace, is_fit_item, Joins, SameLinks, Seats, SetsNext};
+ghost use Rattle.ss_tree.specs.Cells.{SetsPrev, cell_at, link_of, next_of, prev_of, seat_at};
 
 use crate::entries::{Entry, Node};
 use ss_record::Item;
@@ -223,7 +225,7 @@ pub(crate) fn revise(cells: &mut [Cell], node: usize, content: Word, time: Stamp
     requires node { node < length cells.old }
     requires fit { is_fit_item content (cell_at cells.old node).item ≡ true }
     ensures links { SameLinks cells.old cells.new }
-    ensures seats { (k : ℕ) → seat_at cells.new k ≡ (if k == node then option_map (revised content time) (seat_at cells.old k) else seat_at cells.old k) }
+    ensures seats { (k : ℕ) → seat_at cells.new k ≡ (if k == node then option_map (revised_entry content time) (seat_at cells.old k) else seat_at cells.old k) }
 {
     let cell = &mut cells[node];
     cell.time = time;

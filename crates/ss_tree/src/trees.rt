@@ -4,14 +4,19 @@ ghost use Rattle.ss_tree.specs.Built.{ArePlaced};
 ghost use Rattle.ss_list.specs.Chain.{times};
 ghost use Rattle.ss_tree.specs.Walks.{after, follower};
 ghost use Rattle.std.specs.HashMap.{get};
-ghost use Rattle.std.specs.Prelude.{List, bytes_eq, ◌^◌, ◌-◌, ◌≡◌, ◌==◌, ◌<◌, ◌⊎◌, ◌↔◌, ℕ, Some, None, true, false, IfOk, OnOk, OnErr, MatchResult, IfSome, IsTrue, option_map, option_and_then, is_some, length, if◌then◌else◌};
+ghost use Rattle.std.specs.Prelude.{List, bytes_eq, ◌^◌, ◌-◌, ◌≡◌, ◌==◌, ◌<◌, ◌⊎◌, ◌↔◌, ℕ, Some, None, true, false};
+ghost use Rattle.std.specs.Prelude.{IfOk, OnOk, OnErr, MatchResult, IfSome, IsTrue, option_map, option_and_then};
+ghost use Rattle.std.specs.Prelude.{is_some, length, if◌then◌else◌};
 ghost use Rattle.std.specs.List.{All};
 ghost use Rattle.ss_record.specs.Ids.{has};
 ghost use Rattle.ss_tree.specs.declared.faults.TreeFault.TheVariants.{Memory};
 ghost use Rattle.ss_text.specs.Names.{is_id};
 ghost use Rattle.ss_record.specs.Items.{empty_folder};
 ghost use Rattle.ss_tree.specs.Trees.{IsSame, IsValidTree, empty_tree};
-ghost use Rattle.ss_tree.specs.Entries.{preorder, new_entries, top_entry, tree, IsBelow, IsTree, above, entry, entry_ids, first_of, insert_fault, is_below, is_fit_with, is_fixed, is_live, is_node, is_place, kids, move_fault, next_after, node_of, put_before, remove_fault, revised, takes_children, under, without_node};
+ghost use Rattle.ss_tree.specs.Entries.{preorder, new_entries, top_entry, tree, IsBelow, IsTree, above, entry};
+ghost use Rattle.ss_tree.specs.Entries.{entry_ids, first_of, insert_fault, is_below, is_fit_with, is_fixed, is_live};
+ghost use Rattle.ss_tree.specs.Entries.{is_node, is_place, kids, move_fault, next_after, node_of, put_before};
+ghost use Rattle.ss_tree.specs.Entries.{remove_fault, revised_entry, takes_children, under, without_node};
 
 use crate::building::{add, blanks, place};
 use crate::cells::{
@@ -427,7 +432,7 @@ impl Tree {
     pub fn set_item(&mut self, node: Node, content: Word, time: Stamp)
         requires inside { (node == 0) ≡ false }
         requires fit { is_fit_with content node self.old ≡ true }
-        ensures entries { (j : ℕ) → entry j self.new ≡ (if j == node then option_map (revised content time) (entry j self.old) else entry j self.old) }
+        ensures entries { (j : ℕ) → entry j self.new ≡ (if j == node then option_map (revised_entry content time) (entry j self.old) else entry j self.old) }
         ensures kids { (j : ℕ) → kids j self.new ≡ kids j self.old }
     {
         revise(self.cells.as_mut_slice(), node.number(), content, time);

@@ -1,5 +1,6 @@
 -- Values of options and accounts, taken one by one.
-use Rattle.std.specs.Prelude.{◌≡◌, ℕ, ◌+◌, ◌<◌, zero, suc, true, false, cond, List, [], ◌∷◌, ◌++◌, length, get_or, map, filter, drop, Option, Some, None, is_some, bytes_eq, option_map, option_and_then, refl}
+use Rattle.std.specs.Prelude.{◌≡◌, ℕ, ◌+◌, ◌<◌, zero, suc, true, false, cond, List, [], ◌∷◌, ◌++◌, length, get_or, map}
+use Rattle.std.specs.Prelude.{filter, drop, Option, Some, None, is_some, bytes_eq, option_map, option_and_then, refl}
 use Rattle.std.specs.Borrow.{Bor}
 use Rattle.std.specs.Option.{option_to_list, option_copied}
 use Rattle.std.proofs.Common.{sym, ap, ap₂, ◌∙◌, append_assoc, arith}

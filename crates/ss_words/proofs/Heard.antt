@@ -1,5 +1,6 @@
 -- What a word was that did something to a line.
-use Rattle.std.specs.Prelude.{◌≡◌, ℕ, ◌<◌, ◌==◌, ◌⊎◌, Bool, true, false, cond, List, [], ◌∷◌, ◌++◌, length, Option, Some, None, unwrap_or, codes, bytes_eq, refl}
+use Rattle.std.specs.Prelude.{◌≡◌, ℕ, ◌<◌, ◌==◌, ◌⊎◌, Bool, true, false, cond, List, [], ◌∷◌, ◌++◌, length, Option}
+use Rattle.std.specs.Prelude.{Some, None, unwrap_or, codes, bytes_eq, refl}
 use Rattle.std.specs.List.{position_or_len, after_first}
 use Rattle.std.proofs.Common.{sym, ap, ◌∙◌, arith, inl, inr, append_assoc}
 use Rattle.std.proofs.lemmas.Bool.{eqb-true, leb-true, leb-false}
@@ -7,11 +8,13 @@ use Rattle.std.proofs.lemmas.List.{take_all}
 use Rattle.std.proofs.lemmas.List.Sums.{split_at_first, passes_at_first}
 use Rattle.ss_words.specs.declared.names.Name.{Name}
 use Rattle.ss_words.specs.declared.names.OptionName.{OptionName}
-use Rattle.ss_words.specs.declared.names.OptionName.TheVariants.{At, Newer, Workers, Connections, Terms, Firefox, Journal, From}
+use Rattle.ss_words.specs.declared.names.OptionName.TheVariants.{At, Newer, Workers, Connections, Terms, Firefox}
+use Rattle.ss_words.specs.declared.names.OptionName.TheVariants.{Journal, From}
 use Rattle.ss_words.specs.declared.lines.Place.TheVariants.{Between, Value, Behind}
 use Rattle.ss_words.specs.Names.{option_text, option_of, takes, has_value}
 use Rattle.ss_words.specs.Lines.{Line, is_dashed}
-use Rattle.ss_words.specs.Reading.{Reading, at, with_positional, with_option, key_of, value_in, taken, dashed, between}
+use Rattle.ss_words.specs.Reading.{Reading, at, with_positional, with_option, key_of, value_in, option_reading}
+use Rattle.ss_words.specs.Reading.{dash_reading, between}
 use Rattle.ss_words.proofs.Choices.{chosen}
 use Rattle.ss_text.proofs.Basics.{same_text}
 
@@ -93,34 +96,34 @@ no_value_there word e =
     take_all (position_or_len is_sign word) word (omega (arith, high))
 
 heard_valued : (name : Name) (line : Line) (word : List ℕ) (next : Reading) (option : OptionName) → takes name option ≡ true → key_of word ≡ option_text option
-    → (value : List ℕ) → value_in word ≡ Some value → (b : Bool) → has_value option ≡ b → taken line option b (Some value) ≡ Some next → Heard name line word next
+    → (value : List ℕ) → value_in word ≡ Some value → (b : Bool) → has_value option ≡ b → option_reading line option b (Some value) ≡ Some next → Heard name line word next
 heard_valued name line word next option t key value found true valued e =
     joined option value t valued (value_there word value found ∙ ap (λ k. k ++ codes "=" ++ value) key) (same_some _ _ e)
 heard_valued name line word next option t key value found false valued e = cc
 
 heard_alone : (name : Name) (line : Line) (word : List ℕ) (next : Reading) (option : OptionName) → takes name option ≡ true → key_of word ≡ option_text option
-    → value_in word ≡ None → (b : Bool) → has_value option ≡ b → taken line option b None ≡ Some next → Heard name line word next
+    → value_in word ≡ None → (b : Bool) → has_value option ≡ b → option_reading line option b None ≡ Some next → Heard name line word next
 heard_alone name line word next option t key found true valued e = apart option t valued (sym (no_value_there word found) ∙ key) (same_some _ _ e)
 heard_alone name line word next option t key found false valued e = bare option t valued (sym (no_value_there word found) ∙ key) (same_some _ _ e)
 
 heard_option : (name : Name) (line : Line) (word : List ℕ) (next : Reading) (option : OptionName) → key_of word ≡ option_text option → takes name option ≡ true
-    → (found : Option (List ℕ)) → value_in word ≡ found → taken line option (has_value option) found ≡ Some next → Heard name line word next
+    → (found : Option (List ℕ)) → value_in word ≡ found → option_reading line option (has_value option) found ≡ Some next → Heard name line word next
 heard_option name line word next option key t None is e = heard_alone name line word next option t key is (has_value option) refl e
 heard_option name line word next option key t (Some value) is e = heard_valued name line word next option t key value is (has_value option) refl e
 
-heard_dashed : (name : Name) (line : Line) (word : List ℕ) (next : Reading) (o : Option OptionName) → option_of (key_of word) ≡ o → dashed name line word o ≡ Some next → Heard name line word next
+heard_dashed : (name : Name) (line : Line) (word : List ℕ) (next : Reading) (o : Option OptionName) → option_of (key_of word) ≡ o → dash_reading name line word o ≡ Some next → Heard name line word next
 heard_dashed name line word next None is e = cc
 heard_dashed name line word next (Some option) is e =
-    let parts = chosen (takes name option) (taken line option (has_value option) (value_in word)) next e in
+    let parts = chosen (takes name option) (option_reading line option (has_value option) (value_in word)) next e in
     heard_option name line word next option (option_is (key_of word) option is) parts.0 (value_in word) refl parts.1
 
 heard_word : (name : Name) (line : Line) (word : List ℕ) (next : Reading) (b : Bool) → is_dashed word ≡ b
-    → cond b (dashed name line word (option_of (key_of word))) (Some (at Between (with_positional line word))) ≡ Some next → Heard name line word next
+    → cond b (dash_reading name line word (option_of (key_of word))) (Some (at Between (with_positional line word))) ≡ Some next → Heard name line word next
 heard_word name line word next true is e = heard_dashed name line word next (option_of (key_of word)) refl e
 heard_word name line word next false is e = positional is (same_some _ _ e)
 
 heard_at : (name : Name) (line : Line) (word : List ℕ) (next : Reading) (b : Bool) → bytes_eq word (codes "--") ≡ b
-    → cond b (Some (at Behind line)) (cond (is_dashed word) (dashed name line word (option_of (key_of word))) (Some (at Between (with_positional line word)))) ≡ Some next → Heard name line word next
+    → cond b (Some (at Behind line)) (cond (is_dashed word) (dash_reading name line word (option_of (key_of word))) (Some (at Between (with_positional line word)))) ≡ Some next → Heard name line word next
 heard_at name line word next true is e = dashes (same_text word (codes "--") is) (same_some _ _ e)
 heard_at name line word next false is e = heard_word name line word next (is_dashed word) refl e
 

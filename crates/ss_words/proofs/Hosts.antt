@@ -1,5 +1,6 @@
 -- The host of a URL has visible bytes alone.
-use Rattle.std.proofs.Common.{◌≡◌, ℕ, ◌<◌, ◌≤◌, List, ◌++◌, length, Bool, true, false, cond, not, Option, Some, None, option_map, codes, decimal, refl, sym, ap, ◌∙◌, subst, arith, length-append}
+use Rattle.std.proofs.Common.{◌≡◌, ℕ, ◌<◌, ◌≤◌, List, ◌++◌, length, Bool, true, false, cond, not, Option, Some, None}
+use Rattle.std.proofs.Common.{option_map, codes, decimal, refl, sym, ap, ◌∙◌, subst, arith, length-append}
 use Rattle.std.specs.Prelude.{MatchOption}
 use Rattle.std.specs.List.{All, list_all}
 use Rattle.std.specs.Net.Addr.{ipv4_octets}

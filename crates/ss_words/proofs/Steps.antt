@@ -1,13 +1,15 @@
 -- What one word does to a line.
-use Rattle.std.specs.Prelude.{◌≡◌, ℕ, ◌<◌, Bool, true, false, cond, nat_lt, List, [], ◌++◌, length, Option, Some, None, codes, bytes_eq, refl}
+use Rattle.std.specs.Prelude.{◌≡◌, ℕ, ◌<◌, Bool, true, false, cond, nat_lt, List, [], ◌++◌, length, Option, Some, None}
+use Rattle.std.specs.Prelude.{codes, bytes_eq, refl}
 use Rattle.std.proofs.Common.{sym, ap, ◌∙◌, arith, lt-ltb}
 use Rattle.ss_words.specs.declared.names.Name.{Name}
 use Rattle.ss_words.specs.declared.names.OptionName.{OptionName}
-use Rattle.ss_words.specs.declared.names.OptionName.TheVariants.{At, Newer, Workers, Connections, Terms, Firefox, Journal, From}
+use Rattle.ss_words.specs.declared.names.OptionName.TheVariants.{At, Newer, Workers, Connections, Terms, Firefox}
+use Rattle.ss_words.specs.declared.names.OptionName.TheVariants.{Journal, From}
 use Rattle.ss_words.specs.declared.lines.Place.TheVariants.{Between, Value, Behind}
 use Rattle.ss_words.specs.Names.{option_text, option_of, takes, has_value}
 use Rattle.ss_words.specs.Lines.{Line, is_dashed}
-use Rattle.ss_words.specs.Reading.{at, with_positional, with_option, key_of, taken, dashed, between}
+use Rattle.ss_words.specs.Reading.{at, with_positional, with_option, key_of, option_reading, dash_reading, between}
 use Rattle.ss_text.proofs.Basics.{same_text}
 
 -- two dashes are a word that begins with a dash
@@ -19,8 +21,8 @@ no_dashes word plain = elim (bytes_eq word (codes "--")) as (λ b. bytes_eq word
 
 pub positional_step : (name : Name) (line : Line) (word : List ℕ) → is_dashed word ≡ false → between name line word ≡ Some (at Between (with_positional line word))
 positional_step name line word plain =
-    ap (λ b. cond b (Some (at Behind line)) (cond (is_dashed word) (dashed name line word (option_of (key_of word))) (Some (at Between (with_positional line word))))) (no_dashes word plain)
-    ∙ ap (λ b. cond b (dashed name line word (option_of (key_of word))) (Some (at Between (with_positional line word)))) plain
+    ap (λ b. cond b (Some (at Behind line)) (cond (is_dashed word) (dash_reading name line word (option_of (key_of word))) (Some (at Between (with_positional line word))))) (no_dashes word plain)
+    ∙ ap (λ b. cond b (dash_reading name line word (option_of (key_of word))) (Some (at Between (with_positional line word)))) plain
 
 allowed : {X : Type 0} (b : Bool) (x : X) → b ≡ true → cond b x x ≡ x
 allowed b x e = ap (λ v. cond v x x) e
@@ -51,8 +53,8 @@ bare_step name line From t v = cc
 joined_value : (k : ℕ) (word value : List ℕ) → k < length word → cond (nat_lt k (length word)) (Some value) None ≡ Some value
 joined_value k word value below = ap (λ b. cond b (Some value) None) (lt-ltb k (length word) below)
 
-joined_by : (name : Name) (line : Line) (option : OptionName) (found : Option (List ℕ)) (value : List ℕ) → takes name option ≡ true → found ≡ Some value → cond (takes name option) (taken line option true found) None ≡ Some (at Between (with_option line option value))
-joined_by name line option found value t f = ap (λ b. cond b (taken line option true found) None) t ∙ ap (taken line option true) f
+joined_by : (name : Name) (line : Line) (option : OptionName) (found : Option (List ℕ)) (value : List ℕ) → takes name option ≡ true → found ≡ Some value → cond (takes name option) (option_reading line option true found) None ≡ Some (at Between (with_option line option value))
+joined_by name line option found value t f = ap (λ b. cond b (option_reading line option true found) None) t ∙ ap (option_reading line option true) f
 
 pub joined_step : (name : Name) (line : Line) (option : OptionName) (value : List ℕ) → takes name option ≡ true → has_value option ≡ true
     → between name line (option_text option ++ codes "=" ++ value) ≡ Some (at Between (with_option line option value))

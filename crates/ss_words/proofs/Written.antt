@@ -1,5 +1,6 @@
 -- Lines that words write are read, and as they are written.
-use Rattle.std.specs.Prelude.{◌≡◌, ℕ, ◌+◌, ◌<◌, ◌&&◌, not, cond, Bool, true, false, List, [], ◌∷◌, ◌++◌, length, get_or, map, drop, Option, Some, None, option_and_then, codes, refl, zero, suc, ◌≤◌}
+use Rattle.std.specs.Prelude.{◌≡◌, ℕ, ◌+◌, ◌<◌, ◌&&◌, not, cond, Bool, true, false, List, [], ◌∷◌, ◌++◌, length, get_or}
+use Rattle.std.specs.Prelude.{map, drop, Option, Some, None, option_and_then, codes, refl, zero, suc, ◌≤◌}
 use Rattle.std.specs.List.{flat_map, list_all}
 use Rattle.std.proofs.Common.{sym, ap, ap₂, ◌∙◌, append-nil, append_assoc, arith}
 use Rattle.ss_words.specs.declared.names.Name.{Name}
@@ -7,7 +8,8 @@ use Rattle.ss_words.specs.declared.names.OptionName.{OptionName}
 use Rattle.ss_words.specs.declared.lines.Place.{Place}
 use Rattle.ss_words.specs.declared.lines.Place.TheVariants.{Between, Value, Behind}
 use Rattle.ss_words.specs.Names.{option_text, takes, has_value}
-use Rattle.ss_words.specs.Lines.{Line, IsLine, is_dashed, Piece, Positional, Joined, Apart, Bare, spelled, fits, ending, line_made}
+use Rattle.ss_words.specs.Lines.{Line, IsLine, is_dashed, Piece, Positional, Joined, Apart, Bare, piece_words, fits}
+use Rattle.ss_words.specs.Lines.{ending, line_made}
 use Rattle.ss_words.specs.Reading.{Reading, at, with_positional, with_option, step, between, read_from, empty_line}
 use Rattle.ss_words.proofs.Choices.{followed}
 use Rattle.ss_words.proofs.Steps.{positional_step, apart_step, bare_step, joined_step}
@@ -38,28 +40,28 @@ value_step : (name : Name) (line : Line) (option : OptionName) (value : List ℕ
 value_step name line option value plain = ap (λ b. cond b None (Some (at Between (with_option line option value)))) plain
 
 pub written : (name : Name) (pieces : List Piece) (behind : Option (List (List ℕ))) (line : Line) → list_all (fits name) pieces ≡ true
-    → read_from name Between line (flat_map spelled pieces ++ ending behind) ≡ Some (followed_by line (line_made pieces behind))
+    → read_from name Between line (flat_map piece_words pieces ++ ending behind) ≡ Some (followed_by line (line_made pieces behind))
 written name [] None line fit = ap₂ (λ p o. Some (record { positionals = p; options = o })) (sym (append-nil line.positionals)) (sym (append-nil line.options))
 written name [] (Some words) line fit = behind_reads name line words ∙ ap (λ o. Some (record { positionals = line.positionals ++ words; options = o })) (sym (append-nil line.options))
 written name (Positional word ∷ pieces) behind line fit =
-    ap (option_and_then (onward name (flat_map spelled pieces ++ ending behind))) (positional_step name line word (not-true _ (both_left _ _ fit)))
+    ap (option_and_then (onward name (flat_map piece_words pieces ++ ending behind))) (positional_step name line word (not-true _ (both_left _ _ fit)))
     ∙ written name pieces behind (with_positional line word) (both_right _ _ fit)
     ∙ ap Some (more_positionals line word (line_made pieces behind))
 written name (Joined option value ∷ pieces) behind line fit =
     let own = both_left (takes name option && has_value option) (list_all (fits name) pieces) fit in
-    ap (option_and_then (onward name (flat_map spelled pieces ++ ending behind))) (joined_step name line option value (both_left _ _ own) (both_right _ _ own))
+    ap (option_and_then (onward name (flat_map piece_words pieces ++ ending behind))) (joined_step name line option value (both_left _ _ own) (both_right _ _ own))
     ∙ written name pieces behind (with_option line option value) (both_right (takes name option && has_value option) _ fit)
     ∙ ap Some (more_options line option value (line_made pieces behind))
 written name (Apart option value ∷ pieces) behind line fit =
     let own = both_left (takes name option && (has_value option && not (is_dashed value))) (list_all (fits name) pieces) fit in
     let valued = both_right (takes name option) (has_value option && not (is_dashed value)) own in
-    ap (option_and_then (onward name (value ∷ (flat_map spelled pieces ++ ending behind)))) (apart_step name line option (both_left _ _ own) (both_left _ _ valued))
-    ∙ ap (option_and_then (onward name (flat_map spelled pieces ++ ending behind))) (value_step name line option value (not-true _ (both_right _ _ valued)))
+    ap (option_and_then (onward name (value ∷ (flat_map piece_words pieces ++ ending behind)))) (apart_step name line option (both_left _ _ own) (both_left _ _ valued))
+    ∙ ap (option_and_then (onward name (flat_map piece_words pieces ++ ending behind))) (value_step name line option value (not-true _ (both_right _ _ valued)))
     ∙ written name pieces behind (with_option line option value) (both_right (takes name option && (has_value option && not (is_dashed value))) _ fit)
     ∙ ap Some (more_options line option value (line_made pieces behind))
 written name (Bare option ∷ pieces) behind line fit =
     let own = both_left (takes name option && not (has_value option)) (list_all (fits name) pieces) fit in
-    ap (option_and_then (onward name (flat_map spelled pieces ++ ending behind))) (bare_step name line option (both_left _ _ own) (not-true _ (both_right _ _ own)))
+    ap (option_and_then (onward name (flat_map piece_words pieces ++ ending behind))) (bare_step name line option (both_left _ _ own) (not-true _ (both_right _ _ own)))
     ∙ written name pieces behind (with_option line option []) (both_right (takes name option && not (has_value option)) _ fit)
     ∙ ap Some (more_options line option [] (line_made pieces behind))
 
@@ -70,7 +72,7 @@ pub record Writes (name : Name) (words : List (List ℕ)) (line found : Line) : 
   pub pieces : List Piece
   pub behind : Option (List (List ℕ))
   pub fit : list_all (fits name) pieces ≡ true
-  pub words_are : words ≡ flat_map spelled pieces ++ ending behind
+  pub words_are : words ≡ flat_map piece_words pieces ++ ending behind
   pub found_is : found ≡ followed_by line (line_made pieces behind)
 
 -- the same where the first word is an option's value

@@ -1,5 +1,6 @@
 -- The actions of the command `edit` (this project's).
-use Rattle.std.specs.Prelude.{ℕ, List, [], ◌∷◌, Option, Some, None, codes, bytes_eq, option_map, option_and_then, if◌then◌else◌}
+use Rattle.std.specs.Prelude.{ℕ, List, [], ◌∷◌, Option, Some, None, codes, bytes_eq, option_map, option_and_then}
+use Rattle.std.specs.Prelude.{if◌then◌else◌}
 use Rattle.ss_words.specs.declared.actions.Action.{Action}
 use Rattle.ss_words.specs.declared.actions.Action.TheVariants.{New, Bookmark, Folder, Separator, Rename, Move, Delete}
 use Rattle.ss_words.specs.Values.{id_of}

@@ -1,5 +1,6 @@
 -- What words ask (this project's).
-use Rattle.std.specs.Prelude.{◌≡◌, ℕ, ◌≤◌, ⊤, true, IfSome, List, [], ◌∷◌, Option, Some, None, is_some, unwrap_or, option_map, option_and_then}
+use Rattle.std.specs.Prelude.{◌≡◌, ℕ, ◌≤◌, ⊤, true, IfSome, List, [], ◌∷◌, Option, Some, None, is_some, unwrap_or}
+use Rattle.std.specs.Prelude.{option_map, option_and_then}
 use Rattle.std.specs.Net.Socket.{IsSocketAddrV4}
 use Rattle.std.specs.Net.Text.{socket_v4_text}
 use Rattle.std.specs.declared.net.socket_addr.SocketAddrV4.{SocketAddrV4}
@@ -12,7 +13,8 @@ use Rattle.ss_words.specs.declared.commands.Command.TheVariants as asked
 use Rattle.ss_words.specs.declared.commands.LogFolder.{LogFolder}
 use Rattle.ss_words.specs.declared.names.Name.{Name}
 use Rattle.ss_words.specs.declared.names.Name.TheVariants.{Answer, Edit, Merge, Rehearse, Sync, Serve}
-use Rattle.ss_words.specs.declared.names.OptionName.TheVariants.{At, Newer, Workers, Connections, Terms, Firefox, Journal, From}
+use Rattle.ss_words.specs.declared.names.OptionName.TheVariants.{At, Newer, Workers, Connections, Terms, Firefox}
+use Rattle.ss_words.specs.declared.names.OptionName.TheVariants.{Journal, From}
 use Rattle.ss_words.specs.Names.{name_of}
 use Rattle.ss_words.specs.Lines.{Line, IsLine}
 use Rattle.ss_words.specs.Values.{given, number_in, number_given, accounts_of, are_accounts}

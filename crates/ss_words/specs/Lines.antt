@@ -1,5 +1,6 @@
 -- Which positionals and options the words behind a command's name write (this project's).
-use Rattle.std.specs.Prelude.{◌≡◌, ℕ, Bool, true, false, ◌&&◌, ◌==◌, not, List, [], ◌∷◌, ◌++◌, Option, Some, None, codes}
+use Rattle.std.specs.Prelude.{◌≡◌, ℕ, Bool, true, false, ◌&&◌, ◌==◌, not, List, [], ◌∷◌, ◌++◌, Option, Some, None}
+use Rattle.std.specs.Prelude.{codes}
 use Rattle.std.specs.List.{flat_map, filter_map, list_all}
 use Rattle.ss_words.specs.declared.names.Name.{Name}
 use Rattle.ss_words.specs.declared.names.OptionName.{OptionName}
@@ -24,11 +25,11 @@ pub data Piece : Type 0 where
   Bare : OptionName → Piece
 
 -- the words that write a piece
-abbrev pub spelled : Piece → List (List ℕ)
-spelled (Positional word) = word ∷ []
-spelled (Joined option value) = (option_text option ++ codes "=" ++ value) ∷ []
-spelled (Apart option value) = option_text option ∷ value ∷ []
-spelled (Bare option) = option_text option ∷ []
+abbrev pub piece_words : Piece → List (List ℕ)
+piece_words (Positional word) = word ∷ []
+piece_words (Joined option value) = (option_text option ++ codes "=" ++ value) ∷ []
+piece_words (Apart option value) = option_text option ∷ value ∷ []
+piece_words (Bare option) = option_text option ∷ []
 
 -- a positional, or a value that is a word of its own, doesn't begin with a dash; the command has the option, with a value or without
 abbrev pub fits : Name → Piece → Bool
@@ -70,5 +71,5 @@ pub record IsLine (name : Name) (words : List (List ℕ)) (line : Line) : Type 0
   pub pieces : List Piece
   pub behind : Option (List (List ℕ))
   pub fit : list_all (fits name) pieces ≡ true
-  pub words_are : words ≡ flat_map spelled pieces ++ ending behind
+  pub words_are : words ≡ flat_map piece_words pieces ++ ending behind
   pub line_is : line ≡ line_made pieces behind

@@ -4,6 +4,6 @@ use Rattle.ss_words.specs.declared.refusals.WordsFault.{WordsFault}
 use Rattle.ss_words.specs.declared.refusals.WordsFault.TheVariants.{Refused, Memory}
 
 -- the words ask nothing
-abbrev pub IsRefused : WordsFault → Type 0
-IsRefused (Refused refusal) = ⊤
-IsRefused Memory = ⊥
+abbrev pub AsksNothing : WordsFault → Type 0
+AsksNothing (Refused refusal) = ⊤
+AsksNothing Memory = ⊥

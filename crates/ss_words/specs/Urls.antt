@@ -1,5 +1,7 @@
 -- The URL of an account, as a client is given it (this project's).
-use Rattle.std.specs.Prelude.{◌≡◌, ℕ, ◌<◌, ◌≤◌, true, ◌&&◌, ◌-◌, ◌==◌, nat_eq, nat_le, List, length, drop, take, slice_index, Option, Some, None, is_none, unwrap_or, codes, bytes_eq, option_map, option_and_then, if◌then◌else◌}
+use Rattle.std.specs.Prelude.{◌≡◌, ℕ, ◌<◌, ◌≤◌, true, ◌&&◌, ◌-◌, ◌==◌, nat_eq, nat_le, List, length, drop, take}
+use Rattle.std.specs.Prelude.{slice_index, Option, Some, None, is_none, unwrap_or, codes, bytes_eq, option_map}
+use Rattle.std.specs.Prelude.{option_and_then, if◌then◌else◌}
 use Rattle.std.specs.List.{starts_with, list_all}
 use Rattle.std.specs.Result.{result_ok}
 use Rattle.url.specs.Host.{host_text}

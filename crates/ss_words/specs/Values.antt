@@ -1,5 +1,6 @@
 -- What options and positionals say.
-use Rattle.std.specs.Prelude.{ℕ, Bool, true, ◌&&◌, ◌==◌, not, nat_le, List, [], ◌∷◌, length, map, filter, Option, Some, None, bytes_eq, option_map, option_and_then, if◌then◌else◌}
+use Rattle.std.specs.Prelude.{ℕ, Bool, true, ◌&&◌, ◌==◌, not, nat_le, List, [], ◌∷◌, length, map, filter, Option, Some}
+use Rattle.std.specs.Prelude.{None, bytes_eq, option_map, option_and_then, if◌then◌else◌}
 use Rattle.std.specs.List.{list_any}
 use Rattle.ss_text.specs.Names.{is_id}
 use Rattle.ss_text.specs.Numbers.{number_of}

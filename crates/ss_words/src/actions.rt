@@ -1,8 +1,9 @@
 //! The actions of the command `edit`, with their words.
 
 ghost use Rattle.std.specs.Prelude.{◌≡◌, Some, None, map, IfOk, IfErr};
-ghost use Rattle.ss_words.specs.Refused.{IsRefused};
-ghost use Rattle.ss_words.specs.Actions.{new_in, bookmark_in, folder_in, separator_in, rename_in, move_in, delete_in, action_named, action_in};
+ghost use Rattle.ss_words.specs.Refused.{AsksNothing};
+ghost use Rattle.ss_words.specs.Actions.{new_in, bookmark_in, folder_in, separator_in, rename_in, move_in, delete_in};
+ghost use Rattle.ss_words.specs.Actions.{action_named, action_in};
 
 use crate::refusals::{Cause, WordsFault};
 use crate::values::{copied, id_in};
@@ -44,7 +45,7 @@ pub enum Action {
 
 /// The refusal of a list of words that is too short, or too long.
 pub(crate) fn wrong_count<'a>(words: &[&'a str], wanted: usize) -> WordsFault<'a>
-    ensures { IsRefused result }
+    ensures { AsksNothing result }
 {
     match words.get(wanted) {
         Some(word) => WordsFault::at(Cause::TooMany, word),
@@ -54,7 +55,7 @@ pub(crate) fn wrong_count<'a>(words: &[&'a str], wanted: usize) -> WordsFault<'a
 
 fn bookmark_in<'a>(alloc: Global, words: &[&'a str]) -> Result<Action, WordsFault<'a>>
     ensures ok { IfOk result (λ action. bookmark_in (map (λ word. word.now) words.now) ≡ Some action) }
-    ensures refused { IfErr result (λ fault. IsRefused fault → bookmark_in (map (λ word. word.now) words.now) ≡ None) }
+    ensures refused { IfErr result (λ fault. AsksNothing fault → bookmark_in (map (λ word. word.now) words.now) ≡ None) }
 {
     match words {
         [parent, id, title, uri] => Ok(Action::Bookmark {
@@ -69,7 +70,7 @@ fn bookmark_in<'a>(alloc: Global, words: &[&'a str]) -> Result<Action, WordsFaul
 
 fn folder_in<'a>(alloc: Global, words: &[&'a str]) -> Result<Action, WordsFault<'a>>
     ensures ok { IfOk result (λ action. folder_in (map (λ word. word.now) words.now) ≡ Some action) }
-    ensures refused { IfErr result (λ fault. IsRefused fault → folder_in (map (λ word. word.now) words.now) ≡ None) }
+    ensures refused { IfErr result (λ fault. AsksNothing fault → folder_in (map (λ word. word.now) words.now) ≡ None) }
 {
     match words {
         [parent, id, title] => Ok(Action::Folder {
@@ -83,7 +84,7 @@ fn folder_in<'a>(alloc: Global, words: &[&'a str]) -> Result<Action, WordsFault<
 
 fn separator_in<'a>(alloc: Global, words: &[&'a str]) -> Result<Action, WordsFault<'a>>
     ensures ok { IfOk result (λ action. separator_in (map (λ word. word.now) words.now) ≡ Some action) }
-    ensures refused { IfErr result (λ fault. IsRefused fault → separator_in (map (λ word. word.now) words.now) ≡ None) }
+    ensures refused { IfErr result (λ fault. AsksNothing fault → separator_in (map (λ word. word.now) words.now) ≡ None) }
 {
     match words {
         [parent, id] => Ok(Action::Separator {
@@ -96,7 +97,7 @@ fn separator_in<'a>(alloc: Global, words: &[&'a str]) -> Result<Action, WordsFau
 
 fn rename_in<'a>(alloc: Global, words: &[&'a str]) -> Result<Action, WordsFault<'a>>
     ensures ok { IfOk result (λ action. rename_in (map (λ word. word.now) words.now) ≡ Some action) }
-    ensures refused { IfErr result (λ fault. IsRefused fault → rename_in (map (λ word. word.now) words.now) ≡ None) }
+    ensures refused { IfErr result (λ fault. AsksNothing fault → rename_in (map (λ word. word.now) words.now) ≡ None) }
 {
     match words {
         [id, title] => Ok(Action::Rename {
@@ -109,7 +110,7 @@ fn rename_in<'a>(alloc: Global, words: &[&'a str]) -> Result<Action, WordsFault<
 
 fn move_in<'a>(alloc: Global, words: &[&'a str]) -> Result<Action, WordsFault<'a>>
     ensures ok { IfOk result (λ action. move_in (map (λ word. word.now) words.now) ≡ Some action) }
-    ensures refused { IfErr result (λ fault. IsRefused fault → move_in (map (λ word. word.now) words.now) ≡ None) }
+    ensures refused { IfErr result (λ fault. AsksNothing fault → move_in (map (λ word. word.now) words.now) ≡ None) }
 {
     match words {
         [id, parent] => Ok(Action::Move {
@@ -122,7 +123,7 @@ fn move_in<'a>(alloc: Global, words: &[&'a str]) -> Result<Action, WordsFault<'a
 
 fn delete_in<'a>(alloc: Global, words: &[&'a str]) -> Result<Action, WordsFault<'a>>
     ensures ok { IfOk result (λ action. delete_in (map (λ word. word.now) words.now) ≡ Some action) }
-    ensures refused { IfErr result (λ fault. IsRefused fault → delete_in (map (λ word. word.now) words.now) ≡ None) }
+    ensures refused { IfErr result (λ fault. AsksNothing fault → delete_in (map (λ word. word.now) words.now) ≡ None) }
 {
     match words {
         [id] => Ok(Action::Delete {
@@ -148,7 +149,7 @@ fn action_named<'a>(
     words: &[&'a str],
 ) -> Result<Action, WordsFault<'a>>
     ensures ok { IfOk result (λ action. action_named name.now (map (λ word. word.now) words.now) ≡ Some action) }
-    ensures refused { IfErr result (λ fault. IsRefused fault → action_named name.now (map (λ word. word.now) words.now)
+    ensures refused { IfErr result (λ fault. AsksNothing fault → action_named name.now (map (λ word. word.now) words.now)
         ≡ None) }
 {
     match name {
@@ -167,7 +168,7 @@ fn action_named<'a>(
 #[tactic(auto, unfolding(crate::specs::Actions::action_in))]
 pub(crate) fn action_in<'a>(alloc: Global, words: &[&'a str]) -> Result<Action, WordsFault<'a>>
     ensures ok { IfOk result (λ action. action_in (map (λ word. word.now) words.now) ≡ Some action) }
-    ensures refused { IfErr result (λ fault. IsRefused fault → action_in (map (λ word. word.now) words.now) ≡ None) }
+    ensures refused { IfErr result (λ fault. AsksNothing fault → action_in (map (λ word. word.now) words.now) ≡ None) }
 {
     match words {
         [] => Err(WordsFault::missing(Cause::TooFew)),

@@ -3,8 +3,10 @@
 ghost use Rattle.std.specs.Prelude.{◌≡◌, ◌≤◌, Some, None, map, string_bytes, IfOk, IfErr, IfSome, IsTrue, IsFalse};
 ghost use Rattle.std.specs.Option.{option_copied};
 ghost use Rattle.ss_town.specs.Limits.{most_connections, most_workers};
-ghost use Rattle.ss_words.specs.Refused.{IsRefused};
-ghost use Rattle.ss_words.specs.Commands.{answer_in, answer_words, edit_in, merge_words, rehearse_words, sync_in, sync_words, manner_of, most_from, logs_of, logs_in, serve_in, serve_words, command_in, IsAddress, HasAddress, HasNumber, HasRange, AsksOf, Asks};
+ghost use Rattle.ss_words.specs.Refused.{AsksNothing};
+ghost use Rattle.ss_words.specs.Commands.{answer_in, answer_words, edit_in, merge_words, rehearse_words, sync_in};
+ghost use Rattle.ss_words.specs.Commands.{sync_words, manner_of, most_from, logs_of, logs_in, serve_in, serve_words};
+ghost use Rattle.ss_words.specs.Commands.{command_in, IsAddress, HasAddress, HasNumber, HasRange, AsksOf, Asks};
 
 use crate::actions::{Action, action_in, wrong_count};
 use crate::lines::{Line, read_line};
@@ -135,7 +137,7 @@ fn answer_in<'a>(line: &Line<'a>) -> Result<Command, WordsFault<'a>>
 fn edit_in<'a>(alloc: Global, line: &Line<'a>) -> Result<Command, WordsFault<'a>>
     ensures ok { IfOk result (λ command. edit_in line.now ≡ Some command) }
     ensures range { IfOk result HasRange }
-    ensures refused { IfErr result (λ fault. IsRefused fault → edit_in line.now ≡ None) }
+    ensures refused { IfErr result (λ fault. AsksNothing fault → edit_in line.now ≡ None) }
 {
     let at = number_given(line, OptionName::At, 0, MOST)?;
     let action = action_in(alloc, line.positionals())?;
@@ -171,7 +173,7 @@ fn rehearse_in<'a>(line: &Line<'a>) -> Result<Command, WordsFault<'a>>
 fn sync_in<'a>(alloc: Global, line: &Line<'a>) -> Result<Command, WordsFault<'a>>
     ensures ok { IfOk result (λ command. sync_in line.now ≡ Some command) }
     ensures range { IfOk result HasRange }
-    ensures refused { IfErr result (λ fault. IsRefused fault → sync_in line.now ≡ None) }
+    ensures refused { IfErr result (λ fault. AsksNothing fault → sync_in line.now ≡ None) }
 {
     let newer = given(line, OptionName::Newer)?.is_some();
     match line.positionals() {
@@ -211,7 +213,7 @@ fn log_folder<'a>(
     requires { IfSome from (λ from. (1 ≤ from) × (from ≤ most_from)) }
     ensures ok { IfOk result (λ logs. logs_of (Some folder.now) from ≡ Some (Some logs)) }
     ensures range { IfOk result HasNumber }
-    ensures refused { IfErr result (λ fault. IsRefused fault → logs_of (Some folder.now) from ≡ None) }
+    ensures refused { IfErr result (λ fault. AsksNothing fault → logs_of (Some folder.now) from ≡ None) }
 {
     if folder.is_empty() {
         return Err(WordsFault::at(Cause::NoValue, OptionName::Journal.text()));
@@ -227,7 +229,7 @@ fn log_folder<'a>(
 fn logs_in<'a>(alloc: Global, line: &Line<'a>) -> Result<Option<LogFolder>, WordsFault<'a>>
     ensures ok { IfOk result (λ logs. logs_in line.now ≡ Some logs) }
     ensures range { IfOk result (λ logs. IfSome logs HasNumber) }
-    ensures refused { IfErr result (λ fault. IsRefused fault → logs_in line.now ≡ None) }
+    ensures refused { IfErr result (λ fault. AsksNothing fault → logs_in line.now ≡ None) }
 {
     let from = number_given(line, OptionName::From, 1, MOST_FROM)?;
     match (given(line, OptionName::Journal)?, from) {
@@ -251,7 +253,7 @@ fn serve_words<'a>(
     ensures ok { IfOk result (λ command. serve_words sizes.workers sizes.connections sizes.terms
         manner logs (map (λ word. word.now) words.now) ≡ Some command) }
     ensures range { IfOk result HasRange }
-    ensures refused { IfErr result (λ fault. IsRefused fault → serve_words sizes.workers sizes.connections sizes.terms
+    ensures refused { IfErr result (λ fault. AsksNothing fault → serve_words sizes.workers sizes.connections sizes.terms
         manner logs (map (λ word. word.now) words.now) ≡ None) }
 {
     match words {
@@ -273,7 +275,7 @@ fn serve_words<'a>(
 fn serve_in<'a>(alloc: Global, line: &Line<'a>) -> Result<Command, WordsFault<'a>>
     ensures ok { IfOk result (λ command. serve_in line.now ≡ Some command) }
     ensures range { IfOk result HasRange }
-    ensures refused { IfErr result (λ fault. IsRefused fault → serve_in line.now ≡ None) }
+    ensures refused { IfErr result (λ fault. AsksNothing fault → serve_in line.now ≡ None) }
 {
     let workers = number_given(line, OptionName::Workers, 1, MOST_WORKERS)?;
     let connections = number_given(line, OptionName::Connections, 1, MOST_CONNECTIONS)?;
@@ -291,7 +293,7 @@ fn serve_in<'a>(alloc: Global, line: &Line<'a>) -> Result<Command, WordsFault<'a
 fn command_in<'a>(alloc: Global, name: Name, line: &Line<'a>) -> Result<Command, WordsFault<'a>>
     ensures ok { IfOk result (λ command. command_in name line.now ≡ Some command) }
     ensures range { IfOk result HasRange }
-    ensures refused { IfErr result (λ fault. IsRefused fault → command_in name line.now ≡ None) }
+    ensures refused { IfErr result (λ fault. AsksNothing fault → command_in name line.now ≡ None) }
 {
     match name {
         Name::Answer => answer_in(line),
@@ -334,7 +336,7 @@ fn has_address(alloc: Global, command: &Command) -> Result<bool, AllocError>
 fn read_named<'a>(alloc: Global, name: Name, words: &'a [String]) -> Result<Command, WordsFault<'a>>
     ensures range { IfOk result HasRange }
     ensures ok { IfOk result (λ command. AsksOf name (map (λ word. string_bytes word) words.now) command) }
-    ensures refused { IfErr result (λ fault. IsRefused fault → (command : Command)
+    ensures refused { IfErr result (λ fault. AsksNothing fault → (command : Command)
         → AsksOf name (map (λ word. string_bytes word) words.now) command → ⊥) }
 {
     let line = match read_line(alloc, name, words) {
@@ -359,7 +361,7 @@ fn read_named<'a>(alloc: Global, name: Name, words: &'a [String]) -> Result<Comm
 pub fn read_command<'a>(alloc: Global, words: &'a [String]) -> Result<Command, WordsFault<'a>>
     ensures range { IfOk result HasRange }
     ensures asks { IfOk result (λ command. Asks (map (λ word. string_bytes word) words.now) command) }
-    ensures refused { IfErr result (λ fault. IsRefused fault → (command : Command)
+    ensures refused { IfErr result (λ fault. AsksNothing fault → (command : Command)
         → Asks (map (λ word. string_bytes word) words.now) command → ⊥) }
 {
     match words {

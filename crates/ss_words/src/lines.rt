@@ -2,10 +2,11 @@
 
 ghost use Rattle.std.specs.Prelude.{◌≡◌, Some, None, map, string_bytes, IfOk, IfErr};
 ghost use Rattle.std.specs.Option.{option_copied};
-ghost use Rattle.ss_words.specs.Refused.{IsRefused};
+ghost use Rattle.ss_words.specs.Refused.{AsksNothing};
 ghost use Rattle.ss_words.specs.Lines.{is_dashed, IsLine, Line};
 ghost use Rattle.ss_words.specs.Names.{has_value, option_of};
-ghost use Rattle.ss_words.specs.Reading.{at, with_positional, with_option, empty_line, key_of, value_in, taken, dashed, between, step};
+ghost use Rattle.ss_words.specs.Reading.{at, with_positional, with_option, empty_line, key_of, value_in};
+ghost use Rattle.ss_words.specs.Reading.{option_reading, dash_reading, between, step};
 
 use crate::names::{Name, OptionName};
 use crate::refusals::{Cause, WordsFault};
@@ -93,9 +94,9 @@ impl<'a> Line<'a> {
         word: &'a str,
         value: Option<&'a str>,
     ) -> Result<Place, WordsFault<'a>>
-        ensures ok { IfOk result (λ place. taken self.old option (has_value option) (option_copied value.entry)
+        ensures ok { IfOk result (λ place. option_reading self.old option (has_value option) (option_copied value.entry)
             ≡ Some (at place self.new)) }
-        ensures refused { IfErr result (λ fault. IsRefused fault → taken self.old option (has_value option)
+        ensures refused { IfErr result (λ fault. AsksNothing fault → option_reading self.old option (has_value option)
             (option_copied value.entry) ≡ None) }
     {
         match (option.has_value(), value) {
@@ -114,9 +115,9 @@ impl<'a> Line<'a> {
 
     /// Takes a word that begins with a dash.
     fn take_dashed(&mut self, name: Name, word: &'a str) -> Result<Place, WordsFault<'a>>
-        ensures ok { IfOk result (λ place. dashed name self.old word.now (option_of (key_of word.now))
+        ensures ok { IfOk result (λ place. dash_reading name self.old word.now (option_of (key_of word.now))
             ≡ Some (at place self.new)) }
-        ensures refused { IfErr result (λ fault. IsRefused fault → dashed name self.old word.now
+        ensures refused { IfErr result (λ fault. AsksNothing fault → dash_reading name self.old word.now
             (option_of (key_of word.now)) ≡ None) }
     {
         let (key, value) = cut(word);
@@ -129,7 +130,7 @@ impl<'a> Line<'a> {
     /// Takes a word that stands between two pieces.
     fn take_between(&mut self, name: Name, word: &'a str) -> Result<Place, WordsFault<'a>>
         ensures ok { IfOk result (λ place. between name self.old word.now ≡ Some (at place self.new)) }
-        ensures refused { IfErr result (λ fault. IsRefused fault → between name self.old word.now ≡ None) }
+        ensures refused { IfErr result (λ fault. AsksNothing fault → between name self.old word.now ≡ None) }
     {
         if word == "--" {
             Ok(Place::Behind)
@@ -144,7 +145,7 @@ impl<'a> Line<'a> {
     /// Takes the next word, which stands at this place.
     fn take(&mut self, name: Name, place: Place, word: &'a str) -> Result<Place, WordsFault<'a>>
         ensures ok { IfOk result (λ next. step name place self.old word.now ≡ Some (at next self.new)) }
-        ensures refused { IfErr result (λ fault. IsRefused fault → step name place self.old word.now ≡ None) }
+        ensures refused { IfErr result (λ fault. AsksNothing fault → step name place self.old word.now ≡ None) }
     {
         match place {
             Place::Between => self.take_between(name, word),
@@ -181,7 +182,7 @@ pub(crate) fn read_line<'a>(
     words: &'a [String],
 ) -> Result<Line<'a>, WordsFault<'a>>
     ensures ok { IfOk result (λ line. IsLine name (map (λ word. string_bytes word) words.now) line) }
-    ensures refused { IfErr result (λ fault. IsRefused fault → (line : Line)
+    ensures refused { IfErr result (λ fault. AsksNothing fault → (line : Line)
         → IsLine name (map (λ word. string_bytes word) words.now) line → ⊥) }
 {
     let mut line = Line::new(alloc);

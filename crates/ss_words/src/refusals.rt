@@ -76,11 +76,11 @@ pub enum WordsFault<'a> {
 
 impl<'a> WordsFault<'a> {
     ghost use Rattle.ss_words.specs.declared.refusals.Refusal.{Refusal};
-    ghost use Rattle.ss_words.specs.Refused.{IsRefused};
+    ghost use Rattle.ss_words.specs.Refused.{AsksNothing};
 
     /// A refusal at this word.
     pub(crate) fn at(cause: Cause, word: &'a str) -> WordsFault<'a>
-        ensures { IsRefused result }
+        ensures { AsksNothing result }
     {
         WordsFault::Refused(Refusal {
             cause,
@@ -90,7 +90,7 @@ impl<'a> WordsFault<'a> {
 
     /// A refusal for want of a word.
     pub(crate) fn missing(cause: Cause) -> WordsFault<'a>
-        ensures { IsRefused result }
+        ensures { AsksNothing result }
     {
         WordsFault::Refused(Refusal { cause, word: None })
     }

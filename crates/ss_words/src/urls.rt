@@ -2,7 +2,7 @@
 
 ghost use Rattle.std.specs.Prelude.{◌≡◌, option_map, Some, None, IfOk, IfErr, IfSome};
 ghost use Rattle.url.specs.Parts.{Parts};
-ghost use Rattle.ss_words.specs.Refused.{IsRefused};
+ghost use Rattle.ss_words.specs.Refused.{AsksNothing};
 ghost use Rattle.ss_words.specs.Urls.{behind_version, without_slash, uid_in_path, server_in, server_of, HasHost};
 ghost use Rattle.ss_route.specs.Targets.{uid_of};
 
@@ -78,7 +78,7 @@ fn server_in(alloc: Global, url: &Url) -> Result<Option<Server>, AllocError>
 pub(crate) fn read_server<'a>(alloc: Global, word: &'a str) -> Result<Server, WordsFault<'a>>
     ensures ok { IfOk result (λ server. server_of word.now ≡ Some server) }
     ensures host { IfOk result HasHost }
-    ensures refused { IfErr result (λ fault. IsRefused fault → server_of word.now ≡ None) }
+    ensures refused { IfErr result (λ fault. AsksNothing fault → server_of word.now ≡ None) }
 {
     match Url::parse(alloc, word) {
         Ok(url) => match server_in(alloc, &url) {

@@ -3,8 +3,9 @@
 ghost use Rattle.std.specs.Prelude.{◌≡◌, ◌≤◌, ◌==◌, Some, None, true, map, length, IfOk, IfErr, IfSome};
 ghost use Rattle.std.specs.Option.{option_copied};
 ghost use Rattle.ss_route.specs.Targets.{uid_of};
-ghost use Rattle.ss_words.specs.Refused.{IsRefused};
-ghost use Rattle.ss_words.specs.Values.{given, number_in, optional_number, number_given, id_of, accounts_of, uids_of, are_distinct, are_accounts};
+ghost use Rattle.ss_words.specs.Refused.{AsksNothing};
+ghost use Rattle.ss_words.specs.Values.{given, number_in, optional_number, number_given, id_of, accounts_of, uids_of};
+ghost use Rattle.ss_words.specs.Values.{are_distinct, are_accounts};
 
 use crate::lines::Line;
 use crate::names::OptionName;
@@ -126,7 +127,7 @@ pub(crate) fn uid_in<'a>(word: &'a str) -> Result<u32, WordsFault<'a>>
 /// An id of a record.
 pub(crate) fn id_in<'a>(alloc: Global, word: &'a str) -> Result<Id, WordsFault<'a>>
     ensures ok { IfOk result (λ id. id_of word.now ≡ Some id) }
-    ensures refused { IfErr result (λ fault. IsRefused fault → id_of word.now ≡ None) }
+    ensures refused { IfErr result (λ fault. AsksNothing fault → id_of word.now ≡ None) }
 {
     match Id::new(alloc, word.as_bytes()) {
         Ok(Some(id)) => Ok(id),
@@ -154,7 +155,7 @@ fn are_distinct(uids: &[u32]) -> bool
 /// The accounts that all these words name.
 fn all_uids<'a>(alloc: Global, words: &[&'a str]) -> Result<Vec<u32>, WordsFault<'a>>
     ensures ok { IfOk result (λ uids. uids_of (map (λ word. word.now) words.now) ≡ Some uids.items) }
-    ensures refused { IfErr result (λ fault. IsRefused fault → uids_of (map (λ word. word.now) words.now) ≡ None) }
+    ensures refused { IfErr result (λ fault. AsksNothing fault → uids_of (map (λ word. word.now) words.now) ≡ None) }
 {
     let mut uids = Vec::new(alloc);
     for word in words {
@@ -174,7 +175,7 @@ fn all_uids<'a>(alloc: Global, words: &[&'a str]) -> Result<Vec<u32>, WordsFault
 pub(crate) fn accounts_in<'a>(alloc: Global, words: &[&'a str]) -> Result<Uids, WordsFault<'a>>
     ensures fit { IfOk result (λ uids. are_accounts uids ≡ true) }
     ensures ok { IfOk result (λ uids. accounts_of (map (λ word. word.now) words.now) ≡ Some uids) }
-    ensures refused { IfErr result (λ fault. IsRefused fault → accounts_of (map (λ word. word.now) words.now) ≡ None) }
+    ensures refused { IfErr result (λ fault. AsksNothing fault → accounts_of (map (λ word. word.now) words.now) ≡ None) }
 {
     match all_uids(alloc, words) {
         Err(fault) => Err(fault),

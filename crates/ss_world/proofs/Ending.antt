@@ -1,5 +1,7 @@
 -- A machine that gets the awaited status each time ends.
-use Rattle.std.proofs.Common.{◌≡◌, ◌⊎◌, ℕ, zero, suc, ◌+◌, ◌-◌, ◌<◌, ◌≤◌, List, [], ◌∷◌, ◌++◌, length, drop, Option, Some, None, MatchOption, unwrap_or, is_some, Bool, true, false, cond, not, nat_lt, nat_le, ◌||◌, ◌&&◌, sym, refl, ap, ◌∙◌, subst, inl, inr, arith}
+use Rattle.std.proofs.Common.{◌≡◌, ◌⊎◌, ℕ, zero, suc, ◌+◌, ◌-◌, ◌<◌, ◌≤◌, List, [], ◌∷◌, ◌++◌, length, drop, Option}
+use Rattle.std.proofs.Common.{Some, None, MatchOption, unwrap_or, is_some, Bool, true, false, cond, not, nat_lt, nat_le}
+use Rattle.std.proofs.Common.{◌||◌, ◌&&◌, sym, refl, ap, ◌∙◌, subst, inl, inr, arith}
 use Rattle.std.specs.Bool.{MatchBool}
 use Rattle.std.proofs.lemmas.Bool.{false≢true}
 use Rattle.std.proofs.lemmas.Bool.Decides.{nat_tests}
@@ -14,7 +16,8 @@ use Rattle.ss_plan.specs.declared.limits.PlanFault.{PlanFault}
 use Rattle.ss_sync.specs.Rows.{ids_of}
 use Rattle.ss_sync.specs.Fetched.{are_apart, are_known, kept}
 use Rattle.ss_hearing.specs.declared.answer.Answer.{Answer}
-use Rattle.ss_hearing.specs.declared.answer.Answer.TheVariants.{Configured, Paged, Listed, Held, Written, Failed, Changed, Refused, Unread}
+use Rattle.ss_hearing.specs.declared.answer.Answer.TheVariants.{Configured, Paged, Listed, Held, Written, Failed}
+use Rattle.ss_hearing.specs.declared.answer.Answer.TheVariants.{Changed, Refused, Unread}
 use Rattle.ss_device.specs.Device.{DeviceView}
 use Rattle.ss_client.specs.declared.summaries.SyncFault.{SyncFault}
 use Rattle.ss_client.specs.declared.summaries.SyncFault.TheVariants as fault
@@ -23,10 +26,13 @@ use Rattle.ss_client.specs.declared.runs.Stage.{Stage}
 use Rattle.ss_client.specs.declared.runs.Stage.TheVariants.{Asks, Opens, Pages, Lists, Uploads}
 use Rattle.ss_client.specs.Leaves.{UploadView}
 use Rattle.ss_client.specs.Runs.{MachineView, rest_of}
-use Rattle.ss_client.specs.Machine.{Next, Send, Done, Stop, onward, unread, falls_back, is_bad, Ends, Begins, Finishes, Holds, Writes, LastPage, PageIn, PageOn, OpensWith, ListsAll, page_at, ids_at, held_at, written_at, limits_at, Follows}
+use Rattle.ss_client.specs.Machine.{Next, Send, Done, Stop, onward, unread, falls_back, is_bad, Ends, Begins, Finishes}
+use Rattle.ss_client.specs.Machine.{Holds, Writes, LastPage, PageIn, PageOn, OpensWith, ListsAll, page_at, ids_at}
+use Rattle.ss_client.specs.Machine.{held_at, written_at, limits_at, Follows}
 use Rattle.ss_world.specs.Worlds.{WorldView}
 use Rattle.ss_world.specs.Promises.{EndsWell, IsUnderstood}
-use Rattle.ss_world.specs.Ending.{GoesOnForEver, IsAwaited, IsDoneOrPlanned, IsOfTheReply, Rank, fetch_part, post_part, rank, IsLower, ComesBelow}
+use Rattle.ss_world.specs.Ending.{GoesOnForEver, IsAwaited, IsDoneOrPlanned, IsOfTheReply, Rank, fetch_part, post_part}
+use Rattle.ss_world.specs.Ending.{rank, IsLower, ComesBelow}
 
 near : (y : Rank) (next it : Next) → next ≡ it → ComesBelow y it → ComesBelow y next
 near y next it e n = subst (ComesBelow y) (sym e) n

@@ -1,5 +1,6 @@
 -- What holds of each machine of a world, and what the account's steps do to it.
-use Rattle.std.proofs.Common.{◌≡◌, ℕ, ◌+◌, ◌*◌, ◌<◌, ◌≤◌, List, [], ◌∷◌, length, take, drop, Option, Some, None, Bool, true, cond, sym, refl, ap, ◌∙◌, subst, inl, inr, arith}
+use Rattle.std.proofs.Common.{◌≡◌, ℕ, ◌+◌, ◌*◌, ◌<◌, ◌≤◌, List, [], ◌∷◌, length, take, drop, Option, Some, None, Bool}
+use Rattle.std.proofs.Common.{true, cond, sym, refl, ap, ◌∙◌, subst, inl, inr, arith}
 use Rattle.std.proofs.lemmas.Option.{none-some, same_Some}
 use Rattle.std.specs.List.{All}
 use Rattle.std.proofs.lemmas.List.Elements.{All-take, All-drop}
@@ -7,26 +8,28 @@ use Rattle.ss_record.specs.declared.readings.Sheet.{Sheet}
 use Rattle.ss_bso.specs.declared.parts.Part.{Part}
 use Rattle.ss_route.specs.Sending.{IsUpload}
 use Rattle.ss_plan.specs.declared.limits.Limits.{Limits}
-use Rattle.ss_sync.specs.Joined.{IsJoined}
+use Rattle.ss_sync.specs.Joined.{IsJoinedTree}
 use Rattle.ss_hearing.specs.declared.answer.Answer.{Answer}
-use Rattle.ss_hearing.specs.declared.answer.Answer.TheVariants.{Configured, Paged, Listed, Held, Written, Failed, Changed, Refused, Unread}
+use Rattle.ss_hearing.specs.declared.answer.Answer.TheVariants.{Configured, Paged, Listed, Held, Written, Failed}
+use Rattle.ss_hearing.specs.declared.answer.Answer.TheVariants.{Changed, Refused, Unread}
 use Rattle.ss_device.specs.Device.{DeviceView, dead_ids}
 use Rattle.ss_client.specs.declared.runs.Listing.{Listing}
 use Rattle.ss_client.specs.declared.runs.Stage.{Stage}
 use Rattle.ss_client.specs.declared.runs.Stage.TheVariants.{Asks, Opens, Pages, Lists, Uploads}
 use Rattle.ss_client.specs.Leaves.{UploadView, PagingView, LeavesStanding}
 use Rattle.ss_client.specs.Runs.{MachineView, sent_of, post_of, rest_of}
-use Rattle.ss_serving.specs.Bookmarks.{Shown, Server, shown_by}
+use Rattle.ss_serving.specs.Bookmarks.{ShownAccount, Server, shown_by}
 use Rattle.ss_serving.specs.Asking.{IsAskable}
-use Rattle.ss_serving.specs.Serving.{IsLater, IsQuiet, Ages, IsPage, AreIdsOf, newer, Writes, Begins, Appends, Commits, Serves}
+use Rattle.ss_serving.specs.Serving.{IsLater, IsQuiet, Ages, IsPage, AreIdsOf, newer, Writes, Begins, Appends, Commits}
+use Rattle.ss_serving.specs.Serving.{Serves}
 use Rattle.ss_world.specs.Worlds.{asks, post_ask}
 use Rattle.ss_world.specs.Promises.{AreAll, IsFaithful}
 
 -- What was fetched under a condition: where the collection has not changed, P holds of the rows.
-abbrev pub IsFresh : Shown → ℕ → (List Sheet → Type 0) → Type 0
+abbrev pub IsFresh : ShownAccount → ℕ → (List Sheet → Type 0) → Type 0
 IsFresh a time P = (time ≤ a.target) × (time ≡ a.target → P a.rows)
 
-pub fresh_later : (P : List Sheet → Type 0) (a b : Shown) (time : ℕ) → IsLater a b → IsFresh a time P → IsFresh b time P
+pub fresh_later : (P : List Sheet → Type 0) (a b : ShownAccount) (time : ℕ) → IsLater a b → IsFresh a time P → IsFresh b time P
 fresh_later P a b time l h = let g : a.target ≤ b.target = l.target in let k : time ≤ a.target = h.0 in (
   (let r : time ≤ b.target = omega arith in r),
   (λ e. elim l.rows [
@@ -36,16 +39,16 @@ fresh_later P a b time l h = let g : a.target ≤ b.target = l.target in let k :
 )
 
 -- under a condition that holds
-pub now : (P : List Sheet → Type 0) (a : Shown) (time : ℕ) → a.target ≤ time → IsFresh a time P → P a.rows
+pub now : (P : List Sheet → Type 0) (a : ShownAccount) (time : ℕ) → a.target ≤ time → IsFresh a time P → P a.rows
 now P a time le h = let g = h.0 in h.1 (omega arith)
 
-pub quiet_later : (a b : Shown) → IsQuiet a b → IsLater a b
+pub quiet_later : (a b : ShownAccount) → IsQuiet a b → IsLater a b
 quiet_later a b q = record { target = q.target; rows = inr q.rows; counter = q.counter }
 
-pub begins_later : (x : List Part) (a b : Shown) (n : ℕ) → Begins x a b n → IsLater a b
+pub begins_later : (x : List Part) (a b : ShownAccount) (n : ℕ) → Begins x a b n → IsLater a b
 begins_later x a b n h = record { target = h.target; rows = inr h.rows; counter = (let g = h.number in let k = h.counter in omega arith) }
 
-pub appends_later : (n : ℕ) (x : List Part) (a b : Shown) → Appends n x a b → IsLater a b
+pub appends_later : (n : ℕ) (x : List Part) (a b : ShownAccount) → Appends n x a b → IsLater a b
 appends_later n x a b h = record { target = h.target; rows = inr h.rows; counter = h.counter }
 
 -- ---- the batch that only the machine in this stage may change
@@ -61,16 +64,16 @@ abbrev pub IsOwn : Stage → ℕ → Type 0
 IsOwn stage n = own_batch stage ≡ Some n
 
 -- what each step leaves to the other machines
-pub record Leaves (stage : Stage) (a b : Shown) : Type 0 where
+pub record Leaves (stage : Stage) (a b : ShownAccount) : Type 0 where
   pub later : IsLater a b
   pub others : (n : ℕ) (ps : List Part) → n ≤ a.counter → (IsOwn stage n → ⊥) → b.staged n ≡ Some ps → a.staged n ≡ Some ps
 
-pub quiet_leaves : (stage : Stage) (a b : Shown) → IsQuiet a b → Leaves stage a b
+pub quiet_leaves : (stage : Stage) (a b : ShownAccount) → IsQuiet a b → Leaves stage a b
 quiet_leaves stage a b q = record { later = quiet_later a b q; others = λ n ps le ne e. q.staged n ps e }
 
 -- ---- the ten ways in which a machine's request is answered
 
-module _ (a b : Shown) (m : MachineView) where
+module _ (a b : ShownAccount) (m : MachineView) where
   abbrev pub since_of : Option ℕ
   since_of = cond m.run.newer (Some m.device.stamp) None
 
@@ -163,13 +166,13 @@ faithful_later d one other g (inr h) = let up : one.account.store ≤ other.acco
 -- ---- the invariant of one machine
 
 -- of an upload's batch: before it is begun nothing was sent; its number was given out since the opening, and it has what was sent
-abbrev pub BatchFits : ℕ → Shown → UploadView → Option ℕ → Type 0
+abbrev pub BatchFits : ℕ → ShownAccount → UploadView → Option ℕ → Type 0
 BatchFits first a u None = u.sent ≡ 0
 BatchFits first a u (Some n) = (n ≤ a.counter) × (first < n) × ((ps : List Part) → a.staged n ≡ Some ps → ps ≡ sent_of u)
 
-pub record UploadFits (first : ℕ) (a : Shown) (d : DeviceView) (u : UploadView) : Type 0 where
+pub record UploadFits (first : ℕ) (a : ShownAccount) (d : DeviceView) (u : UploadView) : Type 0 where
   pub fresh : IsFresh a u.time (AreAll u.rows)
-  pub joined : IsJoined d.mirror d.tree (dead_ids d.dead) u.rows u.merged
+  pub joined : IsJoinedTree d.mirror d.tree (dead_ids d.dead) u.rows u.merged
   pub standing : LeavesStanding u.rows u.parts u.merged
   pub uploads : All IsUpload u.parts
   pub within : u.sent + u.count ≤ length u.parts
@@ -179,19 +182,19 @@ abbrev pub since_by : DeviceView → Bool → Option ℕ
 since_by d is_newer = cond is_newer (Some d.stamp) None
 
 -- `old`: the rows at the fetch's first page
-abbrev pub Fits : ℕ → Shown → List Sheet → DeviceView → Bool → Stage → Type 0
+abbrev pub Fits : ℕ → ShownAccount → List Sheet → DeviceView → Bool → Stage → Type 0
 Fits first a old d is_newer Asks = Unit {0}
 Fits first a old d is_newer Opens = Unit {0}
 Fits first a old d is_newer (Pages p) = IsFresh a p.time (λ rows. (p.rows ≡ take p.offset (newer (since_by d is_newer) rows)) × (old ≡ rows)) × (p.offset ≡ 1000 * p.pages)
 Fits first a old d is_newer (Lists l) = IsFresh a l.time (λ rows. (l.rows ≡ newer (Some d.stamp) rows) × (old ≡ rows)) × (is_newer ≡ true)
 Fits first a old d is_newer (Uploads u) = UploadFits first a d u
 
-batch_later : (first : ℕ) (a b : Shown) (u : UploadView) (o : Option ℕ) → IsLater a b → ((n : ℕ) (ps : List Part) → o ≡ Some n → n ≤ a.counter → b.staged n ≡ Some ps → a.staged n ≡ Some ps) → BatchFits first a u o → BatchFits first b u o
+batch_later : (first : ℕ) (a b : ShownAccount) (u : UploadView) (o : Option ℕ) → IsLater a b → ((n : ℕ) (ps : List Part) → o ≡ Some n → n ≤ a.counter → b.staged n ≡ Some ps → a.staged n ≡ Some ps) → BatchFits first a u o → BatchFits first b u o
 batch_later first a b u None l s h = h
 batch_later first a b u (Some n) l s h = ((let g : a.counter ≤ b.counter = l.counter in let k : n ≤ a.counter = h.0 in omega arith), h.1, (λ ps e. h.2 ps (s n ps refl h.0 e)))
 
 -- a step of another machine, or of nobody, keeps it
-pub fits_later : (first : ℕ) (a b : Shown) (old : List Sheet) (d : DeviceView) (is_newer : Bool) (stage : Stage) → IsLater a b
+pub fits_later : (first : ℕ) (a b : ShownAccount) (old : List Sheet) (d : DeviceView) (is_newer : Bool) (stage : Stage) → IsLater a b
     → ((n : ℕ) (ps : List Part) → IsOwn stage n → n ≤ a.counter → b.staged n ≡ Some ps → a.staged n ≡ Some ps) → Fits first a old d is_newer stage → Fits first b old d is_newer stage
 fits_later first a b old d is_newer Asks l s h = tt
 fits_later first a b old d is_newer Opens l s h = tt
@@ -207,7 +210,7 @@ fits_later first a b old d is_newer (Uploads u) l s h = record {
 }
 
 -- what it asks goes on with a batch of its own, and puts payloads alone
-pub askable : (first : ℕ) (a : Shown) (old : List Sheet) (m : MachineView) (stage : Stage) → Fits first a old m.device m.run.newer stage → IsAskable first (asks m stage)
+pub askable : (first : ℕ) (a : ShownAccount) (old : List Sheet) (m : MachineView) (stage : Stage) → Fits first a old m.device m.run.newer stage → IsAskable first (asks m stage)
 askable first a old m Asks h = tt
 askable first a old m Opens h = tt
 askable first a old m (Pages p) h = tt
@@ -224,7 +227,7 @@ askable first a old m (Uploads u) h = by u.batch (rest_of u) h.batch
     by (Some n) (x ∷ rest) k = (k.1, ups)
 
 -- a batch whose number a machine has isn't above the counter
-pub known : (first : ℕ) (a : Shown) (old : List Sheet) (d : DeviceView) (is_newer : Bool) (stage : Stage) (n : ℕ) → Fits first a old d is_newer stage → IsOwn stage n → n ≤ a.counter
+pub known : (first : ℕ) (a : ShownAccount) (old : List Sheet) (d : DeviceView) (is_newer : Bool) (stage : Stage) (n : ℕ) → Fits first a old d is_newer stage → IsOwn stage n → n ≤ a.counter
 known first a old d is_newer Asks n f o = absurd (none-some n o)
 known first a old d is_newer Opens n f o = absurd (none-some n o)
 known first a old d is_newer (Pages p) n f o = absurd (none-some n o)

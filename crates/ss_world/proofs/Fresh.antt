@@ -1,5 +1,6 @@
 -- A fresh account meets the premises of a world.
-use Rattle.std.proofs.Common.{◌≡◌, ℕ, ◌≤◌, List, [], ◌∷◌, length, slice_get, Option, Some, None, unwrap_or, Bool, refl, sym, subst, arith, inl, inr}
+use Rattle.std.proofs.Common.{◌≡◌, ℕ, ◌≤◌, List, [], ◌∷◌, length, slice_get, Option, Some, None, unwrap_or, Bool, refl}
+use Rattle.std.proofs.Common.{sym, subst, arith, inl, inr}
 use Rattle.std.proofs.lemmas.Option.{none-some}
 use Rattle.ss_text.specs.Texts.{Reordered}
 use Rattle.ss_tree.specs.Trees.{IsValidTree, empty_tree}

@@ -1,5 +1,7 @@
 -- What a machine makes of an answer.
-use Rattle.std.proofs.Common.{◌≡◌, ◌⊎◌, ℕ, ◌+◌, ◌*◌, ◌-◌, ◌<◌, ◌≤◌, List, [], ◌∷◌, ◌++◌, length, take, drop, Option, Some, None, MatchOption, is_some, unwrap_or, Bool, true, false, cond, not, nat_lt, nat_le, ◌||◌, ◌&&◌, sym, refl, ap, ◌∙◌, subst, inl, inr, arith, append-nil}
+use Rattle.std.proofs.Common.{◌≡◌, ◌⊎◌, ℕ, ◌+◌, ◌*◌, ◌-◌, ◌<◌, ◌≤◌, List, [], ◌∷◌, ◌++◌, length, take, drop, Option}
+use Rattle.std.proofs.Common.{Some, None, MatchOption, is_some, unwrap_or, Bool, true, false, cond, not, nat_lt, nat_le}
+use Rattle.std.proofs.Common.{◌||◌, ◌&&◌, sym, refl, ap, ◌∙◌, subst, inl, inr, arith, append-nil}
 use Rattle.std.specs.Prelude.{slice_index}
 use Rattle.std.specs.Bool.{MatchBool}
 use Rattle.std.specs.List.{All}
@@ -17,11 +19,11 @@ use Rattle.ss_bso.specs.declared.parts.Part.{Part}
 use Rattle.ss_route.specs.Sending.{IsUpload}
 use Rattle.ss_plan.specs.Plan.{plan}
 use Rattle.ss_plan.specs.Refusals.{refusal}
-use Rattle.ss_plan.specs.Written.{IsWritten, sheet}
+use Rattle.ss_plan.specs.Written.{AreRowsAfter, sheet}
 use Rattle.ss_plan.specs.declared.limits.PlanFault.{PlanFault}
 use Rattle.ss_sync.specs.Rows.{ids_of}
 use Rattle.ss_sync.specs.Fetched.{are_apart, are_known, kept}
-use Rattle.ss_sync.specs.Joined.{IsJoined}
+use Rattle.ss_sync.specs.Joined.{IsJoinedTree}
 use Rattle.ss_sync.proofs.Fetching.{apart-from}
 use Rattle.ss_hearing.specs.declared.answer.Answer.{Answer}
 use Rattle.ss_device.specs.Device.{DeviceView, IsDevice, AreById, dead_ids}
@@ -32,17 +34,20 @@ use Rattle.ss_client.specs.declared.runs.Stage.{Stage}
 use Rattle.ss_client.specs.declared.runs.Stage.TheVariants.{Asks, Opens, Pages, Lists, Uploads}
 use Rattle.ss_client.specs.Leaves.{UploadView, LeavesStanding}
 use Rattle.ss_client.specs.Runs.{MachineView, sent_of, post_of, rest_of}
-use Rattle.ss_client.specs.Machine.{Next, Send, Done, Stop, onward, posting, fetching, unread, again, falls_back, uploads, is_bad, Ends, Begins as BeginsPlan, Finishes, Holds, Writes as WritesPlan, LastPage, PageIn, PageOn, OpensWith, ListsAll, Follows}
+use Rattle.ss_client.specs.Machine.{Next, Send, Done, Stop, onward, posting, fetching, unread, again, falls_back}
+use Rattle.ss_client.specs.Machine.{uploads, is_bad, Ends, Begins as BeginsPlan, Finishes, Holds, Writes as WritesPlan}
+use Rattle.ss_client.specs.Machine.{LastPage, PageIn, PageOn, OpensWith, ListsAll, Follows}
 use Rattle.ss_client.proofs.Sending.{plan_uploads}
 use Rattle.ss_client.proofs.Leaving.{standing_known}
-use Rattle.ss_serving.specs.Bookmarks.{Shown}
+use Rattle.ss_serving.specs.Bookmarks.{ShownAccount}
 use Rattle.ss_serving.specs.Serving.{IsPage, AreIdsOf, newer, Writes, Serves}
 use Rattle.ss_serving.proofs.Putting.{nothing_written}
 use Rattle.ss_world.specs.Worlds.{asks}
 use Rattle.ss_world.specs.Promises.{AreAll, IsUnderstood, noted_at}
 use Rattle.ss_world.proofs.Lists.{page_more, page_last}
 use Rattle.ss_world.proofs.Looking.{apart-newer, apart-take, all-same, written-over, recalls}
-use Rattle.ss_world.proofs.Fitting.{IsOwn, IsFresh, Fits, UploadFits, BatchFits, since_by, fresh_later, now, begins_later, appends_later, by_cases}
+use Rattle.ss_world.proofs.Fitting.{IsOwn, IsFresh, Fits, UploadFits, BatchFits, since_by, fresh_later, now}
+use Rattle.ss_world.proofs.Fitting.{begins_later, appends_later, by_cases}
 use Rattle.ss_text.proofs.Basics.{length-filter_le}
 
 -- at what comes next
@@ -65,7 +70,7 @@ good_offset pages offset len None e few h = refl
 good_offset pages offset len (Some k) e few h =
     let it : k ≡ offset + 1000 = (h k refl).0 in let low : k < len = (h k refl).1 in let small : pages + 1 < 1000 = omega arith in grind (arith, nat_tests)
 
-module _ (first : ℕ) (a b : Shown) (m : MachineView) (valid : IsDevice m.device) (old : List Sheet) (before_apart : Apart (ids_of a.rows)) (rows_apart : Apart (ids_of b.rows)) (few : length b.rows ≤ 200000) (below : b.target ≤ b.store)
+module _ (first : ℕ) (a b : ShownAccount) (m : MachineView) (valid : IsDevice m.device) (old : List Sheet) (before_apart : Apart (ids_of a.rows)) (rows_apart : Apart (ids_of b.rows)) (few : length b.rows ≤ 200000) (below : b.target ≤ b.store)
     (mirrored : m.run.newer ≡ true → (x : List ℕ) (s : Sheet) → sheet x b.rows ≡ Some s → s.modified ≤ m.device.stamp → sheet x m.device.mirror ≡ Some s) where
   abbrev d : DeviceView
   d = m.device
@@ -75,7 +80,7 @@ module _ (first : ℕ) (a b : Shown) (m : MachineView) (valid : IsDevice m.devic
     pub fit : IsDevice device
     pub fetched : List Sheet
     pub all : AreAll fetched a.rows
-    pub joined : IsJoined m.device.mirror m.device.tree (dead_ids m.device.dead) fetched device.tree
+    pub joined : IsJoinedTree m.device.mirror m.device.tree (dead_ids m.device.dead) fetched device.tree
     pub stands : HasItsRows (tree device.tree) (rows_of b.rows)
     pub stamp : device.stamp ≤ b.store
     pub mirror : (x : List ℕ) (s : Sheet) → sheet x b.rows ≡ Some s → s.modified ≤ device.stamp → sheet x device.mirror ≡ Some s
@@ -99,11 +104,11 @@ module _ (first : ℕ) (a b : Shown) (m : MachineView) (valid : IsDevice m.devic
 
   -- ---- the end
 
-  ends_well : (stage : Stage) (fetched : List Sheet) (merged : List Entry) (parts : List Part) (stamp : ℕ) (next : Next) → AreAll fetched a.rows → IsJoined m.device.mirror m.device.tree (dead_ids m.device.dead) fetched merged
-      → LeavesStanding fetched parts merged → IsWritten a.rows parts stamp b.rows → stamp ≤ b.target → Ends m.run fetched merged parts stamp next → Well stage next
+  ends_well : (stage : Stage) (fetched : List Sheet) (merged : List Entry) (parts : List Part) (stamp : ℕ) (next : Next) → AreAll fetched a.rows → IsJoinedTree m.device.mirror m.device.tree (dead_ids m.device.dead) fetched merged
+      → LeavesStanding fetched parts merged → AreRowsAfter a.rows parts stamp b.rows → stamp ≤ b.target → Ends m.run fetched merged parts stamp next → Well stage next
   unfolding AreById
   ends_well stage fetched merged parts stamp next all j standing w le e =
-      let over : IsWritten fetched parts stamp b.rows = written-over fetched a.rows parts stamp b.rows all w in
+      let over : AreRowsAfter fetched parts stamp b.rows = written-over fetched a.rows parts stamp b.rows all w in
       at (Well stage) next _ e.done (record {
         fit = synced_device merged [] e.mirror stamp refl e.by_id (standing_known fetched parts merged j.valid standing e.mirror stamp e.written);
         fetched = fetched;
@@ -116,10 +121,10 @@ module _ (first : ℕ) (a b : Shown) (m : MachineView) (valid : IsDevice m.devic
 
   -- ---- the upload
 
-  begins_well : (stage : Stage) (time : ℕ) (fetched : List Sheet) (merged : List Entry) (parts : List Part) (next : Next) → AreAll fetched a.rows → b.rows ≡ a.rows → time ≤ b.target → IsJoined m.device.mirror m.device.tree (dead_ids m.device.dead) fetched merged
+  begins_well : (stage : Stage) (time : ℕ) (fetched : List Sheet) (merged : List Entry) (parts : List Part) (next : Next) → AreAll fetched a.rows → b.rows ≡ a.rows → time ≤ b.target → IsJoinedTree m.device.mirror m.device.tree (dead_ids m.device.dead) fetched merged
       → LeavesStanding fetched parts merged → All IsUpload parts → BeginsPlan m.run time fetched merged parts next → Well stage next
   begins_well stage time fetched merged [] next all same le j standing ups g =
-      ends_well stage fetched merged [] time next all j standing (subst (λ rows. IsWritten rows [] time b.rows) same (nothing_written b.rows time rows_apart)) le g
+      ends_well stage fetched merged [] time next all j standing (subst (λ rows. AreRowsAfter rows [] time b.rows) same (nothing_written b.rows time rows_apart)) le g
   begins_well stage time fetched merged (p ∷ ps) next all same le j standing ups g = at (Well stage) next (posting m.run (uploads time fetched merged (p ∷ ps) None 0 g.0)) g.2 (
     record {
       fresh = (le, (λ q. subst (AreAll fetched) (sym same) all));
@@ -172,7 +177,7 @@ module _ (first : ℕ) (a b : Shown) (m : MachineView) (valid : IsDevice m.devic
   -- the last POST is written
   last_well : (u : UploadView) (parts : List Part) (stamp : ℕ) (next : Next) → rest_of u ≡ [] → parts ≡ u.parts → UploadFits first a m.device u → a.target ≤ u.time → Writes parts a b stamp → WritesPlan m.run u stamp (rest_of u) next → Well (Uploads u) next
   last_well u parts stamp next left whole f le w h =
-      ends_well (Uploads u) u.rows u.merged u.parts stamp next (now (AreAll u.rows) a u.time le f.fresh) f.joined f.standing (subst (λ ps. IsWritten a.rows ps stamp b.rows) whole w.rows) (let e = w.same in omega arith)
+      ends_well (Uploads u) u.rows u.merged u.parts stamp next (now (AreAll u.rows) a u.time le f.fresh) f.joined f.standing (subst (λ ps. AreRowsAfter a.rows ps stamp b.rows) whole w.rows) (let e = w.same in omega arith)
       (subst (λ r. WritesPlan m.run u stamp r next) left h)
 
   -- ---- the fetch

@@ -1,5 +1,6 @@
 -- Every event keeps the invariant of a world.
-use Rattle.std.proofs.Common.{◌≡◌, ◌≢◌, ◌⊎◌, ℕ, ◌<◌, ◌≤◌, ◌==◌, List, [], ◌++◌, slice_get, Option, Some, None, MatchOption, Bool, true, false, cond, not, sym, refl, ap, ◌∙◌, subst, inl, inr, arith}
+use Rattle.std.proofs.Common.{◌≡◌, ◌≢◌, ◌⊎◌, ℕ, ◌<◌, ◌≤◌, ◌==◌, List, [], ◌++◌, slice_get, Option, Some, None}
+use Rattle.std.proofs.Common.{MatchOption, Bool, true, false, cond, not, sym, refl, ap, ◌∙◌, subst, inl, inr, arith}
 use Rattle.std.specs.Bool.{MatchBool}
 use Rattle.std.proofs.lemmas.Option.{none-some}
 use Rattle.std.proofs.lemmas.Bool.{false≢true}
@@ -11,8 +12,8 @@ use Rattle.ss_build.specs.Stand.{HasItsRows}
 use Rattle.ss_bso.specs.declared.parts.Part.{Part}
 use Rattle.ss_query.specs.declared.requests.Request.{Request}
 use Rattle.ss_query.specs.Api.{api}
-use Rattle.ss_plan.specs.Written.{IsWritten, sheet}
-use Rattle.ss_sync.specs.Joined.{IsJoined}
+use Rattle.ss_plan.specs.Written.{AreRowsAfter, sheet}
+use Rattle.ss_sync.specs.Joined.{IsJoinedTree}
 use Rattle.ss_hearing.specs.declared.answer.Answer.{Answer}
 use Rattle.ss_hearing.specs.declared.answer.Answer.TheVariants.{Written}
 use Rattle.ss_device.specs.Device.{DeviceView, IsDevice, dead_ids}
@@ -25,7 +26,7 @@ use Rattle.ss_client.specs.Leaves.{UploadView}
 use Rattle.ss_client.specs.Runs.{MachineView, first_run, is_newer, post_of, rest_of}
 use Rattle.ss_client.specs.Asking.{ask, awaits}
 use Rattle.ss_client.specs.Machine.{Next, Send, Done, Stop, Follows}
-use Rattle.ss_serving.specs.Bookmarks.{Shown, Server, shown_by, sheets_of}
+use Rattle.ss_serving.specs.Bookmarks.{ShownAccount, Server, shown_by, sheets_of}
 use Rattle.ss_serving.specs.Asking.{awaited_of, told_by, touches}
 use Rattle.ss_serving.specs.Good.{IsSteady}
 use Rattle.ss_serving.specs.Serving.{IsQuiet, Ages, Serves}
@@ -36,20 +37,24 @@ use Rattle.ss_serving.proofs.Keeping.{answers-steady, others-steady, ticks-stead
 use Rattle.ss_world.specs.declared.events.Edit.{Edit}
 use Rattle.ss_world.specs.declared.events.Edit.TheVariants as edits
 use Rattle.ss_world.specs.declared.events.Event.{Event}
-use Rattle.ss_world.specs.declared.events.Event.TheVariants.{Start, Deliver, LoseRequest, LoseReply, Anew, Change, Other, Tick, Reopen}
+use Rattle.ss_world.specs.declared.events.Event.TheVariants.{Start, Deliver, LoseRequest, LoseReply, Anew, Change}
+use Rattle.ss_world.specs.declared.events.Event.TheVariants.{Other, Tick, Reopen}
 use Rattle.ss_world.specs.Seats.{after}
-use Rattle.ss_world.specs.Worlds.{Seat, Idle, Syncs, WorldView, seated, asks}
-use Rattle.ss_world.specs.Happening.{Happens, At, Starts, IsDelivered, IsGivenUp, IsLost, IsEdited, IsChanged, Edits, Asked, edit_fault}
-use Rattle.ss_world.specs.Promises.{AreAll, IsFaithful, StandsForOne, IsTrusted, IsUploaded, OneTree, noted_at, noted_in, noted_by, EndsWell}
+use Rattle.ss_world.specs.Worlds.{Seat, Idle, Syncs, WorldView, world_with_seat, asks}
+use Rattle.ss_world.specs.Happening.{Happens, At, Starts, IsDelivered, IsGivenUp, IsLost, IsEdited, ChangesDevice}
+use Rattle.ss_world.specs.Happening.{Edits, Asked, edit_fault}
+use Rattle.ss_world.specs.Promises.{AreAll, IsFaithful, StandsForOne, IsTrusted, IsUploaded, OneTree, noted_at}
+use Rattle.ss_world.specs.Promises.{noted_in, noted_by, EndsWell}
 use Rattle.ss_world.proofs.Lists.{at_set}
 use Rattle.ss_world.proofs.Asking.{asked-asks, awaits-asks}
 use Rattle.ss_world.proofs.Looking.{written-over}
-use Rattle.ss_world.proofs.Fitting.{IsOwn, Leaves, leaves, quiet_leaves, faithful_later, Fits, UploadFits, BatchFits, fits_later, askable, known, now, by_cases}
+use Rattle.ss_world.proofs.Fitting.{IsOwn, Leaves, leaves, quiet_leaves, faithful_later, Fits, UploadFits, BatchFits}
+use Rattle.ss_world.proofs.Fitting.{fits_later, askable, known, now, by_cases}
 use Rattle.ss_world.proofs.Hearing.{Well, hears_well, last_parts, none_sent}
 
 -- ---- a machine's step writes the whole plan, or leaves the rows
 
-module _ (first : ℕ) (a b : Shown) (m : MachineView) (old : List Sheet) where
+module _ (first : ℕ) (a b : ShownAccount) (m : MachineView) (old : List Sheet) where
   pub record Wrote (stage : Stage) (answer : Answer) : Type 0 where
     pub upload : UploadView
     pub at : stage ≡ Uploads upload
@@ -57,10 +62,10 @@ module _ (first : ℕ) (a b : Shown) (m : MachineView) (old : List Sheet) where
     pub stamp : ℕ
     pub told : answer ≡ Written stamp
     pub all : AreAll upload.rows a.rows
-    pub joined : IsJoined m.device.mirror m.device.tree (dead_ids m.device.dead) upload.rows upload.merged
+    pub joined : IsJoinedTree m.device.mirror m.device.tree (dead_ids m.device.dead) upload.rows upload.merged
     pub stands : HasItsRows (tree upload.merged) (rows_of b.rows)
 
-  wrote : (u : UploadView) (parts : List Part) (s : ℕ) → rest_of u ≡ [] → parts ≡ u.parts → UploadFits first a m.device u → a.target ≤ u.time → IsWritten a.rows parts s b.rows → Wrote (Uploads u) (Written s)
+  wrote : (u : UploadView) (parts : List Part) (s : ℕ) → rest_of u ≡ [] → parts ≡ u.parts → UploadFits first a m.device u → a.target ≤ u.time → AreRowsAfter a.rows parts s b.rows → Wrote (Uploads u) (Written s)
   wrote u parts s j whole f le w =
       let all = now (AreAll u.rows) a u.time le f.fresh in
       record {
@@ -71,7 +76,7 @@ module _ (first : ℕ) (a b : Shown) (m : MachineView) (old : List Sheet) where
         told = refl;
         all = all;
         joined = f.joined;
-        stands = f.standing b.rows s (written-over u.rows a.rows u.parts s b.rows all (subst (λ ps. IsWritten a.rows ps s b.rows) whole w));
+        stands = f.standing b.rows s (written-over u.rows a.rows u.parts s b.rows all (subst (λ ps. AreRowsAfter a.rows ps s b.rows) whole w));
       }
 
   pub moved : (stage : Stage) (answer : Answer) → Serves a (asks m stage) b answer → Fits first a old m.device m.run.newer stage → (b.rows ≡ a.rows) ⊎ Wrote stage answer
@@ -119,10 +124,10 @@ module _ (trusts : ℕ → Bool) (first : ℕ) where
   seat_known old server i (Idle d) n h k = absurd k
   seat_known old server i (Syncs m) n h k = known first (shown_by server) old m.device m.run.newer m.stage n h.3 k
 
-  quiet-self : (a : Shown) → IsQuiet a a
+  quiet-self : (a : ShownAccount) → IsQuiet a a
   quiet-self a = record { rows = refl; target = omega arith; counter = omega arith; staged = λ n ps e. e }
 
-  ages-self : (a : Shown) → Ages a a
+  ages-self : (a : ShownAccount) → Ages a a
   ages-self a = record { store = omega arith; rows = λ x s e. inl e }
 
   module _ (notes : ℕ → List Sheet) (w : WorldView) (h : IsSound notes w) where
@@ -139,7 +144,7 @@ module _ (trusts : ℕ → Bool) (first : ℕ) where
       -- seat n takes a step in this stage: the server goes on, and the seat becomes t
       seat_step : (more : ℕ → List Sheet) → ((i : ℕ) → i ≢ n → more i ≡ notes i) → (t : Seat) (stage : Stage) → ((k : ℕ) → IsOwn stage k → HasBatch s k) → (server : Server) → IsSteady first server
           → StandsForOne (sheets_of server.account.rows) → Leaves stage (shown_by w.server) (shown_by server) → Ages (shown_by w.server) (shown_by server) → SeatFits (more n) server n t
-          → ((k : ℕ) → HasBatch t k → IsOwn stage k ⊎ (w.server.account.counter < k)) → IsSound more (seated w server n t)
+          → ((k : ℕ) → HasBatch t k → IsOwn stage k ⊎ (w.server.account.counter < k)) → IsSound more (world_with_seat w server n t)
       seat_step more same t stage mine server steady stand l g fits new = record {
         steady = steady;
         stands = stand;
@@ -166,7 +171,7 @@ module _ (trusts : ℕ → Bool) (first : ℕ) where
           ]
 
       -- the server stays, and the seat is idle with a device that remembers what this one did
-      idle_step : (d device : DeviceView) → SeatFits (notes n) w.server n (Idle d) → IsDevice device → device.stamp ≡ d.stamp → device.mirror ≡ d.mirror → IsSound notes (seated w w.server n (Idle device))
+      idle_step : (d device : DeviceView) → SeatFits (notes n) w.server n (Idle d) → IsDevice device → device.stamp ≡ d.stamp → device.mirror ≡ d.mirror → IsSound notes (world_with_seat w w.server n (Idle device))
       idle_step d device f ok st mi = seat_step notes (λ i ne. refl) (Idle device) Asks (λ k own. absurd (none-some k own)) w.server h.steady h.stands (quiet_leaves Asks _ _ (quiet-self (shown_by w.server))) (ages-self (shown_by w.server))
           (ok, (λ t. subst (λ x. IsFaithful (record device { stamp = x }) w.server) (sym st) (subst (λ x. IsFaithful (record device { stamp = d.stamp; mirror = x }) w.server) (sym mi) (f.1 t)))) (λ k ht. absurd ht)
 
@@ -237,10 +242,10 @@ module _ (trusts : ℕ → Bool) (first : ℕ) where
           }
       ends v is (Stop fault) f = follows (Stop fault) f
 
-      loses : IsSound notes (seated w server n (Idle m.device))
+      loses : IsSound notes (world_with_seat w server n (Idle m.device))
       loses = seat_step n (Syncs m) there notes (λ i ne. refl) (Idle m.device) m.stage (λ k own. own) server served.steady stands_on left served.ages ((h.sits n (Syncs m) there).0, still) (λ k ht. absurd ht)
 
-      delivers : (more : ℕ → List Sheet) → ((i : ℕ) → i ≢ n → more i ≡ notes i) → more n ≡ noted_at m.stage (sheets_of server.account.rows) (notes n) → (next : Next) → Follows m.device m.run m.stage answer next → IsSound more (seated w server n (after m next))
+      delivers : (more : ℕ → List Sheet) → ((i : ℕ) → i ≢ n → more i ≡ notes i) → more n ≡ noted_at m.stage (sheets_of server.account.rows) (notes n) → (next : Next) → Follows m.device m.run m.stage answer next → IsSound more (world_with_seat w server n (after m next))
       delivers more same own (Send run stage) f =
           let g = follows (Send run stage) f in
           seat_step n (Syncs m) there more same (Syncs (record { device = m.device; run = run; stage = stage })) m.stage (λ k o. o) server served.steady stands_on left served.ages
@@ -276,13 +281,13 @@ module _ (trusts : ℕ → Bool) (first : ℕ) where
     edited n now edit v (Syncs m) there e = subst (IsSound notes) (sym e) h
     edited n now edit v (Idle d) there e = go (edit_fault d edit) e
       where
-        stamp_stays : (x : Edit) (device : DeviceView) → IsChanged now x d device → device.stamp ≡ d.stamp
+        stamp_stays : (x : Edit) (device : DeviceView) → ChangesDevice now x d device → device.stamp ≡ d.stamp
         stamp_stays (edits.Add parent item) device c = c.stamp
         stamp_stays (edits.Rename id title) device c = c.stamp
         stamp_stays (edits.Move id parent) device c = c.stamp
         stamp_stays (edits.Delete id) device c = c.stamp
 
-        mirror_stays : (x : Edit) (device : DeviceView) → IsChanged now x d device → device.mirror ≡ d.mirror
+        mirror_stays : (x : Edit) (device : DeviceView) → ChangesDevice now x d device → device.mirror ≡ d.mirror
         mirror_stays (edits.Add parent item) device c = c.mirror
         mirror_stays (edits.Rename id title) device c = c.mirror
         mirror_stays (edits.Move id parent) device c = c.mirror

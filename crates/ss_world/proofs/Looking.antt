@@ -1,12 +1,14 @@
 -- Rows by their ids: filters, pages, and what a newer fetch puts together.
-use Rattle.std.proofs.Common.{◌≡◌, ℕ, ◌≤◌, List, [], ◌∷◌, ◌++◌, take, drop, filter, Bool, true, false, cond, not, ◌&&◌, ◌||◌, nat_lt, bytes_eq, Option, Some, None, is_some, sym, refl, ap, ap₂, ◌∙◌, subst, arith}
+use Rattle.std.proofs.Common.{◌≡◌, ℕ, ◌≤◌, List, [], ◌∷◌, ◌++◌, take, drop, filter, Bool, true, false, cond, not, ◌&&◌}
+use Rattle.std.proofs.Common.{◌||◌, nat_lt, bytes_eq, Option, Some, None, is_some, sym, refl, ap, ap₂, ◌∙◌, subst}
+use Rattle.std.proofs.Common.{arith}
 use Rattle.std.proofs.lemmas.Bool.Decides.{nat_tests}
 use Rattle.std.proofs.lemmas.List.{take-append-drop}
 use Rattle.ss_record.specs.declared.readings.Sheet.{Sheet}
 use Rattle.ss_record.specs.Ids.{Apart, has}
 use Rattle.ss_record.proofs.IdLists.{has-nil, has-cons, Apart-nil, Apart-cons, Apart-head, Apart-tail, Apart-append}
 use Rattle.ss_bso.specs.declared.parts.Part.{Part}
-use Rattle.ss_plan.specs.Written.{IsWritten, sheet, sheet_after}
+use Rattle.ss_plan.specs.Written.{AreRowsAfter, sheet, sheet_after}
 use Rattle.ss_sync.specs.Rows.{ids_of}
 use Rattle.ss_sync.specs.Fetched.{kept}
 use Rattle.ss_sync.proofs.Fetching.{ids-append}
@@ -120,7 +122,7 @@ pub all-same : (fetched rows : List Sheet) → Apart (ids_of rows) → fetched �
 all-same fetched rows a e = record { apart = subst (λ l. Apart (ids_of l)) (sym e) a; same = λ x. ap (sheet x) e }
 
 -- parts that are put over some rows are put over the same rows in another order
-pub written-over : (fetched rows : List Sheet) (parts : List Part) (stamp : ℕ) (after : List Sheet) → AreAll fetched rows → IsWritten rows parts stamp after → IsWritten fetched parts stamp after
+pub written-over : (fetched rows : List Sheet) (parts : List Part) (stamp : ℕ) (after : List Sheet) → AreAll fetched rows → AreRowsAfter rows parts stamp after → AreRowsAfter fetched parts stamp after
 written-over fetched rows parts stamp after all w = record { apart = w.apart; each = λ x. w.each x ∙ ap (sheet_after stamp parts x) (sym (all.same x)) }
 
 -- ---- a newer fetch

@@ -1,10 +1,11 @@
 -- What is promised of every run from an opening.
-use Rattle.std.proofs.Common.{◌≡◌, ℕ, ◌≤◌, ◌==◌, List, [], ◌∷◌, ◌++◌, take, slice_get, Option, Some, None, MatchOption, Bool, true, false, cond, sym, refl, ap, ◌∙◌, subst, inl, inr, arith}
+use Rattle.std.proofs.Common.{◌≡◌, ℕ, ◌≤◌, ◌==◌, List, [], ◌∷◌, ◌++◌, take, slice_get, Option, Some, None, MatchOption}
+use Rattle.std.proofs.Common.{Bool, true, false, cond, sym, refl, ap, ◌∙◌, subst, inl, inr, arith}
 use Rattle.std.proofs.lemmas.Option.{none-some, same_Some}
 use Rattle.std.proofs.lemmas.Bool.Decides.{nat_tests}
 use Rattle.ss_record.specs.declared.readings.Sheet.{Sheet}
 use Rattle.ss_record.specs.Ids.{Apart}
-use Rattle.ss_tree.specs.Trees.{Placed, IsValidTree}
+use Rattle.ss_tree.specs.Trees.{PlacedItem, IsValidTree}
 use Rattle.ss_build.specs.Rows.{rows_of}
 use Rattle.ss_build.specs.Stand.{IsSameUntimed, StandFor}
 use Rattle.ss_build.proofs.OfSheets.{sheets_built_back}
@@ -22,7 +23,7 @@ use Rattle.ss_client.specs.declared.runs.Stage.TheVariants.{Opens, Pages, Lists}
 use Rattle.ss_client.specs.Leaves.{PagingView}
 use Rattle.ss_client.specs.Runs.{MachineView}
 use Rattle.ss_client.specs.Asking.{ask, awaits}
-use Rattle.ss_serving.specs.Bookmarks.{Shown, Server, shown_by, sheets_of}
+use Rattle.ss_serving.specs.Bookmarks.{ShownAccount, Server, shown_by, sheets_of}
 use Rattle.ss_serving.specs.Asking.{told_by}
 use Rattle.ss_serving.specs.Serving.{IsQuiet, IsPage, AreIdsOf, newer, Serves}
 use Rattle.ss_serving.proofs.Seen.{sheets-apart}
@@ -31,8 +32,9 @@ use Rattle.ss_world.specs.declared.events.Event.{Event}
 use Rattle.ss_world.specs.declared.events.Event.TheVariants.{Deliver}
 use Rattle.ss_world.specs.Seats.{device_of}
 use Rattle.ss_world.specs.Worlds.{Seat, Idle, Syncs, WorldView, asks}
-use Rattle.ss_world.specs.Happening.{Happens, Step, Runs, last, IsDelivered, IsGivenUp, Delivers, Reopened}
-use Rattle.ss_world.specs.Promises.{AreAll, IsFaithful, StandsForOne, IsOpening, AreTrusted, IsUploaded, OneTree, fetched_at, noted_at, noted_in, noted_by, first_rows, EndsWell}
+use Rattle.ss_world.specs.Happening.{Happens, Step, Runs, last, IsDelivered, IsGivenUp, Delivers, OpensAnew}
+use Rattle.ss_world.specs.Promises.{AreAll, IsFaithful, StandsForOne, IsOpening, AreTrusted, IsUploaded, OneTree}
+use Rattle.ss_world.specs.Promises.{fetched_at, noted_at, noted_in, noted_by, first_rows, EndsWell}
 use Rattle.ss_world.proofs.Lists.{page_last}
 use Rattle.ss_world.proofs.Looking.{all-same, recalls}
 use Rattle.ss_world.proofs.Fitting.{Fits, by_cases}
@@ -40,7 +42,7 @@ use Rattle.ss_world.proofs.Keeping.{IsSound, SeatFits, HasBatch, keeps, one_tree
 
 -- ---- a finished fetch
 
-module _ (first : ℕ) (a b : Shown) (m : MachineView) (valid : IsDevice m.device) (old rows : List Sheet) (rows_apart : Apart (ids_of b.rows))
+module _ (first : ℕ) (a b : ShownAccount) (m : MachineView) (valid : IsDevice m.device) (old rows : List Sheet) (rows_apart : Apart (ids_of b.rows))
     (mirrored : m.run.newer ≡ true → (x : List ℕ) (s : Sheet) → sheet x b.rows ≡ Some s → s.modified ≤ m.device.stamp → sheet x m.device.mirror ≡ Some s) where
   abbrev Finished : Stage → Type 0
   Finished stage = AreAll rows b.rows × (noted_at stage b.rows old ≡ b.rows)
@@ -108,7 +110,7 @@ given_up w v n h = go (slice_get w.seats n) h
     go (Some s) q = by s q
 
 -- an account that is opened anew: machines stand, and what the keeper tells
-pub reopened : (w v : WorldView) → Reopened w v → (v.seats ≡ w.seats) × (v.server.kept ≡ w.server.kept)
+pub reopened : (w v : WorldView) → OpensAnew w v → (v.seats ≡ w.seats) × (v.server.kept ≡ w.server.kept)
 reopened w v h = (ap (λ (x : WorldView). x.seats) h.is, ap (λ (x : WorldView). x.server.kept) h.is ∙ h.reopens.left)
 
 -- ---- an opening, and a run from it
@@ -184,7 +186,7 @@ module _ (trusts : ℕ → Bool) (w : WorldView) (steps : List Step) (o : IsOpen
       ends_well trusts w.server.account.counter (λ k. first_rows k w steps []) (last w steps) sound n reading m there e.server e.answers v (ap (λ (x : WorldView). x.server) e.is) e.next e.follows
 
 -- trees for which the same rows stand are the same, but for times
-pub same_tree : (t u : List Placed) (sheets : List Sheet) → Apart (ids_of sheets) → IsValidTree t → IsValidTree u → StandFor t (rows_of sheets) → StandFor u (rows_of sheets) → IsSameUntimed t u
+pub same_tree : (t u : List PlacedItem) (sheets : List Sheet) → Apart (ids_of sheets) → IsValidTree t → IsValidTree u → StandFor t (rows_of sheets) → StandFor u (rows_of sheets) → IsSameUntimed t u
 same_tree t u sheets apart vt vu st su = λ x. sym (sheets_built_back t sheets vt apart st x) ∙ sheets_built_back u sheets vu apart su x
 
 -- what is shown of an opening's account has each id once

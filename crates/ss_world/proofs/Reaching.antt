@@ -1,5 +1,6 @@
 -- Worlds that events lead to.
-use Rattle.std.proofs.Common.{◌≡◌, ℕ, zero, suc, List, [], ◌∷◌, ◌++◌, map, slice_get, Some, Bool, sym, subst, refl, ap, inl, inr, ◌∙◌}
+use Rattle.std.proofs.Common.{◌≡◌, ℕ, zero, suc, List, [], ◌∷◌, ◌++◌, map, slice_get, Some, Bool, sym, subst, refl, ap}
+use Rattle.std.proofs.Common.{inl, inr, ◌∙◌}
 use Rattle.std.specs.Prelude.{Result, Ok, Err, IfErr, OnOk}
 use Rattle.std.specs.List.{All}
 use Rattle.std.proofs.lemmas.List.Elements.{All-get_or}
@@ -13,11 +14,13 @@ use Rattle.ss_client.specs.Asking.{ask, awaits}
 use Rattle.ss_client.specs.Runs.{MachineView}
 use Rattle.ss_serving.specs.Asking.{told_by}
 use Rattle.ss_world.specs.declared.events.Event.{Event}
-use Rattle.ss_world.specs.declared.events.Event.TheVariants.{Start, Deliver, LoseRequest, LoseReply, Anew, Change, Other, Tick, Reopen}
+use Rattle.ss_world.specs.declared.events.Event.TheVariants.{Start, Deliver, LoseRequest, LoseReply, Anew, Change}
+use Rattle.ss_world.specs.declared.events.Event.TheVariants.{Other, Tick, Reopen}
 use Rattle.ss_world.specs.declared.faults.WorldFault.{WorldFault}
 use Rattle.ss_world.specs.Worlds.{Seat, Idle, Syncs, WorldView}
-use Rattle.ss_world.specs.Happening.{At, Delivers, Happens, IsLost, Runs, Step, Ticked, last}
-use Rattle.ss_world.specs.Promises.{AreAll, AreTrusted, EndsWell, IsTrusted, OneTree, StandsForOne, fetched_at, first_rows, rows}
+use Rattle.ss_world.specs.Happening.{At, Delivers, Happens, IsLost, Runs, Step, ReadsClock, last}
+use Rattle.ss_world.specs.Promises.{AreAll, AreTrusted, EndsWell, IsTrusted, OneTree, StandsForOne, fetched_at}
+use Rattle.ss_world.specs.Promises.{first_rows, rows}
 use Rattle.ss_world.specs.Stepping.{Fails, IsCutShort}
 use Rattle.ss_world.specs.Reaching.{IsOpenable, IsReached, IsWellDelivered, IsWholeFetch, Promised}
 use Rattle.ss_world.proofs.Promised.{ends, fetches, stands, turns}
@@ -95,7 +98,7 @@ module _ (trusts : ℕ → Bool) (w v : WorldView) (r : IsReached trusts w) wher
   left : (event : Event) → v ≡ w → Promised trusts w event v
   left event same = let here = subst (IsReached trusts) (sym same) r in record { reached = here; stands = stands_here trusts v here; turns = inl (ap rows same) }
 
-  ticked : (now : ℕ) (event : Event) → Ticked w now v → Promised trusts w event v
+  ticked : (now : ℕ) (event : Event) → ReadsClock w now v → Promised trusts w event v
   ticked now event t = let p = promised trusts w (Tick now) v r tt t in record { reached = p.reached; stands = p.stands; turns = of_tick w v now event p.turns }
 
   lost : (n now : ℕ) → At w n v (IsLost w n now v) → Promised trusts w (Deliver n now) v

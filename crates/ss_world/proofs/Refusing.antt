@@ -1,5 +1,6 @@
 -- An event that is refused happens too: it leaves the world.
-use Rattle.std.proofs.Common.{◌≡◌, ℕ, slice_get, Option, Some, None, option_map, MatchOption, Bool, true, false, cond, inl, inr}
+use Rattle.std.proofs.Common.{◌≡◌, ℕ, slice_get, Option, Some, None, option_map, MatchOption, Bool, true, false, cond}
+use Rattle.std.proofs.Common.{inl, inr}
 use Rattle.std.specs.Bool.{MatchBool}
 use Rattle.std.specs.Option.{option_map_or}
 use Rattle.std.proofs.lemmas.Option.{none-some}
@@ -10,11 +11,13 @@ use Rattle.ss_client.specs.declared.summaries.Fetch.{Fetch}
 use Rattle.ss_serving.specs.Asking.{touches}
 use Rattle.ss_world.specs.declared.events.Edit.{Edit}
 use Rattle.ss_world.specs.declared.events.Event.{Event}
-use Rattle.ss_world.specs.declared.events.Event.TheVariants.{Start, Deliver, LoseRequest, LoseReply, Anew, Change, Other, Tick, Reopen}
+use Rattle.ss_world.specs.declared.events.Event.TheVariants.{Start, Deliver, LoseRequest, LoseReply, Anew, Change}
+use Rattle.ss_world.specs.declared.events.Event.TheVariants.{Other, Tick, Reopen}
 use Rattle.ss_world.specs.declared.faults.WorldFault.{WorldFault}
 use Rattle.ss_world.specs.declared.faults.WorldFault.TheVariants as fault
 use Rattle.ss_world.specs.Worlds.{Seat, Idle, Syncs, WorldView}
-use Rattle.ss_world.specs.Happening.{Asked, At, Edits, Happens, IsDelivered, IsEdited, IsGivenUp, IsLost, Starts, edit_fault}
+use Rattle.ss_world.specs.Happening.{Asked, At, Edits, Happens, IsDelivered, IsEdited, IsGivenUp, IsLost, Starts}
+use Rattle.ss_world.specs.Happening.{edit_fault}
 use Rattle.ss_world.specs.Stepping.{Fails, Refuses, at_device, change_fault, request_fault, start_fault}
 
 module _ (w v : WorldView) (e : WorldFault) (left : v ≡ w) where

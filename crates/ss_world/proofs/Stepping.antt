@@ -1,5 +1,6 @@
 -- What a step comes to.
-use Rattle.std.proofs.Common.{◌≡◌, ℕ, List, set, slice_get, Option, Some, None, option_map, MatchOption, false, sym, subst, refl, ap, inl, inr, ◌∙◌}
+use Rattle.std.proofs.Common.{◌≡◌, ℕ, List, set, slice_get, Option, Some, None, option_map, MatchOption, false, sym}
+use Rattle.std.proofs.Common.{subst, refl, ap, inl, inr, ◌∙◌}
 use Rattle.std.specs.Bool.{MatchBool}
 use Rattle.std.specs.Option.{option_map_or}
 use Rattle.std.specs.Prelude.{Result, Ok, Err, IsErrAnd, IfErr, OnOk}
@@ -18,8 +19,10 @@ use Rattle.ss_world.specs.declared.faults.WorldFault.{WorldFault}
 use Rattle.ss_world.specs.declared.faults.WorldFault.TheVariants as fault
 use Rattle.ss_world.specs.Seats.{started}
 use Rattle.ss_world.specs.Worlds.{Seat, Idle, Syncs, WorldView}
-use Rattle.ss_world.specs.Happening.{At, Asked, Delivers, Edits, IsDelivered, IsEdited, IsGivenUp, IsLost, Reopened, Starts, Ticked}
-use Rattle.ss_world.specs.Stepping.{Begins, Changes, Fails, GivesUp, Hears, IsEditedSeat, IsHeard, at_device, change_fault, start_fault}
+use Rattle.ss_world.specs.Happening.{At, Asked, Delivers, Edits, IsDelivered, IsEdited, IsGivenUp, IsLost, OpensAnew}
+use Rattle.ss_world.specs.Happening.{Starts, ReadsClock}
+use Rattle.ss_world.specs.Stepping.{Begins, Changes, Fails, GivesUp, Hears, IsEditedSeat, IsHeard, at_device}
+use Rattle.ss_world.specs.Stepping.{change_fault, start_fault}
 
 -- a world of a server and seats
 abbrev pub world : Server → List Seat → WorldView
@@ -117,11 +120,11 @@ asked w server after seats now request is spared a =
     subst (λ b. MatchBool b (world after seats ≡ w) (Asked w now request (world after seats))) (sym spared)
     (subst (λ x. Asked x now request (world after seats)) is (record { server = after; answers = a; is = refl }))
 
-pub ticked : (w : WorldView) (server after : Server) (seats : List Seat) (now : ℕ) → world server seats ≡ w → Ticks server now after → Ticked w now (world after seats)
-ticked w server after seats now is t = subst (λ x. Ticked x now (world after seats)) is (record { server = after; ticks = t; is = refl })
+pub ticked : (w : WorldView) (server after : Server) (seats : List Seat) (now : ℕ) → world server seats ≡ w → Ticks server now after → ReadsClock w now (world after seats)
+ticked w server after seats now is t = subst (λ x. ReadsClock x now (world after seats)) is (record { server = after; ticks = t; is = refl })
 
-pub reopened : (w : WorldView) (server after : Server) (seats : List Seat) → world server seats ≡ w → Reopens server after → Reopened w (world after seats)
-reopened w server after seats is r = subst (λ x. Reopened x (world after seats)) is (record { server = after; reopens = r; is = refl })
+pub reopened : (w : WorldView) (server after : Server) (seats : List Seat) → world server seats ≡ w → Reopens server after → OpensAnew w (world after seats)
+reopened w server after seats is r = subst (λ x. OpensAnew x (world after seats)) is (record { server = after; reopens = r; is = refl })
 
 -- two facts of a value that is there
 pub both : {X E P Q R : Type 0} (r : Result X E) → (P → Q → R) → OnOk r P → OnOk r Q → OnOk r R

@@ -5,7 +5,7 @@ use Rattle.ss_query.specs.declared.requests.Request.{Request}
 use Rattle.ss_query.specs.Api.{api}
 use Rattle.ss_tree.specs.Entries.{tree}
 use Rattle.ss_device.specs.Device.{DeviceView, IsDevice}
-use Rattle.ss_device.specs.Edits.{IsAdded, IsRenamed, IsMoved, IsDeleted, add_fault, change_fault, move_fault}
+use Rattle.ss_device.specs.Edits.{AddsItem, RenamesItem, MovesItem, DeletesItem, add_fault, change_fault, move_fault}
 use Rattle.ss_device.specs.declared.faults.EditFault.{EditFault}
 use Rattle.ss_client.specs.declared.summaries.Fetch.{Fetch}
 use Rattle.ss_client.specs.declared.runs.Stage.TheVariants.{Asks}
@@ -18,9 +18,10 @@ use Rattle.ss_serving.specs.Steps.{Answers, Ticks, Reopens}
 use Rattle.ss_world.specs.declared.events.Edit.{Edit}
 use Rattle.ss_world.specs.declared.events.Edit.TheVariants as edits
 use Rattle.ss_world.specs.declared.events.Event.{Event}
-use Rattle.ss_world.specs.declared.events.Event.TheVariants.{Start, Deliver, LoseRequest, LoseReply, Anew, Change, Other, Tick, Reopen}
+use Rattle.ss_world.specs.declared.events.Event.TheVariants.{Start, Deliver, LoseRequest, LoseReply, Anew, Change}
+use Rattle.ss_world.specs.declared.events.Event.TheVariants.{Other, Tick, Reopen}
 use Rattle.ss_world.specs.Seats.{after}
-use Rattle.ss_world.specs.Worlds.{Seat, Idle, Syncs, WorldView, seated}
+use Rattle.ss_world.specs.Worlds.{Seat, Idle, Syncs, WorldView, world_with_seat}
 
 -- ---- edits
 
@@ -32,18 +33,18 @@ edit_fault d (edits.Move id parent) = move_fault (tree d.tree) id parent
 edit_fault d (edits.Delete id) = change_fault (tree d.tree) id
 
 -- what an edit makes of a device
-abbrev pub IsChanged : ℕ → Edit → DeviceView → DeviceView → Type 0
-IsChanged now (edits.Add parent item) old new = IsAdded now parent item old new
-IsChanged now (edits.Rename id title) old new = IsRenamed now id title old new
-IsChanged now (edits.Move id parent) old new = IsMoved now id parent old new
-IsChanged now (edits.Delete id) old new = IsDeleted now id old new
+abbrev pub ChangesDevice : ℕ → Edit → DeviceView → DeviceView → Type 0
+ChangesDevice now (edits.Add parent item) old new = AddsItem now parent item old new
+ChangesDevice now (edits.Rename id title) old new = RenamesItem now id title old new
+ChangesDevice now (edits.Move id parent) old new = MovesItem now id parent old new
+ChangesDevice now (edits.Delete id) old new = DeletesItem now id old new
 
 -- an idle device is edited
 pub record Edits (w : WorldView) (n now : ℕ) (edit : Edit) (d : DeviceView) (v : WorldView) : Type 0 where
   pub device : DeviceView
-  pub changed : IsChanged now edit d device
+  pub changed : ChangesDevice now edit d device
   pub valid : IsDevice device
-  pub is : v ≡ seated w w.server n (Idle device)
+  pub is : v ≡ world_with_seat w w.server n (Idle device)
 
 -- ---- a device's request
 
@@ -53,13 +54,13 @@ pub record Delivers (w : WorldView) (n now : ℕ) (m : MachineView) (v : WorldVi
   pub answers : Answers w.server now (ask m) server
   pub next : Next
   pub follows : Follows m.device m.run m.stage (told_by (awaits m.stage) (api w.server.account now (ask m)).reply) next
-  pub is : v ≡ seated w server n (after m next)
+  pub is : v ≡ world_with_seat w server n (after m next)
 
 -- The account answers, and the device doesn't hear it: it is as it was started.
 pub record Loses (w : WorldView) (n now : ℕ) (m : MachineView) (v : WorldView) : Type 0 where
   pub server : Server
   pub answers : Answers w.server now (ask m) server
-  pub is : v ≡ seated w server n (Idle m.device)
+  pub is : v ≡ world_with_seat w server n (Idle m.device)
 
 -- somebody else asks
 pub record Asked (w : WorldView) (now : ℕ) (request : Request) (v : WorldView) : Type 0 where
@@ -67,12 +68,12 @@ pub record Asked (w : WorldView) (now : ℕ) (request : Request) (v : WorldView)
   pub answers : Answers w.server now request server
   pub is : v ≡ record w { server = server }
 
-pub record Ticked (w : WorldView) (now : ℕ) (v : WorldView) : Type 0 where
+pub record ReadsClock (w : WorldView) (now : ℕ) (v : WorldView) : Type 0 where
   pub server : Server
   pub ticks : Ticks w.server now server
   pub is : v ≡ record w { server = server }
 
-pub record Reopened (w v : WorldView) : Type 0 where
+pub record OpensAnew (w v : WorldView) : Type 0 where
   pub server : Server
   pub reopens : Reopens w.server server
   pub is : v ≡ record w { server = server }
@@ -80,7 +81,7 @@ pub record Reopened (w v : WorldView) : Type 0 where
 -- ---- each event, at an idle device and at one that syncs
 
 abbrev pub Starts : WorldView → ℕ → Fetch → WorldView → Seat → Type 0
-Starts w n fetch v (Idle d) = v ≡ seated w w.server n (Syncs (record { device = d; run = first_run (is_newer d fetch); stage = Asks }))
+Starts w n fetch v (Idle d) = v ≡ world_with_seat w w.server n (Syncs (record { device = d; run = first_run (is_newer d fetch); stage = Asks }))
 Starts w n fetch v (Syncs m) = v ≡ w
 
 abbrev pub IsDelivered : WorldView → ℕ → ℕ → WorldView → Seat → Type 0
@@ -89,7 +90,7 @@ IsDelivered w n now v (Syncs m) = Delivers w n now m v
 
 abbrev pub IsGivenUp : WorldView → ℕ → WorldView → Seat → Type 0
 IsGivenUp w n v (Idle d) = v ≡ w
-IsGivenUp w n v (Syncs m) = v ≡ seated w w.server n (Idle m.device)
+IsGivenUp w n v (Syncs m) = v ≡ world_with_seat w w.server n (Idle m.device)
 
 abbrev pub IsLost : WorldView → ℕ → ℕ → WorldView → Seat → Type 0
 IsLost w n now v (Idle d) = v ≡ w
@@ -112,8 +113,8 @@ Happens w (LoseReply n now) v = At w n v (IsLost w n now v)
 Happens w (Anew n) v = At w n v (IsGivenUp w n v)
 Happens w (Change n now edit) v = At w n v (IsEdited w n now edit v)
 Happens w (Other now request) v = MatchBool (touches request) (v ≡ w) (Asked w now request v)
-Happens w (Tick now) v = Ticked w now v
-Happens w Reopen v = Reopened w v
+Happens w (Tick now) v = ReadsClock w now v
+Happens w Reopen v = OpensAnew w v
 
 -- an event, and the world after it
 pub record Step : Type 0 where

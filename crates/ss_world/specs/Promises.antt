@@ -1,8 +1,9 @@
 -- What is promised of a world.
-use Rattle.std.specs.Prelude.{◌≡◌, ◌⊎◌, ℕ, ◌≤◌, ◌==◌, List, [], ◌∷◌, ◌++◌, slice_get, map, Option, Some, None, Bool, true, if◌then◌else◌, ⊤}
+use Rattle.std.specs.Prelude.{◌≡◌, ◌⊎◌, ℕ, ◌≤◌, ◌==◌, List, [], ◌∷◌, ◌++◌, slice_get, map, Option, Some, None, Bool}
+use Rattle.std.specs.Prelude.{true, if◌then◌else◌, ⊤}
 use Rattle.ss_record.specs.declared.readings.Sheet.{Sheet}
 use Rattle.ss_record.specs.Ids.{Apart}
-use Rattle.ss_tree.specs.Trees.{Placed, IsValidTree}
+use Rattle.ss_tree.specs.Trees.{PlacedItem, IsValidTree}
 use Rattle.ss_tree.specs.Entries.{tree}
 use Rattle.ss_build.specs.Rows.{rows_of}
 use Rattle.ss_build.specs.Stand.{HasItsRows, StandFor}
@@ -13,7 +14,7 @@ use Rattle.ss_plan.specs.Written.{sheet}
 use Rattle.ss_query.specs.Refused.{collection_time}
 use Rattle.ss_query.specs.Api.{api}
 use Rattle.ss_account.specs.Opening.{IsGood}
-use Rattle.ss_sync.specs.Joined.{IsJoined}
+use Rattle.ss_sync.specs.Joined.{IsJoinedTree}
 use Rattle.ss_sync.specs.Fetched.{are_known, kept}
 use Rattle.ss_hearing.specs.declared.answer.Answer.{Answer}
 use Rattle.ss_hearing.specs.declared.answer.Answer.TheVariants.{Paged, Listed, Written}
@@ -55,7 +56,7 @@ IsFaithful d server =
 
 -- a valid tree for which the rows stand
 pub record StandsForOne (sheets : List Sheet) : Type 0 where
-  pub tree : List Placed
+  pub tree : List PlacedItem
   pub valid : IsValidTree tree
   pub stands : StandFor tree (rows_of sheets)
 
@@ -96,7 +97,7 @@ pub record IsUploaded (w : WorldView) (event : Event) (v : WorldView) : Type 0 w
   pub event_is : (event ≡ Deliver device now) ⊎ (event ≡ LoseReply device now)
   pub written : told_by (awaits machine.stage) (api w.server.account now (ask machine)).reply ≡ Written stamp
   pub all : AreAll upload.rows (sheets_of w.server.account.rows)
-  pub joined : IsJoined machine.device.mirror machine.device.tree (dead_ids machine.device.dead) upload.rows upload.merged
+  pub joined : IsJoinedTree machine.device.mirror machine.device.tree (dead_ids machine.device.dead) upload.rows upload.merged
   pub stands : HasItsRows (tree upload.merged) (rows_of (sheets_of v.server.account.rows))
 
 -- one tree: the rows stay; or an upload takes them to the tree that merging its device with these rows gives
@@ -145,7 +146,7 @@ pub record IsDone (w : WorldView) (m : MachineView) (device : DeviceView) (v : W
   pub valid : IsDevice device
   pub fetched : List Sheet
   pub all : AreAll fetched (sheets_of w.server.account.rows)
-  pub joined : IsJoined m.device.mirror m.device.tree (dead_ids m.device.dead) fetched device.tree
+  pub joined : IsJoinedTree m.device.mirror m.device.tree (dead_ids m.device.dead) fetched device.tree
   pub stands : HasItsRows (tree device.tree) (rows_of (sheets_of v.server.account.rows))
   pub faithful : IsFaithful device v.server
 

@@ -14,7 +14,8 @@ use Rattle.ss_world.specs.declared.events.Event.{Event}
 use Rattle.ss_world.specs.declared.events.Event.TheVariants.{Deliver}
 use Rattle.ss_world.specs.Worlds.{Idle, Syncs, WorldView}
 use Rattle.ss_world.specs.Happening.{Delivers, Runs, Step, last}
-use Rattle.ss_world.specs.Promises.{AreAll, AreTrusted, EndsWell, IsFaithful, IsOpening, OneTree, StandsForOne, fetched_at, first_rows, rows}
+use Rattle.ss_world.specs.Promises.{AreAll, AreTrusted, EndsWell, IsFaithful, IsOpening, OneTree, StandsForOne}
+use Rattle.ss_world.specs.Promises.{fetched_at, first_rows, rows}
 
 -- The premises on a world that was opened: no bookmark ends, the collection's time isn't above the store's, the bookmarks stand for
 -- a valid tree, and the trusted devices are faithful.

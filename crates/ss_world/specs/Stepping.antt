@@ -11,12 +11,13 @@ use Rattle.ss_query.specs.Fit.{IsFitRequest}
 use Rattle.ss_serving.specs.Asking.{touches}
 use Rattle.ss_world.specs.declared.events.Edit.{Edit}
 use Rattle.ss_world.specs.declared.events.Event.{Event}
-use Rattle.ss_world.specs.declared.events.Event.TheVariants.{Start, Deliver, LoseRequest, LoseReply, Anew, Change, Other, Tick, Reopen}
+use Rattle.ss_world.specs.declared.events.Event.TheVariants.{Start, Deliver, LoseRequest, LoseReply, Anew, Change}
+use Rattle.ss_world.specs.declared.events.Event.TheVariants.{Other, Tick, Reopen}
 use Rattle.ss_world.specs.declared.faults.WorldFault.{WorldFault}
 use Rattle.ss_world.specs.declared.faults.WorldFault.TheVariants as fault
 use Rattle.ss_world.specs.Seats.{after, device_of, started}
 use Rattle.ss_world.specs.Worlds.{Seat, Idle, Syncs, WorldView}
-use Rattle.ss_world.specs.Happening.{At, IsChanged, IsLost, Ticked, edit_fault}
+use Rattle.ss_world.specs.Happening.{At, ChangesDevice, IsLost, ReadsClock, edit_fault}
 
 -- ---- causes
 
@@ -65,9 +66,9 @@ edit_refusal Under = fault.Edit Under
 -- Where memory is wanting the world is as before; or the account answered that it was wanting (507), and has read its clock alone;
 -- or the reply couldn't be handed on to the device, and is lost.
 abbrev pub IsCutShort : WorldView → Event → WorldView → Type 0
-IsCutShort w (Deliver n now) v = (v ≡ w) ⊎ (Ticked w now v ⊎ At w n v (IsLost w n now v))
-IsCutShort w (LoseReply n now) v = (v ≡ w) ⊎ Ticked w now v
-IsCutShort w (Other now request) v = (v ≡ w) ⊎ Ticked w now v
+IsCutShort w (Deliver n now) v = (v ≡ w) ⊎ (ReadsClock w now v ⊎ At w n v (IsLost w n now v))
+IsCutShort w (LoseReply n now) v = (v ≡ w) ⊎ ReadsClock w now v
+IsCutShort w (Other now request) v = (v ≡ w) ⊎ ReadsClock w now v
 IsCutShort w (Start n fetch) v = v ≡ w
 IsCutShort w (LoseRequest n) v = v ≡ w
 IsCutShort w (Anew n) v = v ≡ w
@@ -109,7 +110,7 @@ IsHeard answer new (Syncs m) = (next : Next) × Follows m.device m.run m.stage a
 pub record IsEditOf (now : ℕ) (edit : Edit) (new : Seat) (d : DeviceView) : Type 0 where
   pub device : DeviceView
   pub taken : edit_fault d edit ≡ None
-  pub changed : IsChanged now edit d device
+  pub changed : ChangesDevice now edit d device
   pub valid : IsDevice device
   pub is : new ≡ Idle device
 

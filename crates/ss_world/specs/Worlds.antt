@@ -10,7 +10,8 @@ use Rattle.ss_account.specs.Held.{Held}
 use Rattle.ss_serving.specs.Bookmarks.{Server}
 pub use Rattle.ss_world.specs.declared.seats.Seat.{Seat}
 pub use Rattle.ss_world.specs.declared.seats.Seat.TheVariants.{Idle, Syncs}
-use Rattle.ss_serving.specs.Asking.{Ask, Configure, FirstPage, NextPage, ListIds, PostAll, PostFirst, PostNext, PostLast}
+use Rattle.ss_serving.specs.Asking.{Ask, Configure, FirstPage, NextPage, ListIds, PostAll, PostFirst, PostNext}
+use Rattle.ss_serving.specs.Asking.{PostLast}
 
 -- an account with its keeper, and devices, each idle or with a sync under way
 pub record WorldView : Type 0 where
@@ -22,8 +23,8 @@ abbrev pub server_of : Held Holding → Server
 server_of held = record { account = held.plain; kept = held.keeper.kept }
 
 -- another server, and another seat of a device
-abbrev pub seated : WorldView → Server → ℕ → Seat → WorldView
-seated w server n seat = record { server = server; seats = set w.seats n seat }
+abbrev pub world_with_seat : WorldView → Server → ℕ → Seat → WorldView
+world_with_seat w server n seat = record { server = server; seats = set w.seats n seat }
 
 -- what a POST asks: alone; the first of several; a further one; or the last
 abbrev pub post_ask : ℕ → Option ℕ → List Part → List Part → Ask

@@ -2,7 +2,7 @@
 
 ghost use Rattle.std.specs.Prelude.{◌≡◌, ℕ, List, [], ◌∷◌, ◌++◌, slice_get, Some, Bool, true};
 ghost use Rattle.ss_record.specs.declared.readings.Sheet.{Sheet};
-ghost use Rattle.ss_tree.specs.Trees.{Placed, IsValidTree};
+ghost use Rattle.ss_tree.specs.Trees.{PlacedItem, IsValidTree};
 ghost use Rattle.ss_build.specs.Rows.{rows_of};
 ghost use Rattle.ss_build.specs.Stand.{IsSameUntimed, StandFor};
 ghost use Rattle.ss_bso.specs.Changes.{fresh_kept, opened};
@@ -24,7 +24,8 @@ ghost use Rattle.ss_world.specs.Seats.{device_of};
 ghost use Rattle.ss_world.specs.Worlds.{Seat, Idle, Syncs, WorldView};
 ghost use Rattle.ss_world.specs.Happening.{Happens, Delivers, Step, Runs, last};
 ghost use Rattle.ss_world.specs.Reaching.{IsOpenable};
-ghost use Rattle.ss_world.specs.Promises.{AreAll, AreTrusted, EndsWell, IsFaithful, IsOpening, IsUploaded, OneTree, StandsForOne, fetched_at, first_rows};
+ghost use Rattle.ss_world.specs.Promises.{AreAll, AreTrusted, EndsWell, IsFaithful, IsOpening, IsUploaded, OneTree};
+ghost use Rattle.ss_world.specs.Promises.{StandsForOne, fetched_at, first_rows};
 
 /// One tree: after every run from an opening the bookmarks stand for a valid tree, and for no other one. Each event
 /// leaves them, or it is the last POST of an upload that comes to the account, and they stand for the merged tree then,
@@ -35,7 +36,7 @@ pub fn bookmarks_are_one_tree()
         → StandsForOne (sheets_of (last w steps).server.account.rows) }
     ensures only { (trusts : ℕ → Bool) (w : WorldView) (steps : List Step) → IsOpening trusts w → Runs w steps
         → AreTrusted trusts steps
-        → (t u : List Placed) → IsValidTree t → IsValidTree u → StandFor t
+        → (t u : List PlacedItem) → IsValidTree t → IsValidTree u → StandFor t
         (rows_of (sheets_of (last w steps).server.account.rows))
         → StandFor u (rows_of (sheets_of (last w steps).server.account.rows)) → IsSameUntimed t u }
     ensures turns { (trusts : ℕ → Bool) (w : WorldView) (steps : List Step) (event : Event) (v : WorldView)

@@ -5,8 +5,9 @@ ghost use Rattle.ss_client.specs.Sound.{TellsOurs};
 ghost use Rattle.ss_serving.specs.Asking.{told_by};
 ghost use Rattle.ss_device.specs.Device.{IsDevice};
 ghost use Rattle.ss_world.specs.Seats.{device_of, started};
-ghost use Rattle.ss_world.specs.Stepping.{Begins, Changes, GivesUp, Hears, IsEditedSeat, IsHeard, at_device, change_fault, edit_refusal, request_fault, start_fault};
-ghost use Rattle.ss_world.specs.Happening.{IsChanged, edit_fault};
+ghost use Rattle.ss_world.specs.Stepping.{Begins, Changes, GivesUp, Hears, IsEditedSeat, IsHeard, at_device};
+ghost use Rattle.ss_world.specs.Stepping.{change_fault, edit_refusal, request_fault, start_fault};
+ghost use Rattle.ss_world.specs.Happening.{ChangesDevice, edit_fault};
 ghost use Rattle.ss_world.specs.declared.faults.WorldFault.TheVariants as fault;
 
 use crate::events::Edit;
@@ -161,7 +162,7 @@ pub(crate) fn answer_at(
 
 /// Applies an edit to a device.
 fn apply(alloc: Global, device: &mut Device, now: u64, edit: &Edit) -> Result<(), EditFault>
-    ensures changed { OnOk result (IsChanged now edit.now device.old device.new) }
+    ensures changed { OnOk result (ChangesDevice now edit.now device.old device.new) }
     ensures edits { OnOk result (edit_fault device.old edit.now ≡ None) }
     ensures refused { IfErr result (λ e. (e ≡ EditFault.Memory) ⊎ (edit_fault device.old edit.now ≡ Some e)) }
     ensures left { OnErr result (device.new ≡ device.old) }
@@ -177,7 +178,7 @@ fn apply(alloc: Global, device: &mut Device, now: u64, edit: &Edit) -> Result<()
 /// Edits a device, which is valid then.
 fn edit(alloc: Global, device: &mut Device, now: u64, edit: &Edit) -> Result<(), EditFault>
     ensures valid { IsDevice device.new }
-    ensures changed { OnOk result (IsChanged now edit.now device.old device.new) }
+    ensures changed { OnOk result (ChangesDevice now edit.now device.old device.new) }
     ensures edits { OnOk result (edit_fault device.old edit.now ≡ None) }
     ensures refused { IfErr result (λ e. (e ≡ EditFault.Memory) ⊎ (edit_fault device.old edit.now ≡ Some e)) }
     ensures left { OnErr result (device.new ≡ device.old) }

@@ -1,5 +1,6 @@
 -- A write that is ready: what it makes of the account, and what a keeper is told of it.
-use Rattle.std.specs.Prelude.{◌≡◌, ℕ, ◌+◌, ◌≤◌, length, option_to_list, true, false, List, [], ◌∷◌, ◌++◌, map, filter, not, bytes_eq, Option, Some, None, IfSome, IsSome, IsFalse, All, AllPairs, ⊤}
+use Rattle.std.specs.Prelude.{◌≡◌, ℕ, ◌+◌, ◌≤◌, length, option_to_list, true, false, List, [], ◌∷◌, ◌++◌, map, filter}
+use Rattle.std.specs.Prelude.{not, bytes_eq, Option, Some, None, IfSome, IsSome, IsFalse, All, AllPairs, ⊤}
 use Rattle.ss_bso.specs.declared.rows.Row.{Row}
 use Rattle.ss_bso.specs.declared.parts.Part.{Part}
 use Rattle.ss_bso.specs.declared.account.Plain.{Plain}
@@ -10,12 +11,13 @@ use Rattle.ss_bso.specs.declared.changes.RowChange.TheVariants.{Put as PutRow, D
 use Rattle.ss_bso.specs.declared.changes.CollectionChange.{CollectionChange}
 use Rattle.ss_bso.specs.declared.changes.CollectionChange.TheVariants.{Set as SetTime, Drop as DropName}
 use Rattle.ss_bso.specs.declared.changes.BatchChange.{BatchChange}
-use Rattle.ss_bso.specs.declared.changes.BatchChange.TheVariants.{End as EndBatch, Begin as BeginBatch, Append as AppendParts}
+use Rattle.ss_bso.specs.declared.changes.BatchChange.TheVariants.{End as EndBatch, Begin as BeginBatch}
+use Rattle.ss_bso.specs.declared.changes.BatchChange.TheVariants.{Append as AppendParts}
 use Rattle.ss_bso.specs.Account.{is_at}
 use Rattle.ss_bso.specs.Batches.{batches_without, batches_elsewhere}
 use Rattle.ss_bso.specs.Limits.{most_rows_and_collections}
 use Rattle.ss_bso.specs.Write.{rows_without, times_with, times_without}
-use Rattle.ss_batch.specs.Stage.{numbered}
+use Rattle.ss_batch.specs.Stage.{live_batch}
 use Rattle.ss_query.specs.declared.replies.Body.{Body}
 use Rattle.ss_query.specs.Effect.{is_over}
 use Rattle.ss_writes.specs.declared.pending.Pending.{Pending}
@@ -55,8 +57,8 @@ deletion_left time (DropCollection collection) last_delete = time
 deletion_left time DropAll last_delete = time
 
 -- the account after a write at a time
-abbrev pub applied : Plain → ℕ → Pending → Plain
-applied account time pending = record {
+abbrev pub account_after_pending : Plain → ℕ → Pending → Plain
+account_after_pending account time pending = record {
   rows = rows_left pending account.rows;
   collections = times_left time pending account.collections;
   store = time;
@@ -140,7 +142,7 @@ pub record IsPutReady (account : Plain) (time : ℕ) (collection : List ℕ) (ta
   pub apart : AllPairs (λ row other. IsFalse (is_at row.collection row.id other)) rows
   pub stamped : All (λ row. row.modified ≡ time) rows
   pub few : length rows ≤ most_rows_and_collections
-  pub live : IfSome batch (λ number. IsSome (numbered number account.batches))
+  pub live : IfSome batch (λ number. IsSome (live_batch number account.batches))
 
 abbrev pub IsReady : Plain → ℕ → Pending → Type 0
 IsReady account time (Put collection targets rows batch) = IsPutReady account time collection targets rows.items batch
@@ -150,10 +152,10 @@ IsReady account time _ = ⊤
 -- a write is ready that makes another account, or that would pass the limits
 abbrev pub Settles : Plain → ℕ → Plain → Option Pending → Type 0
 Settles account time after None = is_over after ≡ true
-Settles account time after (Some pending) = (is_over after ≡ false) × (applied account time pending ≡ after) × IsReady account time pending
+Settles account time after (Some pending) = (is_over after ≡ false) × (account_after_pending account time pending ≡ after) × IsReady account time pending
 
 -- the same, with what is told of the write
 abbrev pub Tells : Plain → ℕ → Plain → Body → Option (Pending × Body) → Type 0
 Tells account time after body None = is_over after ≡ true
 Tells account time after body (Some found) =
-    (is_over after ≡ false) × (applied account time found.0 ≡ after) × IsReady account time found.0 × (found.1 ≡ body)
+    (is_over after ≡ false) × (account_after_pending account time found.0 ≡ after) × IsReady account time found.0 × (found.1 ≡ body)

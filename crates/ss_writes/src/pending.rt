@@ -1,11 +1,13 @@
 //! A write that is ready: what is to become of the account, and what a keeper is told of it.
 
-ghost use Rattle.std.specs.Prelude.{◌≡◌, ◌≤◌, ◌+◌, ◌∷◌, ◌++◌, [], map, filter, bytes_eq, option_map, IfOk, OnOk, IfSome, IsSome, vec_len, vec_capacity};
+ghost use Rattle.std.specs.Prelude.{◌≡◌, ◌≤◌, ◌+◌, ◌∷◌, ◌++◌, [], map, filter, bytes_eq, option_map, IfOk, OnOk};
+ghost use Rattle.std.specs.Prelude.{IfSome, IsSome, vec_len, vec_capacity};
 ghost use Rattle.ss_bso.specs.declared.changes.BatchChange.TheVariants.{End as EndChange};
 ghost use Rattle.ss_bso.specs.declared.changes.RowChange.TheVariants.{Put as PutChange};
 ghost use Rattle.ss_bso.specs.declared.changes.CollectionChange.TheVariants.{Drop as DropChange, Set};
-ghost use Rattle.ss_batch.specs.Stage.{numbered};
-ghost use Rattle.ss_writes.specs.Pending.{batch_ended, batches_but, batches_left, collection_changes, deletion_left, ended_by, numbers_of, row_changes, times_left};
+ghost use Rattle.ss_batch.specs.Stage.{live_batch};
+ghost use Rattle.ss_writes.specs.Pending.{batch_ended, batches_but, batches_left, collection_changes, deletion_left};
+ghost use Rattle.ss_writes.specs.Pending.{ended_by, numbers_of, row_changes, times_left};
 
 use crate::editing::{remove_time, set_time};
 use crate::ended::Ended;
@@ -122,7 +124,7 @@ fn push_ends_of(
 
 /// Ends a live batch, if one is named.
 fn end_batch(stage: &mut Stage, batch: Option<u64>)
-    requires { IfSome batch (λ number. IsSome (numbered number stage.old.batches)) }
+    requires { IfSome batch (λ number. IsSome (live_batch number stage.old.batches)) }
     ensures { stage.new ≡ record stage.old { batches = batches_but batch stage.old.batches } }
 {
     if let Some(batch) = batch {
@@ -200,7 +202,7 @@ impl Pending {
     /// Does the write to collections and batches, at a time. There is room for one more collection.
     pub fn apply(self, collections: &mut Vec<(Name, Stamp)>, stage: &mut Stage, stamp: Stamp)
         requires one_more { vec_len collections.old + 1 ≤ vec_capacity collections.old }
-        requires live { IfSome (batch_ended self) (λ number. IsSome (numbered number stage.old.batches)) }
+        requires live { IfSome (batch_ended self) (λ number. IsSome (live_batch number stage.old.batches)) }
         ensures times { collections.new.items ≡ times_left stamp self collections.old.items }
         ensures stage { stage.new ≡ record stage.old { batches = batches_left self stage.old.batches } }
     {

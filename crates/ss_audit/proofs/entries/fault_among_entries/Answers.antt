@@ -2,7 +2,8 @@ use Rattle.std.proofs.Common.{◌≡◌, ◌+◌, ◌<◌, ◌≤◌, ℕ, lengt
 use Rattle.ss_booked.specs.Sizes.{most_entries, most_journal_bytes}
 use Rattle.ss_audit.proofs.Rising.{limits_fail, seen_more, ticket_fails}
 use Rattle.ss_audit.proofs.entries.fault_among_entries.Goals as goal
-use Rattle.ss_audit.proofs.entries.fault_among_entries.Goals.{then-n-most-via-then-n-most, then-n-most-via-else-n-most+then-bytes-ge-MOST_JOURNAL_BYTES}
+use Rattle.ss_audit.proofs.entries.fault_among_entries.Goals.{then-n-most-via-then-n-most}
+use Rattle.ss_audit.proofs.entries.fault_among_entries.Goals.{then-n-most-via-else-n-most+then-bytes-ge-MOST_JOURNAL_BYTES}
 
 pub returns-then-not-rises-clause-some : goal.returns-then-not-rises-clause-some
 returns-then-not-rises-clause-some c = λ closing goes_on.

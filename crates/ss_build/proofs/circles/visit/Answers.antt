@@ -1,7 +1,8 @@
 use Rattle.std.proofs.Common.{◌≡◌, ◌+◌, get_or, arith}
 use Rattle.ss_build.proofs.Visiting.{at_top, round_open, round_closed, circle_free, own_end, old_end}
 use Rattle.ss_build.proofs.circles.visit.Goals as goal
-use Rattle.ss_build.proofs.circles.visit.Goals.{else-end-next-via-then-end-next+else-seen-end, else-end-next-via-else-end-next}
+use Rattle.ss_build.proofs.circles.visit.Goals.{else-end-next-via-then-end-next+else-seen-end}
+use Rattle.ss_build.proofs.circles.visit.Goals.{else-end-next-via-else-end-next}
 
 pub mark-requires-clause-free : goal.mark-requires-clause-free
 mark-requires-clause-free c =

@@ -1,6 +1,6 @@
 use Rattle.std.proofs.Common.{◌≡◌, ◌∙◌, ap₂, subst, length, map, arith}
 use Rattle.ss_build.specs.Built.{ids}
-use Rattle.ss_build.specs.Places.{IsTaken, place, rest}
+use Rattle.ss_build.specs.Places.{IsTakenSoFar, place, rest}
 use Rattle.ss_build.proofs.Valid.{length-ids}
 use Rattle.ss_build.proofs.Taking.{taken_length}
 use Rattle.ss_build.proofs.Told.{left_is, left_inside, order_is}
@@ -23,7 +23,7 @@ returns c =
     let words : c.in_ok-words.words.items ≡ rest c.args.claims.now = c.in_ok-words.ensures ∙ (c.as_slice.ensures ∙ left_is c.args.claims.now c.take_front.new.order.items c.take_front.new.taken _ c.in_ok-take_front.ensures.taken c.in_ok-take_front.ensures.names c.in_ok-left.ensures) in
     record {
       names = order_is c.args.claims.now c.args.places.now.keys c.deref-2.result.now c.take_front.new.order.items c.take_all-2.new.order.items c.requires.ids c.in_ok-take_front.ensures.names (c.deref-2.ensures.value ∙ words) c.in_ok-take_all-2.ensures.names;
-      taken = subst (λ k. IsTaken k c.take_all-2.new.order.items c.take_all-2.new.taken) c.requires.ids c.in_ok-take_all-2.ensures.taken;
+      taken = subst (λ k. IsTakenSoFar k c.take_all-2.new.order.items c.take_all-2.new.taken) c.requires.ids c.in_ok-take_all-2.ensures.taken;
       as_told = c.in_ok-take_front.ensures.as_told;
       left = c.in_ok-seats.ensures ∙ ap₂ (λ k w. map (λ x. place x k) w) c.requires.ids (c.deref-3.ensures.value ∙ words);
     }

@@ -1,7 +1,7 @@
 use Rattle.std.proofs.Common.{◌≡◌, ◌∙◌, ◌<◌, sym, subst, length, get_or, replicate, false, arith, rules}
 use Rattle.std.proofs.lemmas.List.{take_at}
 use Rattle.ss_build.specs.Built.{ids}
-use Rattle.ss_build.specs.Places.{IsTaken}
+use Rattle.ss_build.specs.Places.{IsTakenSoFar}
 use Rattle.ss_build.proofs.Valid.{length-ids}
 use Rattle.ss_build.proofs.Told.{fresh_taken, told_all}
 use Rattle.ss_build.proofs.siblings.siblings_of.Goals as goal
@@ -9,7 +9,7 @@ use Rattle.ss_build.proofs.siblings.siblings_of.Goals as goal
 pub order_all-requires-clause-taken : goal.order_all-requires-clause-taken
 order_all-requires-clause-taken c =
     let e : c.in_ok-taken.taken.items ≡ replicate (length c.args.claims.now) false = search rules in
-    subst (λ w. IsTaken (ids c.args.claims.now) w c.deref_mut.result.now) (sym c.in_ok-order.ensures.items)
+    subst (λ w. IsTakenSoFar (ids c.args.claims.now) w c.deref_mut.result.now) (sym c.in_ok-order.ensures.items)
     (fresh_taken (ids c.args.claims.now) c.deref_mut.result.now (length c.args.claims.now) (length-ids c.args.claims.now) (c.deref_mut.ensures.value ∙ e))
 
 pub returns : goal.returns

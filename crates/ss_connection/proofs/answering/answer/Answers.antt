@@ -3,8 +3,9 @@ use Rattle.ss_desk.specs.Passes.{view_at}
 use Rattle.ss_booked.specs.declared.booked.Asked.{Asked}
 use Rattle.ss_route.specs.declared.routed.Local.{Local}
 use Rattle.ss_route.specs.Wire.{local_wire}
-use Rattle.ss_connection.specs.Sending.{bytes_of, clamped, OrMemory}
-use Rattle.ss_connection.proofs.Passing.{one_steps, entered_steps, denied_steps, called_by, was_full_by, enters_call, enters_full}
+use Rattle.ss_connection.specs.Sending.{bytes_of, clamped_reading, OrMemory}
+use Rattle.ss_connection.proofs.Passing.{one_steps, entered_steps, denied_steps, called_by, was_full_by, enters_call}
+use Rattle.ss_connection.proofs.Passing.{enters_full}
 use Rattle.ss_connection.proofs.answering.answer.Goals as goal
 
 pub returns-in-Reply-clause-more : goal.returns-in-Reply-clause-more
@@ -38,7 +39,7 @@ returns-in-Full-clause-more g c =
 pub returns-in-Full-clause-says : goal.returns-in-Full-clause-says
 returns-in-Full-clause-says g c =
     let h = c.in-Full.ensures.says in let ps = c.args.passes.now.passes.items in let qs = c.ask.new.passes.passes.items in
-    let R : Local → Type 0 = λ local. OrMemory (local_wire local (clamped c.args.now) c.args.last) (clamped c.args.now) c.args.last (bytes_of c.to_local-in-Full.result) in
+    let R : Local → Type 0 = λ local. OrMemory (local_wire local (clamped_reading c.args.now) c.args.last) (clamped_reading c.args.now) c.args.last (bytes_of c.to_local-in-Full.result) in
     record {
       asks = record { place = h.0; listed = h.1; request = c.in-Ask.request; newlines = c.in-Ask.newlines; routes = c.in-Ask.ensures.routed };
       was_full = was_full_by ps qs h.0 c.in-Full.full h.3;

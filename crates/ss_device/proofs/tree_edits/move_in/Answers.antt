@@ -3,10 +3,11 @@ use Rattle.ss_record.specs.Ids.{places}
 use Rattle.ss_record.specs.Items.{is_fit}
 use Rattle.ss_tree.specs.Trees.{node}
 use Rattle.ss_tree.specs.Entries.{tree}
-use Rattle.ss_device.specs.Edits.{item_of, moved_only, stamped}
+use Rattle.ss_device.specs.Edits.{item_of, moved_only, item_at_time}
 use Rattle.ss_device.proofs.Composed.{move_same, still, through}
 use Rattle.ss_device.proofs.Known.{has_is_node}
-use Rattle.ss_device.proofs.Refused.{change_loose, change_not_memory, fixed_inner, move_from_change, move_no_parent, move_takes, node_there, takes_inner}
+use Rattle.ss_device.proofs.Refused.{change_loose, change_not_memory, fixed_inner, move_from_change, move_no_parent}
+use Rattle.ss_device.proofs.Refused.{move_takes, node_there, takes_inner}
 use Rattle.ss_device.proofs.tree_edits.move_in.Goals as goal
 use Rattle.ss_tree.proofs.Looked.{in_tree}
 use Rattle.ss_text.proofs.Basics.{is_none}
@@ -50,7 +51,7 @@ touch-requires-clause-fit c =
 
 pub touch-requires-2-clause-there : goal.touch-requires-2-clause-there
 touch-requires-2-clause-there c =
-    still (stamped c.args.id.now c.args.time) (node c.in_ok-from.from (tree c.relocate.new.tree)) (node c.in_ok-from.from (tree c.touch.new.tree)) (c.touch.ensures.nodes c.in_ok-from.from)
+    still (item_at_time c.args.id.now c.args.time) (node c.in_ok-from.from (tree c.relocate.new.tree)) (node c.in_ok-from.from (tree c.touch.new.tree)) (c.touch.ensures.nodes c.in_ok-from.from)
     (still (moved_only c.args.id.now c.args.parent.now) (node c.in_ok-from.from (tree c.args.tree.now)) (node c.in_ok-from.from (tree c.relocate.new.tree)) (c.in_ok-relocate.ensures.nodes c.in_ok-from.from)
     (ap (λ z. is_some (node z (tree c.args.tree.now))) c.in_ok-from.ensures.id ∙ c.in_ok-from.ensures.there))
 
@@ -60,20 +61,20 @@ touch-requires-2-clause-inner c = ap (λ z. bytes_eq z places) c.in_ok-from.ensu
 pub touch-requires-2-clause-content : goal.touch-requires-2-clause-content
 touch-requires-2-clause-content c =
     let x = c.in_ok-from.from in
-    through (stamped c.args.id.now c.args.time) (node x (tree c.relocate.new.tree)) (node x (tree c.touch.new.tree)) (λ n. n.content ≡ c.in_ok-left.left) (c.touch.ensures.nodes x)
+    through (item_at_time c.args.id.now c.args.time) (node x (tree c.relocate.new.tree)) (node x (tree c.touch.new.tree)) (λ n. n.content ≡ c.in_ok-left.left) (c.touch.ensures.nodes x)
     (through (moved_only c.args.id.now c.args.parent.now) (node x (tree c.args.tree.now)) (node x (tree c.relocate.new.tree)) (λ n. n.content ≡ c.in_ok-left.left) (c.in_ok-relocate.ensures.nodes x) c.in_ok-left.ensures.content)
 
 pub touch-requires-2-clause-fit : goal.touch-requires-2-clause-fit
 touch-requires-2-clause-fit c =
     let x = c.in_ok-from.from in
-    through (stamped c.args.id.now c.args.time) (node x (tree c.relocate.new.tree)) (node x (tree c.touch.new.tree)) (λ n. is_fit (item_of n) ≡ true) (c.touch.ensures.nodes x)
+    through (item_at_time c.args.id.now c.args.time) (node x (tree c.relocate.new.tree)) (node x (tree c.touch.new.tree)) (λ n. is_fit (item_of n) ≡ true) (c.touch.ensures.nodes x)
     (through (moved_only c.args.id.now c.args.parent.now) (node x (tree c.args.tree.now)) (node x (tree c.relocate.new.tree)) (λ n. is_fit (item_of n) ≡ true) (c.in_ok-relocate.ensures.nodes x) c.in_ok-left.ensures.fit)
 
 pub touch-requires-3-clause-there : goal.touch-requires-3-clause-there
 touch-requires-3-clause-there c =
     let x = c.args.parent.now in
-    still (stamped c.in_ok-from.from c.args.time) (node x (tree c.touch.new.tree)) (node x (tree c.touch-2.new.tree)) (c.touch-2.ensures.nodes x)
-    (still (stamped c.args.id.now c.args.time) (node x (tree c.relocate.new.tree)) (node x (tree c.touch.new.tree)) (c.touch.ensures.nodes x)
+    still (item_at_time c.in_ok-from.from c.args.time) (node x (tree c.touch.new.tree)) (node x (tree c.touch-2.new.tree)) (c.touch-2.ensures.nodes x)
+    (still (item_at_time c.args.id.now c.args.time) (node x (tree c.relocate.new.tree)) (node x (tree c.touch.new.tree)) (c.touch.ensures.nodes x)
     (still (moved_only c.args.id.now c.args.parent.now) (node x (tree c.args.tree.now)) (node x (tree c.relocate.new.tree)) (c.in_ok-relocate.ensures.nodes x)
     (node_there c.args.tree.now c.args.parent.now ∙ (ap is_some (sym c.find.ensures.node) ∙ c.if-is_none.ensures))))
 
@@ -83,15 +84,15 @@ touch-requires-3-clause-inner c = takes_inner (tree c.args.tree.now) c.args.pare
 pub touch-requires-3-clause-content : goal.touch-requires-3-clause-content
 touch-requires-3-clause-content c =
     let x = c.args.parent.now in
-    through (stamped c.in_ok-from.from c.args.time) (node x (tree c.touch.new.tree)) (node x (tree c.touch-2.new.tree)) (λ n. n.content ≡ c.in_ok-taken.taken) (c.touch-2.ensures.nodes x)
-    (through (stamped c.args.id.now c.args.time) (node x (tree c.relocate.new.tree)) (node x (tree c.touch.new.tree)) (λ n. n.content ≡ c.in_ok-taken.taken) (c.touch.ensures.nodes x)
+    through (item_at_time c.in_ok-from.from c.args.time) (node x (tree c.touch.new.tree)) (node x (tree c.touch-2.new.tree)) (λ n. n.content ≡ c.in_ok-taken.taken) (c.touch-2.ensures.nodes x)
+    (through (item_at_time c.args.id.now c.args.time) (node x (tree c.relocate.new.tree)) (node x (tree c.touch.new.tree)) (λ n. n.content ≡ c.in_ok-taken.taken) (c.touch.ensures.nodes x)
     (through (moved_only c.args.id.now c.args.parent.now) (node x (tree c.args.tree.now)) (node x (tree c.relocate.new.tree)) (λ n. n.content ≡ c.in_ok-taken.taken) (c.in_ok-relocate.ensures.nodes x) c.in_ok-taken.ensures.content))
 
 pub touch-requires-3-clause-fit : goal.touch-requires-3-clause-fit
 touch-requires-3-clause-fit c =
     let x = c.args.parent.now in
-    through (stamped c.in_ok-from.from c.args.time) (node x (tree c.touch.new.tree)) (node x (tree c.touch-2.new.tree)) (λ n. is_fit (item_of n) ≡ true) (c.touch-2.ensures.nodes x)
-    (through (stamped c.args.id.now c.args.time) (node x (tree c.relocate.new.tree)) (node x (tree c.touch.new.tree)) (λ n. is_fit (item_of n) ≡ true) (c.touch.ensures.nodes x)
+    through (item_at_time c.in_ok-from.from c.args.time) (node x (tree c.touch.new.tree)) (node x (tree c.touch-2.new.tree)) (λ n. is_fit (item_of n) ≡ true) (c.touch-2.ensures.nodes x)
+    (through (item_at_time c.args.id.now c.args.time) (node x (tree c.relocate.new.tree)) (node x (tree c.touch.new.tree)) (λ n. is_fit (item_of n) ≡ true) (c.touch.ensures.nodes x)
     (through (moved_only c.args.id.now c.args.parent.now) (node x (tree c.args.tree.now)) (node x (tree c.relocate.new.tree)) (λ n. is_fit (item_of n) ≡ true) (c.in_ok-relocate.ensures.nodes x) c.in_ok-taken.ensures.fit))
 
 pub returns-clause-same : goal.returns-clause-same

@@ -2,7 +2,7 @@ use Rattle.std.proofs.Common.{bytes_eq, ◌≡◌, Some, sym, ap, ◌∙◌}
 use Rattle.std.proofs.lemmas.Result.{IfOk-weaker}
 use Rattle.ss_record.specs.Ids.{places}
 use Rattle.ss_record.specs.Items.{is_fit}
-use Rattle.ss_tree.specs.Trees.{Placed, node}
+use Rattle.ss_tree.specs.Trees.{PlacedItem, node}
 use Rattle.ss_tree.specs.Entries.{tree}
 use Rattle.ss_device.specs.Edits.{titled}
 use Rattle.ss_device.proofs.Refused.{item_id, not_there, item_is}
@@ -16,7 +16,7 @@ titled-requires c = ap (λ z. bytes_eq z places) (item_id c.args.tree.now c.find
 
 pub returns-clause-content : goal.returns-clause-content
 returns-clause-content c =
-    IfOk-weaker c.titled.result _ (λ content. (n : Placed) → node c.args.id.now (tree c.args.tree.now) ≡ Some n → titled c.args.title.now n.content ≡ content)
+    IfOk-weaker c.titled.result _ (λ content. (n : PlacedItem) → node c.args.id.now (tree c.args.tree.now) ≡ Some n → titled c.args.title.now n.content ≡ content)
     (λ content e n q. ap (λ i. titled c.args.title.now i.content) (item_is c.args.tree.now c.find.ensures.kept c.args.id.now c.in-Some.at (sym c.find.ensures.node ∙ c.in-Some.is) c.item.result.now c.item.ensures n q) ∙ sym e) c.titled.ensures.text
 
 pub returns-clause-fit : goal.returns-clause-fit

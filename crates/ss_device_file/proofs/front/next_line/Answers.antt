@@ -3,7 +3,8 @@ use Rattle.std.proofs.lemmas.Bool.{true≢false}
 use Rattle.ss_device_file.specs.Lines.{may_come}
 use Rattle.ss_device_file.proofs.Chained.{cut_short, refused}
 use Rattle.ss_device_file.proofs.front.next_line.Goals as goal
-use Rattle.ss_device_file.proofs.front.next_line.Goals.{in_default-2-via-in-Some-2+else-may_come, in_default-2-via-in_default-2}
+use Rattle.ss_device_file.proofs.front.next_line.Goals.{in_default-2-via-in-Some-2+else-may_come}
+use Rattle.ss_device_file.proofs.front.next_line.Goals.{in_default-2-via-in_default-2}
 use Rattle.ss_text.proofs.Basics.{some_same}
 
 pub returns-in_default-clause-stopped : goal.returns-in_default-clause-stopped

@@ -1,4 +1,5 @@
-use Rattle.std.proofs.Common.{◌≡◌, ℕ, true, false, refl, length, List, Option, Some, None, option_map, sym, ap, subst, ◌∙◌, ◌∷◌, [], ◌++◌}
+use Rattle.std.proofs.Common.{◌≡◌, ℕ, true, false, refl, length, List, Option, Some, None, option_map, sym, ap, subst}
+use Rattle.std.proofs.Common.{◌∙◌, ◌∷◌, [], ◌++◌}
 use Rattle.std.specs.Option.{IfSome}
 use Rattle.std.specs.Str.{IsUtf8}
 use Rattle.std.proofs.lemmas.Result.{IfOk-weaker}
@@ -10,7 +11,8 @@ use Rattle.ss_device_file.proofs.Tags.{front_utf8, item_said, item_told, some_le
 use Rattle.ss_device_file.proofs.Written.{form_in}
 use Rattle.serde_json.specs.Read.{read}
 use Rattle.ss_device_file.proofs.single.guess.Goals as goal
-use Rattle.ss_device_file.proofs.single.guess.Goals.{in_default-via-in-Some-split_last+else-last-eq10, in_default-via-in_default}
+use Rattle.ss_device_file.proofs.single.guess.Goals.{in_default-via-in-Some-split_last+else-last-eq10}
+use Rattle.ss_device_file.proofs.single.guess.Goals.{in_default-via-in_default}
 use Rattle.ss_text.proofs.Basics.{none_some}
 
 empty : (xs : List ℕ) → length xs ≡ 0 → xs ≡ []

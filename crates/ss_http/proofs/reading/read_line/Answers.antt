@@ -1,4 +1,5 @@
-use Rattle.std.proofs.Common.{◌≡◌, ◌+◌, ℕ, List, length, take, drop, ◌++◌, ◌-◌, subst, sym, ap, ◌∙◌, ◌==◌, false, arith, length-append}
+use Rattle.std.proofs.Common.{◌≡◌, ◌+◌, ℕ, List, length, take, drop, ◌++◌, ◌-◌, subst, sym, ap, ◌∙◌, ◌==◌, false, arith}
+use Rattle.std.proofs.Common.{length-append}
 use Rattle.std.specs.List.{list_any}
 use Rattle.std.proofs.lemmas.List.{take_rest}
 use Rattle.httparse.specs.Grammar.{HasNoRequest}

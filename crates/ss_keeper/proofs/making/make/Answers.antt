@@ -1,7 +1,8 @@
 use Rattle.std.proofs.Common.{◌≡◌, ◌++◌, filter, ap, sym, ◌∙◌}
 use Rattle.ss_keeper.specs.Memory.{after_commits}
 use Rattle.ss_keeper.specs.Together.{is_spared, is_time_spared, leaves, leaves_time, spared_puts, spared_times}
-use Rattle.ss_keeper.proofs.Folds.{batches-after, counter-after, filter-alike, last_delete-after, rows-after, store-after, times-after}
+use Rattle.ss_keeper.proofs.Folds.{batches-after, counter-after, filter-alike, last_delete-after, rows-after}
+use Rattle.ss_keeper.proofs.Folds.{store-after, times-after}
 use Rattle.ss_keeper.proofs.making.make.Goals as goal
 
 pub returns-clause-made : goal.returns-clause-made

@@ -1,6 +1,7 @@
 use Rattle.std.proofs.Common.{◌+◌, Fits, w64, rules, arith, sym, subst}
 use Rattle.ss_logs.specs.Fronts.{IsBadFront}
-use Rattle.ss_logs.proofs.AtPlaces.{calls_bad, calls_bad_few, front_at, front_at_few, opening_bad, opening_bad_few, opening_few}
+use Rattle.ss_logs.proofs.AtPlaces.{calls_bad, calls_bad_few, front_at, front_at_few, opening_bad, opening_bad_few}
+use Rattle.ss_logs.proofs.AtPlaces.{opening_few}
 use Rattle.ss_logs.proofs.fronts.log_behind.Goals as goal
 
 pub overflow_add-result : goal.overflow_add-result

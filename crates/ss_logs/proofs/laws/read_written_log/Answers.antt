@@ -1,7 +1,7 @@
 use Rattle.std.proofs.Common.{◌≡◌, ◌∷◌, [], ◌∙◌}
 use Rattle.std.proofs.lemmas.Result.{IfErr-weaker, IfOk-weaker}
 use Rattle.ss_logs.specs.declared.faults.LogFault.TheVariants.{Memory}
-use Rattle.ss_logs.specs.Logs.{AreLogs, IsRefused, log_of}
+use Rattle.ss_logs.specs.Logs.{AreLogs, IsWhyNoLogs, log_of}
 use Rattle.ss_logs.proofs.Written.{read_again, refused_again}
 use Rattle.ss_logs.proofs.laws.read_written_log.Goals as goal
 
@@ -12,5 +12,5 @@ returns-clause-read c =
 
 pub returns-clause-memory : goal.returns-clause-memory
 returns-clause-memory c =
-    IfErr-weaker c.read_logs.result (λ fault. IsRefused c.as_slice.result.now fault) (λ fault. fault ≡ Memory)
+    IfErr-weaker c.read_logs.result (λ fault. IsWhyNoLogs c.as_slice.result.now fault) (λ fault. fault ≡ Memory)
     (λ fault r. refused_again c.args.journal.now c.as_slice.result.now fault c.journal_form.ensures (c.as_slice.ensures.value ∙ c.in_ok-text.ensures) r) c.read_logs.ensures.refused

@@ -1,7 +1,7 @@
 use Rattle.std.proofs.Common.{◌≡◌, ◌<◌, ◌∙◌, length, Option, Some, None, option_map, sym, ap, subst, bytes_eq, arith}
 use Rattle.std.specs.HashMap.{get}
 use Rattle.ss_dupe.specs.Looks.{Id}
-use Rattle.ss_merge.specs.Ways.{Walked}
+use Rattle.ss_merge.specs.Ways.{WalksPath}
 use Rattle.ss_merge.proofs.Holding.{has_some}
 use Rattle.ss_merge.proofs.Marking.{On, first_on, put_at, known_end, none_end, goal_end, onward, far_end}
 use Rattle.ss_merge.proofs.marks.walk.Goals as goal
@@ -24,7 +24,7 @@ returns-in_default-next c =
 
 pub returns-then-is_goal : goal.returns-then-is_goal
 returns-then-is_goal c =
-    subst (λ (g : Id). Walked c.args.way.now c.args.ids.now (get bytes_eq c.args.marks.now) (get bytes_eq c.insert.new.self) c.push.new.self.items c.args.id.now (Some g)) (sym c.in_ok-copy-3.ensures)
+    subst (λ (g : Id). WalksPath c.args.way.now c.args.ids.now (get bytes_eq c.args.marks.now) (get bytes_eq c.insert.new.self) c.push.new.self.items c.args.id.now (Some g)) (sym c.in_ok-copy-3.ensures)
     (goal_end c.args.way.now c.args.ids.now c.requires.inside (get bytes_eq c.args.marks.now) c.args.id.now
     (put_at c.args.way.now c.args.ids.now c.requires.inside (get bytes_eq c.args.marks.now) c.args.id.now c.loop-step.invariant c.in_ok-copy.field-0 c.in_ok-copy-2.field-0 c.in_ok-copy.ensures c.in_ok-copy-2.ensures c.in_ok-insert.ensures.updates.0 c.in_ok-push.ensures.items)
     c.in-Some-next.reached.now (sym c.next.ensures ∙ ap (option_map (λ p. p.now)) c.in-Some-next.is) (sym c.is_goal.ensures ∙ c.if-is_goal.true))

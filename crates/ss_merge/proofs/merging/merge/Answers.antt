@@ -3,9 +3,9 @@ use Rattle.ss_tree.specs.Entries.{tree}
 use Rattle.ss_tree.specs.Trees.{IsSame}
 use Rattle.ss_dupe.specs.Pairs.{ArePairs}
 use Rattle.ss_dupe.specs.Plains.{view}
-use Rattle.ss_dupe.specs.Sides.{asked}
+use Rattle.ss_dupe.specs.Sides.{sides_asked}
 use Rattle.ss_dupe.specs.Renaming.{paired}
-use Rattle.ss_merge.specs.Merged.{all_ids, gone_of, merged, origins}
+use Rattle.ss_merge.specs.Merged.{all_ids, gone_of, entries_merged, origins}
 use Rattle.ss_merge.proofs.Whole.{are_merging, gathered, survivors}
 use Rattle.ss_merge.proofs.merging.merge.Goals as goal
 
@@ -22,7 +22,7 @@ returns-clause-tree c =
     let s = c.args.sides.now in
     let same : view c.in_ok-paired.paired.plains ≡ paired pairs s = c.in_ok-paired.ensures.same in
     let ids : c.deref.result.now ≡ all_ids pairs s = c.deref.ensures.value ∙ gathered pairs s (view c.in_ok-paired.paired.plains) c.in_ok-ids.ids.items same c.in_ok-ids.ensures in
-    subst (IsSame (tree c.in_ok-tree.tree)) (ap₂ merged same ids) c.in_ok-tree.ensures.same
+    subst (IsSame (tree c.in_ok-tree.tree)) (ap₂ entries_merged same ids) c.in_ok-tree.ensures.same
 
 pub returns-clause-survivors : goal.returns-clause-survivors
 returns-clause-survivors c =

@@ -4,7 +4,7 @@ use Rattle.std.specs.Map.{lookup}
 use Rattle.ss_tree.specs.Entries.{tree}
 use Rattle.ss_dupe.specs.Looks.{Id}
 use Rattle.ss_dupe.specs.Pairs.{ArePairs}
-use Rattle.ss_dupe.specs.Sides.{Sides, asked}
+use Rattle.ss_dupe.specs.Sides.{Sides, sides_asked}
 use Rattle.ss_dupe.specs.Plains.{look_of, view}
 use Rattle.ss_dupe.specs.Shapes.{AreShaped}
 use Rattle.ss_merge.proofs.Naming.{apart_sorted, are_names, renamed_look}
@@ -19,7 +19,7 @@ pub rename-requires-clause-names : goal.rename-requires-clause-names
 rename-requires-clause-names c =
     let s = c.args.sides.now in
     let pairs = c.in_ok-renamed.renamed.items in
-    let are : ArePairs (asked s) c.in_ok-renamed.renamed.items = subst (λ t. ArePairs t c.in_ok-renamed.renamed.items) c.in_ok-read.ensures.same c.in_ok-renamed.ensures in
+    let are : ArePairs (sides_asked s) c.in_ok-renamed.renamed.items = subst (λ t. ArePairs t c.in_ok-renamed.renamed.items) c.in_ok-read.ensures.same c.in_ok-renamed.ensures in
     are_names (tree s.mirror.now) (tree s.local.now) (tree s.remote.now) s.local_dead.now s.remote_dead.now pairs (look_of c.in_ok-read.read.local) (get bytes_eq c.in_ok-names.names)
     c.in_ok-read.ensures.local_tree c.in_ok-read.ensures.remote_tree are (λ z. ap (λ (w : Sides). w.local z) c.in_ok-read.ensures.same) (λ x. c.in_ok-names.ensures x ∙ ap (lookup (bytes_eq x)) c.deref.ensures.value)
 
@@ -32,7 +32,7 @@ returns-clause-same c =
     let g = get bytes_eq c.in_ok-names.names in
     let t = look_of c.in_ok-read.read.local in
     let pairs = c.in_ok-renamed.renamed.items in
-    let are : ArePairs (asked s) c.in_ok-renamed.renamed.items = subst (λ u. ArePairs u c.in_ok-renamed.renamed.items) c.in_ok-read.ensures.same c.in_ok-renamed.ensures in
+    let are : ArePairs (sides_asked s) c.in_ok-renamed.renamed.items = subst (λ u. ArePairs u c.in_ok-renamed.renamed.items) c.in_ok-read.ensures.same c.in_ok-renamed.ensures in
     let looks : (z : Id) → t z ≡ _ = λ z. ap (λ (w : Sides). w.local z) c.in_ok-read.ensures.same in
     let named : (x : Id) → g x ≡ lookup (bytes_eq x) pairs = λ x. c.in_ok-names.ensures x ∙ ap (lookup (bytes_eq x)) c.deref.ensures.value in
     let names = are_names (tree s.mirror.now) (tree s.local.now) (tree s.remote.now) s.local_dead.now s.remote_dead.now pairs t g

@@ -1,4 +1,5 @@
-use Rattle.std.proofs.Common.{◌≡◌, ◌≤◌, ◌&&◌, not, cond, length, sym, ap, subst, ◌∙◌, arith, take, take_all, List, ℕ, filter}
+use Rattle.std.proofs.Common.{◌≡◌, ◌≤◌, ◌&&◌, not, cond, length, sym, ap, subst, ◌∙◌, arith, take, take_all, List, ℕ}
+use Rattle.std.proofs.Common.{filter}
 use Rattle.ss_list.specs.Chain.{times}
 use Rattle.ss_record.specs.Ids.{Apart, has}
 use Rattle.ss_tree.specs.Trees.{node_ids}

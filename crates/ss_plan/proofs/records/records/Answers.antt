@@ -1,4 +1,5 @@
-use Rattle.std.proofs.Common.{◌≡◌, ◌<◌, ◌≤◌, ◌∙◌, ap, arith, length, option_map, take_all, subst, sym, inl, inr, Bor, bytes_eq, is_some}
+use Rattle.std.proofs.Common.{◌≡◌, ◌<◌, ◌≤◌, ◌∙◌, ap, arith, length, option_map, take_all, subst, sym, inl, inr, Bor}
+use Rattle.std.proofs.Common.{bytes_eq, is_some}
 use Rattle.std.specs.HashMap.{get}
 use Rattle.ss_list.specs.Chain.{times}
 use Rattle.ss_record.specs.declared.readings.Reading.{Reading}

@@ -1,7 +1,8 @@
 use Rattle.std.proofs.Common.{sym, ◌∙◌}
 use Rattle.ss_client.specs.Asking.{ask}
-use Rattle.ss_promises.proofs.Delivering.{answered, asked_alike, delivered, followed, lost, uid_is, written, written_alike}
-use Rattle.ss_laws.specs.Journals.{marked}
+use Rattle.ss_promises.proofs.Delivering.{answered, asked_alike, delivered, followed, lost, uid_is, written}
+use Rattle.ss_promises.proofs.Delivering.{written_alike}
+use Rattle.ss_laws.specs.Journals.{marked_outcome}
 use Rattle.ss_world.specs.Seats.{after}
 use Rattle.ss_promises.proofs.Failing.{given_up, is_failure, stopped, ticked}
 use Rattle.ss_promises.proofs.Meaning.{meant_alike}
@@ -30,7 +31,7 @@ returns-clause-fails c = λ manner address world n now machine mark server outpu
     let account = world.server.account in
     let goes = c.requests_come_in.ensures.routed manner address machine behind f.message f.left a ready f.reads in
     let same = asked_alike f.uid address.uid f.request _ f.newlines (sym f.routes ∙ goes.0) in
-    let reply = (marked account now f.request mark).reply in
+    let reply = (marked_outcome account now f.request mark).reply in
     let stop = stopped machine reply f.last output more next (is_failure account now f.request mark valid f.fails) (written_alike output account now f.request mark f.newlines f.last f.writes same.1)
     p c.replies_say_what_is_told.ensures.heard c.replies_are_heard.ensures
     (λ one other. c.responses_are_heard.ensures.once _ p.heard _ p.left more one other) in

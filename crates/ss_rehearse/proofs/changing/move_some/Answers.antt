@@ -3,7 +3,8 @@ use Rattle.ss_world.specs.declared.events.Edit.TheVariants as edit
 use Rattle.ss_rehearse.specs.Scripts.{move, moves}
 use Rattle.ss_rehearse.proofs.Changes.{AreChanged, moved_more, moved_same}
 use Rattle.ss_rehearse.proofs.changing.move_some.Goals as goal
-use Rattle.ss_rehearse.proofs.changing.move_some.Goals.{then-number-eq0+in_ok-id+in_ok-parent+in_ok-change, else-number-eq0}
+use Rattle.ss_rehearse.proofs.changing.move_some.Goals.{then-number-eq0+in_ok-id+in_ok-parent+in_ok-change}
+use Rattle.ss_rehearse.proofs.changing.move_some.Goals.{else-number-eq0}
 
 pub loop-at-preserved : goal.loop-at-preserved
 loop-at-preserved c =

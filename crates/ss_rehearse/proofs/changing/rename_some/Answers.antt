@@ -3,7 +3,8 @@ use Rattle.ss_world.specs.declared.events.Edit.TheVariants as edit
 use Rattle.ss_rehearse.specs.Scripts.{renaming, renamings}
 use Rattle.ss_rehearse.proofs.Changes.{AreChanged, renamed_more, renamed_same}
 use Rattle.ss_rehearse.proofs.changing.rename_some.Goals as goal
-use Rattle.ss_rehearse.proofs.changing.rename_some.Goals.{then-number-eq0+in_ok-id+in_ok-title+in_ok-change, else-number-eq0}
+use Rattle.ss_rehearse.proofs.changing.rename_some.Goals.{then-number-eq0+in_ok-id+in_ok-title+in_ok-change}
+use Rattle.ss_rehearse.proofs.changing.rename_some.Goals.{else-number-eq0}
 
 pub loop-at-preserved : goal.loop-at-preserved
 loop-at-preserved c =

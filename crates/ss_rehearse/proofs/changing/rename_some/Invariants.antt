@@ -1,13 +1,13 @@
 use Rattle.std.proofs.Common.{◌≤◌, ◌+◌, ◌*◌, List}
 use Rattle.ss_world.specs.Happening.{Step}
 use Rattle.ss_rehearse.specs.Scripts.{renamings}
-use Rattle.ss_rehearse.specs.Plays.{IsChanged}
+use Rattle.ss_rehearse.specs.Plays.{PlaysChanges}
 use Rattle.ss_rehearse.specs.Syncing.{AreIdle}
 use Rattle.ss_rehearse.proofs.changing.rename_some.Given as goal
 
 abbrev pub invariant-loop-at : goal.invariant-loop-at
 invariant-loop-at l = record {
-  changed : (steps : List Step) × IsChanged 1 l.fn.now l.initial.world (renamings l.at) steps l.world l.next;
+  changed : (steps : List Step) × PlaysChanges 1 l.fn.now l.initial.world (renamings l.at) steps l.world l.next;
   early : l.next ≤ l.fn.now + 100 * l.at;
   idle : AreIdle l.world;
 }

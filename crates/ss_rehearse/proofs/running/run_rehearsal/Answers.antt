@@ -2,14 +2,14 @@ use Rattle.std.proofs.Common.{refl, sym, subst, map, string_bytes}
 use Rattle.ss_words.specs.declared.commands.Command.{Command}
 use Rattle.ss_words.specs.declared.commands.Command.TheVariants.{Rehearse}
 use Rattle.ss_words.specs.Commands.{Asks}
-use Rattle.ss_words.specs.Refused.{IsRefused}
+use Rattle.ss_words.specs.Refused.{AsksNothing}
 use Rattle.ss_words.proofs.Asked.{one_command}
 use Rattle.ss_rehearse.specs.Runs.{asks_other, rehearses}
 use Rattle.ss_rehearse.proofs.running.run_rehearsal.Goals as goal
 
 pub returns-in-Err-Refused : goal.returns-in-Err-Refused
 returns-in-Err-Refused g c =
-    let refuses = c.in-Err-Refused.ensures.refused (subst IsRefused (sym c.in-Err-Refused.field-0-is) tt) in
+    let refuses = c.in-Err-Refused.ensures.refused (subst AsksNothing (sym c.in-Err-Refused.field-0-is) tt) in
     asks_other (λ command asks. refuses (Rehearse command) asks) refl refl
 
 pub returns-in_default : goal.returns-in_default

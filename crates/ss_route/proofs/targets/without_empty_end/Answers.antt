@@ -1,7 +1,8 @@
 use Rattle.std.proofs.Common.{ℕ, List, Bor, ◌≡◌, sym, ◌∙◌, arith, length}
 use Rattle.ss_route.proofs.Pieces.{empty_end, full_end, no_end}
 use Rattle.ss_route.proofs.targets.without_empty_end.Goals as goal
-use Rattle.ss_route.proofs.targets.without_empty_end.Goals.{else-count-ne0-via-then-count-ne0+else-is_empty, else-count-ne0-via-else-count-ne0}
+use Rattle.ss_route.proofs.targets.without_empty_end.Goals.{else-count-ne0-via-then-count-ne0+else-is_empty}
+use Rattle.ss_route.proofs.targets.without_empty_end.Goals.{else-count-ne0-via-else-count-ne0}
 
 pub returns-then-is_empty : goal.returns-then-is_empty
 returns-then-is_empty c =

@@ -4,8 +4,9 @@ use Rattle.ss_bso.specs.Account.{fresh}
 use Rattle.ss_bso.specs.Changes.{opened}
 use Rattle.ss_bso.specs.Validity.{SameAccount}
 use Rattle.ss_http.specs.Buffers.{Kept}
-use Rattle.ss_run_answer.specs.Turns.{Progress, IsTurn, asked, bytes_of}
-use Rattle.ss_run_answer.proofs.Run.{begun, turned, ended_asking, ended_cut, stopped, ended_counting, ended_early, fresh-alone, valid_fresh, unread_further, unread_at_first}
+use Rattle.ss_run_answer.specs.Turns.{Progress, IsTurn, asked_by_message, bytes_of}
+use Rattle.ss_run_answer.proofs.Run.{begun, turned, ended_asking, ended_cut, stopped, ended_counting, ended_early}
+use Rattle.ss_run_answer.proofs.Run.{fresh-alone, valid_fresh, unread_further, unread_at_first}
 use Rattle.ss_run_answer.proofs.answer.answer.Goals as goal
 
 pub returns-in_default-clause-answered : goal.returns-in_default-clause-answered
@@ -51,7 +52,7 @@ returns-in-Err-write-clause-answered g c =
     let takes = rw p.going_on at c.in-Ok-read_message.ensures.takes in
     let cause = rw p.going_on at c.in-Ok-read_message.ensures.cause in
     let m = c.in-Ok-read_message.message in
-    let T : Bool → Type 0 = λ last. IsTurn (asked c.args.command.uid m) c.reading-now.result last c.turns.account.plain c.respond-response.new.account.plain (bytes_of c.respond-response.result) in
+    let T : Bool → Type 0 = λ last. IsTurn (asked_by_message c.args.command.uid m) c.reading-now.result last c.turns.account.plain c.respond-response.new.account.plain (bytes_of c.respond-response.result) in
     ended_cut c.args.command.uid c.args.command.at
     (g.S.Told.told c.args.input.now) (g.S.Told.told c.turns.input) (g.S.Told.told c.read_message.new.source)
     (g.T.Told.told c.args.output.now) (g.T.Told.told c.turns.output) (g.T.Told.told c.write.new.output)
@@ -69,7 +70,7 @@ returns-then-message-clause-answered g c =
     let takes = rw p.going_on at c.in-Ok-read_message.ensures.takes in
     let cause = rw p.going_on at c.in-Ok-read_message.ensures.cause in
     let m = c.in-Ok-read_message.message in
-    let T : Bool → Type 0 = λ last. IsTurn (asked c.args.command.uid m) c.reading-now.result last c.turns.account.plain c.respond-response.new.account.plain (bytes_of c.respond-response.result) in
+    let T : Bool → Type 0 = λ last. IsTurn (asked_by_message c.args.command.uid m) c.reading-now.result last c.turns.account.plain c.respond-response.new.account.plain (bytes_of c.respond-response.result) in
     ended_asking c.args.command.uid c.args.command.at
     (g.S.Told.told c.args.input.now) (g.S.Told.told c.turns.input) (g.S.Told.told c.read_message.new.source)
     (g.T.Told.told c.args.output.now) (g.T.Told.told c.turns.output) (g.T.Told.told c.write.new.output)
@@ -83,7 +84,7 @@ turns-preserved g c =
     let takes = rw p.going_on at c.in-Ok-read_message.ensures.takes in
     let cause = rw p.going_on at c.in-Ok-read_message.ensures.cause in
     let m = c.in-Ok-read_message.message in
-    let T : Bool → Type 0 = λ last. IsTurn (asked c.args.command.uid m) c.reading-now.result last c.turns.account.plain c.respond-response.new.account.plain (bytes_of c.respond-response.result) in (
+    let T : Bool → Type 0 = λ last. IsTurn (asked_by_message c.args.command.uid m) c.reading-now.result last c.turns.account.plain c.respond-response.new.account.plain (bytes_of c.respond-response.result) in (
       turned c.args.command.uid c.args.command.at
           (g.S.Told.told c.args.input.now) (g.S.Told.told c.turns.input) (g.S.Told.told c.read_message.new.source)
           (g.T.Told.told c.args.output.now) (g.T.Told.told c.turns.output) (g.T.Told.told c.write.new.output)

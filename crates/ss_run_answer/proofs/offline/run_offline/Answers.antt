@@ -1,7 +1,7 @@
 use Rattle.std.specs.Prelude.{refl, map, string_bytes}
 use Rattle.std.proofs.Common.{sym, subst}
 use Rattle.ss_words.specs.declared.commands.Command.TheVariants.{Answer}
-use Rattle.ss_words.specs.Refused.{IsRefused}
+use Rattle.ss_words.specs.Refused.{AsksNothing}
 use Rattle.ss_words.specs.Commands.{Asks}
 use Rattle.ss_words.proofs.Asked.{one_command}
 use Rattle.ss_run_answer.specs.Offline.{answers, asks_nothing}
@@ -9,7 +9,7 @@ use Rattle.ss_run_answer.proofs.offline.run_offline.Goals as goal
 
 pub returns-in-Err-Refused : goal.returns-in-Err-Refused
 returns-in-Err-Refused g c =
-    asks_nothing (λ uid at asks. c.in-Err-Refused.ensures.refused (subst IsRefused (sym c.in-Err-Refused.field-0-is) tt) (Answer (record { uid = uid; at = at })) asks)
+    asks_nothing (λ uid at asks. c.in-Err-Refused.ensures.refused (subst AsksNothing (sym c.in-Err-Refused.field-0-is) tt) (Answer (record { uid = uid; at = at })) asks)
     refl (record { unread = refl; unwritten = refl; unasked = refl }) refl
 
 pub returns : goal.returns

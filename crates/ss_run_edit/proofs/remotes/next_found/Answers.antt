@@ -3,7 +3,8 @@ use Rattle.ss_record.specs.declared.readings.Sheet.{Sheet}
 use Rattle.ss_device.specs.Device.{AreById, row_ids}
 use Rattle.ss_run_edit.proofs.Rows.{bad_line, cut_short}
 use Rattle.ss_run_edit.proofs.remotes.next_found.Goals as goal
-use Rattle.ss_run_edit.proofs.remotes.next_found.Goals.{in_default-2-via-in-Some-2+else-comes_after, in_default-2-via-in_default-2}
+use Rattle.ss_run_edit.proofs.remotes.next_found.Goals.{in_default-2-via-in-Some-2+else-comes_after}
+use Rattle.ss_run_edit.proofs.remotes.next_found.Goals.{in_default-2-via-in_default-2}
 use Rattle.ss_text.proofs.Basics.{some_same}
 
 pub returns-in_default-clause-stuck : goal.returns-in_default-clause-stuck

@@ -3,16 +3,16 @@ use Rattle.std.proofs.lemmas.List.{take_rest}
 use Rattle.ss_record.specs.declared.readings.Sheet.{Sheet}
 use Rattle.ss_run_edit.specs.declared.remotes.Found.{Found}
 use Rattle.ss_run_edit.specs.declared.remotes.Found.TheVariants as found
-use Rattle.ss_run_edit.specs.Remotes.{IsFound, IsStuckBy}
+use Rattle.ss_run_edit.specs.Remotes.{IsNextRemote, IsStuckBy}
 use Rattle.ss_run_edit.proofs.Rows.{all_read, none_yet, one_more, stops}
 use Rattle.ss_run_edit.proofs.remotes.read_remotes.Goals as goal
 
 pub rows-init : goal.rows-init
 rows-init c = none_yet c.args.text.now c.new-rows.result.items c.new-rows.ensures.items
 
-found_so : (text : List ℕ) (used : ℕ) (rows told : List Sheet) (f g : Found) → told ≡ rows → f ≡ g → IsFound told (take (length text - used) (drop used text)) f → IsFound rows (drop used text) g
+found_so : (text : List ℕ) (used : ℕ) (rows told : List Sheet) (f g : Found) → told ≡ rows → f ≡ g → IsNextRemote told (take (length text - used) (drop used text)) f → IsNextRemote rows (drop used text) g
 found_so text used rows told f g e q h =
-    subst (λ (x : Found). IsFound rows (drop used text) x) q (subst (λ (rs : List Sheet). IsFound rs (drop used text) f) e (subst (λ (t : List ℕ). IsFound told t f) (take_rest text used) h))
+    subst (λ (x : Found). IsNextRemote rows (drop used text) x) q (subst (λ (rs : List Sheet). IsNextRemote rs (drop used text) f) e (subst (λ (t : List ℕ). IsNextRemote told t f) (take_rest text used) h))
 
 pub rows-preserved : goal.rows-preserved
 rows-preserved c =

@@ -1,7 +1,7 @@
 use Rattle.std.proofs.Common.{refl, sym, subst, map, string_bytes}
 use Rattle.ss_words.specs.declared.commands.Command.{Command}
 use Rattle.ss_words.specs.declared.commands.Command.TheVariants.{Edit, Merge}
-use Rattle.ss_words.specs.Refused.{IsRefused}
+use Rattle.ss_words.specs.Refused.{AsksNothing}
 use Rattle.ss_words.specs.Commands.{Asks}
 use Rattle.ss_words.proofs.Asked.{one_command}
 use Rattle.ss_run_edit.specs.Runs.{asks_neither, edits, merges}
@@ -9,7 +9,7 @@ use Rattle.ss_run_edit.proofs.running.run_device_command.Goals as goal
 
 pub returns-in-Err-Refused : goal.returns-in-Err-Refused
 returns-in-Err-Refused g c =
-    let refuses = c.in-Err-Refused.ensures.refused (subst IsRefused (sym c.in-Err-Refused.field-0-is) tt) in
+    let refuses = c.in-Err-Refused.ensures.refused (subst AsksNothing (sym c.in-Err-Refused.field-0-is) tt) in
     asks_neither (λ command asks. refuses (Edit command) asks) (λ asks. refuses Merge asks) refl (record { unread = refl; unwritten = refl; unasked = refl }) refl
 
 pub returns-in-Edit : goal.returns-in-Edit

@@ -2,15 +2,15 @@ use Rattle.std.proofs.Common.{◌≡◌, ℕ, List, length, take, drop, ◌-◌,
 use Rattle.std.proofs.lemmas.List.{take_rest}
 use Rattle.ss_run_flat.specs.declared.files.Found.{Found}
 use Rattle.ss_run_flat.specs.declared.files.Found.TheVariants as found
-use Rattle.ss_run_flat.specs.Files.{IsFound, IsStuckBy}
+use Rattle.ss_run_flat.specs.Files.{IsNextFound, IsStuckBy}
 use Rattle.ss_run_flat.proofs.SeenRows.{all_seen, none_yet, one_more, stops}
 use Rattle.ss_run_flat.proofs.files.see_rows.Goals as goal
 
 pub rows-init : goal.rows-init
 rows-init c = none_yet c.args.kind c.args.text.now c.new-flat.result c.new-flat.ensures.kind c.new-flat.ensures.none
 
-found_so : (text : List ℕ) (used : ℕ) (f g : Found) → f ≡ g → IsFound (take (length text - used) (drop used text)) f → IsFound (drop used text) g
-found_so text used f g q h = subst (λ (x : Found). IsFound (drop used text) x) q (subst (λ (t : List ℕ). IsFound t f) (take_rest text used) h)
+found_so : (text : List ℕ) (used : ℕ) (f g : Found) → f ≡ g → IsNextFound (take (length text - used) (drop used text)) f → IsNextFound (drop used text) g
+found_so text used f g q h = subst (λ (x : Found). IsNextFound (drop used text) x) q (subst (λ (t : List ℕ). IsNextFound t f) (take_rest text used) h)
 
 pub rows-preserved : goal.rows-preserved
 rows-preserved c =

@@ -5,10 +5,11 @@ use Rattle.std.proofs.lemmas.List.Elements.{All-push, All-weaker, Contains-get_o
 use Rattle.ss_booked.specs.declared.booked.Booked.{Booked}
 use Rattle.ss_site.specs.Sites.{Counts, Entries, IsEntry}
 use Rattle.ss_run_serve.specs.Hosted.{Hosted, hosted_at}
-use Rattle.ss_run_serve.specs.Opening.{AreAsBefore, CountsFaults, IsOpened, IsUnopened}
+use Rattle.ss_run_serve.specs.Opening.{AreAsBefore, CountsFaults, OpensAccount, IsUnopened}
 use Rattle.ss_run_serve.proofs.Opened.{take_whole}
 use Rattle.ss_run_serve.proofs.Lent.{all_back, out_as, out_then}
-use Rattle.ss_run_serve.proofs.Retired.{all_as_before, as_before_then, counts_then, counts_unchanged, entry_as_before, refused_then}
+use Rattle.ss_run_serve.proofs.Retired.{all_as_before, as_before_then, counts_then, counts_unchanged, entry_as_before}
+use Rattle.ss_run_serve.proofs.Retired.{refused_then}
 use Rattle.ss_run_serve.proofs.opening.open_accounts.Goals as goal
 
 pub returns-in-Err-clause-refused : goal.returns-in-Err-clause-refused
@@ -26,7 +27,7 @@ returns-in-Err-clause-as_before g c =
     let before : AreAsBefore (g.X.Site.kept c.args.site.now) (g.X.Site.kept c.open_account.new.site) =
     subst (λ (k : Option Entries). AreAsBefore k (g.X.Site.kept c.open_account.new.site)) c.loop-uid.invariant.kept c.in-Err.ensures.as_before in
     let entries : All (λ (a : ℕ × Hosted). IsEntry c.args.folder.now a.0 a.1.told (g.X.Site.kept c.open_account.new.site)) accounts =
-    All-weaker (IsOpened c.args.folder.now (g.X.Site.kept c.args.site.now)) (λ (a : ℕ × Hosted). IsEntry c.args.folder.now a.0 a.1.told (g.X.Site.kept c.open_account.new.site))
+    All-weaker (OpensAccount c.args.folder.now (g.X.Site.kept c.args.site.now)) (λ (a : ℕ × Hosted). IsEntry c.args.folder.now a.0 a.1.told (g.X.Site.kept c.open_account.new.site))
     (λ a opened. entry_as_before c.args.folder.now a.0 a.1.told (g.X.Site.kept c.args.site.now) (g.X.Site.kept c.open_account.new.site) before opened.entry) accounts c.loop-uid.invariant.opened in
     as_before_then (g.X.Site.kept c.args.site.now) (g.X.Site.kept c.open_account.new.site) (g.X.Site.kept c.retire_all.new.site) before
     (all_as_before c.args.folder.now accounts (g.X.Site.kept c.open_account.new.site) (g.X.Site.kept c.retire_all.new.site) entries c.retire_all.ensures.entries)
@@ -51,10 +52,10 @@ loop-uid-preserved g c =
     record {
       uids = ap (λ (accounts : List (ℕ × Booked g.row.X-Keeper.Denot g.X.Keeper.Keeper)). map (λ (a : ℕ × Booked g.row.X-Keeper.Denot g.X.Keeper.Keeper). a.0) accounts) c.push_reserved.ensures.items ∙ map-append (λ (a : ℕ × Booked g.row.X-Keeper.Denot g.X.Keeper.Keeper). a.0) c.loop-uid.accounts.items one
           ∙ ap (λ (us : List ℕ). us ++ uid ∷ []) invariant.uids ∙ sym (take_more c.args.uids.now c.loop-uid.uid-index 0 inside);
-      opened = subst (λ (accounts : List (ℕ × Hosted)). All (IsOpened c.args.folder.now (g.X.Site.kept c.args.site.now)) accounts)
+      opened = subst (λ (accounts : List (ℕ × Hosted)). All (OpensAccount c.args.folder.now (g.X.Site.kept c.args.site.now)) accounts)
           (sym (ap (λ (accounts : List (ℕ × Booked g.row.X-Keeper.Denot g.X.Keeper.Keeper)). map (hosted_at g.X.Keeper.Keeper.told g.X.Keeper.Keeper.keep_faults) accounts) c.push_reserved.ensures.items ∙ map-append (hosted_at g.X.Keeper.Keeper.told g.X.Keeper.Keeper.keep_faults) c.loop-uid.accounts.items one))
-          (All-push (IsOpened c.args.folder.now (g.X.Site.kept c.args.site.now)) (map (hosted_at g.X.Keeper.Keeper.told g.X.Keeper.Keeper.keep_faults) c.loop-uid.accounts.items) (hosted_at g.X.Keeper.Keeper.told g.X.Keeper.Keeper.keep_faults (uid, c.in-Ok-open_account.booked)) invariant.opened
-          (subst (λ (k : Option Entries). IsOpened c.args.folder.now k (hosted_at g.X.Keeper.Keeper.told g.X.Keeper.Keeper.keep_faults (uid, c.in-Ok-open_account.booked))) invariant.kept c.in-Ok-open_account.ensures.opened));
+          (All-push (OpensAccount c.args.folder.now (g.X.Site.kept c.args.site.now)) (map (hosted_at g.X.Keeper.Keeper.told g.X.Keeper.Keeper.keep_faults) c.loop-uid.accounts.items) (hosted_at g.X.Keeper.Keeper.told g.X.Keeper.Keeper.keep_faults (uid, c.in-Ok-open_account.booked)) invariant.opened
+          (subst (λ (k : Option Entries). OpensAccount c.args.folder.now k (hosted_at g.X.Keeper.Keeper.told g.X.Keeper.Keeper.keep_faults (uid, c.in-Ok-open_account.booked))) invariant.kept c.in-Ok-open_account.ensures.opened));
       room = omega (arith, invariant.room, c.push_reserved.ensures.capacity);
       long = omega (arith, invariant.long, c.push_reserved.ensures.len);
       counts = c.in-Ok-open_account.ensures.unchanged.0 ∙ invariant.counts;

@@ -2,14 +2,14 @@ use Rattle.std.specs.Prelude.{◌≡◌, ◌≤◌, ℕ, length, map, take, vec_
 use Rattle.ss_booked.specs.declared.booked.Booked.{Booked}
 use Rattle.ss_run_serve.specs.Hosted.{hosted_at}
 use Rattle.ss_run_serve.specs.Lending.{AreOut}
-use Rattle.ss_run_serve.specs.Opening.{IsOpened}
+use Rattle.ss_run_serve.specs.Opening.{OpensAccount}
 use Rattle.ss_run_serve.proofs.opening.open_accounts.Given as goal
 
 -- the accounts so far are open, there is room for the others, and the site tells what it told
 abbrev pub invariant-loop-uid : goal.invariant-loop-uid
 invariant-loop-uid g l = record {
   uids : map (λ (account : ℕ × Booked g.row.X-Keeper.Denot g.X.Keeper.Keeper). account.0) l.accounts.items ≡ take l.uid-index l.uids;
-  opened : All (IsOpened l.folder (g.X.Site.kept l.initial.site)) (map (hosted_at g.X.Keeper.Keeper.told g.X.Keeper.Keeper.keep_faults) l.accounts.items);
+  opened : All (OpensAccount l.folder (g.X.Site.kept l.initial.site)) (map (hosted_at g.X.Keeper.Keeper.told g.X.Keeper.Keeper.keep_faults) l.accounts.items);
   room : length l.uids ≤ vec_capacity l.accounts;
   long : vec_len l.accounts ≡ l.uid-index;
   counts : g.X.Site.counts l.site ≡ g.X.Site.counts l.initial.site;

@@ -1,7 +1,7 @@
 use Rattle.std.specs.Prelude.{ℕ, List, refl, map, string_bytes}
 use Rattle.std.proofs.Common.{inl, inr, sym, subst}
 use Rattle.ss_words.specs.declared.commands.Command.TheVariants.{Serve}
-use Rattle.ss_words.specs.Refused.{IsRefused}
+use Rattle.ss_words.specs.Refused.{AsksNothing}
 use Rattle.ss_words.specs.Commands.{Asks}
 use Rattle.ss_words.specs.declared.commands.ServeCommand.{ServeCommand}
 use Rattle.ss_words.proofs.Asked.{one_command}
@@ -12,7 +12,7 @@ use Rattle.ss_run_serve.proofs.run.run_serve.Goals as goal
 
 pub returns-in-Err-Refused-clause-runs : goal.returns-in-Err-Refused-clause-runs
 returns-in-Err-Refused-clause-runs g c =
-    asks_nothing (λ command asks. c.in-Err-Refused.ensures.refused (subst IsRefused (sym c.in-Err-Refused.field-0-is) tt) (Serve command) asks) refl refl
+    asks_nothing (λ command asks. c.in-Err-Refused.ensures.refused (subst AsksNothing (sym c.in-Err-Refused.field-0-is) tt) (Serve command) asks) refl refl
 
 pub returns-clause-runs : goal.returns-clause-runs
 returns-clause-runs g c =

@@ -6,7 +6,7 @@ use Rattle.ss_booked.specs.declared.booked.Booked.{Booked}
 use Rattle.ss_run_serve.specs.Hosted.{Hosted, hosted, hosted_at}
 use Rattle.ss_site.specs.Sites.{Lent}
 use Rattle.ss_run_serve.specs.Lending.{ListensAt}
-use Rattle.ss_run_serve.specs.Opening.{IsOpened}
+use Rattle.ss_run_serve.specs.Opening.{OpensAccount}
 use Rattle.ss_run_serve.specs.Retiring.{HaveRetired, uids_in}
 use Rattle.ss_run_serve.proofs.Lent.{all_back, out_as, out_then}
 use Rattle.ss_run_serve.proofs.Whole.{opened_begun, opened_uids, refused_all, refused_same, served_open}
@@ -25,7 +25,7 @@ returns-clause-served g c =
     served_open g.X.Port.Link.Told.told g.X.Port.Link.Closable.closed (g.G.Gate.says c.args.gate.now) c.args.command.now c.serve_logged-accounts.result.1 (record { counts = g.X.Site.counts c.args.site.now; terms = g.X.Site.terms c.args.site.now; kept = g.X.Site.kept c.args.site.now; logs = g.X.Site.logs c.args.site.now }) (record { counts = g.X.Site.counts c.open_accounts.new.site; terms = g.X.Site.terms c.open_accounts.new.site; kept = g.X.Site.kept c.open_accounts.new.site; logs = g.X.Site.logs c.open_accounts.new.site }) (record { counts = g.X.Site.counts c.serve_logged-accounts.new.site; terms = g.X.Site.terms c.serve_logged-accounts.new.site; kept = g.X.Site.kept c.serve_logged-accounts.new.site; logs = g.X.Site.logs c.serve_logged-accounts.new.site }) (record { counts = g.X.Site.counts c.retire_all.new.site; terms = g.X.Site.terms c.retire_all.new.site; kept = g.X.Site.kept c.retire_all.new.site; logs = g.X.Site.logs c.retire_all.new.site })
     (map (hosted_at g.X.Keeper.Keeper.told g.X.Keeper.Keeper.keep_faults) c.in-Ok.accounts.items) (map (hosted_at g.X.Keeper.Keeper.told g.X.Keeper.Keeper.keep_faults) c.serve_logged-accounts.result.0.items)
     (opened_uids (hosted g.X.Keeper.Keeper.told g.X.Keeper.Keeper.keep_faults) c.args.command.now.uids c.in-Ok.accounts.items (c.in-Ok.ensures.uids ∙ c.as_slice.ensures))
-    (subst (λ (folder : List ℕ). All (IsOpened folder (g.X.Site.kept c.args.site.now)) (map (hosted_at g.X.Keeper.Keeper.told g.X.Keeper.Keeper.keep_faults) c.in-Ok.accounts.items)) c.as_str-folder.ensures c.in-Ok.ensures.opened) c.in-Ok.ensures.unchanged.0 c.in-Ok.ensures.unchanged.1 c.open_accounts.ensures.terms c.open_accounts.ensures.logs
+    (subst (λ (folder : List ℕ). All (OpensAccount folder (g.X.Site.kept c.args.site.now)) (map (hosted_at g.X.Keeper.Keeper.told g.X.Keeper.Keeper.keep_faults) c.in-Ok.accounts.items)) c.as_str-folder.ensures c.in-Ok.ensures.opened) c.in-Ok.ensures.unchanged.0 c.in-Ok.ensures.unchanged.1 c.open_accounts.ensures.terms c.open_accounts.ensures.logs
     c.serve_logged-accounts.ensures.came c.serve_logged-accounts.ensures.failed c.serve_logged-accounts.ensures.kept c.retire_all.ensures.terms c.retire_all.ensures.logs (subst (λ (folder : List ℕ). HaveRetired folder (map (hosted_at g.X.Keeper.Keeper.told g.X.Keeper.Keeper.keep_faults) c.serve_logged-accounts.result.0.items) (g.X.Site.kept c.serve_logged-accounts.new.site) (g.X.Site.kept c.retire_all.new.site)) c.as_str-folder.ensures c.retire_all.ensures.entries) c.retire_all.ensures.counted c.retire_all.ensures.stand
 
 pub returns-clause-returned : goal.returns-clause-returned

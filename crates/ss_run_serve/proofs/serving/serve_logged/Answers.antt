@@ -7,7 +7,8 @@ use Rattle.ss_run_serve.specs.Logbooks.{number_in, is_kept, files_in, failures_i
 use Rattle.ss_run_serve.proofs.Lent.{none_out}
 use Rattle.ss_run_serve.proofs.Saving.{none_logged_still}
 use Rattle.ss_run_serve.proofs.Shutting.{came_to_unserved}
-use Rattle.ss_run_serve.proofs.Closing.{all_returned, came_logged, closed_failed, still_listens, unkept_none, untold_failed}
+use Rattle.ss_run_serve.proofs.Closing.{all_returned, came_logged, closed_failed, still_listens, unkept_none}
+use Rattle.ss_run_serve.proofs.Closing.{untold_failed}
 use Rattle.ss_run_serve.proofs.serving.serve_logged.Goals as goal
 
 pub returns-in-Err-clause-came : goal.returns-in-Err-clause-came

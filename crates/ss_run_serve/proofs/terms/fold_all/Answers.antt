@@ -4,7 +4,8 @@ use Rattle.ss_booked.specs.declared.booked.Booked.{Booked}
 use Rattle.ss_run_serve.specs.Hosted.{hosted_at}
 use Rattle.ss_run_serve.specs.Terms.{BeginsAnew}
 use Rattle.ss_run_serve.specs.Course.{SameKeeper}
-use Rattle.ss_run_serve.proofs.Opened.{Done, done_all, done_more, done_partly, keeper_anew, keeper_self, zip_map, zip_weaker}
+use Rattle.ss_run_serve.proofs.Opened.{Done, done_all, done_more, done_partly, keeper_anew, keeper_self, zip_map}
+use Rattle.ss_run_serve.proofs.Opened.{zip_weaker}
 use Rattle.ss_run_serve.proofs.terms.fold_all.Given.{Over}
 use Rattle.ss_run_serve.proofs.terms.fold_all.Goals as goal
 

@@ -2,7 +2,7 @@ use Rattle.std.specs.Prelude.{refl, map, string_bytes}
 use Rattle.std.proofs.Common.{sym, subst}
 use Rattle.ss_words.specs.declared.commands.Command.{Command}
 use Rattle.ss_words.specs.declared.commands.Command.TheVariants.{Sync}
-use Rattle.ss_words.specs.Refused.{IsRefused}
+use Rattle.ss_words.specs.Refused.{AsksNothing}
 use Rattle.ss_words.specs.Commands.{Asks}
 use Rattle.ss_words.proofs.Asked.{one_command}
 use Rattle.ss_run_sync.specs.Runs.{syncs, asks_nothing}
@@ -15,7 +15,7 @@ returns-in_default g c =
 
 pub returns-in-Err-Refused : goal.returns-in-Err-Refused
 returns-in-Err-Refused g c =
-    asks_nothing (λ command asks. c.in-Err-Refused.ensures.refused (subst IsRefused (sym c.in-Err-Refused.field-0-is) tt) (Sync command) asks) refl refl refl
+    asks_nothing (λ command asks. c.in-Err-Refused.ensures.refused (subst AsksNothing (sym c.in-Err-Refused.field-0-is) tt) (Sync command) asks) refl refl refl
 
 pub returns : goal.returns
 returns g c =

@@ -1,7 +1,8 @@
 use Rattle.std.proofs.Common.{rules, refl, subst, ◌∙◌, ◌≡◌, ◌<◌, ◌≤◌, ◌+◌, ℕ, length, arith}
 use lib.ListN.{get_elem?}
 use Rattle.ss_town.specs.Opening.{HasUid, AreFew}
-use Rattle.ss_town.proofs.Openings.{pair_at, none_at_all, one_more_nonzero, all_distinct, one_more_distinct, one_more_other}
+use Rattle.ss_town.proofs.Openings.{pair_at, none_at_all, one_more_nonzero, all_distinct, one_more_distinct}
+use Rattle.ss_town.proofs.Openings.{one_more_other}
 use Rattle.ss_town.proofs.opening.fault_of.Goals as goal
 
 pub loop-i-init : goal.loop-i-init

@@ -1,4 +1,5 @@
-use Rattle.std.proofs.Common.{rules, subst, sym, ap, ◌∙◌, ◌++◌, ◌∷◌, [], arith, vec_len, length, length-append, get_or, ◌<◌, ◌≡◌, ◌+◌}
+use Rattle.std.proofs.Common.{rules, subst, sym, ap, ◌∙◌, ◌++◌, ◌∷◌, [], arith, vec_len, length, length-append, get_or}
+use Rattle.std.proofs.Common.{◌<◌, ◌≡◌, ◌+◌}
 use Rattle.ss_desk.specs.Passes.{AreOf, view_at}
 use Rattle.ss_town.specs.Places.{Handed}
 use Rattle.ss_desk.specs.Views.{CoversAll}

@@ -8,7 +8,7 @@ use Rattle.ss_bso.specs.Validity.{SameAccount}
 use Rattle.ss_query.specs.declared.replies.Mark.TheVariants.{Done, Keeper as KeeperMark, Memory as MemoryMark}
 use Rattle.ss_query.specs.Marks.{mark_of}
 use Rattle.ss_query.specs.Api.{outcome, refusal}
-use Rattle.ss_laws.specs.Journals.{marked}
+use Rattle.ss_laws.specs.Journals.{marked_outcome}
 use Rattle.ss_keeper.specs.declared.calls.KeeperCalls.{KeeperCalls}
 use Rattle.ss_keeper.specs.declared.faults.KeepFault.TheVariants.{Fault, Memory}
 use Rattle.ss_account.specs.declared.ledger.Ledger.{Ledger}
@@ -104,11 +104,11 @@ invariant_of-self g c = sound g c
 
 pub returns-clause-account : goal.returns-clause-account
 returns-clause-account g c =
-    subst (λ (a : Held _). SameAccount (marked a.plain c.args.now c.args.request.now (mark_of c.match-answer.result)).account c.answer.new.self) c.self.view_is (stepped g c).same
+    subst (λ (a : Held _). SameAccount (marked_outcome a.plain c.args.now c.args.request.now (mark_of c.match-answer.result)).account c.answer.new.self) c.self.view_is (stepped g c).same
 
 pub returns-clause-reply : goal.returns-clause-reply
 returns-clause-reply g c =
-    subst (λ (a : Held _). c.match-answer.result ≡ (marked a.plain c.args.now c.args.request.now (mark_of c.match-answer.result)).reply) c.self.view_is (stepped g c).told
+    subst (λ (a : Held _). c.match-answer.result ≡ (marked_outcome a.plain c.args.now c.args.request.now (mark_of c.match-answer.result)).reply) c.self.view_is (stepped g c).told
 
 pub returns-clause-valid : goal.returns-clause-valid
 returns-clause-valid g c = (stepped g c).valid

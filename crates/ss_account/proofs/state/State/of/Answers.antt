@@ -1,4 +1,5 @@
-use Rattle.std.proofs.Common.{rules, ℕ, ◌+◌, ◌≤◌, ◌<◌, ◌-◌, ◌^◌, All, AllPairs, List, arith, length, refl, subst, sym, ap, ◌∙◌}
+use Rattle.std.proofs.Common.{rules, ℕ, ◌+◌, ◌≤◌, ◌<◌, ◌-◌, ◌^◌, All, AllPairs, List, arith, length, refl, subst, sym}
+use Rattle.std.proofs.Common.{ap, ◌∙◌}
 use Rattle.std.specs.Prelude.{IsFalse}
 use Rattle.ss_bso.specs.declared.account.Staged.{Staged}
 use Rattle.ss_bso.specs.declared.rows.Row.{Row}
@@ -9,7 +10,7 @@ use Rattle.ss_text.specs.Texts.{Reordered}
 use Rattle.ss_index.specs.Shelved.{rows_in}
 use Rattle.ss_bso.proofs.Full.{within-number}
 use Rattle.ss_bso.proofs.Reordering.{reordered-refl}
-use Rattle.ss_batch.specs.Stage.{IsGiven, IsOther, StageView}
+use Rattle.ss_batch.specs.Stage.{HasGivenNumber, IsOther, StageView}
 use Rattle.ss_account.proofs.Opened.{given-good, numbers-good, valid-plain_of}
 use Rattle.ss_account.proofs.state.State.of.Goals as goal
 
@@ -27,7 +28,7 @@ from_rows-requires c =
 
 pub from_staged-requires : goal.from_staged-requires
 from_staged-requires c = record {
-  given = subst (λ (batches : List Staged). All (IsGiven c.args.kept.counter) batches) (sym c.into_vec-3.ensures) (given-good c.args.kept c.requires);
+  given = subst (λ (batches : List Staged). All (HasGivenNumber c.args.kept.counter) batches) (sym c.into_vec-3.ensures) (given-good c.args.kept c.requires);
   apart = subst (λ (batches : List Staged). AllPairs IsOther batches) (sym c.into_vec-3.ensures) (numbers-good c.args.kept c.requires);
 }
 

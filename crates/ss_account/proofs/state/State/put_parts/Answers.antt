@@ -5,7 +5,7 @@ use Rattle.ss_bso.specs.Account.{row_at}
 use Rattle.ss_bso.specs.Write.{ids_of, parts_of, put_all, rows_without, rows_written, stamped}
 use Rattle.ss_query.specs.Effect.{is_over}
 use Rattle.ss_writes.specs.declared.pending.Pending.TheVariants.{Put}
-use Rattle.ss_writes.specs.Pending.{IsPutReady, applied, without_batch}
+use Rattle.ss_writes.specs.Pending.{IsPutReady, account_after_pending, without_batch}
 use Rattle.ss_account.proofs.Ready.{few-written, put_ready}
 use Rattle.ss_account.proofs.state.State.put_parts.Goals as goal
 
@@ -26,7 +26,7 @@ returns c =
     ap (λ (left : List Row). is_over (stamped account name stamp left)) (sym written ∙ ap (λ (more : List Row). rows_without name targets account.rows ++ more) (sym slice))
     ∙ sym (c.would_be_over.ensures stamp) ∙ c.if-would_be_over.false in (
       fits,
-      ap (λ (n : List ℕ). applied account stamp (Put n targets c.in_ok-rows.rows c.args.batch)) c.in_ok-collection.ensures
+      ap (λ (n : List ℕ). account_after_pending account stamp (Put n targets c.in_ok-rows.rows c.args.batch)) c.in_ok-collection.ensures
           ∙ ap (λ (left : List Row). without_batch c.args.batch (stamped account name stamp left)) written,
       subst (λ (n : List ℕ). IsPutReady account stamp n targets c.in_ok-rows.rows.items c.args.batch) (sym c.in_ok-collection.ensures)
           (subst (λ (t : List (List ℕ)). IsPutReady account stamp name t c.in_ok-rows.rows.items c.args.batch) (sym ids)

@@ -3,7 +3,7 @@ use Rattle.std.specs.Prelude.{Err, slice_set}
 use Rattle.ss_bso.specs.declared.parts.Part.{Part}
 use Rattle.ss_bso.specs.declared.account.Staged.{Staged}
 use Rattle.ss_batch.specs.declared.faults.StageFault.TheVariants.{NotLive}
-use Rattle.ss_batch.specs.Stage.{FaultIs, AreNumbered, StageView, append_fault, has_number, more, reach, with_parts}
+use Rattle.ss_batch.specs.Stage.{FaultIs, HaveOwnNumbers, StageView, append_fault, has_number, more, reach, with_parts}
 use Rattle.ss_batch.proofs.Numbers.{IsAt, placed-in, unplaced-in, set-at, numbered-with_parts}
 use Rattle.ss_batch.proofs.stage.Stage.append.Goals as goal
 
@@ -28,7 +28,7 @@ invariant_of-self-2 c =
     let at : IsAt (has_number number) batches c.in-Some.place = placed-in number batches c.args.self.now.batches c.place.result c.in-Some.place same c.place.ensures c.in-Some.is in
     let left : slice_set batches c.in-Some.place c.extend.new.staged ≡ with_parts number change batches =
     set-at number change c.self.inside.counter batches c.in-Some.place staged c.extend.new.staged c.self.invariant at (c.in_ok-extend.ensures.ok ∙ ap (λ (one : Staged). record one { parts = change one.parts }) c.index_mut.ensures.value) in
-    subst (AreNumbered c.self.inside.counter) (sym left) (numbered-with_parts number change c.self.inside.counter batches c.self.invariant)
+    subst (HaveOwnNumbers c.self.inside.counter) (sym left) (numbered-with_parts number change c.self.inside.counter batches c.self.invariant)
 
 pub returns-clause-ok : goal.returns-clause-ok
 returns-clause-ok c =

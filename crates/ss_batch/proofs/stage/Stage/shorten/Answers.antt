@@ -2,8 +2,9 @@ use Rattle.std.proofs.Common.{◌≡◌, ◌≤◌, ◌-◌, List, length, take,
 use Rattle.std.specs.Prelude.{slice_set}
 use Rattle.ss_bso.specs.declared.parts.Part.{Part}
 use Rattle.ss_bso.specs.declared.account.Staged.{Staged}
-use Rattle.ss_batch.specs.Stage.{AreNumbered, StageView, has_number, with_parts}
-use Rattle.ss_batch.proofs.Numbers.{IsAt, placed, placed-in, live-placed, live-some, some-at, set-at, numbered-with_parts}
+use Rattle.ss_batch.specs.Stage.{HaveOwnNumbers, StageView, has_number, with_parts}
+use Rattle.ss_batch.proofs.Numbers.{IsAt, placed, placed-in, live-placed, live-some, some-at, set-at}
+use Rattle.ss_batch.proofs.Numbers.{numbered-with_parts}
 use Rattle.ss_batch.proofs.stage.Stage.shorten.Goals as goal
 
 pub unreachable-requires : goal.unreachable-requires
@@ -32,7 +33,7 @@ invariant_of-self c =
     let at : IsAt (has_number number) batches c.in-Some.place = placed-in number batches c.args.self.now.batches c.place.result c.in-Some.place same c.place.ensures c.in-Some.is in
     let left : slice_set batches c.in-Some.place c.cut.new.staged ≡ with_parts number change batches =
     set-at number change c.self.inside.counter batches c.in-Some.place staged c.cut.new.staged c.self.invariant at (c.cut.ensures ∙ ap (λ (one : Staged). record one { parts = change one.parts }) c.index_mut.ensures.value) in
-    subst (AreNumbered c.self.inside.counter) (sym left) (numbered-with_parts number change c.self.inside.counter batches c.self.invariant)
+    subst (HaveOwnNumbers c.self.inside.counter) (sym left) (numbered-with_parts number change c.self.inside.counter batches c.self.invariant)
 
 pub returns : goal.returns
 returns c =

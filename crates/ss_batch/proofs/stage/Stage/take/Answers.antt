@@ -1,6 +1,6 @@
 use Rattle.std.proofs.Common.{◌≡◌, IfSome, get_or, sym, ap, subst, ◌∙◌}
 use Rattle.ss_bso.specs.declared.account.Staged.{Staged}
-use Rattle.ss_batch.specs.Stage.{AreNumbered, StageView, has_number}
+use Rattle.ss_batch.specs.Stage.{HaveOwnNumbers, StageView, has_number}
 use Rattle.ss_bso.specs.Batches.{batches_without}
 use Rattle.ss_batch.proofs.Numbers.{IsAt, placed, placed-in, live-placed, found-at, remove-at, numbered-filter}
 use Rattle.ss_batch.proofs.stage.Stage.take.Goals as goal
@@ -15,7 +15,7 @@ invariant_of-self c =
     let same = ap (λ (s : StageView). s.batches) c.self.view_is in
     let at : IsAt (has_number number) batches c.in-Some.place = placed-in number batches c.args.self.now.batches c.place.result c.in-Some.place same c.place.ensures c.in-Some.is in
     let left : c.remove.new.self.items ≡ batches_without number batches = c.remove.ensures.items ∙ remove-at number c.self.inside.counter batches c.in-Some.place c.self.invariant at in
-    subst (AreNumbered c.self.inside.counter) (sym left) (numbered-filter _ c.self.inside.counter batches c.self.invariant)
+    subst (HaveOwnNumbers c.self.inside.counter) (sym left) (numbered-filter _ c.self.inside.counter batches c.self.invariant)
 
 pub returns-clause-parts : goal.returns-clause-parts
 returns-clause-parts c =

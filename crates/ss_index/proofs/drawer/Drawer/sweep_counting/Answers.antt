@@ -3,7 +3,8 @@ use Rattle.indexmap.specs.IndexMap.{get}
 use Rattle.ss_bso.specs.Account.{is_alive}
 use Rattle.ss_index.specs.Sweep.{Outlives}
 use Rattle.ss_index.proofs.Drawers.{taken_kept, taken_size}
-use Rattle.ss_index.proofs.Sweeping.{stands_at, middle_place, middle_value, middle_without, sweep_on, sweep_out, sweep_all, outlive_all, length-values, is_some_from, row_is}
+use Rattle.ss_index.proofs.Sweeping.{stands_at, middle_place, middle_value, middle_without, sweep_on, sweep_out}
+use Rattle.ss_index.proofs.Sweeping.{sweep_all, outlive_all, length-values, is_some_from, row_is}
 use Rattle.ss_index.proofs.Shelves.{weaker_ends}
 use Rattle.ss_index.proofs.drawer.Drawer.sweep_counting.Goals as goal
 

@@ -1,7 +1,8 @@
 use Rattle.std.proofs.Common.{◌≡◌, refl, cond, bytes_eq, None, sym, ap, subst, IsSome, ◌∙◌}
 use Rattle.std.specs.Prelude.{List, ℕ, Bool, true, false}
 use Rattle.indexmap.specs.IndexMap.{get}
-use Rattle.ss_index.proofs.Drawers.{find_some, find_no, but_none, live_at, kept_still, taken_rows, taken_size, taken_kept}
+use Rattle.ss_index.proofs.Drawers.{find_some, find_no, but_none, live_at, kept_still, taken_rows, taken_size}
+use Rattle.ss_index.proofs.Drawers.{taken_kept}
 use Rattle.ss_index.proofs.drawer.Drawer.take.Goals as goal
 use Rattle.ss_text.proofs.Basics.{same_text}
 

@@ -4,7 +4,8 @@ use Rattle.ss_bso.specs.declared.rows.Row.{Row}
 use Rattle.ss_bso.specs.Limits.{row_bytes}
 use Rattle.ss_index.specs.Held.{has_id, rows_but_id}
 use Rattle.ss_bso.proofs.Lists.{sum_by-filter_le}
-use Rattle.ss_index.proofs.Shelves.{rows_of-there, edit_rows, edit_shelf, shelf_len_within, shelf_total_within, shelf_bytes, weaker_ends}
+use Rattle.ss_index.proofs.Shelves.{rows_of-there, edit_rows, edit_shelf, shelf_len_within, shelf_total_within}
+use Rattle.ss_index.proofs.Shelves.{shelf_bytes, weaker_ends}
 use Rattle.ss_index.proofs.Changing.{room-edited, room_there, room_not_none}
 use Rattle.ss_index.proofs.shelf.Shelf.put_row.Goals as goal
 

@@ -5,7 +5,8 @@ use Rattle.ss_bso.specs.Account.{is_alive}
 use Rattle.ss_bso.specs.Limits.{row_bytes}
 use Rattle.ss_index.specs.Sweep.{AliveTo, HoldsTo, Outlives}
 use Rattle.ss_bso.proofs.Lists.{Each, Each-passes, Each-imp, sum_by-filter_le}
-use Rattle.ss_index.proofs.SweepingAll.{swept_rows, holds_more, holds_past, length_swept, room_swept, within_at, shelf_swept}
+use Rattle.ss_index.proofs.SweepingAll.{swept_rows, holds_more, holds_past, length_swept, room_swept, within_at}
+use Rattle.ss_index.proofs.SweepingAll.{shelf_swept}
 use Rattle.ss_index.proofs.Shelves.{weaker_ends}
 use Rattle.ss_index.proofs.shelf.Shelf.sweep_drawer.Goals as goal
 use Rattle.ss_text.proofs.Basics.{length-filter_le}

@@ -1,5 +1,6 @@
 use Rattle.std.proofs.Common.{arith}
-use Rattle.ss_list.proofs.Calls.{Moves, live_node, live_inner, live_left, live_right, unlinked_back, moved_sound, moved_nodes, moved_free, moved_values, whole_slice}
+use Rattle.ss_list.proofs.Calls.{Moves, live_node, live_inner, live_left, live_right, unlinked_back, moved_sound}
+use Rattle.ss_list.proofs.Calls.{moved_nodes, moved_free, moved_values, whole_slice}
 use Rattle.ss_list.proofs.chain.Chain.move_back.Goals as goal
 
 pub unlink-requires-clause-node : goal.unlink-requires-clause-node

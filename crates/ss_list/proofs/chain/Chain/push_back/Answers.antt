@@ -1,5 +1,7 @@
 use Rattle.std.proofs.Common.{◌<◌, arith}
-use Rattle.ss_list.proofs.Calls.{Pushes, lies_from_sound, spare_seen, total, back_is_place, free_node, free_blank, pushed_sound, pushed_nodes, pushed_free, pushed_fresh, pushed_value, pushed_others, whole_slice}
+use Rattle.ss_list.proofs.Calls.{Pushes, lies_from_sound, spare_seen, total, back_is_place, free_node, free_blank}
+use Rattle.ss_list.proofs.Calls.{pushed_sound, pushed_nodes, pushed_free, pushed_fresh, pushed_value, pushed_others}
+use Rattle.ss_list.proofs.Calls.{whole_slice}
 use Rattle.ss_list.proofs.chain.Chain.push_back.Goals as goal
 
 pub occupy-self-inside-requires-clause-node : goal.occupy-self-inside-requires-clause-node

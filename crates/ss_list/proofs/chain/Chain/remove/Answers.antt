@@ -1,5 +1,7 @@
 use Rattle.std.proofs.Common.{arith, sym, ◌∙◌}
-use Rattle.ss_list.proofs.Calls.{Removes, live_node, live_inner, live_left, live_right, live_filled, live_value, removed_sound, removed_nodes, removed_free, removed_gone, removed_others, total, lies_from_sound, whole_slice}
+use Rattle.ss_list.proofs.Calls.{Removes, live_node, live_inner, live_left, live_right, live_filled, live_value}
+use Rattle.ss_list.proofs.Calls.{removed_sound, removed_nodes, removed_free, removed_gone, removed_others, total}
+use Rattle.ss_list.proofs.Calls.{lies_from_sound, whole_slice}
 use Rattle.ss_list.proofs.chain.Chain.remove.Goals as goal
 
 pub unlink-requires-clause-node : goal.unlink-requires-clause-node

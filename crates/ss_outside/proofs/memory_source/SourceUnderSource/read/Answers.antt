@@ -1,4 +1,5 @@
-use Rattle.std.proofs.Common.{◌≡◌, ◌<◌, ◌≤◌, ◌+◌, ◌-◌, ◌++◌, length, take, drop, get_or, rules, arith, ◌∙◌, ap, length-drop}
+use Rattle.std.proofs.Common.{◌≡◌, ◌<◌, ◌≤◌, ◌+◌, ◌-◌, ◌++◌, length, take, drop, get_or, rules, arith, ◌∙◌, ap}
+use Rattle.std.proofs.Common.{length-drop}
 use Rattle.std.proofs.lemmas.List.{length-take-le}
 use Rattle.ss_outside.proofs.Pieces.{pieces_after, HasRead-piece}
 use Rattle.ss_outside.proofs.Telling.{front_is}

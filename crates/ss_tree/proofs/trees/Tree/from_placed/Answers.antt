@@ -1,10 +1,12 @@
-use Rattle.std.proofs.Common.{◌≡◌, [], ◌++◌, ◌∷◌, Some, length, cond, bytes_eq, refl, sym, ap, ◌∙◌, subst, arith, append_assoc, length-append}
+use Rattle.std.proofs.Common.{◌≡◌, [], ◌++◌, ◌∷◌, Some, length, cond, bytes_eq, refl, sym, ap, ◌∙◌, subst, arith}
+use Rattle.std.proofs.Common.{append_assoc, length-append}
 use Rattle.ss_tree.specs.Entries.{node_of}
 use Rattle.ss_tree.specs.Cells.{listing}
 use Rattle.ss_tree.proofs.Ids.{node_alike}
 use Rattle.ss_tree.proofs.Changed.{Holds, holds_linked, holds_entry, holds_kids}
 use Rattle.ss_tree.proofs.Hanging.{hangs_full}
-use Rattle.ss_tree.proofs.Grown.{Built, Next, built_nil, built_more, built_holds, next_entry, added_long, all_done, ids_more, node_none}
+use Rattle.ss_tree.proofs.Grown.{Built, Next, built_nil, built_more, built_holds, next_entry, added_long, all_done}
+use Rattle.ss_tree.proofs.Grown.{ids_more, node_none}
 use Rattle.ss_tree.proofs.trees.Tree.from_placed.Goals as goal
 
 pub loop-entry-init : goal.loop-entry-init

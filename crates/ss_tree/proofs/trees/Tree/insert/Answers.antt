@@ -5,7 +5,8 @@ use Rattle.ss_tree.specs.Entries.{insert_fault}
 use Rattle.ss_tree.specs.declared.cells.TheConstants.{END}
 use Rattle.ss_tree.specs.declared.cells.Cell.{Cell}
 use Rattle.ss_tree.specs.Cells.{cell_at, link_of, listing, seat_at, Attaches, Hangs, Seats, IsLinked}
-use Rattle.ss_tree.proofs.Changed.{holds_linked, insert_places, insert_under, inserted, inserted_entry, inserted_kids, inserted_ids}
+use Rattle.ss_tree.proofs.Changed.{holds_linked, insert_places, insert_under, inserted, inserted_entry, inserted_kids}
+use Rattle.ss_tree.proofs.Changed.{inserted_ids}
 use Rattle.ss_tree.proofs.Hanging.{inserted_hangs}
 use Rattle.ss_tree.proofs.trees.Tree.insert.Goals as goal
 

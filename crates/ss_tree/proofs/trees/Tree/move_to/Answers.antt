@@ -4,7 +4,8 @@ use Rattle.ss_tree.specs.declared.entries.Entry.{Entry}
 use Rattle.ss_tree.specs.Entries.{above, entry, move_fault, under}
 use Rattle.ss_tree.specs.declared.cells.Cell.{Cell}
 use Rattle.ss_tree.specs.Cells.{next_of, prev_of, link_of, seat_at, listing, Joins, Attaches, SameLinks, IsLinked}
-use Rattle.ss_tree.proofs.Changed.{holds_linked, move_parent, move_loose, has_parent, leave_places, moved, moved_entries, moved_kids, moved_ids, move_places}
+use Rattle.ss_tree.proofs.Changed.{holds_linked, move_parent, move_loose, has_parent, leave_places, moved}
+use Rattle.ss_tree.proofs.Changed.{moved_entries, moved_kids, moved_ids, move_places}
 use Rattle.ss_tree.proofs.Hanging.{moved_hangs}
 use Rattle.ss_tree.proofs.trees.Tree.move_to.Goals as goal
 use Rattle.ss_text.proofs.Basics.{is_one}

@@ -4,7 +4,8 @@ use Rattle.ss_tree.specs.declared.entries.Entry.{Entry}
 use Rattle.ss_tree.specs.Entries.{above, entry, remove_fault}
 use Rattle.ss_tree.specs.declared.cells.Cell.{Cell}
 use Rattle.ss_tree.specs.Cells.{cell_at, next_of, prev_of, seat_at, listing, Joins, Frees, IsLinked}
-use Rattle.ss_tree.proofs.Changed.{holds_linked, remove_loose, has_parent, leave_places, removed, removed_entries, removed_kids, removed_ids}
+use Rattle.ss_tree.proofs.Changed.{holds_linked, remove_loose, has_parent, leave_places, removed, removed_entries}
+use Rattle.ss_tree.proofs.Changed.{removed_kids, removed_ids}
 use Rattle.ss_tree.proofs.Hanging.{removed_hangs}
 use Rattle.ss_tree.proofs.trees.Tree.remove.Goals as goal
 

@@ -1,6 +1,6 @@
 use Rattle.std.proofs.Common.{◌≡◌, ◌==◌, ℕ, List, true, cond, sym, ◌∙◌, arith, option_map}
 use Rattle.ss_list.proofs.Calls.{whole_slice}
-use Rattle.ss_tree.specs.Entries.{is_fit_with, revised}
+use Rattle.ss_tree.specs.Entries.{is_fit_with, revised_entry}
 use Rattle.ss_tree.proofs.Edits.{live_entry}
 use Rattle.ss_tree.specs.declared.cells.Cell.{Cell}
 use Rattle.ss_tree.specs.Cells.{seat_at, listing, SameLinks, IsLinked}
@@ -33,7 +33,7 @@ invariant_of-self c =
     let fit : is_fit_with c.args.content k (listing cells) ≡ true = rw c.self.view_is c.requires.fit in
     let new : List Cell = c.revise.new.cells in
     let same : SameLinks cells new = rw c.as_mut_slice.ensures.value at c.revise.ensures.links in
-    let seats : (j : ℕ) → seat_at new j ≡ cond (j == k) (option_map (revised c.args.content c.args.time) (seat_at cells j)) (seat_at cells j) = rw (c.as_mut_slice.ensures.value, c.number.ensures) at c.revise.ensures.seats in
+    let seats : (j : ℕ) → seat_at new j ≡ cond (j == k) (option_map (revised_entry c.args.content c.args.time) (seat_at cells j)) (seat_at cells j) = rw (c.as_mut_slice.ensures.value, c.number.ensures) at c.revise.ensures.seats in
     let whole = whole_slice c.self.inside.cells.len cells new (omega arith) same.long in
     rw whole (holds_linked (revised_holds cells k c.args.content c.args.time new linked c.requires.inside fit same seats), λ x. c.self.invariant.1 x ∙ sym (revised_ids cells k c.args.content c.args.time new linked c.requires.inside fit same seats x), revised_hangs cells k c.args.content c.args.time new linked same seats c.self.inside.vacant c.self.invariant.2)
 
@@ -45,7 +45,7 @@ returns-clause-entries c =
     let fit : is_fit_with c.args.content k (listing cells) ≡ true = rw c.self.view_is c.requires.fit in
     let new : List Cell = c.revise.new.cells in
     let same : SameLinks cells new = rw c.as_mut_slice.ensures.value at c.revise.ensures.links in
-    let seats : (j : ℕ) → seat_at new j ≡ cond (j == k) (option_map (revised c.args.content c.args.time) (seat_at cells j)) (seat_at cells j) = rw (c.as_mut_slice.ensures.value, c.number.ensures) at c.revise.ensures.seats in
+    let seats : (j : ℕ) → seat_at new j ≡ cond (j == k) (option_map (revised_entry c.args.content c.args.time) (seat_at cells j)) (seat_at cells j) = rw (c.as_mut_slice.ensures.value, c.number.ensures) at c.revise.ensures.seats in
     let whole = whole_slice c.self.inside.cells.len cells new (omega arith) same.long in
     rw (whole, ← c.self.view_is) (revised_entries cells k c.args.content c.args.time new linked c.requires.inside fit same seats)
 
@@ -57,6 +57,6 @@ returns-clause-kids c =
     let fit : is_fit_with c.args.content k (listing cells) ≡ true = rw c.self.view_is c.requires.fit in
     let new : List Cell = c.revise.new.cells in
     let same : SameLinks cells new = rw c.as_mut_slice.ensures.value at c.revise.ensures.links in
-    let seats : (j : ℕ) → seat_at new j ≡ cond (j == k) (option_map (revised c.args.content c.args.time) (seat_at cells j)) (seat_at cells j) = rw (c.as_mut_slice.ensures.value, c.number.ensures) at c.revise.ensures.seats in
+    let seats : (j : ℕ) → seat_at new j ≡ cond (j == k) (option_map (revised_entry c.args.content c.args.time) (seat_at cells j)) (seat_at cells j) = rw (c.as_mut_slice.ensures.value, c.number.ensures) at c.revise.ensures.seats in
     let whole = whole_slice c.self.inside.cells.len cells new (omega arith) same.long in
     rw (whole, ← c.self.view_is) (revised_kids cells k c.args.content c.args.time new linked c.requires.inside fit same seats)

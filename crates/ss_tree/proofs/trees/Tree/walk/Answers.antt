@@ -4,7 +4,8 @@ use Rattle.std.proofs.Common.{true}
 use Rattle.std.specs.List.{All}
 use Rattle.ss_tree.specs.Entries.{is_live}
 use Rattle.ss_tree.proofs.Live.{live_preorder}
-use Rattle.std.proofs.Common.{◌≡◌, ◌≤◌, ◌++◌, ◌∷◌, [], ℕ, length, Option, Some, sym, ap, ◌∙◌, subst, arith, length-append}
+use Rattle.std.proofs.Common.{◌≡◌, ◌≤◌, ◌++◌, ◌∷◌, [], ℕ, length, Option, Some, sym, ap, ◌∙◌, subst, arith}
+use Rattle.std.proofs.Common.{length-append}
 use Rattle.ss_tree.proofs.Valid.{valid_tree}
 use Rattle.ss_tree.specs.Entries.{IsTree, preorder}
 use Rattle.ss_tree.specs.Cells.{listing}

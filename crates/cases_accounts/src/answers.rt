@@ -9,7 +9,7 @@ mod runs;
 pub fn tell_cases(rt: &HostRuntime, lines: &[String]) -> anyhow::Result<()> {
     for line in lines {
         let case = cases::read(rt.alloc(), line.as_str())?;
-        let told = runs::told(rt.alloc(), case)?;
+        let told = runs::run_line(rt.alloc(), case)?;
         println!(rt; "{told}")?;
     }
     Ok(())

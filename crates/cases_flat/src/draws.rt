@@ -1,7 +1,7 @@
 //! Sets of rows that are drawn: few ids, times, texts and visits, so that they meet.
 
 use crate::chances::Chances;
-use crate::ways::told;
+use crate::ways::set_line;
 use anyhow::bail;
 use ss_flat::FlatKind;
 use std::alloc::{AllocError, Global};
@@ -94,7 +94,7 @@ pub fn draws(alloc: Global, kind: FlatKind, text: &str) -> anyhow::Result<String
     let mut sum = 14_695_981_039_346_656_037;
     for _ in 0..count {
         let lines = lines(alloc, &mut chances, kind)?;
-        sum = summed(sum, told(alloc, kind, lines.as_slice())?.as_str());
+        sum = summed(sum, set_line(alloc, kind, lines.as_slice())?.as_str());
     }
     Ok(format!(in alloc; "{count} sets of rows, sum {sum}\n")?)
 }

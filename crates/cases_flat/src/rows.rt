@@ -1,7 +1,7 @@
 //! The rows of a set, a line each.
 
 use crate::draws::draws;
-use crate::ways::told;
+use crate::ways::set_line;
 use anyhow::bail;
 use ss_flat::FlatKind;
 use std::alloc::Global;
@@ -32,7 +32,7 @@ impl RowSet {
         match word {
             "history" => self.begin(FlatKind::History),
             "forms" => self.begin(FlatKind::Forms),
-            "[\"end\"]" => return told(alloc, self.kind, self.lines.as_slice()),
+            "[\"end\"]" => return set_line(alloc, self.kind, self.lines.as_slice()),
             "draws" => return draws(alloc, self.kind, rest),
             _ => if line.starts_with("[\"row\",") {
                 self.lines.push(String::from_str(alloc, line)?)?;

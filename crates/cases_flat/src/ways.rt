@@ -80,7 +80,7 @@ fn all_joined(
 }
 
 /// What some rows come to, where all ways to their set tell the same.
-pub fn told(alloc: Global, kind: FlatKind, lines: &[String]) -> anyhow::Result<String> {
+pub fn set_line(alloc: Global, kind: FlatKind, lines: &[String]) -> anyhow::Result<String> {
     let told = telling(alloc, &state(alloc, kind, file(alloc, lines)?.as_str())?)?;
     let other = telling(alloc, &state(alloc, kind, turned(alloc, lines)?.as_str())?)?;
     if told.as_slice() != other.as_slice() || !all_joined(alloc, kind, lines, told.as_slice())? {

@@ -38,7 +38,7 @@ fn begun<'a>(commits: &'a Commits, steps: &'a [Step]) -> (&'a str, &'a [Step]) {
 }
 
 /// How many steps a keeper takes, and what it then holds.
-pub fn told(alloc: Global, commits: &Commits, steps: &[Step]) -> anyhow::Result<String> {
+pub fn steps_line(alloc: Global, commits: &Commits, steps: &[Step]) -> anyhow::Result<String> {
     let (sql, rest) = begun(commits, steps);
     let mut keeper = keeper(alloc, sql)?;
     let count = done(alloc, commits, &mut keeper, rest)?;

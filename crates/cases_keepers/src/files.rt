@@ -155,7 +155,7 @@ fn told_inside(
 }
 
 /// What a case tells.
-pub fn told(
+pub fn file_line(
     rt: &HostRuntime,
     commits: &Commits,
     kind: &str,

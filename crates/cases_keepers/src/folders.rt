@@ -70,7 +70,7 @@ fn told_with(rt: &HostRuntime, sql: &str, journal: u8) -> anyhow::Result<String>
 }
 
 /// Why a keeper doesn't take the file that statements make, with each kind of journal.
-pub fn told(rt: &HostRuntime, sql: &str) -> anyhow::Result<String> {
+pub fn folder_line(rt: &HostRuntime, sql: &str) -> anyhow::Result<String> {
     let log = told_with(rt, sql, 2)?;
     let rollback = told_with(rt, sql, 1)?;
     Ok(format!(in rt.alloc(); "{log}; {rollback}")?)

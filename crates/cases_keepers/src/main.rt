@@ -44,20 +44,25 @@ struct Bench {
 }
 
 /// What a case tells.
-fn told(rt: &HostRuntime, bench: &mut Bench, kind: &str, text: &str) -> anyhow::Result<String> {
+fn case_line(
+    rt: &HostRuntime,
+    bench: &mut Bench,
+    kind: &str,
+    text: &str,
+) -> anyhow::Result<String> {
     let alloc = rt.alloc();
     match kind {
         "refused" => databases::refused(alloc, text),
         "damaged" => databases::damaged(alloc, text),
-        "foreign" => folders::told(rt, text),
+        "foreign" => folders::folder_line(rt, text),
         "loads" => databases::loads(alloc, &bench.commits, steps(alloc, text)?.as_slice()),
         "ask" => bench.tables.ask(alloc, text),
         "keep" => bench
             .tables
             .keep(alloc, &bench.commits, steps(alloc, text)?.as_slice()),
-        "memory" => databases::told(alloc, &bench.commits, steps(alloc, text)?.as_slice()),
-        "stops" => stops::told(alloc, &bench.commits, text),
-        _ => files::told(rt, &bench.commits, kind, steps(alloc, text)?.as_slice()),
+        "memory" => databases::steps_line(alloc, &bench.commits, steps(alloc, text)?.as_slice()),
+        "stops" => stops::stops_line(alloc, &bench.commits, text),
+        _ => files::file_line(rt, &bench.commits, kind, steps(alloc, text)?.as_slice()),
     }
 }
 
@@ -71,7 +76,7 @@ fn take(rt: &HostRuntime, bench: &mut Bench, line: &str) -> anyhow::Result<()> {
         "new" => bench.tables = Tables::new(rt.alloc())?,
         "sql" => bench.tables.run(text)?,
         "text" => bench.tables.add(rt.alloc(), text)?,
-        _ => println!(rt; "{line}: {}", told(rt, bench, kind, text)?)?,
+        _ => println!(rt; "{line}: {}", case_line(rt, bench, kind, text)?)?,
     }
     Ok(())
 }

@@ -192,7 +192,7 @@ fn stops_of(alloc: Global, commits: &Commits, text: &str, is_log: bool) -> anyho
 }
 
 /// How many steps are answered Ok where the log, and where the database stops, each time later.
-pub fn told(alloc: Global, commits: &Commits, text: &str) -> anyhow::Result<String> {
+pub fn stops_line(alloc: Global, commits: &Commits, text: &str) -> anyhow::Result<String> {
     let log = stops_of(alloc, commits, text, true)?;
     let database = stops_of(alloc, commits, text, false)?;
     Ok(format!(in alloc; "by the log{log}, by the database{database}")?)

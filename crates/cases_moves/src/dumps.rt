@@ -111,7 +111,7 @@ fn dump_told(alloc: Global, text: &[u8], kept: Kept, commit: Option<Commit>) -> 
 }
 
 /// What comes of the text of a case.
-pub fn told(alloc: Global, lines: &[String]) -> Result<String> {
+pub fn dump_line(alloc: Global, lines: &[String]) -> Result<String> {
     let text = text_of(alloc, lines)?;
     match undump(alloc, &text) {
         Ok(kept) => dump_told(alloc, &text, kept, Commit::of(alloc, lines)?),

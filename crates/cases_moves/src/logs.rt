@@ -22,7 +22,7 @@ fn journal_of(alloc: Global, log: Log) -> Result<Option<Journal>> {
 
 /// What comes of a text: how many entries each of its logs has, and whether the same text is written for their journals; or
 /// the line for which it is refused.
-pub fn told(alloc: Global, lines: &[String]) -> Result<String> {
+pub fn log_line(alloc: Global, lines: &[String]) -> Result<String> {
     let text = text_of(alloc, lines)?;
     let logs = match read_logs(alloc, &text) {
         Ok(logs) => logs,

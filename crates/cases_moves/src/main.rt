@@ -21,9 +21,9 @@ fn main(rt: HostRuntime) -> anyhow::Result<()> {
     for case in lines.chunk_by(|_, line| is_inside(line)) {
         if let Some((title, lines)) = case.split_first() {
             let told = if title.as_str().starts_with("logs ") {
-                logs::told(rt.alloc(), lines)?
+                logs::log_line(rt.alloc(), lines)?
             } else {
-                dumps::told(rt.alloc(), lines)?
+                dumps::dump_line(rt.alloc(), lines)?
             };
             println!(rt; "{title}: {told}")?;
         }

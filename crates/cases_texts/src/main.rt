@@ -10,10 +10,10 @@ mod texts;
 use anyhow::bail;
 
 /// What a case of a part tells: its kind, and what stands behind that.
-fn told(rt: &HostRuntime, heading: &str, kind: &str, text: &str) -> anyhow::Result<String> {
+fn case_line(rt: &HostRuntime, heading: &str, kind: &str, text: &str) -> anyhow::Result<String> {
     match heading {
-        "== texts" => texts::told(rt, kind, text),
-        "== messages" => messages::told(rt.alloc(), kind, text),
+        "== texts" => texts::case_line(rt, kind, text),
+        "== messages" => messages::case_line(rt.alloc(), kind, text),
         _ => bail!("no part has this heading"),
     }
 }
@@ -26,7 +26,7 @@ fn tell(rt: &HostRuntime, heading: &str, line: &str) -> anyhow::Result<()> {
     let Some((kind, text)) = line.split_once(' ') else {
         bail!("a line of one word: {line}");
     };
-    Ok(rt.println(told(rt, heading, kind, text)?)?)
+    Ok(rt.println(case_line(rt, heading, kind, text)?)?)
 }
 
 /// Tells a part's heading and its lines.

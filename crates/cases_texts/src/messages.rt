@@ -13,12 +13,14 @@ use anyhow::bail;
 use std::alloc::Global;
 
 /// What a case tells: its kind, and what stands behind that.
-pub fn told(alloc: Global, kind: &str, text: &str) -> anyhow::Result<String> {
+pub fn case_line(alloc: Global, kind: &str, text: &str) -> anyhow::Result<String> {
     match kind {
-        "message" | "long" | "wide" | "pieces" | "field" => messages::told(alloc, kind, text),
-        "response" | "memory" | "heard" => responses::told(alloc, kind, text),
-        "request" => requests::told(alloc, text),
-        "hear" => replies::told(alloc, text),
+        "message" | "long" | "wide" | "pieces" | "field" => messages::message_line(
+            alloc, kind, text,
+        ),
+        "response" | "memory" | "heard" => responses::response_line(alloc, kind, text),
+        "request" => requests::request_line(alloc, text),
+        "hear" => replies::reply_line(alloc, text),
         _ => bail!("no kind of case: {kind}"),
     }
 }

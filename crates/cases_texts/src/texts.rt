@@ -7,17 +7,17 @@ mod texts;
 mod words;
 
 /// What a case tells: its kind, and what stands behind that.
-pub fn told(rt: &HostRuntime, kind: &str, text: &str) -> anyhow::Result<String> {
+pub fn case_line(rt: &HostRuntime, kind: &str, text: &str) -> anyhow::Result<String> {
     let alloc = rt.alloc();
-    if let Some(line) = texts::told(alloc, kind, text)? {
+    if let Some(line) = texts::text_line(alloc, kind, text)? {
         return Ok(line);
     }
-    if let Some(line) = records::told(alloc, kind, text)? {
+    if let Some(line) = records::record_line(alloc, kind, text)? {
         return Ok(line);
     }
     match kind {
-        "words" => words::told(alloc, text),
+        "words" => words::words_line(alloc, text),
         "system-clock" => outside::told_system(rt),
-        _ => outside::told(alloc, kind, text),
+        _ => outside::outside_line(alloc, kind, text),
     }
 }

@@ -13,7 +13,7 @@ use std::thread::Threads;
 
 /// Tells what came of both.
 pub fn tell_cases<R: Threads + Wait + Print + Sync>(rt: &R, alloc: Global) -> anyhow::Result<()> {
-    println!(rt; "{}", meeting::told(rt, alloc)?)?;
-    println!(rt; "{}", crowd::told(rt, alloc)?)?;
+    println!(rt; "{}", meeting::meeting_line(rt, alloc)?)?;
+    println!(rt; "{}", crowd::crowd_line(rt, alloc)?)?;
     Ok(())
 }

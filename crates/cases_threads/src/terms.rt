@@ -35,12 +35,12 @@ fn served<R: Threads + Wait + Sync>(
     case: Case,
 ) -> anyhow::Result<String> {
     match kind {
-        "connection" => connections::told(rt, alloc, case),
-        "fronts" => fronts::told(rt, alloc, case),
-        "term" => terms::told(rt, alloc, case),
-        "held" => held::told(rt, alloc, case),
-        "filling" => filling::told(rt, alloc, case),
-        "server" => servers::told(rt, alloc, case),
+        "connection" => connections::connection_line(rt, alloc, case),
+        "fronts" => fronts::fronts_line(rt, alloc, case),
+        "term" => terms::term_line(rt, alloc, case),
+        "held" => held::held_line(rt, alloc, case),
+        "filling" => filling::filling_line(rt, alloc, case),
+        "server" => servers::server_line(rt, alloc, case),
         "status" => servers::status(rt, alloc, case),
         "kept" => servers::kept(rt, alloc, case),
         "logs" => servers::logs(rt, alloc, case),
@@ -49,7 +49,7 @@ fn served<R: Threads + Wait + Sync>(
 }
 
 /// What came of the case of a line.
-fn told<R: Threads + Wait + Files + Sync>(
+fn case_line<R: Threads + Wait + Files + Sync>(
     rt: &R,
     alloc: Global,
     texts: &Texts,
@@ -57,9 +57,9 @@ fn told<R: Threads + Wait + Files + Sync>(
 ) -> anyhow::Result<String> {
     let (kind, rest) = line.split_once(' ').unwrap_or((line, ""));
     match kind {
-        "site" => sites::told(alloc, rest),
-        "store" => stores::told(rt, alloc, rest),
-        "port" => ports::told(alloc, rest),
+        "site" => sites::site_line(alloc, rest),
+        "store" => stores::store_line(rt, alloc, rest),
+        "port" => ports::port_line(alloc, rest),
         _ => served(rt, alloc, kind, case::read(alloc, texts, rest)?),
     }
 }
@@ -75,7 +75,7 @@ pub fn tell_cases<R: Threads + Wait + Files + Print + Sync>(
         if let Some(text) = line.as_str().strip_prefix("text ") {
             texts.add(alloc, text)?;
         } else {
-            println!(rt; "{line}: {}", told(rt, alloc, &texts, line.as_str())?)?;
+            println!(rt; "{line}: {}", case_line(rt, alloc, &texts, line.as_str())?)?;
         }
     }
     Ok(())

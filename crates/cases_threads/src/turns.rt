@@ -17,7 +17,7 @@ use std::sync::Wait;
 use std::thread::Threads;
 
 /// What came of the case of a line.
-fn told<R: Threads + Wait + Sync>(rt: &R, alloc: Global, line: &str) -> anyhow::Result<String>
+fn case_line<R: Threads + Wait + Sync>(rt: &R, alloc: Global, line: &str) -> anyhow::Result<String>
     requires shared { IsSync R.row }
 {
     let (kind, rest) = line.split_once(' ').unwrap_or((line, ""));
@@ -28,7 +28,7 @@ fn told<R: Threads + Wait + Sync>(rt: &R, alloc: Global, line: &str) -> anyhow::
         "town" => towns::opened(alloc, words::numbers(alloc, rest)?.as_slice()),
         "asks" => towns::asked(rt, alloc, words::numbers(alloc, rest)?.as_slice()),
         "account" => account::called(rt, alloc, words::numbers(alloc, rest)?.as_slice()),
-        "pair" => pair::told(rt, alloc, words::numbers(alloc, rest)?.as_slice()),
+        "pair" => pair::pair_line(rt, alloc, words::numbers(alloc, rest)?.as_slice()),
         "room" => pair::past_room(rt, alloc, words::numbers(alloc, rest)?.as_slice()),
         _ => bail!("no kind of case"),
     }
@@ -43,7 +43,7 @@ pub fn tell_cases<R: Threads + Wait + Print + Sync>(
     requires shared { IsSync R.row }
 {
     for line in lines {
-        println!(rt; "{line}: {}", told(rt, alloc, line.as_str())?)?;
+        println!(rt; "{line}: {}", case_line(rt, alloc, line.as_str())?)?;
     }
     Ok(())
 }

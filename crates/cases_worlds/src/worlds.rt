@@ -12,11 +12,11 @@ mod worked;
 
 /// Tells what became of each world.
 pub fn tell_cases(rt: &HostRuntime) -> anyhow::Result<()> {
-    for line in worked::told(rt.alloc())?.iter() {
+    for line in worked::worked_lines(rt.alloc())?.iter() {
         println!(rt; "{line}")?;
     }
-    println!(rt; "{}", uploads::told(rt.alloc())?)?;
-    for line in drawn::told(rt.alloc())?.iter() {
+    println!(rt; "{}", uploads::uploads_line(rt.alloc())?)?;
+    for line in drawn::drawn_lines(rt.alloc())?.iter() {
         println!(rt; "{line}")?;
     }
     Ok(())

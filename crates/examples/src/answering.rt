@@ -53,7 +53,7 @@ pub fn id(alloc: Global, text: &str) -> anyhow::Result<Id> {
 }
 
 /// A reply as a line: its status, the account's time, and the record that it has.
-fn told(alloc: Global, reply: &Reply) -> anyhow::Result<String> {
+fn reply_line(alloc: Global, reply: &Reply) -> anyhow::Result<String> {
     let payload = match &reply.body {
         Body::One(row) => row.payload.as_str(),
         _ => "no record",
@@ -66,14 +66,14 @@ pub fn answered(alloc: Global) -> anyhow::Result<Vec<String>> {
     let mut account = fresh(alloc)?;
     let mut lines = Vec::new(alloc);
     let put = put(alloc, name(alloc, "notes")?, id(alloc, "a")?, "hello")?;
-    lines.push(told(alloc, &account.step(alloc, 1_000, &put))?)?;
+    lines.push(reply_line(alloc, &account.step(alloc, 1_000, &put))?)?;
     for cond in [Cond::Free, Cond::IfModified(Stamp::clamp(1_000))] {
         let get = Request::Get {
             collection: name(alloc, "notes")?,
             id: id(alloc, "a")?,
             cond,
         };
-        lines.push(told(alloc, &account.step(alloc, 2_000, &get))?)?;
+        lines.push(reply_line(alloc, &account.step(alloc, 2_000, &get))?)?;
     }
     Ok(lines)
 }

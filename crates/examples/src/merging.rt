@@ -52,7 +52,7 @@ fn built(alloc: Global, time: u64, payloads: &[&str]) -> anyhow::Result<Built> {
 }
 
 /// An item of a tree, with its folder and the side of its content.
-fn told(alloc: Global, tree: &Tree, id: &Id, side: Origin) -> anyhow::Result<String> {
+fn item_line(alloc: Global, tree: &Tree, id: &Id, side: Origin) -> anyhow::Result<String> {
     let Some(node) = tree.find(id) else {
         bail!("no such item");
     };
@@ -80,7 +80,7 @@ pub fn merged(alloc: Global) -> anyhow::Result<Vec<String>> {
     let mut lines = Vec::new(alloc);
     for (id, side) in &merged.from {
         if !is_root(id) {
-            lines.push(told(alloc, &merged.tree, id, *side)?)?;
+            lines.push(item_line(alloc, &merged.tree, id, *side)?)?;
         }
     }
     Ok(lines)

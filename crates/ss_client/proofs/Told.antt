@@ -18,7 +18,8 @@ use Rattle.ss_hearing.specs.Bodies.{json_of, number_in, stamp_in, ◌>>=◌}
 use Rattle.ss_hearing.specs.Limits.{limit_in, limits_of}
 use Rattle.ss_hearing.specs.Lists.{rows_of, ids_of, next_of}
 use Rattle.ss_hearing.specs.Posts.{failure_in, batch_in}
-use Rattle.ss_hearing.specs.Hearing.{is_conditional, status_of, time_of, page_of, told, understood, answer_of}
+use Rattle.ss_hearing.specs.Hearing.{is_conditional, status_of, time_of, page_of, answer_or_failure, understood}
+use Rattle.ss_hearing.specs.Hearing.{answer_of}
 use Rattle.ss_client.specs.Sound.{AreOurs, TellsOurs}
 
 -- ---- limits
@@ -64,7 +65,7 @@ bind_good : {A : Type 0} (o : Option A) (f : A → Option Answer) → ((x : A) �
 bind_good None f h = tt
 bind_good (Some x) f h = h x
 
-pub told_good : (status : ℕ) (failure : Option (List ℕ)) (answer : Answer) → TellsOurs answer → TellsOurs (told status failure answer)
+pub told_good : (status : ℕ) (failure : Option (List ℕ)) (answer : Answer) → TellsOurs answer → TellsOurs (answer_or_failure status failure answer)
 told_good status None answer t = t
 told_good status (Some id) answer t = tt
 

@@ -15,7 +15,8 @@ use Rattle.ss_dump.specs.declared.faults.LineFault.TheVariants.{BadLine, Memory}
 use Rattle.ss_dump.specs.Dumps.{account_lines, body_text, digest_of, dump_text, in_order, text_of}
 use Rattle.ss_dump.specs.Fronts.{GoesOn, IsBadFront, IsDumpFront, IsFrontFault, IsFormedInOrder, dump_lines}
 use Rattle.ss_dump.specs.Stages.{Comes, HasBody, IsReadTo, IsStop, IsStopBefore, IsStopOf, is_closed, states}
-use Rattle.ss_dump.specs.Telling.{State, account, begun, closed, is_whole, next, nothing, kept_with_times, told}
+use Rattle.ss_dump.specs.Telling.{State, account, begun, closed, is_whole, next, nothing, kept_with_times}
+use Rattle.ss_dump.specs.Telling.{state_of_lines}
 use Rattle.ss_dump.specs.Telling.{told_from, whole}
 use Rattle.ss_dump.proofs.ByLines.{closed_next, whole_next}
 use Rattle.ss_dump.proofs.Complete.{account_told, is_ordered, told_account}
@@ -30,9 +31,9 @@ abbrev tail : Kept → List Line
 tail kept = Digest (digest_of (body_text kept)) ∷ End ∷ []
 
 -- they tell what is kept, with its digest, to the end
-pub dump_told : (kept : Kept) → IsFormedInOrder kept → told (dump_lines kept) ≡ Some (whole kept (digest_of (body_text kept)))
+pub dump_told : (kept : Kept) → IsFormedInOrder kept → state_of_lines (dump_lines kept) ≡ Some (whole kept (digest_of (body_text kept)))
 dump_told kept h =
-    ap (λ k. told (account_lines k ++ Digest (digest_of (body_text kept)) ∷ End ∷ [])) h.ordered ∙ told_account kept (digest_of (body_text kept)) (is_ordered kept h.ordered)
+    ap (λ k. state_of_lines (account_lines k ++ Digest (digest_of (body_text kept)) ∷ End ∷ [])) h.ordered ∙ told_account kept (digest_of (body_text kept)) (is_ordered kept h.ordered)
 
 pub dump_formed : (kept : Kept) → IsFormedInOrder kept → AllByRecursion IsLine (dump_lines kept)
 dump_formed kept h =
@@ -63,8 +64,8 @@ pub record MayCome (state : State) (l : Line) (behind : List Line) (kept : Kept)
   pub next : next state l ≡ Some then
   pub rest : told_from then behind ≡ Some (whole kept (digest_of (body_text kept)))
 
-pub may_come : (lines : List Line) (l : Line) (state : State) → told lines ≡ Some state → (g : GoesOn lines l) → MayCome state l g.behind g.kept
-unfolding told
+pub may_come : (lines : List Line) (l : Line) (state : State) → state_of_lines lines ≡ Some state → (g : GoesOn lines l) → MayCome state l g.behind g.kept
+unfolding state_of_lines
 may_come lines l state e g =
     let all : told_from nothing (lines ++ l ∷ g.behind) ≡ Some (whole g.kept (digest_of (body_text g.kept))) = ap (told_from nothing) (sym g.lines_are) ∙ dump_told g.kept g.told in
     let r = and_then_some (λ s. told_from s g.behind) (next state l) (whole g.kept (digest_of (body_text g.kept))) (told_split nothing lines (l ∷ g.behind) state _ e all) in
@@ -84,7 +85,7 @@ same_whole k m d e h = (cc, cc)
 pub one_dump_lines : (kept other : Kept) → IsFormedInOrder kept → IsFormedInOrder other → dump_lines kept ≡ dump_lines other → kept ≡ other
 one_dump_lines kept other h g e =
     (same_whole kept other (digest_of (body_text kept)) (digest_of (body_text other))
-    (some_same (sym (dump_told kept h) ∙ (ap told e ∙ dump_told other g)))).0
+    (some_same (sym (dump_told kept h) ∙ (ap state_of_lines e ∙ dump_told other g)))).0
 
 whole_to : (k m : Kept) (d e : List ℕ) (ls : List Line) → told_from (whole k d) ls ≡ Some (whole m e) → (k ≡ m) × (d ≡ e)
 whole_to k m d e [] h = same_whole k m d e (some_same h)
@@ -98,7 +99,7 @@ closed_to k m d e (l ∷ ls) h =
     whole_to k m d e ls (ap (λ s. told_from s ls) (sym n.0) ∙ r.2)
 
 -- a digest that a dump goes on with is the one of the lines before it
-digest_right : (kept : Kept) (d : List ℕ) → told (account_lines kept) ≡ Some (account kept) → GoesOn (account_lines kept) (Digest d) → d ≡ digest_of (body_text kept)
+digest_right : (kept : Kept) (d : List ℕ) → state_of_lines (account_lines kept) ≡ Some (account kept) → GoesOn (account_lines kept) (Digest d) → d ≡ digest_of (body_text kept)
 unfolding next
 digest_right kept d e g =
     let m = may_come (account_lines kept) (Digest d) (account kept) e g in
@@ -151,7 +152,7 @@ state_goes (account kept) f o w r = (Digest (digest_of (body_text kept)), goes_a
 state_goes (closed kept d) f o w r = (End, goes_closed kept d (record { formed = all_front (account_lines kept) (Digest d ∷ []) f; ordered = ordered_is kept o }) r)
 state_goes (whole kept d) f o w r = absurd (false≢true (sym w))
 
-told_goes : (lines : List Line) (state : State) → AllByRecursion IsLine lines → told lines ≡ Some state → is_whole state ≡ false → IsRight state → (l : Line) × GoesOn lines l
+told_goes : (lines : List Line) (state : State) → AllByRecursion IsLine lines → state_of_lines lines ≡ Some state → is_whole state ≡ false → IsRight state → (l : Line) × GoesOn lines l
 told_goes lines state f e w r =
     let t = told_lines lines state e in
     let g = state_goes state (subst (AllByRecursion IsLine) t.0 f) t.1 w r in
@@ -212,8 +213,8 @@ fault_at_end text state found used body count (BadLine n) h c f e s = bad_of_sto
 fault_at_end text state found used body count Memory h c f e s = tt
 
 -- the lines of an account tell it
-lines_told : (kept : Kept) → IsFormedInOrder kept → told (account_lines kept) ≡ Some (account kept)
-lines_told kept h = ap told (sym (append-nil (account_lines kept))) ∙ account_told kept [] (is_ordered kept h.ordered)
+lines_told : (kept : Kept) → IsFormedInOrder kept → state_of_lines (account_lines kept) ≡ Some (account kept)
+lines_told kept h = ap state_of_lines (sym (append-nil (account_lines kept))) ∙ account_told kept [] (is_ordered kept h.ordered)
 
 wrong_digest : (text : List ℕ) (kept : Kept) (d found : List ℕ) (used body count : ℕ) → IsReadTo text (closed kept d) used body count → found ≡ digest_of (take body text) → bytes_eq d found ≡ false
     → IsBadFront text count

@@ -17,11 +17,11 @@ use Rattle.ss_dump.specs.declared.faults.LineFault.TheVariants.{BadLine, Memory}
 use Rattle.ss_dump.specs.Stages.{HasBody, IsLineFault, IsReadTo, IsStop, IsStopBefore, IsStopOf, is_closed}
 use Rattle.ss_dump.specs.Stages.{is_digest_line}
 use Rattle.ss_dump.specs.Telling.{IsBadLine, IsToldWith, NoneComes, State, account, begun, closed, is_whole, next}
-use Rattle.ss_dump.specs.Telling.{nothing, told, whole}
+use Rattle.ss_dump.specs.Telling.{nothing, state_of_lines, whole}
 use Rattle.ss_dump.proofs.Told.{all_more, lines_of, text_more, to_closed, to_whole, told_lines, told_more}
 
 pub start : (text : List ℕ) → IsReadTo text nothing 0 0 0
-unfolding told
+unfolding state_of_lines
 start text = record { lines = []; are = tt; tell = refl; inside = omega arith; text_is = refl; counted = refl; few = omega arith; body_is = tt }
 
 -- where a digest comes, so many bytes are the account's lines
@@ -39,7 +39,7 @@ body_more text st (whole k x) l used body e h i t =
 
 pub read_more : (text : List ℕ) (st s : State) (used body count : ℕ) (l : Line) (k : ℕ) → IsReadTo text st used body count → IsFront (drop used text) l k → next st l ≡ Some s
     → IsReadTo text s (used + k) (cond (is_digest_line l) used body) (count + 1)
-unfolding told
+unfolding state_of_lines
 read_more text st s used body count l k h f e = record {
   lines = h.lines ++ l ∷ [];
   are = all_more h.lines l h.are f.line;

@@ -16,7 +16,7 @@ use Rattle.ss_lines.specs.declared.lines.Line.{Line}
 use Rattle.ss_lines.specs.declared.lines.Line.TheVariants.{Row as RowLine, Part as PartLine, Digest, End}
 use Rattle.ss_dump.specs.Dumps.{account_lines, batch_lines, collection_line, comes_before, in_order, name_cmp}
 use Rattle.ss_dump.specs.Dumps.{number_cmp, place_cmp}
-use Rattle.ss_dump.specs.Telling.{State, account, may_end, next, told, told_from, whole}
+use Rattle.ss_dump.specs.Telling.{State, account, may_end, next, state_of_lines, told_from, whole}
 use Rattle.ss_dump.proofs.Ascending.{IsAscending, last_step}
 use Rattle.ss_dump.proofs.Told.{IsOrdered, with_last}
 
@@ -121,8 +121,8 @@ batches_told rs cs s l n done (b ∷ bs) rest h =
     ∙ ap (λ d. told_from (made rs cs s l n d) rest) (append_assoc done (b ∷ []) bs))))
 
 -- behind the lines of an account what they tell goes on
-pub account_told : (kept : Kept) (rest : List Line) → IsOrdered kept → told (account_lines kept ++ rest) ≡ told_from (account kept) rest
-unfolding told account_lines next
+pub account_told : (kept : Kept) (rest : List Line) → IsOrdered kept → state_of_lines (account_lines kept ++ rest) ≡ told_from (account kept) rest
+unfolding state_of_lines account_lines next
 account_told kept rest h =
     let cs : List Line = map collection_line kept.collections in
     let rs : List Line = map (λ r. RowLine r) kept.rows in
@@ -132,6 +132,6 @@ account_told kept rest h =
     ∙ (rows_told [] kept.rows kept.collections kept.store kept.last_delete kept.counter (bs ++ rest) h.rows
     ∙ batches_told kept.rows kept.collections kept.store kept.last_delete kept.counter [] kept.batches rest h.batches))
 
-pub told_account : (kept : Kept) (digest : List ℕ) → IsOrdered kept → told (account_lines kept ++ Digest digest ∷ End ∷ []) ≡ Some (whole kept digest)
+pub told_account : (kept : Kept) (digest : List ℕ) → IsOrdered kept → state_of_lines (account_lines kept ++ Digest digest ∷ End ∷ []) ≡ Some (whole kept digest)
 unfolding next
 told_account kept digest h = account_told kept (Digest digest ∷ End ∷ []) h

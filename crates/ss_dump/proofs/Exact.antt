@@ -14,7 +14,8 @@ use Rattle.ss_dump.specs.declared.faults.DumpFault.{DumpFault}
 use Rattle.ss_dump.specs.declared.faults.DumpFault.TheVariants.{BadLine, BadDigest, BadCollection, BadRow, BadBatch}
 use Rattle.ss_dump.specs.declared.faults.DumpFault.TheVariants.{Memory}
 use Rattle.ss_dump.specs.Dumps.{account_lines, body_text, closed_by, digest_of, dump_text, in_order, text_of}
-use Rattle.ss_dump.specs.Telling.{IsToldWith, NoneComes, State, is_whole, next, nothing, told, told_from, whole}
+use Rattle.ss_dump.specs.Telling.{IsToldWith, NoneComes, State, is_whole, next, nothing, state_of_lines, told_from}
+use Rattle.ss_dump.specs.Telling.{whole}
 use Rattle.ss_dump.specs.Undumped.{IsDumpOf, IsWhyNoDump, WouldBeDump}
 use Rattle.ss_dump.proofs.Complete.{is_ordered, told_account}
 use Rattle.ss_dump.proofs.Digests.{digest_form}
@@ -51,7 +52,7 @@ same_told state (x ∷ xs) (y ∷ ys) k m d e f g a b t =
     same_told q.0 xs ys k m d e f.1 g.1 (ap (λ s. told_from s xs) (sym same) ∙ r.2) q.2 p.1
 
 pub one_told : (text : List ℕ) (k m : Kept) (d e : List ℕ) → IsToldWith text k d → IsToldWith text m e → (k ≡ m) × (d ≡ e)
-unfolding told
+unfolding state_of_lines
 one_told text k m d e h g = same_told nothing h.lines g.lines k m d e h.are g.are h.tell g.tell (sym h.text_is ∙ g.text_is)
 
 -- ---- no line of such a text is bad
@@ -103,7 +104,7 @@ same_would : (text : List ℕ) (kept other : Kept) → IsDumpOf text kept → Wo
 same_would text kept other h g = (one_told text other kept _ _ (dump_told text other g) (dump_told text kept (would text kept h))).0
 
 pub not_refused : (text : List ℕ) (kept : Kept) (fault : DumpFault) → IsDumpOf text kept → IsWhyNoDump text fault → fault ≡ Memory
-unfolding told
+unfolding state_of_lines
 not_refused text kept (BadLine n) h r =
     let t = dump_told text kept (would text kept h) in
     absurd (clash nothing r.lines t.lines r.state r.rest kept (digest_of (body_text kept)) r.are t.are r.tell t.tell (sym r.text_is ∙ t.text_is) r.none r.over)

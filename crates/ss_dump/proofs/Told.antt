@@ -17,7 +17,8 @@ use Rattle.ss_lines.specs.declared.lines.Line.TheVariants.{Part as PartLine, Dig
 use Rattle.ss_dump.specs.Dumps.{account_lines, batch_lines, body_text, closed_by, collection_line, comes_before}
 use Rattle.ss_dump.specs.Dumps.{in_order, name_cmp, number_cmp, place_cmp, text_of}
 use Rattle.ss_dump.specs.Telling.{IsToldWith, State, account, begun, closed, is_empty, may_end, next, nothing}
-use Rattle.ss_dump.specs.Telling.{kept_with_times, told, told_from, whole, with_batch, with_collection, with_part}
+use Rattle.ss_dump.specs.Telling.{kept_with_times, state_of_lines, told_from, whole, with_batch, with_collection}
+use Rattle.ss_dump.specs.Telling.{with_part}
 use Rattle.ss_dump.specs.Telling.{with_part_last, with_row}
 use Rattle.ss_dump.proofs.Ascending.{IsAscending, ascending_more, ascending_sorted, same_numbers}
 
@@ -360,8 +361,8 @@ nothing_told : Tells [] nothing
 nothing_told = record { lines = refl; ordered = tt }
 
 -- lines that tell something are its lines, and its lists are in order
-pub told_lines : (ls : List Line) (s : State) → told ls ≡ Some s → (ls ≡ lines_of s) × AreOrdered s
-unfolding told
+pub told_lines : (ls : List Line) (s : State) → state_of_lines ls ≡ Some s → (ls ≡ lines_of s) × AreOrdered s
+unfolding state_of_lines
 told_lines ls s e = let t = told_tells nothing [] ls s nothing_told e in (t.lines, t.ordered)
 
 pub ordered_is : (kept : Kept) → IsOrdered kept → in_order kept ≡ kept

@@ -12,7 +12,7 @@ use Rattle.ss_dump.specs.declared.faults.LineFault.{LineFault}
 use Rattle.ss_dump.specs.declared.faults.LineFault.TheVariants.{BadLine, Memory}
 use Rattle.ss_dump.specs.Dumps.{account_lines, text_of}
 use Rattle.ss_dump.specs.Telling.{State, nothing, begun, account, closed, whole, is_whole, IsBadLine, next, NoneComes}
-use Rattle.ss_dump.specs.Telling.{told}
+use Rattle.ss_dump.specs.Telling.{state_of_lines}
 
 abbrev pub kept_in : Draft → Kept
 kept_in d = record {
@@ -47,7 +47,7 @@ HasBody text body (whole kept digest) = (body ≤ length text) × (take body tex
 pub record IsReadTo (text : List ℕ) (state : State) (used body count : ℕ) : Type 0 where
   pub lines : List Line
   pub are : AllByRecursion IsLine lines
-  pub tell : told lines ≡ Some state
+  pub tell : state_of_lines lines ≡ Some state
   pub inside : used ≤ length text
   pub text_is : take used text ≡ text_of lines
   pub counted : count ≡ length lines
@@ -78,7 +78,7 @@ pub record IsStop (text : List ℕ) (state : State) (n : ℕ) : Type 0 where
   pub lines : List Line
   pub rest : List ℕ
   pub are : AllByRecursion IsLine lines
-  pub tell : told lines ≡ Some state
+  pub tell : state_of_lines lines ≡ Some state
   pub text_is : text ≡ text_of lines ++ rest
   pub none : NoneComes state rest
   pub number : n ≡ length lines + 1

@@ -88,8 +88,8 @@ told_from state [] = Some state
 told_from state (l ∷ ls) = option_and_then (λ s. told_from s ls) (next state l)
 
 -- what lines tell; None where one of them may not come
-unfoldable pub told : List Line → Option State
-told ls = told_from nothing ls
+unfoldable pub state_of_lines : List Line → Option State
+state_of_lines ls = told_from nothing ls
 
 abbrev pub is_whole : State → Bool
 is_whole nothing = false
@@ -111,7 +111,7 @@ pub record IsBadLine (text : List ℕ) (n : ℕ) : Type 0 where
   pub state : State
   pub rest : List ℕ
   pub are : AllByRecursion IsLine lines
-  pub tell : told lines ≡ Some state
+  pub tell : state_of_lines lines ≡ Some state
   pub text_is : text ≡ text_of lines ++ rest
   pub none : NoneComes state rest
   pub over : is_whole state ≡ true → rest ≢ []
@@ -121,5 +121,5 @@ pub record IsBadLine (text : List ℕ) (n : ℕ) : Type 0 where
 pub record IsToldWith (text : List ℕ) (kept : Kept) (digest : List ℕ) : Type 0 where
   pub lines : List Line
   pub are : AllByRecursion IsLine lines
-  pub tell : told lines ≡ Some (whole kept digest)
+  pub tell : state_of_lines lines ≡ Some (whole kept digest)
   pub text_is : text ≡ text_of lines

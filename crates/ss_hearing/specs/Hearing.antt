@@ -49,21 +49,21 @@ page_of heard time d = do
   Some (Paged rows next time)
 
 -- what a POST is told, or its first failed record
-abbrev pub told : ℕ → Option (List ℕ) → Answer → Answer
-told status None answer = answer
-told status (Some id) answer = Failed status id
+abbrev pub answer_or_failure : ℕ → Option (List ℕ) → Answer → Answer
+answer_or_failure status None answer = answer
+answer_or_failure status (Some id) answer = Failed status id
 
 abbrev pub held_of : Json → Option Answer
 held_of d = do
   failure ← failure_in d
   batch ← batch_in d
-  Some (told 202 failure (Held batch))
+  Some (answer_or_failure 202 failure (Held batch))
 
 abbrev pub written_of : Json → Option Answer
 written_of d = do
   failure ← failure_in d
   time ← stamp_in (codes "modified") d
-  Some (told 200 failure (Written time))
+  Some (answer_or_failure 200 failure (Written time))
 
 -- what a body in the form that is awaited says. A first page must say the collection's time.
 unfoldable pub understood : Awaited → Heard → Json → Option Answer

@@ -2,7 +2,8 @@
 
 ghost use Rattle.std.specs.Prelude.{◌≡◌, IfOk, OnErr, Some, None, option_map};
 ghost use Rattle.json.specs.Value.{value_view};
-ghost use Rattle.ss_hearing.specs.Hearing.{status_of, time_of, unawaited, page_of, told, held_of, written_of};
+ghost use Rattle.ss_hearing.specs.Hearing.{status_of, time_of, unawaited, page_of, answer_or_failure, held_of};
+ghost use Rattle.ss_hearing.specs.Hearing.{written_of};
 ghost use Rattle.ss_hearing.specs.Hearing.{understood, answer_of};
 
 use crate::answer::{Answer, Awaited};
@@ -54,8 +55,8 @@ fn page_of(
 }
 
 /// What a POST is told, or its first failed record.
-fn told(status: u16, failure: Option<Id>, answer: Answer) -> Answer
-    ensures { result ≡ told status failure answer }
+fn answer_with(status: u16, failure: Option<Id>, answer: Answer) -> Answer
+    ensures { result ≡ answer_or_failure status failure answer }
 {
     match failure {
         Some(id) => Answer::Failed { status, id },
@@ -70,7 +71,7 @@ fn held_of(alloc: Global, value: &Value) -> Result<Option<Answer>, AllocError>
         return Ok(None);
     };
     match batch_in(alloc, value)? {
-        Some(batch) => Ok(Some(told(202, failure, Answer::Held(batch)))),
+        Some(batch) => Ok(Some(answer_with(202, failure, Answer::Held(batch)))),
         None => Ok(None),
     }
 }
@@ -82,7 +83,7 @@ fn written_of(alloc: Global, value: &Value) -> Result<Option<Answer>, AllocError
         return Ok(None);
     };
     match stamp_in(value, "modified") {
-        Some(time) => Ok(Some(told(200, failure, Answer::Written(time)))),
+        Some(time) => Ok(Some(answer_with(200, failure, Answer::Written(time)))),
         None => Ok(None),
     }
 }

@@ -30,7 +30,8 @@ use Rattle.ss_hearing.specs.Bodies.{json_of, number_in, stamp_in, string_in, ◌
 use Rattle.ss_hearing.specs.Limits.{limit_in, limits_of}
 use Rattle.ss_hearing.specs.Lists.{rows_of, ids_of, next_of}
 use Rattle.ss_hearing.specs.Posts.{failure_in, batch_in}
-use Rattle.ss_hearing.specs.Hearing.{is_conditional, status_of, time_of, page_of, told, understood, answer_of}
+use Rattle.ss_hearing.specs.Hearing.{is_conditional, status_of, time_of, page_of, answer_or_failure, understood}
+use Rattle.ss_hearing.specs.Hearing.{answer_of}
 use Rattle.ss_promises.specs.Readable.{TellsReadable}
 
 -- ---- digits
@@ -144,7 +145,7 @@ bind_good : {A : Type 0} (o : Option A) (f : A → Option Answer) → ((x : A) �
 bind_good None f h = tt
 bind_good (Some x) f h = h x refl
 
-told_good : (status : ℕ) (failure : Option (List ℕ)) (answer : Answer) → TellsReadable answer → TellsReadable (told status failure answer)
+told_good : (status : ℕ) (failure : Option (List ℕ)) (answer : Answer) → TellsReadable answer → TellsReadable (answer_or_failure status failure answer)
 told_good status None answer t = t
 told_good status (Some id) answer t = tt
 

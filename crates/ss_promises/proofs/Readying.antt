@@ -35,7 +35,7 @@ use Rattle.ss_hearing.specs.declared.answer.Answer.TheVariants.{Paged, Held, Wri
 use Rattle.ss_hearing.specs.declared.answer.Awaited.{Awaited}
 use Rattle.ss_hearing.specs.declared.answer.Awaited.TheVariants.{Configuration, FirstPage, LaterPage, AllIds, Staging}
 use Rattle.ss_hearing.specs.declared.answer.Awaited.TheVariants.{Writing}
-use Rattle.ss_hearing.specs.Hearing.{is_conditional, status_of, told}
+use Rattle.ss_hearing.specs.Hearing.{is_conditional, status_of, answer_or_failure}
 use Rattle.ss_device.specs.declared.faults.EditFault.{EditFault}
 use Rattle.ss_client.specs.declared.runs.Stage.TheVariants.{Asks}
 use Rattle.ss_client.specs.declared.summaries.Fetch.{Fetch}
@@ -118,7 +118,7 @@ first_readable : (next : Option ℕ) (rows : List Row) (time : Option ℕ) → T
 first_readable next rows None = tt
 first_readable next rows (Some time) = page_readable next rows time
 
-held_readable : (failure : Option (List ℕ)) (status : ℕ) (answer : Answer) → TellsReadable answer → TellsReadable (told status failure answer)
+held_readable : (failure : Option (List ℕ)) (status : ℕ) (answer : Answer) → TellsReadable answer → TellsReadable (answer_or_failure status failure answer)
 held_readable None status answer h = h
 held_readable (Some id) status answer h = tt
 

@@ -49,7 +49,7 @@ fn list(alloc: Global, ids: &[Id]) -> Result<Value, AllocError>
 }
 
 /// The members with those that tell what an item is, and its parent.
-fn told(
+fn item_members(
     alloc: Global,
     item: &Item,
     content: Map<String, Value>,
@@ -74,7 +74,7 @@ fn placed(
 ) -> Result<Map<String, Value>, AllocError>
     ensures { IfOk result (λ m. members_view m.entries ≡ record_members item.now.id item.now.kind (members_view content.entries) parent.now children.now) }
 {
-    let members = told(alloc, item, content, parent)?;
+    let members = item_members(alloc, item, content, parent)?;
     if !item.kind().is_folder() {
         return Ok(members);
     }

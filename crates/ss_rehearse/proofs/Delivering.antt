@@ -16,7 +16,7 @@ use Rattle.ss_hearing.specs.declared.answer.Answer.{Answer}
 use Rattle.ss_hearing.specs.declared.answer.Answer.TheVariants.{Changed, Held, Paged, Refused, Unread, Written}
 use Rattle.ss_hearing.specs.declared.answer.Awaited.{Awaited}
 use Rattle.ss_hearing.specs.declared.answer.Awaited.TheVariants as awaited
-use Rattle.ss_hearing.specs.Hearing.{is_conditional, status_of, told}
+use Rattle.ss_hearing.specs.Hearing.{is_conditional, status_of, answer_or_failure}
 use Rattle.ss_device.specs.Device.{DeviceView}
 use Rattle.ss_client.specs.declared.summaries.Fetch.TheVariants.{Newer}
 use Rattle.ss_client.specs.declared.runs.Stage.TheVariants.{Asks as AsksStage}

@@ -27,7 +27,7 @@ fn tree_of(world: &World, device: u32) -> &Tree
 }
 
 /// What is told of the devices' trees, and of the POSTs of each sync.
-fn told(alloc: Global, world: &World, posts: &[u64]) -> Result<Vec<u8>, AllocError>
+fn told_summary(alloc: Global, world: &World, posts: &[u64]) -> Result<Vec<u8>, AllocError>
     requires idle { AreIdle world.now }
     ensures { IfOk result (λ text. text.items ≡ summary_text posts.now
         (summary_of (tree_at 0 world.now) (tree_at 1 world.now))) }
@@ -127,5 +127,5 @@ pub fn rehearse(alloc: Global, items: u64, seed: u64) -> Result<Vec<u8>, AllocEr
         met.second,
         met.third,
     ];
-    told(alloc, &world, &posts)
+    told_summary(alloc, &world, &posts)
 }

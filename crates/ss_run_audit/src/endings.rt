@@ -52,7 +52,7 @@ impl Ending {
     }
 
     /// How a run ends that has told this verdict.
-    pub(crate) fn told(verdict: &Verdict) -> Ending
+    pub(crate) fn of_verdict(verdict: &Verdict) -> Ending
         ensures { result ≡ told_end verdict.now }
     {
         match verdict {

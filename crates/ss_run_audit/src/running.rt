@@ -28,7 +28,7 @@ fn write_out<T: Sink>(line: &[u8], verdict: &Verdict, output: &mut T) -> Ending
     ensures { Wrote line.now (told_end verdict.now) result (T.Told.told output.old) (T.Told.told output.new) }
 {
     match write_all(output, line) {
-        Ok(()) => Ending::told(verdict),
+        Ok(()) => Ending::of_verdict(verdict),
         Err(_) => Ending::Output,
     }
 }

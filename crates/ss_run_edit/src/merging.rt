@@ -39,7 +39,7 @@ fn telling(alloc: Global, sides: &Sides, readings: &[(Id, Reading)]) -> Result<V
 }
 
 /// What is told of merging a device with remote rows.
-fn told(alloc: Global, device: &Device, rows: &[Sheet]) -> Result<Vec<u8>, AllocError>
+fn merged_text(alloc: Global, device: &Device, rows: &[Sheet]) -> Result<Vec<u8>, AllocError>
     requires { AreById (row_ids rows.now) }
     ensures { IfOk result (λ out. IsMerged device.now rows.now out.items) }
 {
@@ -91,7 +91,7 @@ fn merged(alloc: Global, text: &[u8]) -> Result<Vec<u8>, Ending>
     ensures refused { IfErr result (λ ending. RefusesMerge text.now ending) }
 {
     let input = input_of(alloc, text)?;
-    Ok(told(alloc, &input.device, &input.rows)?)
+    Ok(merged_text(alloc, &input.device, &input.rows)?)
 }
 
 /// Reads a device's file with remote rows behind it, and writes what their merge comes to.

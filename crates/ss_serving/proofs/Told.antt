@@ -25,7 +25,7 @@ use Rattle.ss_hearing.specs.declared.answer.Answer.{Answer}
 use Rattle.ss_hearing.specs.declared.answer.Answer.TheVariants.{Configured, Paged, Listed, Held, Written, Unread}
 use Rattle.ss_hearing.specs.Bodies.{json_of, ◌>>=◌}
 use Rattle.ss_hearing.specs.Lists.{next_of}
-use Rattle.ss_hearing.specs.Hearing.{answer_of, understood, status_of, told, page_of}
+use Rattle.ss_hearing.specs.Hearing.{answer_of, understood, status_of, answer_or_failure, page_of}
 use Rattle.ss_bso.specs.declared.account.Plain.{Plain}
 use Rattle.ss_bso.specs.Account.{tick}
 use Rattle.ss_query.specs.Refused.{Refusal, NoItem, NotModified, WasModified, NoMoreBatches, NoBatch, BatchFull}
@@ -117,14 +117,14 @@ module _ (back : Back) (reply : Reply) (last : Bool) where
       let f = recursion_from_All (λ (failure : List ℕ × Reason). is_id failure.0 ≡ true) failed typed.3 in
       heard_in Staging heard (staged_json batch success failed) _ (text_is 202 (Staged batch success failed) status is ∙ staged_is batch success failed (token_unescaped batch few))
       (staged_clean success failed s f batch (token_utf8 batch few)) (staged_depth success failed s f batch)
-      (ap₂ (λ (o : Option (Option (List ℕ))) (p : Option ℕ). unwrap_or (o >>= λ failure. p >>= λ number. Some (told 202 failure (Held number))) Unread)
+      (ap₂ (λ (o : Option (Option (List ℕ))) (p : Option ℕ). unwrap_or (o >>= λ failure. p >>= λ number. Some (answer_or_failure 202 failure (Held number))) Unread)
       (staged_failure success failed s f batch) (staged_batch success failed s f batch (back batch typed.0 typed.1)))
   said_is Writing (Posted time success failed) is status typed fits kind =
       let s = recursion_from_All (λ id. is_id id ≡ true) success typed.1 in
       let f = recursion_from_All (λ (failure : List ℕ × Reason). is_id failure.0 ≡ true) failed typed.2 in
       heard_in Writing heard (posted_json time success failed) _ (text_is 200 (Posted time success failed) status is ∙ posted_is time success failed)
       (posted_clean success failed s f time typed.0) (posted_depth success failed s f time)
-      (ap₂ (λ (o : Option (Option (List ℕ))) (p : Option ℕ). unwrap_or (o >>= λ failure. p >>= λ at. Some (told 200 failure (Written at))) Unread)
+      (ap₂ (λ (o : Option (Option (List ℕ))) (p : Option ℕ). unwrap_or (o >>= λ failure. p >>= λ at. Some (answer_or_failure 200 failure (Written at))) Unread)
       (posted_failure success failed s f time) (posted_time success failed s f time typed.0))
   said_is awaited body is status typed fits kind = absurd kind
 

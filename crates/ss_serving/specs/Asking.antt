@@ -25,7 +25,7 @@ use Rattle.ss_hearing.specs.declared.answer.Awaited.TheVariants as awaited
 use Rattle.ss_hearing.specs.declared.answer.Answer.{Answer}
 use Rattle.ss_hearing.specs.declared.answer.Answer.TheVariants.{Configured, Paged, Listed, Held, Written, Changed}
 use Rattle.ss_hearing.specs.declared.answer.Answer.TheVariants.{Refused, Unread}
-use Rattle.ss_hearing.specs.Hearing.{status_of, is_conditional, told}
+use Rattle.ss_hearing.specs.Hearing.{status_of, is_conditional, answer_or_failure}
 use Rattle.ss_serving.specs.Bookmarks.{bookmarks, sheet_of}
 
 -- what is asked: the limits; a first page; where nothing has changed since a time, a further page and the ids of all rows; and
@@ -111,8 +111,8 @@ said_by awaited.Configuration reply Limits = Configured our_limits
 said_by awaited.FirstPage reply (Rows rows) = option_map_or (λ time. page_told reply.next rows time) reply.modified Unread
 said_by awaited.LaterPage reply (Rows rows) = page_told reply.next rows (unwrap_or reply.modified 0)
 said_by awaited.AllIds reply (Ids ids) = Listed ids
-said_by awaited.Staging reply (Staged batch success failed) = told 202 (first_failed failed) (Held batch)
-said_by awaited.Writing reply (Posted time success failed) = told 200 (first_failed failed) (Written time)
+said_by awaited.Staging reply (Staged batch success failed) = answer_or_failure 202 (first_failed failed) (Held batch)
+said_by awaited.Writing reply (Posted time success failed) = answer_or_failure 200 (first_failed failed) (Written time)
 said_by awaited reply body = Unread
 
 -- What a reply says to a client that awaits this, the status first. It is what the client hears in the response to it.

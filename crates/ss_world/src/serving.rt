@@ -84,7 +84,7 @@ fn refusal(keeper: &SureKeeper, fault: OpenFault) -> AllocError
 }
 
 /// What the keeper of an account holds. It is refused for want of memory alone.
-fn told(alloc: Global, account: &mut Account<SureKeeper>) -> Result<Kept, AllocError>
+fn kept_by(alloc: Global, account: &mut Account<SureKeeper>) -> Result<Kept, AllocError>
     ensures told { IfOk result (λ kept. kept ≡ (server_of account.old).kept) }
     ensures left { server_of account.new ≡ server_of account.old }
 {
@@ -105,7 +105,7 @@ pub(crate) fn reopen(alloc: Global, account: &mut Account<SureKeeper>) -> Result
     ensures left { OnErr result (server_of account.new ≡ server_of account.old) }
     ensures again { IsGood (server_of account.new).kept }
 {
-    let keeper = SureKeeper::new(told(alloc, account)?);
+    let keeper = SureKeeper::new(kept_by(alloc, account)?);
     keeper.never_fails();
     match Account::open(alloc, keeper) {
         Ok(opened) => {

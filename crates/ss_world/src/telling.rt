@@ -3,7 +3,7 @@
 ghost use Rattle.std.specs.Prelude.{◌≡◌, map, unwrap_or, IfOk};
 ghost use Rattle.ss_serving.specs.Bookmarks.{sheet_of};
 ghost use Rattle.ss_serving.specs.Asking.{our_limits, first_failed, page_told, said_by, told_by};
-ghost use Rattle.ss_hearing.specs.Hearing.{told};
+ghost use Rattle.ss_hearing.specs.Hearing.{answer_or_failure};
 ghost use Rattle.ss_client.specs.Sound.{TellsOurs};
 ghost use Rattle.ss_hearing.specs.declared.answer.Awaited.TheVariants as awaited;
 
@@ -39,8 +39,13 @@ fn first_failed(alloc: Global, failed: &Failures) -> Result<Option<Id>, AllocErr
     }
 }
 
-fn told(alloc: Global, status: u16, failed: &Failures, answer: Answer) -> Result<Answer, AllocError>
-    ensures { IfOk result (λ a. a ≡ told status (first_failed failed.now) answer) }
+fn answer_with(
+    alloc: Global,
+    status: u16,
+    failed: &Failures,
+    answer: Answer,
+) -> Result<Answer, AllocError>
+    ensures { IfOk result (λ a. a ≡ answer_or_failure status (first_failed failed.now) answer) }
 {
     match first_failed(alloc, failed)? {
         Some(id) => Ok(Answer::Failed { status, id }),
@@ -127,7 +132,7 @@ fn staged(alloc: Global, reply: &Reply) -> Result<Answer, AllocError>
     ensures { IfOk result (λ answer. answer ≡ said_by awaited.Staging reply.now reply.now.body) }
 {
     match &reply.body {
-        Body::Staged { batch, failed, .. } => told(alloc, 202, failed, Answer::Held(*batch)),
+        Body::Staged { batch, failed, .. } => answer_with(alloc, 202, failed, Answer::Held(*batch)),
         _ => Ok(Answer::Unread),
     }
 }
@@ -140,7 +145,7 @@ fn written(alloc: Global, reply: &Reply) -> Result<Answer, AllocError>
             modified,
             failed,
             ..
-        } => told(alloc, 200, failed, Answer::Written(*modified)),
+        } => answer_with(alloc, 200, failed, Answer::Written(*modified)),
         _ => Ok(Answer::Unread),
     }
 }

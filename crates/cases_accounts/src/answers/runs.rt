@@ -29,7 +29,7 @@ fn run(alloc: Global, case: Case) -> anyhow::Result<(u8, String)> {
 }
 
 /// What came of a run: its status, and what was written, as a JSON text.
-pub fn told(alloc: Global, case: Case) -> anyhow::Result<String> {
+pub fn run_line(alloc: Global, case: Case) -> anyhow::Result<String> {
     let (status, written) = run(alloc, case)?;
     let text = Value::String(written).to_string(alloc)?;
     Ok(format!(in alloc; "{status} {text}")?)

@@ -3,7 +3,7 @@
 ghost use Rattle.ss_query.specs.Fit.{IsFitRequest};
 
 use crate::exchanges::exchange::{Exchange, Timed};
-use crate::exchanges::wire::told;
+use crate::exchanges::wire::response_line;
 use crate::held::lines;
 use anyhow::bail;
 use sqlite::{Connection, MemStore};
@@ -78,7 +78,7 @@ fn answered<K: Keeper>(
     timed: &Timed,
 ) -> anyhow::Result<String> {
     let response = response(alloc, account, timed)?;
-    let told = told(alloc, response.as_slice(), timed.is_quiet)?;
+    let told = response_line(alloc, response.as_slice(), timed.is_quiet)?;
     Ok(format!(in alloc; "{} {told}", timed.now)?)
 }
 

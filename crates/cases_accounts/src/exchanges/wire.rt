@@ -32,7 +32,7 @@ fn add(alloc: Global, out: &mut String, line: &str) -> anyhow::Result<()> {
 }
 
 /// The status of a response, and unless it is quiet some fields and the body.
-pub fn told(alloc: Global, response: &[u8], is_quiet: bool) -> anyhow::Result<String> {
+pub fn response_line(alloc: Global, response: &[u8], is_quiet: bool) -> anyhow::Result<String> {
     let text = String::from_utf8_lossy(alloc, response)?;
     let Some((head, body)) = text.as_str().split_once("\r\n\r\n") else {
         bail!("a response without a head");
@@ -182,7 +182,7 @@ fn tell_full(rt: &HostRuntime) -> anyhow::Result<()> {
     let response = render(alloc, &full, false, false)?;
     println!(rt;
         "a full journal: {}",
-        told(alloc, response.as_slice(), false)?
+        response_line(alloc, response.as_slice(), false)?
     )?;
     Ok(())
 }

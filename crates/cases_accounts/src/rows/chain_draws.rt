@@ -2,7 +2,7 @@
 
 ghost use Rattle.std.specs.Prelude.{◌<◌};
 
-use crate::rows::chains::{backward, forward, nth, told};
+use crate::rows::chains::{backward, chain_line, forward, nth};
 use anyhow::bail;
 use ss_list::{Chain, Steps};
 use std::alloc::Global;
@@ -136,7 +136,7 @@ impl Draws {
                 .push(format!(in alloc; "\nturn {number}: {found}")?)?;
         }
         if !is_same(alloc, &self.chain, self.list.as_slice(), steps)? {
-            let found = told(alloc, &self.chain, steps)?;
+            let found = chain_line(alloc, &self.chain, steps)?;
             self.differing.push(format!(in alloc;
                 "\nturn {number}: {found} and not {:?}",
                 self.list
@@ -157,7 +157,7 @@ pub fn run<L: Ledger>(
     for number in 0..turns {
         draws.play(alloc, number, steps)?;
     }
-    let last = told(alloc, &draws.chain, steps)?;
+    let last = chain_line(alloc, &draws.chain, steps)?;
     let mut told = format!(in alloc;
         "{turns} turns compared with a list, {} differ; at last {last}",
         draws.differing.len()

@@ -63,7 +63,7 @@ pub fn nth<L: Ledger>(chain: &Chain<u32>, n: usize, steps: &mut Steps<L>) -> Opt
 }
 
 /// What a chain has: its values from either end, its length and its free nodes.
-pub fn told<L: Ledger>(
+pub fn chain_line<L: Ledger>(
     alloc: Global,
     chain: &Chain<u32>,
     steps: &mut Steps<L>,
@@ -208,7 +208,7 @@ impl Chains {
         }
         match self.call(alloc, words, steps)? {
             Some(gives) => {
-                let told = told(alloc, &self.chain, steps)?;
+                let told = chain_line(alloc, &self.chain, steps)?;
                 Ok(Some(format!(in alloc; "{gives}; {told}")?))
             }
             None => Ok(None),

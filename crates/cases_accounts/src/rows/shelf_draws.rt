@@ -215,7 +215,7 @@ impl Draws {
     }
 
     /// What was compared, what differs, and what there is at last.
-    fn told(&self, alloc: Global) -> anyhow::Result<String> {
+    fn shelf_line(&self, alloc: Global) -> anyhow::Result<String> {
         let mut told = format!(in alloc;
             "{} lengths, {} queries, {} counts and {} sizes compared with a list, {} differ; at last {} rows: {}",
             self.lengths,
@@ -264,7 +264,7 @@ impl Shelves {
                 left = every;
             }
         }
-        draws.told(alloc)
+        draws.shelf_line(alloc)
     }
 
     /// Takes a query, and tells how many there are.

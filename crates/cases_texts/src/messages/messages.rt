@@ -161,7 +161,7 @@ fn told_field(alloc: Global, name: &str, text: &[u8]) -> anyhow::Result<String> 
 }
 
 /// What a case tells.
-pub fn told(alloc: Global, kind: &str, text: &str) -> anyhow::Result<String> {
+pub fn message_line(alloc: Global, kind: &str, text: &str) -> anyhow::Result<String> {
     match kind {
         "long" => told_text(alloc, long_head(alloc, text.parse::<u64>()?)?.as_slice()),
         "wide" => told_text(alloc, wide_head(alloc, text.parse::<u64>()?)?.as_slice()),

@@ -55,7 +55,7 @@ fn heard_of(
 }
 
 /// What a case tells.
-pub fn told(alloc: Global, text: &str) -> anyhow::Result<String> {
+pub fn reply_line(alloc: Global, text: &str) -> anyhow::Result<String> {
     let mut words = Vec::new(alloc);
     for word in text.splitn(5, ' ') {
         words.push(word)?;

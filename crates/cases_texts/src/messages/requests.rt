@@ -36,7 +36,7 @@ fn told_request(alloc: Global, told: &Value) -> anyhow::Result<String> {
 }
 
 /// What a case tells.
-pub fn told(alloc: Global, text: &str) -> anyhow::Result<String> {
+pub fn request_line(alloc: Global, text: &str) -> anyhow::Result<String> {
     match values(alloc, text)?.get(0) {
         Some(request) => told_request(alloc, request),
         None => bail!("no request"),

@@ -129,7 +129,7 @@ fn told_heard_of(alloc: Global, values: &Value) -> anyhow::Result<String> {
 }
 
 /// What a case tells.
-pub fn told(alloc: Global, kind: &str, text: &str) -> anyhow::Result<String> {
+pub fn response_line(alloc: Global, kind: &str, text: &str) -> anyhow::Result<String> {
     let values = values(alloc, text)?;
     match (kind, values.get(0)) {
         ("response", Some(head)) => told_written(alloc, head),

@@ -153,7 +153,7 @@ pub fn told_system(rt: &HostRuntime) -> anyhow::Result<String> {
 }
 
 /// What a case tells.
-pub fn told(alloc: Global, kind: &str, text: &str) -> anyhow::Result<String> {
+pub fn outside_line(alloc: Global, kind: &str, text: &str) -> anyhow::Result<String> {
     let values = values(alloc, text)?;
     match kind {
         "source" => source(alloc, &values),

@@ -124,7 +124,7 @@ fn words_in(alloc: Global, text: &str, count: usize) -> anyhow::Result<Vec<&str>
 }
 
 /// What a case tells, where it is one of these.
-pub fn told(alloc: Global, kind: &str, text: &str) -> anyhow::Result<Option<String>> {
+pub fn record_line(alloc: Global, kind: &str, text: &str) -> anyhow::Result<Option<String>> {
     let line = match kind {
         "payload" => match words_in(alloc, text, 2)?.as_slice() {
             [of, payload] => told_payload(alloc, of, payload)?,

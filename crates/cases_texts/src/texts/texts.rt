@@ -185,7 +185,7 @@ fn told_of_text(alloc: Global, kind: &str, text: &str) -> anyhow::Result<String>
 }
 
 /// What a case tells, where it is one of these.
-pub fn told(alloc: Global, kind: &str, text: &str) -> anyhow::Result<Option<String>> {
+pub fn text_line(alloc: Global, kind: &str, text: &str) -> anyhow::Result<Option<String>> {
     let line = match kind {
         "decimals" => decimals(alloc, text)?,
         "backslashes" => backslashes(alloc, text)?,

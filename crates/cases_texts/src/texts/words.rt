@@ -14,7 +14,7 @@ fn words_of(alloc: Global, text: &str) -> anyhow::Result<Vec<String>> {
 }
 
 /// What words ask, or the cause for which they are refused and the text that says so.
-pub fn told(alloc: Global, text: &str) -> anyhow::Result<String> {
+pub fn words_line(alloc: Global, text: &str) -> anyhow::Result<String> {
     let words = words_of(alloc, text)?;
     match read_command(alloc, words.as_slice()) {
         Ok(command) => Ok(format!(in alloc; "asks {command:?}")?),

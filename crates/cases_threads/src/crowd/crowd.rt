@@ -169,6 +169,6 @@ fn tell(alloc: Global, ended: &Ended) -> anyhow::Result<String> {
 }
 
 /// Serves a crowd, and compares what each link wrote with the plain program.
-pub fn told<R: Threads + Wait + Sync>(rt: &R, alloc: Global) -> anyhow::Result<String> {
+pub fn crowd_line<R: Threads + Wait + Sync>(rt: &R, alloc: Global) -> anyhow::Result<String> {
     tell(alloc, &serve(rt, alloc)?)
 }

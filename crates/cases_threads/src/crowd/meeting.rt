@@ -103,7 +103,7 @@ fn accounts(alloc: Global, meeting: &Meeting) -> anyhow::Result<Vec<(u32, Booked
 }
 
 /// How two PUTs are answered, to two accounts whose keepers wait for each other, by two workers.
-pub fn told<R: Threads + Wait + Sync>(rt: &R, alloc: Global) -> anyhow::Result<String> {
+pub fn meeting_line<R: Threads + Wait + Sync>(rt: &R, alloc: Global) -> anyhow::Result<String> {
     let meeting = Meeting {
         seven: AtomicU64::new(0),
         eight: AtomicU64::new(0),

@@ -5,7 +5,7 @@ ghost use Rattle.ss_links.specs.Links.{IsUnused, link_tells};
 
 use crate::hostile::account::{Setting, accounts, again};
 use crate::hostile::links::{bytes, fronts, link, pieces, sound};
-use crate::hostile::telling::{cut, told};
+use crate::hostile::telling::{cut, ended_line};
 use crate::hostile::term::{Ended, serve};
 use ss_links::MemLink;
 use ss_serve::TermEnd;
@@ -53,7 +53,7 @@ fn show<R: Threads + Wait + Sync>(
 ) -> anyhow::Result<String>
     requires unused { All (λ link. IsUnused (link_tells link)) links.items }
 {
-    told(
+    ended_line(
         alloc,
         title,
         &serve(rt, alloc, links, accounts(alloc, setting)?)?,
@@ -179,13 +179,13 @@ fn next<R: Threads + Wait + Sync>(
 
 /// A journal has no room for a third call.
 pub fn full<R: Threads + Wait + Sync>(rt: &R, alloc: Global) -> anyhow::Result<String> {
-    told(alloc, "a journal with room for two", &filled(rt, alloc)?)
+    ended_line(alloc, "a journal with room for two", &filled(rt, alloc)?)
 }
 
 /// Such a term, and what is answered in the next one.
 pub fn full_before<R: Threads + Wait + Sync>(rt: &R, alloc: Global) -> anyhow::Result<String> {
     let links = vec![in alloc; sound(alloc, &[GET])?]?;
-    told(
+    ended_line(
         alloc,
         "the term after such a one",
         &next(rt, alloc, links, filled(rt, alloc)?)?,

@@ -52,7 +52,7 @@ fn link(alloc: Global, report: &LinkReport<MemLink>) -> anyhow::Result<String> {
 }
 
 /// What is told of a term: why it ended, and each link, a line each behind this title.
-pub fn told(alloc: Global, title: &str, ended: &Ended) -> anyhow::Result<String> {
+pub fn ended_line(alloc: Global, title: &str, ended: &Ended) -> anyhow::Result<String> {
     let mut text = format!(in alloc; "{title}: {:?}", ended.ended)?;
     for report in ended.links.iter() {
         text.push_str("\n  ")?;

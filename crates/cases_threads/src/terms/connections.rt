@@ -108,7 +108,7 @@ fn lines<R: Wait>(
 }
 
 /// What is told of links over one town.
-pub fn told<R: Wait>(rt: &R, alloc: Global, case: Case) -> anyhow::Result<String> {
+pub fn connection_line<R: Wait>(rt: &R, alloc: Global, case: Case) -> anyhow::Result<String> {
     let Case {
         manner,
         most,

@@ -32,7 +32,11 @@ impl Gate for Filling {
 
 /// What is told of such a term: how often its gate was told of such a journal, why the term ended, which accounts came
 /// back, and its links.
-pub fn told<R: Threads + Wait + Sync>(rt: &R, alloc: Global, case: Case) -> anyhow::Result<String> {
+pub fn filling_line<R: Threads + Wait + Sync>(
+    rt: &R,
+    alloc: Global,
+    case: Case,
+) -> anyhow::Result<String> {
     let gate = Filling {
         told: AtomicU64::new(0),
     };

@@ -48,7 +48,7 @@ fn count_cut<R: Wait>(rt: &R, alloc: Global, text: &[u8]) -> anyhow::Result<u32>
 }
 
 /// What is told of the fronts of a text.
-pub fn told<R: Wait>(rt: &R, alloc: Global, mut case: Case) -> anyhow::Result<String> {
+pub fn fronts_line<R: Wait>(rt: &R, alloc: Global, mut case: Case) -> anyhow::Result<String> {
     let Some(mut planned) = case.links.pop() else {
         bail!("no link");
     };

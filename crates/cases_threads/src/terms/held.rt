@@ -73,7 +73,11 @@ fn reported(alloc: Global, ended: &Ended, late: u64) -> anyhow::Result<String> {
 }
 
 /// What is told of such a term: why it ended, how many waited in vain, and which workers served a link.
-pub fn told<R: Threads + Wait + Sync>(rt: &R, alloc: Global, case: Case) -> anyhow::Result<String> {
+pub fn held_line<R: Threads + Wait + Sync>(
+    rt: &R,
+    alloc: Global,
+    case: Case,
+) -> anyhow::Result<String> {
     let gate = Holding {
         comers: AtomicU64::new(0),
         answered: AtomicU64::new(0),

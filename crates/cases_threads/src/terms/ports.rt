@@ -45,7 +45,7 @@ fn line(
 }
 
 /// What is told of a port with one link, from which this text comes, that rests after it and is asked three times.
-pub fn told(alloc: Global, text: &str) -> anyhow::Result<String> {
+pub fn port_line(alloc: Global, text: &str) -> anyhow::Result<String> {
     let pieces = vec![in alloc; Vec::from_slice(alloc, text.as_bytes())?]?;
     let mut port = SurePort::new(vec![in alloc; SureLink::new(alloc, pieces, 8)?]?).resting();
     let first = line(alloc, serve(&mut port))?;

@@ -177,7 +177,11 @@ fn reported(alloc: Global, site: &Terms, status: u8) -> anyhow::Result<String> {
 }
 
 /// What is told of the server of a case.
-pub fn told<R: Threads + Wait + Sync>(rt: &R, alloc: Global, case: Case) -> anyhow::Result<String> {
+pub fn server_line<R: Threads + Wait + Sync>(
+    rt: &R,
+    alloc: Global,
+    case: Case,
+) -> anyhow::Result<String> {
     let (site, status) = served(rt, alloc, case)?;
     let text = reported(alloc, &site, status);
     drop(site);

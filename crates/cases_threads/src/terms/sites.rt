@@ -89,7 +89,7 @@ fn lines(alloc: Global, site: &mut MemSite<u8>, asked: &str) -> anyhow::Result<S
 }
 
 /// What is told of a site.
-pub fn told(alloc: Global, line: &str) -> anyhow::Result<String> {
+pub fn site_line(alloc: Global, line: &str) -> anyhow::Result<String> {
     let Some((front, asked)) = line.split_once(" -- ") else {
         bail!("no keeper is asked for");
     };

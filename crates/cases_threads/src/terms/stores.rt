@@ -54,7 +54,7 @@ fn failing(alloc: Global, call: u64) -> anyhow::Result<String> {
 }
 
 /// What is told of the store of a line: one in memory, one of files, or one whose call fails.
-pub fn told<R: Files>(rt: &R, alloc: Global, kind: &str) -> anyhow::Result<String> {
+pub fn store_line<R: Files>(rt: &R, alloc: Global, kind: &str) -> anyhow::Result<String> {
     match kind.split_once('=') {
         Some(("fails", call)) => failing(alloc, call.parse::<u64>()?),
         None if kind == "memory" => {

@@ -128,7 +128,11 @@ pub fn reported(alloc: Global, ended: &Ended) -> anyhow::Result<String> {
 }
 
 /// What is told of the term of a case.
-pub fn told<R: Threads + Wait + Sync>(rt: &R, alloc: Global, case: Case) -> anyhow::Result<String> {
+pub fn term_line<R: Threads + Wait + Sync>(
+    rt: &R,
+    alloc: Global,
+    case: Case,
+) -> anyhow::Result<String> {
     let gate = Ending { from: case.gate };
     let ended = serve(rt, alloc, case, &gate)?;
     let text = reported(alloc, &ended);

@@ -111,7 +111,7 @@ fn is_room(most: u32) -> bool {
 
 /// What is told of a PUT and a GET side by side at an account: room for how many entries, and the reading of the clock (hundredths of
 /// a second).
-pub fn told<R: Threads + Wait + Sync>(
+pub fn pair_line<R: Threads + Wait + Sync>(
     rt: &R,
     alloc: Global,
     numbers: &[u32],

@@ -34,7 +34,7 @@ fn again(alloc: Global, text: &str) -> anyhow::Result<String> {
 }
 
 /// What a file is read as; one that is written again is shown.
-fn told(alloc: Global, text: &str) -> anyhow::Result<String> {
+fn reading_line(alloc: Global, text: &str) -> anyhow::Result<String> {
     let again = again(alloc, text)?;
     if again.as_str().starts_with('[') {
         return shown(alloc, again.as_str());
@@ -121,7 +121,7 @@ impl Files {
         let Some((before, behind)) = self.text.as_str().split_once(old.as_str()) else {
             bail!("nothing to change");
         };
-        told(alloc, format!(in alloc; "{before}{new}{behind}")?.as_str())
+        reading_line(alloc, format!(in alloc; "{before}{new}{behind}")?.as_str())
     }
 
     fn cut(&self, alloc: Global) -> anyhow::Result<String> {
@@ -146,7 +146,7 @@ impl Files {
                 self.text = String::new(alloc);
                 String::from_str(alloc, "its lines follow")?
             }
-            None if line == "read" => told(alloc, self.text.as_str())?,
+            None if line == "read" => reading_line(alloc, self.text.as_str())?,
             None if line == "cut" => self.cut(alloc)?,
             _ => return Ok(None),
         }))

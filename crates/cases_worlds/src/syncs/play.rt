@@ -212,7 +212,7 @@ impl Play {
         }
     }
 
-    fn told(&self, ran: &Ran, name: &str) -> anyhow::Result<Told> {
+    fn outcome_of(&self, ran: &Ran, name: &str) -> anyhow::Result<Told> {
         let alloc = self.alloc;
         let after = match &ran.file {
             Some(bytes) => Some(bytes.as_slice()),
@@ -267,7 +267,7 @@ impl Play {
             self.files.as_slice(),
             &self.failing,
         )?;
-        let told = self.told(&ran, words.get(2).copied().unwrap_or(""))?;
+        let told = self.outcome_of(&ran, words.get(2).copied().unwrap_or(""))?;
         self.calm();
         Ok((ran, told))
     }

@@ -252,7 +252,7 @@ fn often(count: u64) -> &'static str {
     if count >= 100 { "often" } else { "not often" }
 }
 
-pub fn told(alloc: Global) -> anyhow::Result<Vec<String>> {
+pub fn drawn_lines(alloc: Global) -> anyhow::Result<Vec<String>> {
     let mut total = Total {
         agree: 0,
         commits: 0,

@@ -92,7 +92,7 @@ fn upload(alloc: Global, world: &mut World) -> anyhow::Result<String> {
     )?)
 }
 
-pub fn told(alloc: Global) -> anyhow::Result<String> {
+pub fn uploads_line(alloc: Global) -> anyhow::Result<String> {
     let devices = vec![in alloc; device(alloc)?]?;
     let mut world = opened(alloc, devices)?;
     upload(alloc, &mut world)

@@ -381,7 +381,7 @@ fn append(lines: &mut Vec<String>, more: Vec<String>) -> anyhow::Result<()> {
 }
 
 /// The lines of the worked worlds.
-pub fn told(alloc: Global) -> anyhow::Result<Vec<String>> {
+pub fn worked_lines(alloc: Global) -> anyhow::Result<Vec<String>> {
     let mut lines = Vec::new(alloc);
     lines.push(told_of_three(alloc)?)?;
     append(&mut lines, told_of_lost(alloc)?)?;

@@ -8,7 +8,7 @@ use Rattle.ss_build.specs.Built.{built}
 use Rattle.ss_device.specs.Device.{row_ids}
 use Rattle.ss_device.proofs.Known.{by_id_apart}
 use Rattle.ss_run_edit.proofs.Told.{merged_of}
-use Rattle.ss_run_edit.proofs.merging.told.Goals as goal
+use Rattle.ss_run_edit.proofs.merging.merged_text.Goals as goal
 
 pub build-requires-2 : goal.build-requires-2
 build-requires-2 c = record { distinct = by_id_apart (row_ids c.args.rows.now) c.requires }

@@ -1,0 +1,42 @@
+//! An account is written as a text, and read back.
+
+use crate::answering::{fresh, id, name, put};
+use anyhow::bail;
+use ss_bso::Kept;
+use ss_dump::{dump, undump};
+use std::alloc::Global;
+
+/// What an account holds that was asked to put a record.
+fn held(alloc: Global) -> anyhow::Result<Kept> {
+    let mut account = fresh(alloc)?;
+    let put = put(alloc, name(alloc, "notes")?, id(alloc, "a")?, "hello")?;
+    account.step(alloc, 1_000, &put);
+    match account.told(alloc) {
+        Ok(kept) => Ok(kept),
+        Err(_) => bail!("no memory"),
+    }
+}
+
+/// What a dump tells.
+fn read(alloc: Global, text: &[u8]) -> anyhow::Result<Kept> {
+    match undump(alloc, text) {
+        Ok(kept) => Ok(kept),
+        Err(_) => bail!("it is no dump"),
+    }
+}
+
+/// Writes what an account holds as a dump, and tells the records that are read from it.
+pub fn moved(alloc: Global) -> anyhow::Result<Vec<String>> {
+    let text = dump(alloc, &held(alloc)?)?;
+    let mut lines = Vec::new(alloc);
+    for line in String::from_utf8_lossy(alloc, text.as_slice())?
+        .as_str()
+        .lines()
+    {
+        lines.push(String::from_str(alloc, line)?)?;
+    }
+    for row in read(alloc, text.as_slice())?.rows.as_slice() {
+        lines.push(format!(in alloc; "{}: {}", row.id.as_str(), row.payload.as_str())?)?;
+    }
+    Ok(lines)
+}

@@ -33,16 +33,6 @@ impl Model for Fetched {
     ghost invariant = { λ f. (f.ids.keys ≡ ids_of f.rows.items) × (are_apart (ids_of f.rows.items) ≡ true) };
 }
 
-fn copy_of(alloc: Global, sheet: &Sheet) -> Result<Sheet, AllocError>
-    ensures { IfOk result (λ copied. copied ≡ sheet.now) }
-{
-    Ok(Sheet {
-        id: sheet.id.copy(alloc)?,
-        modified: sheet.modified,
-        payload: sheet.payload.copy(alloc)?,
-    })
-}
-
 impl Fetched {
     ghost use Rattle.std.specs.Prelude.{[]};
     ghost use Rattle.ss_sync.specs.Fetched.{are_apart, kept};
@@ -113,7 +103,7 @@ impl Fetched {
         let listed = set_of(alloc, ids)?;
         for sheet in mirror {
             if listed.contains(&sheet.id) {
-                self.insert(alloc, copy_of(alloc, sheet)?)?;
+                self.insert(alloc, sheet.copy(alloc)?)?;
             }
         }
         Ok(())

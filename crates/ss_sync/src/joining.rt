@@ -1,6 +1,6 @@
 //! What a merge makes of a device's tree and of fetched rows.
 
-ghost use Rattle.std.specs.Prelude.{◌≡◌, IfOk};
+ghost use Rattle.std.specs.Prelude.{◌≡◌, ◌↔◌, IsTrue, IfOk};
 ghost use Rattle.ss_record.specs.Ids.{Apart};
 ghost use Rattle.ss_tree.specs.Entries.{IsTree};
 ghost use Rattle.ss_build.specs.Rows.{readings, rows_of};
@@ -32,6 +32,28 @@ fn counting<'a>(mirror: &'a [Sheet], rows: &[Sheet]) -> &'a [Sheet]
     }
 }
 
+/// Whether a row is the other one.
+fn is_same(sheet: &Sheet, other: &Sheet) -> bool
+    ensures { IsTrue result ↔ (sheet.now ≡ other.now) }
+{
+    sheet.id == other.id && sheet.modified == other.modified && sheet.payload == other.payload
+}
+
+/// Whether rows are the others, in order.
+fn are_same(sheets: &[Sheet], others: &[Sheet]) -> bool
+    ensures { IsTrue result ↔ (sheets.now ≡ others.now) }
+{
+    if sheets.len() != others.len() {
+        return false;
+    }
+    for (i, sheet) in sheets.iter().enumerate() {
+        if !is_same(sheet, &others[i]) {
+            return false;
+        }
+    }
+    true
+}
+
 /// Merges a device's tree with the tree of fetched rows, both against the tree of the mirror.
 pub fn join(
     alloc: Global,
@@ -46,7 +68,23 @@ pub fn join(
     ensures readings { IfOk result (λ j. j.remote.readings.items ≡ readings (rows_of rows.now)) }
 {
     let remote = build(alloc, rows)?;
-    let before = build(alloc, counting(mirror, rows))?;
+    let counted = counting(mirror, rows);
+    if are_same(counted, rows) {
+        // (nothing came: one tree is that of both)
+        let sides = Sides {
+            mirror: &remote.tree,
+            local,
+            remote: &remote.tree,
+            local_dead,
+            remote_dead: &remote.dead,
+        };
+        let merged = merge(alloc, &sides)?;
+        return Ok(Joined {
+            tree: merged.tree,
+            remote,
+        });
+    }
+    let before = build(alloc, counted)?;
     let sides = Sides {
         mirror: &before.tree,
         local,

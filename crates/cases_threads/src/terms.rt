@@ -10,6 +10,7 @@ mod connections;
 mod ending;
 mod filling;
 mod fronts;
+mod giving;
 mod held;
 mod ports;
 mod servers;
@@ -58,6 +59,7 @@ fn case_line<R: Threads + Wait + Files + Sync>(
     let (kind, rest) = line.split_once(' ').unwrap_or((line, ""));
     match kind {
         "site" => sites::site_line(alloc, rest),
+        "gives" => giving::giving_line(alloc, rest),
         "store" => stores::store_line(rt, alloc, rest),
         "port" => ports::port_line(alloc, rest),
         _ => served(rt, alloc, kind, case::read(alloc, texts, rest)?),

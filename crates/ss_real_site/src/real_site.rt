@@ -1,23 +1,22 @@
 //! The site of the system.
 
 ghost use Rattle.std.specs.Prelude.{◌≡◌, [], Err, IfOk, None, OnOk, OnErr};
-ghost use Rattle.ss_links.specs.Counts.{RoseBy};
 ghost use Rattle.ss_site.specs.Counted.{faults_of};
-ghost use Rattle.ss_site.specs.Sites.{HasCause, HasLent, AddsTerm, RoseUnless};
+ghost use Rattle.ss_site.specs.Sites.{HasCause, HasKeeperCause, IsGiven, AddsTerm, RoseUnless};
 ghost use Rattle.ss_real_site.specs.Files.{counted_in};
 ghost use Rattle.ss_real_site.specs.Real.{no_entries, no_logs, no_terms};
 
 use crate::account_file::AccountFile;
 use crate::log_files::LogFiles;
 use crate::trouble::Trouble;
-use sqlite::{Connection, Error, ErrorCode, File, FileStore};
-use ss_keep_sql::{SqlFault, SqlKeeper, open_file};
+use sqlite::{Error, ErrorCode};
+use ss_keep_sql::{FileFault, SqlFault, SqlKeeper};
 use ss_laws::Journal;
 use ss_links::{ServedLink, TcpPort, Traffic};
 use ss_outside::SystemClock;
 use ss_serve::LinkReport;
-use ss_site::{CountedPort, Site, SiteFault};
-use std::alloc::Global;
+use ss_site::{CountedPort, NoKeeper, Site, SiteFault};
+use std::alloc::{AllocError, Global};
 use std::fs;
 use std::io::{self, ErrorKind};
 use std::marker::Model;
@@ -49,6 +48,8 @@ pub struct RealSite<'a, N: Net + Clock> {
     made: Option<u32>,
     trouble: Option<Trouble>,
     faults: u64,
+    failed: u64,
+    damaged: u64,
     links: u64,
     ends: u64,
     rests: u64,
@@ -56,17 +57,32 @@ pub struct RealSite<'a, N: Net + Clock> {
     back: u64,
     // Of the ports that it gave.
     addresses: Vec<String>,
+    // The folders and uids of the keepers that it gave.
+    keepers: Vec<(String, u32)>,
 }
 
 impl<'a, N: Net + Clock> Model for RealSite<'a, N> {
-    ghost use Rattle.std.specs.Prelude.{map, string_bytes};
+    ghost use Rattle.std.specs.Prelude.{map, string_bytes, None};
+    ghost use Rattle.ss_site.specs.Tables.{place_given};
     ghost use Rattle.ss_real_site.specs.Real.{Tally};
 
     ghost Value = { Tally };
 
     ghost view = { λ site. record {
-      counts = record { faults = site.faults; links = site.links; ends = site.ends; rests = site.rests };
-      lent = record { given = site.given; back = site.back; addresses = map string_bytes site.addresses.items };
+      counts = record {
+        faults = site.faults;
+        refused = record { failed = site.failed; damaged = site.damaged };
+        links = site.links;
+        ends = site.ends;
+        rests = site.rests;
+      };
+      lent = record {
+        given = site.given;
+        back = site.back;
+        addresses = map string_bytes site.addresses.items;
+        keepers = map place_given site.keepers.items;
+        readings = None;
+      };
     } };
 }
 
@@ -79,8 +95,14 @@ impl<'a, N: Net + Clock> RealSite<'a, N> {
         traffic: &'a Traffic,
         folders: Folders,
     ) -> RealSite<'a, N>
-        ensures counts { result.counts ≡ record { faults = 0; links = 0; ends = 0; rests = 0 } }
-        ensures lent { result.lent ≡ record { given = 0; back = 0; addresses = [] } }
+        ensures counts { result.counts ≡ record {
+          faults = 0;
+          refused = record { failed = 0; damaged = 0 };
+          links = 0;
+          ends = 0;
+          rests = 0;
+        } }
+        ensures lent { result.lent ≡ record { given = 0; back = 0; addresses = []; keepers = []; readings = None } }
     {
         RealSite {
             network,
@@ -90,12 +112,15 @@ impl<'a, N: Net + Clock> RealSite<'a, N> {
             made: None,
             trouble: None,
             faults: 0,
+            failed: 0,
+            damaged: 0,
             links: 0,
             ends: 0,
             rests: 0,
             given: 0,
             back: 0,
             addresses: Vec::new(files.alloc()),
+            keepers: Vec::new(files.alloc()),
         }
     }
 
@@ -133,19 +158,21 @@ impl<'a, N: Net + Clock> RealSite<'a, N> {
         }
     }
 
-    // The database in a file, which is made where it isn't there.
-    fn open(&mut self, uid: u32, path: &str) -> Result<AccountFile, SiteFault>
+    // The account in a file, which is made where it isn't there.
+    fn open(&mut self, uid: u32, path: &str) -> Result<AccountFile, NoKeeper>
         ensures fresh { IfOk result (λ file. faults_of (counted_in file) ≡ 0) }
-        ensures cause { HasCause result self.old.counts self.new.counts }
-        ensures lent { HasLent result self.old.lent self.new.lent }
+        ensures cause { HasKeeperCause result self.old.counts self.new.counts }
+        ensures lent { self.new.lent ≡ self.old.lent }
     {
         let is_new = matches!(fs::exists(self.files, path), Ok(false));
-        match open_file(self.files, path) {
-            Ok(connection) => {
+        let opened = SqlKeeper::open_file(self.files, path);
+        match opened {
+            Ok(keeper) => {
                 self.made = if is_new { Some(uid) } else { None };
-                self.adopt(uid, connection)
+                Ok(AccountFile::new(keeper))
             }
-            Err(error) => Err(self.refusal_of(uid, error)),
+            Err(FileFault::Unopened { error }) => Err(NoKeeper::from(self.refusal_of(uid, error))),
+            Err(FileFault::Refused { fault }) => Err(self.rejection_of(uid, fault)),
         }
     }
 
@@ -156,14 +183,24 @@ impl<'a, N: Net + Clock> RealSite<'a, N> {
     {
         self.trouble = Some(trouble);
         self.faults = self.faults.saturating_add(1);
+        self.failed = self.failed.saturating_add(1);
         SiteFault::Fault
     }
 
-    // Counts a keeper or a port that is given.
+    // Counts what is kept and is no account, and keeps what it was.
+    fn find_damage(&mut self, trouble: Trouble) -> NoKeeper
+        ensures cause { HasKeeperCause {T = Unit {0}} (Err result) self.old.counts self.new.counts }
+        ensures lent { self.new.lent ≡ self.old.lent }
+    {
+        self.trouble = Some(trouble);
+        self.faults = self.faults.saturating_add(1);
+        self.damaged = self.damaged.saturating_add(1);
+        NoKeeper::Damaged
+    }
+
+    // Counts a keeper, a port or a store that is given.
     fn lend(&mut self)
-        ensures given { RoseBy 1 self.old.lent.given self.new.lent.given }
-        ensures back { self.new.lent.back ≡ self.old.lent.back }
-        ensures addresses { self.new.lent.addresses ≡ self.old.lent.addresses }
+        ensures given { IsGiven self.old.lent self.new.lent }
         ensures counts { self.new.counts ≡ self.old.counts }
     {
         self.given = self.given.saturating_add(1);
@@ -212,41 +249,25 @@ impl<'a, N: Net + Clock> RealSite<'a, N> {
         self.fail(Trouble::Database { uid, error })
     }
 
-    // The keeper over a database that was opened.
-    fn adopt(
-        &mut self,
-        uid: u32,
-        connection: Connection<FileStore<File>>,
-    ) -> Result<AccountFile, SiteFault>
-        ensures fresh { IfOk result (λ file. faults_of (counted_in file) ≡ 0) }
-        ensures cause { HasCause result self.old.counts self.new.counts }
-        ensures lent { HasLent result self.old.lent self.new.lent }
+    // Why a database that was opened gives no keeper.
+    fn rejection_of(&mut self, uid: u32, fault: SqlFault) -> NoKeeper
+        ensures cause { HasKeeperCause {T = Unit {0}} (Err result) self.old.counts self.new.counts }
+        ensures lent { self.new.lent ≡ self.old.lent }
     {
-        match SqlKeeper::adopt(self.files.alloc(), connection) {
-            Ok(keeper) => {
-                self.lend();
-                Ok(AccountFile::new(keeper))
+        match fault {
+            SqlFault::Fault => NoKeeper::from(self.fail(Trouble::Tables { uid })),
+            SqlFault::Version { found } => {
+                NoKeeper::from(self.fail(Trouble::Version { uid, found }))
             }
-            Err((_, SqlFault::Fault)) => Err(self.fail(Trouble::Tables { uid })),
-            Err((_, SqlFault::Version { found })) => Err(self.fail(Trouble::Version {
-                uid,
-                found,
-            })),
-            Err((_, SqlFault::Damaged { place })) => Err(self.fail(Trouble::Damaged {
-                uid,
-                place,
-            })),
-            Err((_, SqlFault::Memory)) => Err(SiteFault::Memory),
+            SqlFault::Damaged { place } => self.find_damage(Trouble::Damaged { uid, place }),
+            SqlFault::Memory => NoKeeper::Memory,
         }
     }
 }
 
 /// The path of an account's database.
-fn path_of(alloc: Global, folder: &str, uid: u32) -> Result<String, SiteFault> {
-    match format!(in alloc; "{folder}/{uid}.db") {
-        Ok(path) => Ok(path),
-        Err(_) => Err(SiteFault::Memory),
-    }
+fn path_of(alloc: Global, folder: &str, uid: u32) -> Result<String, AllocError> {
+    format!(in alloc; "{folder}/{uid}.db")
 }
 
 impl<'a, N: Net + Clock> Site for RealSite<'a, N> {
@@ -294,13 +315,26 @@ impl<'a, N: Net + Clock> Site for RealSite<'a, N> {
         }
     }
 
-    fn keeper(&mut self, alloc: Global, folder: &str, uid: u32) -> Result<AccountFile, SiteFault> {
+    fn keeper(&mut self, alloc: Global, folder: &str, uid: u32) -> Result<AccountFile, NoKeeper> {
+        let Ok(name) = String::from_str(alloc, folder) else {
+            return Err(NoKeeper::Memory);
+        };
+        let Ok(path) = path_of(alloc, folder, uid) else {
+            return Err(NoKeeper::Memory);
+        };
         if let Err(fault) = self.find_folder(folder) {
-            return Err(fault);
+            return Err(NoKeeper::from(fault));
         }
-        match path_of(alloc, folder, uid) {
-            Ok(path) => self.open(uid, path.as_str()),
-            Err(_) => Err(SiteFault::Memory),
+        match self.open(uid, path.as_str()) {
+            Ok(file) => {
+                if self.keepers.reserve(1).is_err() {
+                    return Err(NoKeeper::Memory);
+                }
+                self.keepers.push_reserved((name, uid));
+                self.lend();
+                Ok(file)
+            }
+            Err(missing) => Err(missing),
         }
     }
 

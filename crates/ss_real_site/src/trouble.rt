@@ -29,7 +29,7 @@ pub enum Trouble {
     /// The database of an account has tables of a version that isn't known.
     Version { uid: u32, found: i64 },
 
-    /// A row of an account's database is out of form.
+    /// What a row of an account's database holds is out of form.
     Damaged { uid: u32, place: Place },
 
     /// The database of an account failed while it was open.

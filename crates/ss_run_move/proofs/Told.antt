@@ -3,9 +3,9 @@ use Rattle.std.proofs.Common.{◌≡◌, ℕ, List, refl, sym, subst}
 use Rattle.ss_outside.specs.Told.{Meanings}
 use Rattle.ss_dump.specs.declared.faults.DumpFault.{DumpFault}
 use Rattle.ss_dump.specs.Undumped.{IsWhyNoDump}
-use Rattle.ss_site.specs.Sites.{Counts}
+use Rattle.ss_site.specs.Sites.{Counts, TellsStill}
 use Rattle.ss_run_move.specs.declared.endings.Ending.{Ending}
-use Rattle.ss_run_move.specs.declared.endings.Ending.TheVariants.{Done, Site, Keeper, Output, Input, NoAccount}
+use Rattle.ss_run_move.specs.declared.endings.Ending.TheVariants.{Done, Site, Damaged, Keeper, Output, Input, NoAccount}
 use Rattle.ss_run_move.specs.declared.endings.Ending.TheVariants.{NotFresh, NoDump, TooLong, Memory}
 use Rattle.ss_run_move.specs.declared.words.Verb.{Verb}
 use Rattle.ss_run_move.specs.declared.words.Verb.TheVariants.{Restore}
@@ -35,6 +35,7 @@ quiet_ending : (text : List ℕ) (ending : Ending) (output output' : Meanings) (
 quiet_ending text Done output output' old new wrote same = same
 quiet_ending text Output output output' old new wrote same = same
 quiet_ending text Site output output' old new wrote same = absurd wrote
+quiet_ending text Damaged output output' old new wrote same = absurd wrote
 quiet_ending text Keeper output output' old new wrote same = absurd wrote
 quiet_ending text Input output output' old new wrote same = absurd wrote
 quiet_ending text (NoAccount fault) output output' old new wrote same = absurd wrote
@@ -44,10 +45,11 @@ quiet_ending text TooLong output output' old new wrote same = absurd wrote
 quiet_ending text Memory output output' old new wrote same = absurd wrote
 
 pub dumped : (folder : List ℕ) (uid : ℕ) (text sent : List ℕ) (ending : Ending) (site site' : MoveSite) (output output' : Meanings) → sent ≡ text → IsDumpAt folder uid site.kept text
-    → Wrote sent ending output output' → site'.counts ≡ site.counts → CameBack site.lent site'.lent → Leaves folder uid site.kept site'.kept → Dumps folder uid ending site site' output output'
-dumped folder uid text sent ending site site' output output' all is wrote counts back leaves = record {
+    → Wrote sent ending output output' → site'.counts ≡ site.counts → CameBack folder uid site.lent site'.lent → Leaves folder uid site.kept site'.kept → TellsStill site.kept site'.kept → Dumps folder uid ending site site' output output'
+dumped folder uid text sent ending site site' output output' all is wrote counts back leaves stays = record {
   told = written text is (subst (λ (x : List ℕ). Wrote x ending output output') all wrote);
   counted = quiet_ending sent ending output output' site.counts site'.counts wrote counts;
   back = back;
   leaves = leaves;
+  stays = stays;
 }

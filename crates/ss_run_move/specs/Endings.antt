@@ -8,10 +8,10 @@ use Rattle.ss_dump.specs.declared.faults.DumpFault.{DumpFault}
 use Rattle.ss_dump.specs.declared.faults.DumpFault.TheVariants as dumped
 use Rattle.ss_dump.specs.declared.faults.RefillFault.{RefillFault}
 use Rattle.ss_dump.specs.declared.faults.RefillFault.TheVariants as refilled
-use Rattle.ss_site.specs.declared.site.SiteFault.{SiteFault}
-use Rattle.ss_site.specs.declared.site.SiteFault.TheVariants as sites
+use Rattle.ss_site.specs.declared.site.NoKeeper.{NoKeeper}
+use Rattle.ss_site.specs.declared.site.NoKeeper.TheVariants as missing
 use Rattle.ss_run_move.specs.declared.endings.Ending.{Ending}
-use Rattle.ss_run_move.specs.declared.endings.Ending.TheVariants.{Done, Site, Keeper, Output, Input, NoAccount}
+use Rattle.ss_run_move.specs.declared.endings.Ending.TheVariants.{Done, Site, Damaged, Keeper, Output, Input, NoAccount}
 use Rattle.ss_run_move.specs.declared.endings.Ending.TheVariants.{NotFresh, NoDump, TooLong, Memory}
 
 abbrev pub status_of : Ending → ℕ
@@ -19,6 +19,7 @@ status_of Done = 0
 status_of Site = 2
 status_of Keeper = 2
 status_of Output = 3
+status_of Damaged = 4
 status_of (NoAccount fault) = 4
 status_of NotFresh = 4
 status_of (NoDump fault) = 5
@@ -27,9 +28,10 @@ status_of Input = 7
 status_of Memory = 8
 
 -- how a run ends for which a site gives no keeper
-abbrev pub at_site : SiteFault → Ending
-at_site sites.Fault = Site
-at_site sites.Memory = Memory
+abbrev pub at_site : NoKeeper → Ending
+at_site missing.Fault = Site
+at_site missing.Damaged = Damaged
+at_site missing.Memory = Memory
 
 -- how a run ends for which no account is opened
 abbrev pub at_account : OpenFault → Ending

@@ -1,5 +1,5 @@
 -- What a dump and a restore do at a site (this project's).
-use Rattle.std.specs.Prelude.{◌≡◌, ◌≤◌, ℕ, List, true, false, Option, Some, Err, ⊤}
+use Rattle.std.specs.Prelude.{◌≡◌, ◌≤◌, ◌++◌, ◌∷◌, [], ℕ, zero, suc, List, true, false, Option, Some, ⊤}
 use Rattle.ss_outside.specs.Told.{Meanings}
 use Rattle.ss_links.specs.Counts.{RoseBy}
 use Rattle.ss_bso.specs.declared.changes.Kept.{Kept}
@@ -12,10 +12,10 @@ use Rattle.ss_dump.specs.declared.faults.DumpFault.{DumpFault}
 use Rattle.ss_dump.specs.Dumps.{dump_text}
 use Rattle.ss_dump.specs.Refilled.{is_fresh}
 use Rattle.ss_dump.specs.Undumped.{IsDumpOf, IsWhyNoDump}
-use Rattle.ss_site.specs.declared.site.SiteFault.TheVariants.{Fault}
-use Rattle.ss_site.specs.Sites.{Counts, Entries, HasCause, IsWith, Lent}
+use Rattle.ss_site.specs.Sites.{CameBackFailed, Counts, Entries, FoundDamage, CallFailed, IsWith, Lent, TellsStill}
 use Rattle.ss_run_move.specs.declared.endings.Ending.{Ending}
-use Rattle.ss_run_move.specs.declared.endings.Ending.TheVariants.{Done, Site, Keeper, NoAccount, NotFresh, Memory}
+use Rattle.ss_run_move.specs.declared.endings.Ending.TheVariants.{Done, Site, Damaged, Keeper, NoAccount, NotFresh}
+use Rattle.ss_run_move.specs.declared.endings.Ending.TheVariants.{Memory}
 use Rattle.ss_run_move.specs.Endings.{Wrote, at_dump}
 use Rattle.ss_run_move.specs.Inputs.{IsUnread, IsWhole}
 
@@ -27,19 +27,27 @@ pub record MoveSite : Type 0 where
   pub lent : Lent
   pub kept : Option Entries
 
--- the count of faults rose where a call of the site failed, or the keeper that came back; else all counts are as before
+-- the count of faults rose, and that of the site's own calls that failed or found damage, where that is why; the first alone where the
+-- keeper that came back had failed; else all counts are as before
 abbrev pub IsCounted : Ending → Counts → Counts → Type 0
-IsCounted Site old new = HasCause {T = Unit {0}} (Err Fault) old new
-IsCounted Keeper old new = HasCause {T = Unit {0}} (Err Fault) old new
+IsCounted Site old new = CallFailed old new
+IsCounted Damaged old new = FoundDamage old new
+IsCounted Keeper old new = CameBackFailed old new
 IsCounted ending old new = new ≡ old
 
--- one keeper at most was given, and it came back; no port was given
-pub record CameBack (old new : Lent) : Type 0 where
+-- of so many keepers, one at most, that a site gave, this is the folder and uid
+abbrev pub IsAskedAt : List ℕ → ℕ → ℕ → List (List ℕ × ℕ) → List (List ℕ × ℕ) → Type 0
+IsAskedAt folder uid zero old new = new ≡ old
+IsAskedAt folder uid (suc n) old new = new ≡ old ++ (folder, uid) ∷ []
+
+-- one keeper at most was given, that of this folder and uid, and it came back; no port was given
+pub record CameBack (folder : List ℕ) (uid : ℕ) (old new : Lent) : Type 0 where
   pub number : ℕ
   pub one : number ≤ 1
   pub given : RoseBy number old.given new.given
   pub back : RoseBy number old.back new.back
   pub addresses : new.addresses ≡ old.addresses
+  pub keepers : IsAskedAt folder uid number old.keepers new.keepers
 
 -- where the entries are told afterwards they were told before, and each is as it was, that of this folder and uid and all others
 abbrev pub Leaves : List ℕ → ℕ → Option Entries → Option Entries → Type 0
@@ -70,9 +78,10 @@ IsNoAccount folder uid kept (BadBatch n) = (entries : Entries) → kept ≡ Some
 IsNoAccount folder uid kept KeeperFault = ⊥
 IsNoAccount folder uid kept NoRoom = ⊥
 
--- Why there is no dump: a call of the site or the keeper failed, no account can be opened, or no memory was found
+-- Why there is no dump: a call of the site or the keeper failed, the site found no account, none can be opened, or no memory was found
 abbrev pub IsUndumped : List ℕ → ℕ → Option Entries → Ending → Type 0
 IsUndumped folder uid kept Site = ⊤
+IsUndumped folder uid kept Damaged = ⊤
 IsUndumped folder uid kept Keeper = ⊤
 IsUndumped folder uid kept (NoAccount fault) = IsNoAccount folder uid kept fault
 IsUndumped folder uid kept Memory = ⊤
@@ -87,14 +96,17 @@ pub data TellsDump (folder : List ℕ) (uid : ℕ) (ending : Ending) (kept : Opt
 pub record Dumps (folder : List ℕ) (uid : ℕ) (ending : Ending) (site site' : MoveSite) (output output' : Meanings) : Type 0 where
   pub told : TellsDump folder uid ending site.kept output output'
   pub counted : IsCounted ending site.counts site'.counts
-  pub back : CameBack site.lent site'.lent
+  pub back : CameBack folder uid site.lent site'.lent
   pub leaves : Leaves folder uid site.kept site'.kept
+  pub stays : TellsStill site.kept site'.kept
 
 -- ---- a restore
 
--- Why nothing is restored from a dump: a call of the site or the keeper failed, something is kept already where that is told, or no memory was found
+-- Why nothing is restored from a dump: a call of the site or the keeper failed, the site found no account, something is kept already where
+-- that is told, or no memory was found
 abbrev pub IsUnfilled : List ℕ → ℕ → Option Entries → Ending → Type 0
 IsUnfilled folder uid kept Site = ⊤
+IsUnfilled folder uid kept Damaged = ⊤
 IsUnfilled folder uid kept Keeper = ⊤
 IsUnfilled folder uid kept NotFresh = (entries : Entries) → kept ≡ Some entries → is_fresh (entries folder uid) ≡ false
 IsUnfilled folder uid kept Memory = ⊤
@@ -109,7 +121,8 @@ IsFilled folder uid told ending old new = IsUnfilled folder uid old ending × Le
 pub record FillsFrom (folder : List ℕ) (uid : ℕ) (told : Kept) (ending : Ending) (site site' : MoveSite) : Type 0 where
   pub filled : IsFilled folder uid told ending site.kept site'.kept
   pub counted : IsCounted ending site.counts site'.counts
-  pub back : CameBack site.lent site'.lent
+  pub back : CameBack folder uid site.lent site'.lent
+  pub stays : TellsStill site.kept site'.kept
 
 -- What a restore of the account under this folder and uid does, which ends so: the input is a dump, and what it tells is put there; or it is
 -- none, or isn't read whole, and the site isn't asked

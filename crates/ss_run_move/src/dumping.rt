@@ -3,6 +3,7 @@
 ghost use Rattle.std.specs.Prelude.{◌≡◌, IfOk, IfErr, IfSome};
 ghost use Rattle.ss_bso.specs.Changes.{kept_of};
 ghost use Rattle.ss_dump.specs.Dumps.{dump_text};
+ghost use Rattle.ss_site.specs.Sites.{TellsStill};
 ghost use Rattle.ss_run_move.specs.declared.endings.Ending.TheVariants.{Memory};
 ghost use Rattle.ss_run_move.specs.Endings.{Wrote};
 ghost use Rattle.ss_run_move.specs.Moves.{CameBack, Dumps, IsDumpAt, IsDumpFrom, IsUndumped, Leaves};
@@ -72,13 +73,14 @@ fn dump_at<X: Site>(alloc: Global, site: &mut X, folder: &str, uid: u32) -> Resu
     ensures text { IfOk result (λ text. IsDumpAt folder.now uid (X.kept site.old) text.items) }
     ensures none { IfErr result (λ ending. IsUndumped folder.now uid (X.kept site.old) ending) }
     ensures counted { CountsResult result (X.counts site.old) (X.counts site.new) }
-    ensures back { CameBack (X.lent site.old) (X.lent site.new) }
+    ensures back { CameBack folder.now uid (X.lent site.old) (X.lent site.new) }
     ensures leaves { Leaves folder.now uid (X.kept site.old) (X.kept site.new) }
+    ensures stays { TellsStill (X.kept site.old) (X.kept site.new) }
     ensures terms { X.terms site.new ≡ X.terms site.old }
 {
     let keeper = match site.keeper(alloc, folder, uid) {
         Ok(keeper) => keeper,
-        Err(fault) => return Err(Ending::from(fault)),
+        Err(missing) => return Err(Ending::from(missing)),
     };
     let (keeper, text) = dump_of(alloc, keeper);
     site.retire(folder, uid, keeper);

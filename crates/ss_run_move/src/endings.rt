@@ -6,7 +6,7 @@ ghost use Rattle.ss_run_move.specs.declared.endings.Ending.TheVariants.{Memory};
 
 use ss_account::OpenFault;
 use ss_dump::{DumpFault, RefillFault};
-use ss_site::SiteFault;
+use ss_site::NoKeeper;
 use std::alloc::AllocError;
 use std::fmt::{self, Display, Formatter, Write};
 
@@ -18,6 +18,9 @@ pub enum Ending {
 
     /// A call of the site failed.
     Site,
+
+    /// What is kept is no account that can be read.
+    Damaged,
 
     /// The keeper of the account failed.
     Keeper,
@@ -53,7 +56,7 @@ impl Ending {
             Ending::Done => 0,
             Ending::Site | Ending::Keeper => 2,
             Ending::Output => 3,
-            Ending::NoAccount { .. } | Ending::NotFresh => 4,
+            Ending::Damaged | Ending::NoAccount { .. } | Ending::NotFresh => 4,
             Ending::NoDump { .. } => 5,
             Ending::TooLong => 6,
             Ending::Input => 7,
@@ -70,13 +73,14 @@ impl From<AllocError> for Ending {
     }
 }
 
-impl From<SiteFault> for Ending {
-    ghost from_gives = { λ fault ending. ending ≡ at_site fault };
+impl From<NoKeeper> for Ending {
+    ghost from_gives = { λ missing ending. ending ≡ at_site missing };
 
-    fn from(fault: SiteFault) -> Ending {
-        match fault {
-            SiteFault::Fault => Ending::Site,
-            SiteFault::Memory => Ending::Memory,
+    fn from(missing: NoKeeper) -> Ending {
+        match missing {
+            NoKeeper::Fault => Ending::Site,
+            NoKeeper::Damaged => Ending::Damaged,
+            NoKeeper::Memory => Ending::Memory,
         }
     }
 }
@@ -121,6 +125,7 @@ impl Display for Ending {
         match self {
             Ending::Done => f.write_str("done"),
             Ending::Site => f.write_str("the folder or the file failed"),
+            Ending::Damaged => f.write_str("it holds no account"),
             Ending::Keeper => f.write_str("the file failed"),
             Ending::Output => f.write_str("the output can't be written"),
             Ending::Input => f.write_str("the input can't be read"),

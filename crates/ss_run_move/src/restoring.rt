@@ -39,7 +39,7 @@ fn fill<X: Site>(alloc: Global, site: &mut X, folder: &str, uid: u32, told: &Kep
 {
     let mut keeper = match site.keeper(alloc, folder, uid) {
         Ok(keeper) => keeper,
-        Err(fault) => return Ending::from(fault),
+        Err(missing) => return Ending::from(missing),
     };
     let refilled = refill(alloc, &mut keeper, told);
     site.retire(folder, uid, keeper);

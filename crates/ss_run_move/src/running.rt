@@ -35,7 +35,7 @@ fn carry_out<X: Site, S: Source, T: Sink>(
 /// Runs the words `dump FOLDER UID` and `restore FOLDER UID` at a site, and answers the status: 0 where the dump was
 /// written, or the account is filled with what the dump tells; 1 where the words are others, and nothing is asked, read
 /// or written; 2 where a call of the site failed, or the keeper of the account; 3 and 7 where the output and the input
-/// failed; 4 where no account can be opened from what is kept, or the one to be filled has something already; 5 where the
+/// failed; 4 where what is kept is no account, or the one to be filled has something already; 5 where the
 /// input is no dump; 6 where it has more than 1,073,741,824 bytes; 8 without memory. A dump writes nothing unless the
 /// status is 0 or 3, and a restore writes nothing at all. The keeper that the site gave is given back to it. What `err`
 /// is told is for people, and nothing is said of it.

@@ -23,11 +23,12 @@ use Rattle.ss_run_serve.specs.declared.logbook.Logbook.{Logbook}
 use Rattle.ss_run_serve.specs.Logbooks.{is_kept, failures_in, IsBookOf, IsLentFor, AreLeft, ClosesBook}
 use Rattle.ss_run_serve.proofs.Lent.{none_out, one_back, one_out, out_then}
 use Rattle.ss_run_serve.proofs.Rising.{rose_on}
-use Rattle.ss_run_serve.proofs.Retired.{counts_one}
+use Rattle.ss_run_serve.proofs.Retired.{counts_one, refused_on}
 
 -- the counts of faults and no others rose
 record Rises (old new : Counts) : Type 0 where
   pub faults : old.faults ≤ new.faults
+  pub refused : new.refused ≡ old.refused
   pub links : new.links ≡ old.links
   pub ends : new.ends ≡ old.ends
   pub rests : new.rests ≡ old.rests
@@ -35,6 +36,7 @@ record Rises (old new : Counts) : Type 0 where
 rises_none : (old new : Counts) → new ≡ old → Rises old new
 rises_none old new same = record {
   faults = omega (arith, ap (λ (c : Counts). c.faults) same);
+  refused = ap (λ (c : Counts). c.refused) same;
   links = ap (λ (c : Counts). c.links) same;
   ends = ap (λ (c : Counts). c.ends) same;
   rests = ap (λ (c : Counts). c.rests) same;
@@ -44,7 +46,7 @@ closed_rises : (kept : Bool) (files : Option Files) (faults : ℕ) (old new : Co
 closed_rises false files faults old new logs logs' lent lent' closed = rises_none old new closed.0
 closed_rises true files faults old new logs logs' lent lent' closed =
     let counted = counts_one faults old new closed.0 in
-    record { faults = counted.faults; links = counted.links; ends = counted.ends; rests = counted.rests }
+    record { faults = counted.faults; refused = closed.0.refused; links = counted.links; ends = counted.ends; rests = counted.rests }
 
 -- where the store failed the site counts that
 closed_fails : (kept : Bool) (files : Option Files) (faults : ℕ) (old new : Counts) (logs logs' : Option Files) (lent lent' : Lent) → (kept ≡ false → faults ≡ 0) → ClosesBook kept files faults old new logs logs' lent lent' → faults ≢ 0 → Rose old.faults new.faults
@@ -60,6 +62,7 @@ closed_failed kept files faults first old new logs logs' lent lent' stops.Logs u
 closed_failed kept files faults first old new logs logs' lent lent' stops.PortEnded unkept closed later cut = tt
 closed_failed kept files faults first old new logs logs' lent lent' stops.Terms unkept closed later cut = tt
 closed_failed kept files faults first old new logs logs' lent lent' stops.Site unkept closed later cut = tt
+closed_failed kept files faults first old new logs logs' lent lent' (stops.Damaged uid) unkept closed later cut = tt
 closed_failed kept files faults first old new logs logs' lent lent' (stops.Keeper uid) unkept closed later cut = tt
 closed_failed kept files faults first old new logs logs' lent lent' stops.Port unkept closed later cut = tt
 closed_failed kept files faults first old new logs logs' lent lent' (stops.Account uid fault) unkept closed later cut = tt
@@ -71,6 +74,7 @@ untold_failed old new stops.Memory why = tt
 untold_failed old new stops.PortEnded why = absurd why
 untold_failed old new stops.Terms why = absurd why
 untold_failed old new stops.Port why = absurd why
+untold_failed old new (stops.Damaged uid) why = absurd why
 untold_failed old new (stops.Keeper uid) why = absurd why
 untold_failed old new (stops.Account uid fault) why = absurd why
 untold_failed old new stops.Logs why = absurd why
@@ -97,11 +101,28 @@ all_returned kept kept' old mid files faults counts counts' logs logs' last new 
 
 lent_at : (kept : Bool) (old mid : Lent) → IsLentFor kept old mid → mid.addresses ≡ old.addresses
 lent_at false old mid given = ap (λ (l : Lent). l.addresses) given
-lent_at true old mid given = given.2
+lent_at true old mid given = given.addresses
+
+keepers_lent : (kept : Bool) (old mid : Lent) → IsLentFor kept old mid → mid.keepers ≡ old.keepers
+keepers_lent false old mid given = ap (λ (l : Lent). l.keepers) given
+keepers_lent true old mid given = given.keepers
+
+pub readings_lent : (kept : Bool) (old mid : Lent) → IsLentFor kept old mid → mid.readings ≡ old.readings
+readings_lent false old mid given = ap (λ (l : Lent). l.readings) given
+readings_lent true old mid given = given.readings
 
 closed_at : (kept : Bool) (files : Option Files) (faults : ℕ) (counts counts' : Counts) (logs logs' : Option Files) (last new : Lent) → ClosesBook kept files faults counts counts' logs logs' last new → new.addresses ≡ last.addresses
 closed_at false files faults counts counts' logs logs' last new closed = ap (λ (l : Lent). l.addresses) closed.2
 closed_at true files faults counts counts' logs logs' last new closed = closed.2.addresses
+
+keepers_closed : (kept : Bool) (files : Option Files) (faults : ℕ) (counts counts' : Counts) (logs logs' : Option Files) (last new : Lent) → ClosesBook kept files faults counts counts' logs logs' last new → new.keepers ≡ last.keepers
+keepers_closed false files faults counts counts' logs logs' last new closed = ap (λ (l : Lent). l.keepers) closed.2
+keepers_closed true files faults counts counts' logs logs' last new closed = closed.2.keepers
+
+pub same_keepers : (kept kept' : Bool) (old mid : Lent) (files : Option Files) (faults : ℕ) (counts counts' : Counts) (logs logs' : Option Files) (last new : Lent) → IsLentFor kept old mid → ClosesBook kept' files faults counts counts' logs logs' last new
+    → last.keepers ≡ mid.keepers → new.keepers ≡ old.keepers
+same_keepers kept kept' old mid files faults counts counts' logs logs' last new given closed same =
+    keepers_closed kept' files faults counts counts' logs logs' last new closed ∙ same ∙ keepers_lent kept old mid given
 
 pub still_listens : (address : List ℕ) (kept kept' : Bool) (old mid : Lent) (files : Option Files) (faults : ℕ) (counts counts' : Counts) (logs logs' : Option Files) (last new : Lent) → IsLentFor kept old mid → ClosesBook kept' files faults counts counts' logs logs' last new
     → ListensAt address mid last → ListensAt address old new
@@ -123,10 +144,10 @@ module _ {L : Type 0} where
 
   module _ (manner : Manner) (tells : L → Meanings) (closed : L → Bool) (says : ℕ → ℕ → Bool → Type 0) where
     -- the same terms, by other counts and what else is said of the logs
-    came_on : (opened : List (ℕ × Hosted)) (workers connections asked : ℕ) (told told' : Option (List (Term (LinkReport L)))) (old mid new : Counts) (accounts : List (ℕ × Hosted)) (stop : Stop) (Logged Other : List (Term (LinkReport L)) → Type 0)
-        → Rises mid new → ((terms : List (Term (LinkReport L))) → Logged terms → Other terms) → CameTo manner tells closed says opened workers connections asked told told' old mid accounts stop Logged
-        → CameTo manner tells closed says opened workers connections asked told told' old new accounts stop Other
-    came_on opened workers connections asked told told' old mid new accounts stop Logged Other rises so came = record {
+    came_on : (opened : List (ℕ × Hosted)) (clocks : List (Option (List ℕ))) (connections asked : ℕ) (told told' : Option (List (Term (LinkReport L)))) (old mid new : Counts) (accounts : List (ℕ × Hosted)) (stop : Stop) (Logged Other : List (Term (LinkReport L)) → Type 0)
+        → Rises mid new → ((terms : List (Term (LinkReport L))) → Logged terms → Other terms) → CameTo manner tells closed says opened clocks connections asked told told' old mid accounts stop Logged
+        → CameTo manner tells closed says opened clocks connections asked told told' old new accounts stop Other
+    came_on opened clocks connections asked told told' old mid new accounts stop Logged Other rises so came = record {
       terms = came.terms;
       told = came.told;
       are_told = came.are_told;
@@ -141,6 +162,7 @@ module _ {L : Type 0} where
       failed = came.failed;
       uids = came.uids;
       faults = omega (arith, came.faults, rises.faults);
+      refused = refused_on stop old.refused mid.refused new.refused rises.refused came.refused;
       until = until stop came.until;
     }
       where
@@ -150,22 +172,23 @@ module _ {L : Type 0} where
         until stops.Port why = (rose_on old.faults mid.faults new.faults why.0 rises.faults, why.1)
         until stops.Site why = rose_on old.faults mid.faults new.faults why rises.faults
         until stops.Memory why = tt
+        until (stops.Damaged uid) why = absurd why
         until (stops.Keeper uid) why = absurd why
         until (stops.Account uid fault) why = absurd why
         until stops.Logs why = tt
 
     -- accounts that were served with an open book, once that was closed
-    pub came_logged : (folder : Option LogFolder) (opened : List (ℕ × Hosted)) (workers connections asked : ℕ) (told first told' told'' : Option (List (Term (LinkReport L)))) (old begun mid new : Counts) (accounts : List (ℕ × Hosted)) (stop : Stop)
+    pub came_logged : (folder : Option LogFolder) (opened : List (ℕ × Hosted)) (clocks : List (Option (List ℕ))) (connections asked : ℕ) (told first told' told'' : Option (List (Term (LinkReport L)))) (old begun mid new : Counts) (accounts : List (ℕ × Hosted)) (stop : Stop)
         (kept kept' : Bool) (number : ℕ) (files files' : Option Files) (faults : ℕ) (logs left last logs' : Option Files) (lent lent' : Lent)
         → begun ≡ old → first ≡ told → told'' ≡ told' → kept' ≡ kept → IsBookOf folder kept number files logs → AreLeft kept logs left → last ≡ left → ClosesBook kept' files' faults mid new last logs' lent lent'
-        → CameTo manner tells closed says opened workers connections asked first told' begun mid accounts stop (λ terms. AreLogged stop (logs_of number terms) files files')
-        → CameTo manner tells closed says opened workers connections asked told told'' old new accounts stop (λ terms. AreLoggedAt folder stop terms logs logs')
-    came_logged folder opened workers connections asked told first told' told'' old begun mid new accounts stop kept kept' number files files' faults logs left last logs' lent lent' counts same same' kind book stays unlogged shut came =
+        → CameTo manner tells closed says opened clocks connections asked first told' begun mid accounts stop (λ terms. AreLogged stop (logs_of number terms) files files')
+        → CameTo manner tells closed says opened clocks connections asked told told'' old new accounts stop (λ terms. AreLoggedAt folder stop terms logs logs')
+    came_logged folder opened clocks connections asked told first told' told'' old begun mid new accounts stop kept kept' number files files' faults logs left last logs' lent lent' counts same same' kind book stays unlogged shut came =
         let shut' : ClosesBook kept files' faults mid new last logs' lent lent' = subst (λ (k : Bool). ClosesBook k files' faults mid new last logs' lent lent') kind shut in
         let Kept : List (Term (LinkReport L)) → Type 0 = λ terms. AreLoggedAt folder stop terms logs logs' in
-        let on : CameTo manner tells closed says opened workers connections asked first told' begun new accounts stop Kept =
-        came_on opened workers connections asked first told' begun mid new accounts stop (λ terms. AreLogged stop (logs_of number terms) files files') Kept (closed_rises kept' files' faults mid new last logs' lent lent' shut)
+        let on : CameTo manner tells closed says opened clocks connections asked first told' begun new accounts stop Kept =
+        came_on opened clocks connections asked first told' begun mid new accounts stop (λ terms. AreLogged stop (logs_of number terms) files files') Kept (closed_rises kept' files' faults mid new last logs' lent lent' shut)
         (λ terms logged. logged_at folder stop terms kept number files files' faults logs left last logs' mid new lent lent' book stays unlogged shut' logged) came in
-        subst (λ (c : Counts). CameTo manner tells closed says opened workers connections asked told told'' c new accounts stop Kept) counts
-        (subst (λ (t : Option (List (Term (LinkReport L)))). CameTo manner tells closed says opened workers connections asked t told'' begun new accounts stop Kept) same
-        (subst (λ (t : Option (List (Term (LinkReport L)))). CameTo manner tells closed says opened workers connections asked first t begun new accounts stop Kept) (sym same') on))
+        subst (λ (c : Counts). CameTo manner tells closed says opened clocks connections asked told told'' c new accounts stop Kept) counts
+        (subst (λ (t : Option (List (Term (LinkReport L)))). CameTo manner tells closed says opened clocks connections asked t told'' begun new accounts stop Kept) same
+        (subst (λ (t : Option (List (Term (LinkReport L)))). CameTo manner tells closed says opened clocks connections asked first t begun new accounts stop Kept) (sym same') on))

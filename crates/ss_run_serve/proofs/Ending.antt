@@ -74,6 +74,7 @@ cut_last faults connections old new stops.Memory cut = tt
 cut_last faults connections old new stops.PortEnded cut = absurd cut
 cut_last faults connections old new stops.Terms cut = absurd cut
 cut_last faults connections old new stops.Site cut = absurd cut
+cut_last faults connections old new (stops.Damaged uid) cut = absurd cut
 cut_last faults connections old new (stops.Keeper uid) cut = absurd cut
 cut_last faults connections old new stops.Port cut = absurd cut
 cut_last faults connections old new (stops.Account uid fault) cut = absurd cut

@@ -2,7 +2,7 @@
 use Rattle.std.specs.Prelude.{◌≡◌, ◌≤◌, ◌+◌, ◌-◌, ◌^◌, ℕ, min, refl}
 use Rattle.std.proofs.Common.{sym, ap, subst, ◌∙◌, arith}
 use Rattle.ss_links.specs.Counts.{RoseBy}
-use Rattle.ss_site.specs.Sites.{IsBack, Lent}
+use Rattle.ss_site.specs.Sites.{IsBack, IsGiven, Lent}
 use Rattle.ss_run_serve.specs.Lending.{AllAreBack, AreOut, HaveComeBack}
 use Rattle.ss_run_serve.proofs.Rising.{rose_then}
 
@@ -17,8 +17,8 @@ pub none_out : (old new : Lent) → new ≡ old → AllAreBack old new
 none_out old new same = record { returned = 0; given = none_rose old.given new.given (ap (λ (l : Lent). l.given) same); back = none_rose old.back new.back (ap (λ (l : Lent). l.back) same) }
 
 -- one was given
-pub one_out : (old new : Lent) → RoseBy 1 old.given new.given × (new.back ≡ old.back) × (new.addresses ≡ old.addresses) → AreOut 1 old new
-one_out old new lent = record { returned = 0; given = lent.0; back = none_rose old.back new.back lent.1 }
+pub one_out : (old new : Lent) → IsGiven old new → AreOut 1 old new
+one_out old new lent = record { returned = 0; given = lent.given; back = none_rose old.back new.back lent.back }
 
 -- and it came back
 pub one_back : (old mid new : Lent) → AreOut 1 old mid → IsBack mid new → AllAreBack old new
@@ -48,7 +48,7 @@ pub out_as : (n m : ℕ) (old new : Lent) → n ≡ m → AreOut n old new → A
 out_as n m old new same out = subst (λ (k : ℕ). AreOut k old new) same out
 
 pub none_back : (old : Lent) → HaveComeBack 0 old old
-none_back old = record { given = refl; back = none_rose old.back old.back refl; addresses = refl }
+none_back old = record { given = refl; back = none_rose old.back old.back refl; addresses = refl; keepers = refl }
 
 pub back_more : (n : ℕ) (old mid new : Lent) → HaveComeBack n old mid → IsBack mid new → HaveComeBack (n + 1) old new
-back_more n old mid new first then = record { given = then.given ∙ first.given; back = rose_then n 1 old.back mid.back new.back first.back then.back; addresses = then.addresses ∙ first.addresses }
+back_more n old mid new first then = record { given = then.given ∙ first.given; back = rose_then n 1 old.back mid.back new.back first.back then.back; addresses = then.addresses ∙ first.addresses; keepers = then.keepers ∙ first.keepers }

@@ -1,4 +1,5 @@
 pub mod Rising
+pub mod Given
 pub mod Lent
 pub mod Retired
 pub mod Opened

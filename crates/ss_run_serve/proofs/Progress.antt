@@ -33,6 +33,8 @@ use Rattle.ss_run_serve.specs.declared.stop.Stop.{Stop}
 use Rattle.ss_run_serve.specs.declared.stop.Stop.TheVariants as stops
 use Rattle.ss_run_serve.specs.Hosted.{Hosted, IsBegun, Stands, journal_in, left_by}
 use Rattle.ss_run_serve.specs.Opening.{CountsFaults}
+use Rattle.ss_run_serve.specs.Refusals.{IsRefusedAs}
+use Rattle.ss_run_serve.proofs.Retired.{untold_refused}
 use Rattle.ss_run_serve.specs.Retiring.{uids_in}
 use Rattle.ss_run_serve.specs.Terms.{BeginsAnew, links_of, short_of, AreTerms, AreTold, IsOneLeft, IsTermOf}
 use Rattle.ss_run_serve.specs.Terms.{KeeperFailed}
@@ -253,6 +255,7 @@ module _ {L : Type 0} (manner : Manner) (tells : L → Meanings) (closed : L →
   all_of terms stops.PortEnded = refl
   all_of terms stops.Terms = refl
   all_of terms stops.Port = refl
+  all_of terms (stops.Damaged uid) = refl
   all_of terms (stops.Keeper uid) = refl
   all_of terms (stops.Account uid fault) = refl
   all_of terms stops.Logs = refl
@@ -317,35 +320,50 @@ module _ {L : Type 0} (manner : Manner) (tells : L → Meanings) (closed : L →
           failed = λ any. failed_of handed (stage.failed any);
           uids = stage.uids;
           counts = subst (λ (c : Counts). CountsFaults old c) (sym (done.counts ∙ progress.counts)) (no_faults old);
+          refused = unrefused stop done.why (ap (λ (c : Counts). c.refused) (done.counts ∙ progress.counts));
           stops = stopped (progress.terms ++ done.term ∷ []) stop done.why (one_more progress.terms done.term);
         }
       where
+        unrefused : (stop : Stop) → IsLast connections port port' (Some stop) → new.refused ≡ old.refused → IsRefusedAs stop old.refused new.refused
+        unrefused stops.PortEnded why same = same
+        unrefused stops.Port why same = same
+        unrefused stops.Memory why same = same
+        unrefused stops.Logs why same = same
+        unrefused stops.Terms why same = absurd why
+        unrefused stops.Site why same = absurd why
+        unrefused (stops.Damaged uid) why same = absurd why
+        unrefused (stops.Keeper uid) why same = absurd why
+        unrefused (stops.Account uid fault) why same = absurd why
+
         stopped : (terms : List (Term (LinkReport L))) (stop : Stop) → IsLast connections port port' (Some stop) → terms ≢ [] → Stops connections asked terms port' old new stop
         stopped terms stops.PortEnded why any = (why, any)
         stopped terms stops.Port why any = (why, any)
         stopped terms stops.Memory why any = tt
         stopped terms stops.Terms why any = absurd why
         stopped terms stops.Site why any = absurd why
+        stopped terms (stops.Damaged uid) why any = absurd why
         stopped terms (stops.Keeper uid) why any = absurd why
         stopped terms (stops.Account uid fault) why any = absurd why
         stopped terms stops.Logs why any = tt
 
     untold_counts : (stop : Stop) → IsUntold old new stop → CountsFaults old new
-    untold_counts stops.Site why = record { faults = why.0.later; links = why.1; ends = why.2; rests = why.3 }
+    untold_counts stops.Site why = record { faults = why.faults.later; links = why.links; ends = why.ends; rests = why.rests }
     untold_counts stops.Memory why = subst (λ (c : Counts). CountsFaults old c) (sym why) (no_faults old)
     untold_counts stops.PortEnded why = absurd why
     untold_counts stops.Terms why = absurd why
     untold_counts stops.Port why = absurd why
+    untold_counts (stops.Damaged uid) why = absurd why
     untold_counts (stops.Keeper uid) why = absurd why
     untold_counts (stops.Account uid fault) why = absurd why
     untold_counts stops.Logs why = absurd why
 
     untold_stops : (terms : List (Term (LinkReport L))) (stop : Stop) → IsUntold old new stop → Stops connections asked terms port' old new stop
-    untold_stops terms stops.Site why = why.0
+    untold_stops terms stops.Site why = why.faults
     untold_stops terms stops.Memory why = tt
     untold_stops terms stops.PortEnded why = absurd why
     untold_stops terms stops.Terms why = absurd why
     untold_stops terms stops.Port why = absurd why
+    untold_stops terms (stops.Damaged uid) why = absurd why
     untold_stops terms (stops.Keeper uid) why = absurd why
     untold_stops terms (stops.Account uid fault) why = absurd why
     untold_stops terms stops.Logs why = absurd why
@@ -373,6 +391,7 @@ module _ {L : Type 0} (manner : Manner) (tells : L → Meanings) (closed : L →
           failed = λ any. lost.failed (failed_of given (anew_faulty progress.handed given progress.anew (progress.stage.failed any)));
           uids = IsPermutation-trans (uids_in opened) (uids_in given) (uids_in handed) (subst (λ (us : List ℕ). IsPermutation (uids_in opened) us) (sym (anew_uids progress.handed given progress.anew)) progress.stage.uids) lost.uids;
           counts = untold_counts stop why';
+          refused = untold_refused stop old new why';
           stops = untold_stops progress.terms stop why';
         }
 
@@ -401,6 +420,7 @@ module _ {L : Type 0} (manner : Manner) (tells : L → Meanings) (closed : L →
           failed = λ any. failed_of handed (stage.failed any);
           uids = stage.uids;
           counts = untold_counts stop why';
+          refused = untold_refused stop old new why';
           stops = untold_stops (progress.terms ++ unheard.term ∷ []) stop why';
         }
       where
@@ -410,6 +430,7 @@ module _ {L : Type 0} (manner : Manner) (tells : L → Meanings) (closed : L →
         but_last terms term stops.PortEnded why = absurd why
         but_last terms term stops.Terms why = absurd why
         but_last terms term stops.Port why = absurd why
+        but_last terms term (stops.Damaged uid) why = absurd why
         but_last terms term (stops.Keeper uid) why = absurd why
         but_last terms term (stops.Account uid fault) why = absurd why
         but_last terms term stops.Logs why = absurd why
@@ -457,6 +478,7 @@ module _ {L : Type 0} (manner : Manner) (tells : L → Meanings) (closed : L →
           failed = λ any. failed_of handed (stage.failed any);
           uids = stage.uids;
           counts = subst (λ (c : Counts). CountsFaults old c) (sym (done.counts ∙ progress.counts)) (no_faults old);
+          refused = ap (λ (c : Counts). c.refused) (done.counts ∙ progress.counts);
           stops = (asks, long, rested_more small most progress done asks);
         }
 
@@ -482,6 +504,7 @@ module _ {L : Type 0} (manner : Manner) (tells : L → Meanings) (closed : L →
           failed = λ any. failed_of accounts (keeper_faulty handed accounts keepers (stage.failed any));
           uids = subst (λ (us : List ℕ). IsPermutation (uids_in opened) us) (sym (keeper_uids handed accounts keepers)) stage.uids;
           counts = subst (λ (c : Counts). CountsFaults old c) (sym (done.counts ∙ progress.counts)) (no_faults old);
+          refused = ap (λ (c : Counts). c.refused) (done.counts ∙ progress.counts);
           stops = tt;
         }
 

@@ -8,11 +8,16 @@ use Rattle.std.proofs.lemmas.List.Elements.{All-contains, All-cons, All-head, Al
 use Rattle.std.proofs.lemmas.List.Elements.{Contains-append_right, Contains-push, Contains-push_cases}
 use Rattle.ss_outside.specs.Causes.{Rose}
 use Rattle.ss_bso.specs.declared.changes.Kept.{Kept}
-use Rattle.ss_site.specs.Sites.{Counts, Entries, IsEntry, IsWith, HasRetired, CountsKeeper, RoseUnless}
+use Rattle.ss_site.specs.Sites.{Counts, Entries, IsEntry, IsWith, HasRetired, CountsKeeper, Refused, RoseUnless}
+use Rattle.ss_site.specs.Sites.{TellsStill}
+use Rattle.ss_account.specs.declared.faults.OpenFault.{OpenFault}
+use Rattle.ss_account.specs.declared.faults.OpenFault.TheVariants as opening
 use Rattle.ss_run_serve.specs.Hosted.{Hosted}
 use Rattle.ss_run_serve.specs.declared.stop.Stop.{Stop}
 use Rattle.ss_run_serve.specs.declared.stop.Stop.TheVariants as stops
-use Rattle.ss_run_serve.specs.Opening.{AreAsBefore, CountsFaults, IsUnopened, RefusesOne}
+use Rattle.ss_run_serve.specs.Opening.{AreAsBefore, CountsFaults, IsUnopened, RefusesOne, stop_at}
+use Rattle.ss_run_serve.specs.Once.{IsUntold}
+use Rattle.ss_run_serve.specs.Refusals.{IsRefusedAs}
 use Rattle.ss_run_serve.specs.Retiring.{uids_in, ComeBack, HaveRetired, CountsKeepers}
 use Rattle.ss_text.proofs.Basics.{same_text, bytes_eq-same}
 
@@ -112,7 +117,7 @@ pub none_retired : (folder : List ℕ) (old : Option Entries) → HaveRetired fo
 none_retired folder old = λ after is. (after, is, record { listed = λ uid c. absurd (omega (arith, c.1)); others = λ f u apart. refl })
 
 pub none_counted : (old : Counts) → CountsKeepers [] old old
-none_counted old = record { some = λ any. absurd (omega (arith, any.2)); none = λ all. refl; later = omega arith; links = refl; ends = refl; rests = refl }
+none_counted old = record { some = λ any. absurd (omega (arith, any.2)); none = λ all. refl; later = omega arith; refused = refl; links = refl; ends = refl; rests = refl }
 
 -- an entry that a keeper told, where the entries are as they were
 pub entry_as_before : (folder : List ℕ) (uid : ℕ) (told : Option Kept) (old new : Option Entries) → AreAsBefore old new → IsEntry folder uid told old → IsEntry folder uid told new
@@ -132,6 +137,7 @@ refused_then folder kept old mid new accounts uids uid stop why counted there = 
 
     later : (s : Stop) → IsUnopened folder kept old mid uid s → IsUnopened folder kept old new uid s
     later stops.Site why = rose why
+    later (stops.Damaged u) why = (why.0, rose why.1)
     later (stops.Keeper u) why = (why.0, rose why.1)
     later (stops.Account u fault) why = why
     later stops.Memory why = tt
@@ -179,6 +185,7 @@ counts_more done account old mid new first now = record {
   some = λ any. rises any (Contains-push_cases done account any.1 (any.0, any.2, any.3));
   none = λ all. now.faults.none (last all) ∙ first.none (front all);
   later = omega (arith, first.later, later);
+  refused = now.refused ∙ first.refused;
   links = now.links ∙ first.links;
   ends = now.ends ∙ first.ends;
   rests = now.rests ∙ first.rests;
@@ -196,3 +203,39 @@ counts_more done account old mid new first now = record {
     rises : (any : Any (λ (a : ℕ × Hosted). a.1.faults ≢ 0) (done ++ account ∷ [])) → (Contains done any.1 ⊎ (account ≡ any.1)) → Rose old.faults new.faults
     rises any (inl there) = let r = first.some (there.0, any.1, there.1, there.2, any.4) in record { later = omega (arith, r.later, later); risen = omega (arith, r.risen, later) }
     rises any (inr same) = let r = now.faults.some (subst (λ (a : ℕ × Hosted). a.1.faults ≢ 0) (sym same) any.4) in record { later = omega (arith, r.later, first.later); risen = omega (arith, r.risen, first.later) }
+
+-- ---- the site's own calls
+
+-- what becomes of an account that isn't opened is no call of the site
+pub kept_refused : (uid : ℕ) (fault : OpenFault) (old new : Refused) → new ≡ old → IsRefusedAs (stop_at uid fault) old new
+kept_refused uid opening.Keeper old new same = same
+kept_refused uid opening.Memory old new same = same
+kept_refused uid (opening.BadCollection n) old new same = same
+kept_refused uid (opening.BadRow n) old new same = same
+kept_refused uid (opening.BadBatch n) old new same = same
+
+-- the same stop, by counts that are the same
+pub refused_on : (stop : Stop) (old mid new : Refused) → new ≡ mid → IsRefusedAs stop old mid → IsRefusedAs stop old new
+refused_on stop old mid new same is = subst (λ (r : Refused). IsRefusedAs stop old r) (sym same) is
+
+pub refused_from : (stop : Stop) (old mid new : Refused) → mid ≡ old → IsRefusedAs stop mid new → IsRefusedAs stop old new
+refused_from stop old mid new same is = subst (λ (r : Refused). IsRefusedAs stop r new) same is
+
+pub untold_refused : (stop : Stop) (old new : Counts) → IsUntold old new stop → IsRefusedAs stop old.refused new.refused
+untold_refused stops.Site old new why = (why.failed, why.damaged)
+untold_refused stops.Memory old new why = ap (λ (c : Counts). c.refused) why
+untold_refused stops.PortEnded old new why = absurd why
+untold_refused stops.Terms old new why = absurd why
+untold_refused stops.Port old new why = absurd why
+untold_refused (stops.Damaged uid) old new why = absurd why
+untold_refused (stops.Keeper uid) old new why = absurd why
+untold_refused (stops.Account uid fault) old new why = absurd why
+untold_refused stops.Logs old new why = absurd why
+
+-- ---- entries that are told still
+
+pub tells_same : (old new : Option Entries) → new ≡ old → TellsStill old new
+tells_same old new same = subst (λ (o : Option Entries). TellsStill old o) (sym same) (λ told. told)
+
+pub tells_then : (old mid new : Option Entries) → TellsStill old mid → TellsStill mid new → TellsStill old new
+tells_then old mid new first then = λ told. then (first told)

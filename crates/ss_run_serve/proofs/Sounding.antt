@@ -1,7 +1,7 @@
 -- The journals of an account's terms are sound logs: each is made by calls, and each after the first opens with the account that the
 -- one before leaves.
-use Rattle.std.specs.Prelude.{◌≡◌, ◌<◌, ◌≤◌, ◌+◌, ℕ, zero, suc, Bool, List, [], ◌∷◌, length, map, get_or, Option, All}
-use Rattle.std.specs.Prelude.{Contains, ⊤, refl}
+use Rattle.std.specs.Prelude.{◌≡◌, ◌<◌, ◌≤◌, ◌+◌, ℕ, zero, suc, Bool, List, [], ◌∷◌, length, map, get_or, replicate}
+use Rattle.std.specs.Prelude.{Option, All, Contains, ⊤, refl}
 use Rattle.std.specs.List.{AllZip, AllAdjacentBelow}
 use Rattle.std.specs.List.Sorted.{IsStrictlyIncreasing}
 use Rattle.std.proofs.Common.{sym, ap, subst, ◌∙◌, arith}
@@ -167,5 +167,5 @@ module _ {L : Type 0} (manner : Manner) (tells : L → Meanings) (closed : L →
 pub logs_sound : {L : Type 0} (tells : L → Meanings) (closed : L → Bool) (says : ℕ → ℕ → Bool → Type 0) (command : ServeCommand) (terms : List (Term (LinkReport L))) (old new : ServedSite (LinkReport L))
     → AreServedBy tells closed says command terms old new → (uid : ℕ) (journals : List Journal) → AreJournalsOf uid terms journals → AreSound journals
 logs_sound tells closed says command terms old new served uid journals zip =
-    let all = logged command.manner tells closed says served.opened served.coming terms served.handed served.coming' (opened_roomy command.folder old.kept served.opened served.from) served.are uid journals zip in
+    let all = logged command.manner tells closed says served.opened (replicate command.workers old.readings) terms served.handed served.coming' (opened_roomy command.folder old.kept served.opened served.from) served.are uid journals zip in
     terms_sound journals record { each = all.each; go_on = adjacent journals all.chain }

@@ -1,6 +1,6 @@
 -- What a server did, once all that it got was given back.
-use Rattle.std.specs.Prelude.{◌≡◌, ◌≢◌, ◌⊎◌, ◌≤◌, ℕ, Bool, List, [], ◌∷◌, length, map, Option, Some, All, Any, Contains}
-use Rattle.std.specs.Prelude.{IfSome, refl}
+use Rattle.std.specs.Prelude.{◌≡◌, ◌≢◌, ◌⊎◌, ◌≤◌, ℕ, Bool, List, [], ◌∷◌, length, map, replicate, Option, Some, All}
+use Rattle.std.specs.Prelude.{Any, Contains, IfSome, refl}
 use Rattle.std.specs.List.Sorted.{IsPermutation}
 use Rattle.std.proofs.Common.{sym, ap, subst, ◌∙◌, inl, inr, arith}
 use Rattle.std.proofs.lemmas.List.Elements.{All-contains, All-cons, All-head, All-nil, All-tail, All-weaker}
@@ -12,13 +12,14 @@ use Rattle.ss_links.specs.Stores.{Files}
 use Rattle.ss_bso.specs.declared.changes.Kept.{Kept}
 use Rattle.ss_account.specs.Keeping.{IsKeptAccount, IsKeptBy}
 use Rattle.ss_account.specs.Opening.{IsFaultOf}
-use Rattle.ss_site.specs.Sites.{Counts, Entries, IsEntry, Term}
+use Rattle.ss_site.specs.Sites.{Counts, Entries, IsEntry, TellsStill, Term}
 use Rattle.ss_words.specs.declared.commands.ServeCommand.{ServeCommand}
 use Rattle.ss_serve.specs.declared.report.LinkReport.{LinkReport}
 use Rattle.ss_run_serve.specs.declared.stop.Stop.{Stop}
 use Rattle.ss_run_serve.specs.declared.stop.Stop.TheVariants as stops
 use Rattle.ss_run_serve.specs.Hosted.{Hosted, IsBegun, Stands, left_by}
 use Rattle.ss_run_serve.specs.Opening.{AreAsBefore, CountsFaults, OpensAccount, IsUnopened, RefusesOne}
+use Rattle.ss_run_serve.specs.Refusals.{IsRefusedAs}
 use Rattle.ss_run_serve.specs.Retiring.{uids_in, ComeBack, CountsKeepers, HaveRetired}
 use Rattle.ss_run_serve.specs.Terms.{links_of, short_of, AreTerms, AreTold, IsOneLeft, KeeperFailed}
 use Rattle.ss_run_serve.specs.Once.{HasFailed}
@@ -26,7 +27,7 @@ use Rattle.ss_run_serve.specs.Course.{CameTo, ServedUntil}
 use Rattle.ss_run_serve.specs.Logs.{AreLoggedAt, LogsFailed}
 use Rattle.ss_run_serve.specs.Serving.{AreServedBy, AreKept, HasStopped, IsServed, NoneServed, OthersStay, ServedSite}
 use Rattle.ss_run_serve.proofs.Anew.{kept_same}
-use Rattle.ss_run_serve.proofs.Retired.{all_as_before}
+use Rattle.ss_run_serve.proofs.Retired.{all_as_before, refused_on}
 use Rattle.ss_run_serve.proofs.Progress.{all_of, any_of, told_none}
 use Rattle.ss_run_serve.proofs.Rising.{rose_on, rose_after}
 use Rattle.ss_run_serve.proofs.Saving.{none_logged_at}
@@ -60,9 +61,9 @@ refused_same kept old new folder folder' uids uids' stop one two refused =
 
 module _ {L : Type 0} (tells : L → Meanings) (closed : L → Bool) (says : ℕ → ℕ → Bool → Type 0) where
   -- an account wasn't opened
-  pub refused_all : (command : ServeCommand) (stop : Stop) (old new : ServedSite (LinkReport L)) → RefusesOne command.folder old.kept old.counts new.counts command.uids stop → AreAsBefore old.kept new.kept
+  pub refused_all : (command : ServeCommand) (stop : Stop) (old new : ServedSite (LinkReport L)) → RefusesOne command.folder old.kept old.counts new.counts command.uids stop → IsRefusedAs stop old.counts.refused new.counts.refused → AreAsBefore old.kept new.kept → TellsStill old.kept new.kept
       → CountsFaults old.counts new.counts → new.terms ≡ old.terms → new.logs ≡ old.logs → IsServed tells closed says command stop old new
-  refused_all command stop old new refused before counted same unlogged = record {
+  refused_all command stop old new refused by before stays counted same unlogged = record {
     terms = [];
     told = [];
     are_told = subst (λ (t : Option (List (Term (LinkReport L)))). AreTold [] old.terms t) (sym same) (told_none command.manner tells closed says old.terms);
@@ -71,6 +72,8 @@ module _ {L : Type 0} (tells : L → Meanings) (closed : L → Bool) (says : ℕ
     faults = λ any. absurd (omega (arith, any.2));
     others = λ after is. (let b = before after is in (b.0, b.1, λ f uid apart. b.2 f uid));
     stopped = stopped refused;
+    refused = by;
+    stays = stays;
     logged = subst (λ (l : Option Files). AreLoggedAt {R = LinkReport L} command.logs stop [] old.logs l) (sym unlogged) (none_logged_at (LinkReport L) command.logs stop old.logs);
   }
     where
@@ -79,6 +82,7 @@ module _ {L : Type 0} (tells : L → Meanings) (closed : L → Bool) (says : ℕ
 
       why : (s : Stop) (uid : ℕ) → Contains command.uids uid → IsUnopened command.folder old.kept old.counts new.counts uid s → HasStopped command [] old new s
       why stops.Site uid there is = is
+      why (stops.Damaged u) uid there is = (subst (λ (v : ℕ). Contains command.uids v) (sym is.0) there, is.1, none)
       why (stops.Keeper u) uid there is = (subst (λ (v : ℕ). Contains command.uids v) (sym is.0) there, is.1, none)
       why (stops.Account u fault) uid there is = (subst (λ (v : ℕ). Contains command.uids v) (sym is.0) there, is.1, (λ entries kept. subst (λ (v : ℕ). IsFaultOf (entries command.folder v) fault) (sym is.0) (is.2 entries kept)), none)
       why stops.Memory uid there is = tt
@@ -93,10 +97,10 @@ module _ {L : Type 0} (tells : L → Meanings) (closed : L → Bool) (says : ℕ
 
   -- accounts were opened, served, and given back
   pub served_all : (command : ServeCommand) (stop : Stop) (old mid new : ServedSite (LinkReport L)) (opened accounts : List (ℕ × Hosted)) → uids_in opened ≡ command.uids → All (OpensAccount command.folder old.kept) opened
-      → CameTo command.manner tells closed says opened command.workers command.connections command.terms old.terms mid.terms old.counts mid.counts accounts stop (λ told. AreLoggedAt command.logs stop told old.logs mid.logs)
+      → CameTo command.manner tells closed says opened (replicate command.workers old.readings) command.connections command.terms old.terms mid.terms old.counts mid.counts accounts stop (λ told. AreLoggedAt command.logs stop told old.logs mid.logs)
       → LogsFailed old.counts mid.counts stop → mid.kept ≡ old.kept → new.terms ≡ mid.terms → new.logs ≡ mid.logs
-      → HaveRetired command.folder accounts mid.kept new.kept → CountsKeepers accounts mid.counts new.counts → All (λ (a : ℕ × Hosted). Stands a.1) accounts → IsServed tells closed says command stop old new
-  served_all command stop old mid new opened accounts uids from came failed unchanged same unlogged retired counted stand = record {
+      → HaveRetired command.folder accounts mid.kept new.kept → TellsStill mid.kept new.kept → CountsKeepers accounts mid.counts new.counts → All (λ (a : ℕ × Hosted). Stands a.1) accounts → IsServed tells closed says command stop old new
+  served_all command stop old mid new opened accounts uids from came failed unchanged same unlogged retired stays counted stand = record {
     terms = came.terms;
     told = came.told;
     are_told = subst (λ (t : Option (List (Term (LinkReport L)))). AreTold came.told old.terms t) (sym same) came.are_told;
@@ -107,6 +111,8 @@ module _ {L : Type 0} (tells : L → Meanings) (closed : L → Bool) (says : ℕ
         (let r = retired after is in
         (r.0, sym unchanged ∙ r.1, λ f uid apart. r.2.others f uid (unlisted uid f apart)));
     stopped = stopped stop came.until failed;
+    refused = refused_on stop old.counts.refused mid.counts.refused new.counts.refused counted.refused came.refused;
+    stays = subst (λ (k : Option Entries). TellsStill k new.kept) unchanged stays;
     logged = subst (λ (l : Option Files). AreLoggedAt command.logs stop came.told old.logs l) (sym unlogged) came.logged;
   }
     where
@@ -139,18 +145,16 @@ module _ {L : Type 0} (tells : L → Meanings) (closed : L → Bool) (says : ℕ
           let kept : IsKeptAccount (entries command.folder uid) (left_by any.1.1) = kept_there any.1.1 (entries command.folder uid) (All-contains (λ (a : ℕ × Hosted). Stands a.1) accounts any.1 stand there) any.4.1 in
           (left.0, left.1, left.2, left.3, (left.4.0 ∙ any.4.0, kept_same (entries command.folder uid) (left_by left.1.1) (left_by any.1.1) left.4.1 kept))
 
-      served : (((came.terms ≡ []) × (accounts ≡ opened)) ⊎ ((coming : List (Option (List ℕ))) × (coming' : List (Option (List ℕ))) × (length coming ≡ command.workers) × AreTerms command.manner tells closed says opened coming came.terms came.handed coming'))
+      served : (((came.terms ≡ []) × (accounts ≡ opened)) ⊎ ((coming' : List (Option (List ℕ))) × AreTerms command.manner tells closed says opened (replicate command.workers old.readings) came.terms came.handed coming'))
           → NoneServed came.terms old new ⊎ AreServedBy tells closed says command came.terms old new
       served (inl none) = inl (record { none = none.0; links = no_links none.0; kept = untouched none.1 })
       served (inr by) = inr (record {
         opened = opened;
         uids = uids;
         from = from;
-        coming = by.0;
-        workers = by.2;
         handed = came.handed;
-        coming' = by.1;
-        are = by.3;
+        coming' = by.0;
+        are = by.1;
         within = came.within;
         links = links;
         back = moved_back;
@@ -175,20 +179,23 @@ module _ {L : Type 0} (tells : L → Meanings) (closed : L → Bool) (says : ℕ
       stopped stops.Port why none = (rose why.0, why.1)
       stopped stops.Site why none = rose why
       stopped stops.Memory why none = tt
+      stopped (stops.Damaged uid) why none = absurd why
       stopped (stops.Keeper uid) why none = absurd why
       stopped (stops.Account uid fault) why none = absurd why
       stopped stops.Logs why lost = rose lost
 
   -- the same by what the site told once the accounts were opened
   pub served_open : (command : ServeCommand) (stop : Stop) (old first mid new : ServedSite (LinkReport L)) (opened accounts : List (ℕ × Hosted)) → uids_in opened ≡ command.uids → All (OpensAccount command.folder old.kept) opened
-      → first.counts ≡ old.counts → first.kept ≡ old.kept → first.terms ≡ old.terms → first.logs ≡ old.logs
-      → CameTo command.manner tells closed says opened command.workers command.connections command.terms first.terms mid.terms first.counts mid.counts accounts stop (λ told. AreLoggedAt command.logs stop told first.logs mid.logs)
+      → first.counts ≡ old.counts → first.kept ≡ old.kept → first.terms ≡ old.terms → first.logs ≡ old.logs → first.readings ≡ old.readings
+      → CameTo command.manner tells closed says opened (replicate command.workers first.readings) command.connections command.terms first.terms mid.terms first.counts mid.counts accounts stop (λ told. AreLoggedAt command.logs stop told first.logs mid.logs)
       → LogsFailed first.counts mid.counts stop → mid.kept ≡ first.kept → new.terms ≡ mid.terms → new.logs ≡ mid.logs
-      → HaveRetired command.folder accounts mid.kept new.kept → CountsKeepers accounts mid.counts new.counts → All (λ (a : ℕ × Hosted). Stands a.1) accounts → IsServed tells closed says command stop old new
-  served_open command stop old first mid new opened accounts uids from counts kept terms logs came failed unchanged same unlogged retired counted stand =
-      let logged : CameTo command.manner tells closed says opened command.workers command.connections command.terms first.terms mid.terms first.counts mid.counts accounts stop (λ told. AreLoggedAt command.logs stop told old.logs mid.logs) =
-      subst (λ (l : Option Files). CameTo command.manner tells closed says opened command.workers command.connections command.terms first.terms mid.terms first.counts mid.counts accounts stop (λ told. AreLoggedAt command.logs stop told l mid.logs)) logs came in
+      → HaveRetired command.folder accounts mid.kept new.kept → TellsStill mid.kept new.kept → CountsKeepers accounts mid.counts new.counts → All (λ (a : ℕ × Hosted). Stands a.1) accounts → IsServed tells closed says command stop old new
+  served_open command stop old first mid new opened accounts uids from counts kept terms logs readings came failed unchanged same unlogged retired stays counted stand =
+      let came : CameTo command.manner tells closed says opened (replicate command.workers old.readings) command.connections command.terms first.terms mid.terms first.counts mid.counts accounts stop (λ told. AreLoggedAt command.logs stop told first.logs mid.logs) =
+      subst (λ (r : Option (List ℕ)). CameTo command.manner tells closed says opened (replicate command.workers r) command.connections command.terms first.terms mid.terms first.counts mid.counts accounts stop (λ told. AreLoggedAt command.logs stop told first.logs mid.logs)) readings came in
+      let logged : CameTo command.manner tells closed says opened (replicate command.workers old.readings) command.connections command.terms first.terms mid.terms first.counts mid.counts accounts stop (λ told. AreLoggedAt command.logs stop told old.logs mid.logs) =
+      subst (λ (l : Option Files). CameTo command.manner tells closed says opened (replicate command.workers old.readings) command.connections command.terms first.terms mid.terms first.counts mid.counts accounts stop (λ told. AreLoggedAt command.logs stop told l mid.logs)) logs came in
       served_all command stop old mid new opened accounts uids from
-      (subst (λ (t : Option (List (Term (LinkReport L)))). CameTo command.manner tells closed says opened command.workers command.connections command.terms t mid.terms old.counts mid.counts accounts stop (λ told. AreLoggedAt command.logs stop told old.logs mid.logs)) terms
-      (subst (λ (n : Counts). CameTo command.manner tells closed says opened command.workers command.connections command.terms first.terms mid.terms n mid.counts accounts stop (λ told. AreLoggedAt command.logs stop told old.logs mid.logs)) counts logged))
-      (subst (λ (n : Counts). LogsFailed n mid.counts stop) counts failed) (unchanged ∙ kept) same unlogged retired counted stand
+      (subst (λ (t : Option (List (Term (LinkReport L)))). CameTo command.manner tells closed says opened (replicate command.workers old.readings) command.connections command.terms t mid.terms old.counts mid.counts accounts stop (λ told. AreLoggedAt command.logs stop told old.logs mid.logs)) terms
+      (subst (λ (n : Counts). CameTo command.manner tells closed says opened (replicate command.workers old.readings) command.connections command.terms first.terms mid.terms n mid.counts accounts stop (λ told. AreLoggedAt command.logs stop told old.logs mid.logs)) counts logged))
+      (subst (λ (n : Counts). LogsFailed n mid.counts stop) counts failed) (unchanged ∙ kept) same unlogged retired stays counted stand

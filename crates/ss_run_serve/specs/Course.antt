@@ -13,6 +13,7 @@ use Rattle.ss_serve.specs.declared.report.LinkReport.{LinkReport}
 use Rattle.ss_run_serve.specs.declared.stop.Stop.{Stop}
 use Rattle.ss_run_serve.specs.declared.stop.Stop.TheVariants as stops
 use Rattle.ss_run_serve.specs.Hosted.{Hosted, left_by}
+use Rattle.ss_run_serve.specs.Refusals.{IsRefusedAs}
 use Rattle.ss_run_serve.specs.Opening.{CountsFaults}
 use Rattle.ss_run_serve.specs.Retiring.{uids_in}
 use Rattle.ss_run_serve.specs.Terms.{links_of, short_of, AreTerms, AreTold, IsOneLeft, KeeperFailed}
@@ -71,6 +72,7 @@ module _ {L : Type 0} where
       pub failed : KeeperFailed terms → Any HasFailed accounts
       pub uids : IsPermutation (uids_in opened) (uids_in accounts)
       pub counts : CountsFaults old new
+      pub refused : IsRefusedAs stop old.refused new.refused
       pub stops : Stops connections asked terms port old new stop
 
 module _ {L : Type 0} where
@@ -93,9 +95,9 @@ module _ {L : Type 0} where
 
   module _ (manner : Manner) (tells : L → Meanings) (closed : L → Bool) (says : ℕ → ℕ → Bool → Type 0) where
     -- what came of accounts that are open, once the port was shut: none were served, and they come back as they are, or these terms
-    -- served them in this manner, with a clock for each worker; all links are counted that are reported; and what is said of the logs of the
-    -- terms that the site was told
-    pub record CameTo (opened : List (ℕ × Hosted)) (workers connections asked : ℕ) (before after : Option (List (Term (LinkReport L)))) (old new : Counts) (accounts : List (ℕ × Hosted)) (stop : Stop)
+    -- served them in this manner, with clocks of which this is to come; all links are counted that are reported; and what is said of the logs
+    -- of the terms that the site was told
+    pub record CameTo (opened : List (ℕ × Hosted)) (coming : List (Option (List ℕ))) (connections asked : ℕ) (before after : Option (List (Term (LinkReport L)))) (old new : Counts) (accounts : List (ℕ × Hosted)) (stop : Stop)
         (Logged : List (Term (LinkReport L)) → Type 0) : Type 0 where
       pub terms : List (Term (LinkReport L))
       pub told : List (Term (LinkReport L))
@@ -103,7 +105,7 @@ module _ {L : Type 0} where
       pub of : IsToldOf stop terms told
       pub logged : Logged told
       pub handed : List (ℕ × Hosted)
-      pub served : ((terms ≡ []) × (accounts ≡ opened)) ⊎ ((coming : List (Option (List ℕ))) × (coming' : List (Option (List ℕ))) × (length coming ≡ workers) × AreTerms manner tells closed says opened coming terms handed coming')
+      pub served : ((terms ≡ []) × (accounts ≡ opened)) ⊎ ((coming' : List (Option (List ℕ))) × AreTerms manner tells closed says opened coming terms handed coming')
       pub within : AreWithin connections asked terms
       pub links : RoseBy (links_of terms) old.links new.links
       pub back : IsPermutation (uids_in opened) (uids_in handed)
@@ -111,4 +113,5 @@ module _ {L : Type 0} where
       pub failed : KeeperFailed terms → Any HasFailed accounts
       pub uids : IsPermutation (uids_in opened) (uids_in accounts)
       pub faults : old.faults ≤ new.faults
+      pub refused : IsRefusedAs stop old.refused new.refused
       pub until : ServedUntil connections asked terms old new stop

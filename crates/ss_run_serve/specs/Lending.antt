@@ -1,5 +1,5 @@
 -- What became of the keepers and ports that a site gave.
-use Rattle.std.specs.Prelude.{◌≡◌, ◌⊎◌, ◌+◌, ℕ, List, [], ◌∷◌, ◌++◌}
+use Rattle.std.specs.Prelude.{◌≡◌, ◌⊎◌, ◌+◌, ℕ, List, [], ◌∷◌, ◌++◌, map, take}
 use Rattle.ss_links.specs.Counts.{RoseBy}
 use Rattle.ss_site.specs.Sites.{Lent}
 use Rattle.ss_words.specs.declared.commands.ServeCommand.{ServeCommand}
@@ -21,6 +21,7 @@ pub record HaveComeBack (n : ℕ) (old new : Lent) : Type 0 where
   pub given : new.given ≡ old.given
   pub back : RoseBy n old.back new.back
   pub addresses : new.addresses ≡ old.addresses
+  pub keepers : new.keepers ≡ old.keepers
 
 -- one port at most was given, which listens at this address
 abbrev pub ListensAt : List ℕ → Lent → Lent → Type 0
@@ -30,3 +31,15 @@ ListensAt address old new = (new.addresses ≡ old.addresses) ⊎ (new.addresses
 abbrev pub ListensAsAsked : List (List ℕ) → Lent → Lent → Type 0
 ListensAsAsked words old new =
     (new.addresses ≡ old.addresses) ⊎ ((command : ServeCommand) × Asks words (Serve command) × (new.addresses ≡ old.addresses ++ command.address ∷ []))
+
+-- the keepers with these uids of a folder
+abbrev pub keepers_at : List ℕ → List ℕ → List (List ℕ × ℕ)
+keepers_at folder uids = map (λ uid. (folder, uid)) uids
+
+-- a keeper was given of each of so many of these uids that come first, in order, in this folder, and of no other
+abbrev pub OpensAt : List ℕ → List ℕ → Lent → Lent → Type 0
+OpensAt folder uids old new = (n : ℕ) × (new.keepers ≡ old.keepers ++ keepers_at folder (take n uids))
+
+-- keepers were given only where the words ask a server, and then those of its accounts that come first, in order, in its folder
+abbrev pub OpensAsAsked : List (List ℕ) → Lent → Lent → Type 0
+OpensAsAsked words old new = (new.keepers ≡ old.keepers) ⊎ ((command : ServeCommand) × Asks words (Serve command) × OpensAt command.folder command.uids old new)

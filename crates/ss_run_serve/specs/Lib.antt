@@ -1,4 +1,5 @@
 pub mod Statuses
+pub mod Refusals
 pub mod Watched
 pub mod Hosted
 pub mod Opening

@@ -2,8 +2,7 @@
 use Rattle.std.specs.Prelude.{◌≡◌, ℕ, Bool, true, false, Option, Some, None, is_some, option_and_then}
 use Rattle.std.specs.Option.{option_map_or}
 use Rattle.ss_links.specs.Stores.{Files}
-use Rattle.ss_links.specs.Counts.{RoseBy}
-use Rattle.ss_site.specs.Sites.{Counts, CountsStore, IsBack, Lent}
+use Rattle.ss_site.specs.Sites.{Counts, CountsStore, IsBack, IsGiven, Lent}
 use Rattle.ss_words.specs.declared.commands.LogFolder.{LogFolder}
 use Rattle.ss_run_serve.specs.declared.logbook.Logbook.{Logbook}
 
@@ -33,7 +32,7 @@ IsBookOf (Some folder) kept number files logs = (kept ≡ true) × (number ≡ f
 -- what a site gave for a book: a store, where logs are kept
 abbrev pub IsLentFor : Bool → Lent → Lent → Type 0
 IsLentFor false old new = new ≡ old
-IsLentFor true old new = RoseBy 1 old.given new.given × (new.back ≡ old.back) × (new.addresses ≡ old.addresses)
+IsLentFor true old new = IsGiven old new
 
 -- what a site tells of logs while a book is open, where none are kept: what it told before
 abbrev pub AreLeft : Bool → Option Files → Option Files → Type 0

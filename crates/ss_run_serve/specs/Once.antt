@@ -6,7 +6,7 @@ use Rattle.ss_outside.specs.Causes.{Rose}
 use Rattle.ss_links.specs.Counts.{RoseBy}
 use Rattle.ss_links.specs.Ports.{Accepts}
 use Rattle.ss_links.specs.Stores.{Files}
-use Rattle.ss_site.specs.Sites.{Counts, Term, HasAdded}
+use Rattle.ss_site.specs.Sites.{CallFailed, Counts, Term, HasAdded}
 use Rattle.ss_route.specs.declared.manner.Manner.{Manner}
 use Rattle.ss_serve.specs.declared.report.LinkReport.{LinkReport}
 use Rattle.ss_serve.specs.declared.report.TermStop.{TermStop}
@@ -22,7 +22,7 @@ use Rattle.ss_run_serve.specs.Logs.{logs_of_term, AreLoggedOnce}
 
 -- a site that isn't told a term failed and counts that, or no memory was found
 abbrev pub IsUntold : Counts → Counts → Stop → Type 0
-IsUntold old new stops.Site = Rose old.faults new.faults × (new.links ≡ old.links) × (new.ends ≡ old.ends) × (new.rests ≡ old.rests)
+IsUntold old new stops.Site = CallFailed old new
 IsUntold old new stops.Memory = new ≡ old
 IsUntold old new _ = ⊥
 

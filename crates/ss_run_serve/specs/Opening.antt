@@ -38,10 +38,11 @@ stop_at uid (BadCollection n) = stops.Account uid (BadCollection n)
 stop_at uid (BadRow n) = stops.Account uid (BadRow n)
 stop_at uid (BadBatch n) = stops.Account uid (BadBatch n)
 
--- Why the account with this uid isn't opened: a call of the site or the keeper failed, and the site has counted it; or its entry is
--- bad, where the entries are told. Want of memory has no cause here
+-- Why the account with this uid isn't opened: a call of the site or the keeper failed, or the site found no account, and it has counted
+-- that; or its entry is bad, where the entries are told. Want of memory has no cause here
 abbrev pub IsUnopened : List ℕ → Option Entries → Counts → Counts → ℕ → Stop → Type 0
 IsUnopened folder kept old new uid stops.Site = Rose old.faults new.faults
+IsUnopened folder kept old new uid (stops.Damaged u) = (u ≡ uid) × Rose old.faults new.faults
 IsUnopened folder kept old new uid (stops.Keeper u) = (u ≡ uid) × Rose old.faults new.faults
 IsUnopened folder kept old new uid (stops.Account u fault) = (u ≡ uid) × IsBad fault × ((entries : Entries) → kept ≡ Some entries → IsFaultOf (entries folder uid) fault)
 IsUnopened folder kept old new uid stops.Memory = ⊤

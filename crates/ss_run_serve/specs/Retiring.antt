@@ -17,11 +17,12 @@ pub record ComeBack (folder : List ℕ) (accounts : List (ℕ × Hosted)) (befor
 abbrev pub HaveRetired : List ℕ → List (ℕ × Hosted) → Option Entries → Option Entries → Type 0
 HaveRetired folder accounts old new = (after : Entries) → new ≡ Some after → (before : Entries) × (old ≡ Some before) × ComeBack folder accounts before after
 
--- the count of faults rises where one of these keepers has failed, and stays where none has; no links, ends and rests were counted
+-- the count of faults rises where one of these keepers has failed, and stays where none has; nothing else was counted
 pub record CountsKeepers (accounts : List (ℕ × Hosted)) (old new : Counts) : Type 0 where
   pub some : Any (λ account. account.1.faults ≢ 0) accounts → Rose old.faults new.faults
   pub none : All (λ account. account.1.faults ≡ 0) accounts → new.faults ≡ old.faults
   pub later : old.faults ≤ new.faults
+  pub refused : new.refused ≡ old.refused
   pub links : new.links ≡ old.links
   pub ends : new.ends ≡ old.ends
   pub rests : new.rests ≡ old.rests

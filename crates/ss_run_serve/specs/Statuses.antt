@@ -10,6 +10,7 @@ status_of stops.Terms = 0
 status_of stops.Site = 2
 status_of (stops.Keeper uid) = 2
 status_of stops.Port = 3
+status_of (stops.Damaged uid) = 4
 status_of (stops.Account uid fault) = 4
 status_of stops.Memory = 8
 status_of stops.Logs = 7

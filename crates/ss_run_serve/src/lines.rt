@@ -133,7 +133,7 @@ pub(crate) fn tell_term<L: Closable, T: Sink>(
 
 fn stopping(alloc: Global, folder: &str, stop: Stop) -> Result<String, AllocError> {
     match stop {
-        Stop::Keeper { uid } | Stop::Account { uid, .. } => {
+        Stop::Damaged { uid } | Stop::Keeper { uid } | Stop::Account { uid, .. } => {
             format!(in alloc; "syncstore: stopped: {stop}; it is kept in {folder}/{uid}.db\n")
         }
         _ => format!(in alloc; "syncstore: stopped: {stop}\n"),

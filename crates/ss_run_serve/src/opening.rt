@@ -1,22 +1,23 @@
 //! The accounts of a server: how they are opened from its site.
 
-ghost use Rattle.std.specs.Prelude.{◌≡◌, ◌≤◌, ℕ, [], map, length, vec_len, vec_capacity, All, Contains, Some, IfOk};
-ghost use Rattle.std.specs.Prelude.{IfErr, IfSome, OnOk, OnErr};
+ghost use Rattle.std.specs.Prelude.{◌≡◌, ◌≤◌, ◌⊎◌, ◌++◌, ◌∷◌, ℕ, [], map, length, vec_len, vec_capacity, All, Contains};
+ghost use Rattle.std.specs.Prelude.{Some, IfOk, IfErr, IfSome, OnOk, OnErr};
 ghost use Rattle.ss_outside.specs.Causes.{Rose};
 ghost use Rattle.ss_bso.specs.Changes.{opened};
 ghost use Rattle.ss_bso.specs.Validity.{SameAccount};
 ghost use Rattle.ss_booked.specs.Booked.{uid_of, account_of, journal_of};
 ghost use Rattle.ss_booked.specs.Sizes.{most_entries};
-ghost use Rattle.ss_site.specs.Sites.{Counts, Entries, IsBack, IsEntry};
+ghost use Rattle.ss_site.specs.Sites.{Counts, Entries, IsBack, IsEntry, TellsStill};
 ghost use Rattle.ss_run_serve.specs.Hosted.{hosted, hosted_at, IsBegun};
-ghost use Rattle.ss_run_serve.specs.Lending.{AllAreBack, AreOut};
+ghost use Rattle.ss_run_serve.specs.Lending.{keepers_at, AllAreBack, AreOut, OpensAt};
 ghost use Rattle.ss_run_serve.specs.Opening.{OpensAccount, IsUnopened, RefusesOne, CountsFaults, AreAsBefore, stop_at};
+ghost use Rattle.ss_run_serve.specs.Refusals.{IsRefusedAs};
 
 use crate::retiring::retire_all;
 use crate::stop::Stop;
 use ss_account::{Account, OpenFault};
 use ss_booked::{Booked, MOST_ENTRIES};
-use ss_site::{Site, SiteFault};
+use ss_site::{NoKeeper, Site};
 use std::alloc::Global;
 
 /// Why a server stops that found this fault in an account.
@@ -40,6 +41,7 @@ fn open_kept<X: Site>(
 ) -> Result<Account<X::Keeper>, Stop>
     requires entry { IsEntry folder.now uid (X.Keeper.told keeper) (X.kept site.old) }
     requires fresh { X.Keeper.keep_faults keeper ≡ 0 }
+    requires given { Contains (X.lent site.old).keepers (folder.now, uid) }
     ensures opened { IfOk result (λ account. (entries : Entries) → X.kept site.old ≡ Some entries
         → SameAccount (opened (entries folder.now uid)) account.plain) }
     ensures entry { IfOk result (λ account. IsEntry folder.now uid (X.Keeper.told account.keeper) (X.kept site.old)) }
@@ -47,7 +49,9 @@ fn open_kept<X: Site>(
     ensures unchanged { OnOk result ((X.counts site.new ≡ X.counts site.old) × (X.kept site.new ≡ X.kept site.old)) }
     ensures refused { IfErr result (IsUnopened folder.now (X.kept site.old) (X.counts site.old) (X.counts site.new)
         uid) }
+    ensures refused_as { IfErr result (λ stop. IsRefusedAs stop (X.counts site.old).refused (X.counts site.new).refused) }
     ensures as_before { OnErr result (AreAsBefore (X.kept site.old) (X.kept site.new)) }
+    ensures stays { TellsStill (X.kept site.old) (X.kept site.new) }
     ensures counted { CountsFaults (X.counts site.old) (X.counts site.new) }
     ensures terms { X.terms site.new ≡ X.terms site.old }
     ensures logs { X.logs site.new ≡ X.logs site.old }
@@ -73,6 +77,7 @@ fn begin<X: Site>(
 ) -> Result<Booked<X::Keeper>, Stop>
     requires entry { IsEntry folder.now uid (X.Keeper.told account.keeper) (X.kept site.old) }
     requires fresh { X.Keeper.keep_faults account.keeper ≡ 0 }
+    requires given { Contains (X.lent site.old).keepers (folder.now, uid) }
     ensures uid { IfOk result (λ b. uid_of b ≡ uid) }
     ensures account { IfOk result (λ b. account_of b ≡ account) }
     ensures opening { IfOk result (λ b. SameAccount account.plain (journal_of b).opening) }
@@ -80,7 +85,9 @@ fn begin<X: Site>(
     ensures most { IfOk result (λ b. (journal_of b).most ≡ most_entries) }
     ensures unchanged { OnOk result ((X.counts site.new ≡ X.counts site.old) × (X.kept site.new ≡ X.kept site.old)) }
     ensures refused { IfErr result (λ stop. stop ≡ Stop.Memory) }
+    ensures refused_as { IfErr result (λ stop. IsRefusedAs stop (X.counts site.old).refused (X.counts site.new).refused) }
     ensures as_before { OnErr result (AreAsBefore (X.kept site.old) (X.kept site.new)) }
+    ensures stays { TellsStill (X.kept site.old) (X.kept site.new) }
     ensures counted { CountsFaults (X.counts site.old) (X.counts site.new) }
     ensures terms { X.terms site.new ≡ X.terms site.old }
     ensures logs { X.logs site.new ≡ X.logs site.old }
@@ -109,18 +116,25 @@ fn open_account<X: Site>(
     ensures unchanged { OnOk result ((X.counts site.new ≡ X.counts site.old) × (X.kept site.new ≡ X.kept site.old)) }
     ensures refused { IfErr result (IsUnopened folder.now (X.kept site.old) (X.counts site.old) (X.counts site.new)
         uid) }
+    ensures refused_as { IfErr result (λ stop. IsRefusedAs stop (X.counts site.old).refused (X.counts site.new).refused) }
     ensures as_before { OnErr result (AreAsBefore (X.kept site.old) (X.kept site.new)) }
+    ensures stays { TellsStill (X.kept site.old) (X.kept site.new) }
     ensures counted { CountsFaults (X.counts site.old) (X.counts site.new) }
     ensures terms { X.terms site.new ≡ X.terms site.old }
     ensures logs { X.logs site.new ≡ X.logs site.old }
     ensures lent { OnOk result (AreOut 1 (X.lent site.old) (X.lent site.new)) }
     ensures returned { OnErr result (AllAreBack (X.lent site.old) (X.lent site.new)) }
     ensures addresses { (X.lent site.new).addresses ≡ (X.lent site.old).addresses }
+    ensures keeper { OnOk result ((X.lent site.new).keepers ≡ (X.lent site.old).keepers ++ (folder.now, uid) ∷ []) }
+    ensures keepers { ((X.lent site.new).keepers ≡ (X.lent site.old).keepers)
+        ⊎ ((X.lent site.new).keepers ≡ (X.lent site.old).keepers ++ (folder.now, uid) ∷ []) }
+    ensures readings { OnOk result ((X.lent site.new).readings ≡ (X.lent site.old).readings) }
 {
     let keeper = match site.keeper(alloc, folder, uid) {
         Ok(keeper) => keeper,
-        Err(SiteFault::Fault) => return Err(Stop::Site),
-        Err(SiteFault::Memory) => return Err(Stop::Memory),
+        Err(NoKeeper::Fault) => return Err(Stop::Site),
+        Err(NoKeeper::Damaged) => return Err(Stop::Damaged { uid }),
+        Err(NoKeeper::Memory) => return Err(Stop::Memory),
     };
     match open_kept(alloc, site, folder, uid, keeper) {
         Ok(account) => begin(alloc, site, folder, uid, account),
@@ -141,13 +155,18 @@ pub(crate) fn open_accounts<X: Site>(
     ensures unchanged { OnOk result ((X.counts site.new ≡ X.counts site.old) × (X.kept site.new ≡ X.kept site.old)) }
     ensures refused { IfErr result (λ stop. RefusesOne folder.now (X.kept site.old) (X.counts site.old)
         (X.counts site.new) uids.now stop) }
+    ensures refused_as { IfErr result (λ stop. IsRefusedAs stop (X.counts site.old).refused (X.counts site.new).refused) }
     ensures as_before { OnErr result (AreAsBefore (X.kept site.old) (X.kept site.new)) }
+    ensures stays { TellsStill (X.kept site.old) (X.kept site.new) }
     ensures counted { CountsFaults (X.counts site.old) (X.counts site.new) }
     ensures terms { X.terms site.new ≡ X.terms site.old }
     ensures logs { X.logs site.new ≡ X.logs site.old }
     ensures lent { IfOk result (λ accounts. AreOut (length accounts.items) (X.lent site.old) (X.lent site.new)) }
     ensures returned { OnErr result (AllAreBack (X.lent site.old) (X.lent site.new)) }
     ensures addresses { (X.lent site.new).addresses ≡ (X.lent site.old).addresses }
+    ensures given { OnOk result ((X.lent site.new).keepers ≡ (X.lent site.old).keepers ++ keepers_at folder.now uids.now) }
+    ensures opens { OpensAt folder.now uids.now (X.lent site.old) (X.lent site.new) }
+    ensures readings { OnOk result ((X.lent site.new).readings ≡ (X.lent site.old).readings) }
 {
     let Ok(mut accounts) = Vec::with_capacity(alloc, uids.len()) else {
         return Err(Stop::Memory);

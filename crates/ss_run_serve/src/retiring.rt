@@ -1,11 +1,11 @@
 //! The accounts of a server: how their keepers come back to its site.
 
-ghost use Rattle.std.specs.Prelude.{◌≡◌, length, map, All};
+ghost use Rattle.std.specs.Prelude.{◌≡◌, length, map, All, Contains};
 ghost use Rattle.ss_booked.specs.Booked.{account_of};
-ghost use Rattle.ss_site.specs.Sites.{HasRetired, CountsKeeper, IsBack};
+ghost use Rattle.ss_site.specs.Sites.{HasRetired, CountsKeeper, IsBack, StaysTold, TellsStill};
 ghost use Rattle.ss_run_serve.specs.Hosted.{hosted, hosted_at, Stands};
 ghost use Rattle.ss_run_serve.specs.Lending.{HaveComeBack};
-ghost use Rattle.ss_run_serve.specs.Retiring.{CountsKeepers, HaveRetired};
+ghost use Rattle.ss_run_serve.specs.Retiring.{uids_in, CountsKeepers, HaveRetired};
 
 use ss_booked::Booked;
 use ss_site::Site;
@@ -14,6 +14,7 @@ use ss_site::Site;
 fn retire<X: Site>(site: &mut X, folder: &str, uid: u32, booked: Booked<X::Keeper>)
     ensures entry { HasRetired folder.now uid (X.Keeper.told (account_of booked).keeper) (X.kept site.old)
         (X.kept site.new) }
+    ensures stays { StaysTold folder.now uid (X.lent site.old).keepers (X.kept site.old) (X.kept site.new) }
     ensures counted { CountsKeeper (X.Keeper.keep_faults (account_of booked).keeper) (X.counts site.old)
         (X.counts site.new) }
     ensures stands { Stands (hosted X.Keeper.told X.Keeper.keep_faults booked) }
@@ -31,8 +32,11 @@ pub(crate) fn retire_all<X: Site>(
     folder: &str,
     accounts: Vec<(u32, Booked<X::Keeper>)>,
 )
+    requires given { All (λ account. Contains (X.lent site.old).keepers (folder.now, account.0)) (map (hosted_at X.Keeper.told X.Keeper.keep_faults)
+        accounts.items) }
     ensures entries { HaveRetired folder.now (map (hosted_at X.Keeper.told X.Keeper.keep_faults) accounts.items)
         (X.kept site.old) (X.kept site.new) }
+    ensures stays { TellsStill (X.kept site.old) (X.kept site.new) }
     ensures counted { CountsKeepers (map (hosted_at X.Keeper.told X.Keeper.keep_faults) accounts.items)
         (X.counts site.old) (X.counts site.new) }
     ensures stand { All (λ account. Stands account.1) (map (hosted_at X.Keeper.told X.Keeper.keep_faults)

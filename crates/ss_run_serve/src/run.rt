@@ -1,7 +1,7 @@
 //! The command `serve`.
 
 ghost use Rattle.std.specs.Prelude.{map, string_bytes};
-ghost use Rattle.ss_run_serve.specs.Lending.{AllAreBack, ListensAsAsked};
+ghost use Rattle.ss_run_serve.specs.Lending.{AllAreBack, ListensAsAsked, OpensAsAsked};
 ghost use Rattle.ss_run_serve.specs.Serving.{Runs};
 
 use crate::lines;
@@ -17,7 +17,7 @@ use std::thread::Threads;
 
 /// Serves the accounts that the words ask for, from what a site keeps, and answers the status: 0 where the port ended
 /// or as many terms were served as was asked; 1 where the words ask for no server; 2 where a call of the site failed,
-/// or a keeper while its account was opened; 3 where the port failed; 4 where what is kept of an account is bad; 7 where
+/// or a keeper while its account was opened; 3 where the port failed; 4 where what is kept is no account; 7 where
 /// a log couldn't be saved; 8 where no memory was found outside a reply. Every keeper that the site gave is given back to
 /// it, the port is shut, and the store of logs is shelved. What `err` is told is for people, and nothing is said of it.
 pub fn run_serve<X, G, T, R>(
@@ -42,17 +42,21 @@ where
           terms = X.terms site.old;
           kept = X.kept site.old;
           logs = X.logs site.old;
+          readings = (X.lent site.old).readings;
         })
         (record {
           counts = X.counts site.new;
           terms = X.terms site.new;
           kept = X.kept site.new;
           logs = X.logs site.new;
+          readings = (X.lent site.new).readings;
         }) }
     // Every keeper, port and store that the site gave came back to it, whatever the status.
     ensures returned { AllAreBack (X.lent site.old) (X.lent site.new) }
     // It listens at the address of the words, and nowhere else.
     ensures listens { ListensAsAsked (map (λ word. string_bytes word) words.now) (X.lent site.old) (X.lent site.new) }
+    // It asks for keepers of the accounts and in the folder of the words, and for no other.
+    ensures opens { OpensAsAsked (map (λ word. string_bytes word) words.now) (X.lent site.old) (X.lent site.new) }
 {
     let command = match read_command(alloc, words) {
         Ok(command) => command,

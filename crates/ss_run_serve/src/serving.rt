@@ -1,11 +1,11 @@
 //! A server, from the opening of its accounts until all that it got is given back.
 
-ghost use Rattle.std.specs.Prelude.{◌≡◌, ◌≤◌, map, vec_len, All, IfOk};
+ghost use Rattle.std.specs.Prelude.{◌≡◌, ◌≤◌, map, replicate, vec_len, All, IfOk};
 ghost use Rattle.ss_words.specs.declared.commands.Command.TheVariants.{Serve};
 ghost use Rattle.ss_words.specs.Commands.{HasRange};
 ghost use Rattle.ss_run_serve.specs.Watched.{port_in};
 ghost use Rattle.ss_run_serve.specs.Hosted.{hosted_at, IsBegun};
-ghost use Rattle.ss_run_serve.specs.Lending.{AllAreBack, ListensAt};
+ghost use Rattle.ss_run_serve.specs.Lending.{AllAreBack, ListensAt, OpensAt};
 ghost use Rattle.ss_run_serve.specs.Course.{CameTo};
 ghost use Rattle.ss_run_serve.specs.Serving.{IsServed};
 ghost use Rattle.ss_run_serve.specs.Logs.{logs_of, AreLogged, AreLoggedAt, HasCut, LogsFailed};
@@ -29,7 +29,7 @@ use std::alloc::{AllocError, Global};
 use std::sync::Wait;
 use std::thread::Threads;
 
-/// A clock for each worker.
+/// A clock for each worker, of which none was read.
 fn clocks_of<X: Site>(
     alloc: Global,
     site: &mut X,
@@ -38,6 +38,7 @@ fn clocks_of<X: Site>(
 where
     X::Clock: Drop,
     ensures count { IfOk result (λ clocks. vec_len clocks ≡ workers) }
+    ensures unread { IfOk result (λ clocks. map X.Clock.coming clocks.items ≡ replicate workers (X.lent site.old).readings) }
     ensures counts { X.counts site.new ≡ X.counts site.old }
     ensures terms { X.terms site.new ≡ X.terms site.old }
     ensures kept { X.kept site.new ≡ X.kept site.old }
@@ -74,7 +75,7 @@ where
     requires begun { All (λ account. IsBegun account.1) (map (hosted_at X.Keeper.told X.Keeper.keep_faults)
         accounts.items) }
     ensures came { CameTo command.now.manner X.Port.Link.Told.told X.Port.Link.closed (G.says gate.now)
-        (map (hosted_at X.Keeper.told X.Keeper.keep_faults) accounts.items) command.now.workers command.now.connections command.now.terms
+        (map (hosted_at X.Keeper.told X.Keeper.keep_faults) accounts.items) (replicate command.now.workers (X.lent site.old).readings) command.now.connections command.now.terms
         (X.terms site.old) (X.terms site.new) (X.counts site.old) (X.counts site.new) (map (hosted_at X.Keeper.told X.Keeper.keep_faults) result.0.items) result.1
         (λ told. AreLogged result.1 (logs_of (number_in book.old) told) (files_in X.Log.held book.old)
         (files_in X.Log.held book.new)) }
@@ -84,6 +85,7 @@ where
     ensures kept { X.kept site.new ≡ X.kept site.old }
     ensures returned { AllAreBack (X.lent site.old) (X.lent site.new) }
     ensures listens { ListensAt command.now.address (X.lent site.old) (X.lent site.new) }
+    ensures keepers { (X.lent site.new).keepers ≡ (X.lent site.old).keepers }
 {
     let Ok(clocks) = clocks_of(alloc, site, command.workers as usize) else {
         return (accounts, Stop::Memory);
@@ -123,13 +125,14 @@ where
     requires begun { All (λ account. IsBegun account.1) (map (hosted_at X.Keeper.told X.Keeper.keep_faults)
         accounts.items) }
     ensures came { CameTo command.now.manner X.Port.Link.Told.told X.Port.Link.closed (G.says gate.now)
-        (map (hosted_at X.Keeper.told X.Keeper.keep_faults) accounts.items) command.now.workers command.now.connections command.now.terms
+        (map (hosted_at X.Keeper.told X.Keeper.keep_faults) accounts.items) (replicate command.now.workers (X.lent site.old).readings) command.now.connections command.now.terms
         (X.terms site.old) (X.terms site.new) (X.counts site.old) (X.counts site.new) (map (hosted_at X.Keeper.told X.Keeper.keep_faults) result.0.items) result.1
         (λ told. AreLoggedAt command.now.logs result.1 told (X.logs site.old) (X.logs site.new)) }
     ensures failed { LogsFailed (X.counts site.old) (X.counts site.new) result.1 }
     ensures kept { X.kept site.new ≡ X.kept site.old }
     ensures returned { AllAreBack (X.lent site.old) (X.lent site.new) }
     ensures listens { ListensAt command.now.address (X.lent site.old) (X.lent site.new) }
+    ensures keepers { (X.lent site.new).keepers ≡ (X.lent site.old).keepers }
 {
     let mut book = match open_book(alloc, site, command) {
         Ok(book) => book,
@@ -164,15 +167,18 @@ where
           terms = X.terms site.old;
           kept = X.kept site.old;
           logs = X.logs site.old;
+          readings = (X.lent site.old).readings;
         })
         (record {
           counts = X.counts site.new;
           terms = X.terms site.new;
           kept = X.kept site.new;
           logs = X.logs site.new;
+          readings = (X.lent site.new).readings;
         }) }
     ensures returned { AllAreBack (X.lent site.old) (X.lent site.new) }
     ensures listens { ListensAt command.now.address (X.lent site.old) (X.lent site.new) }
+    ensures opens { OpensAt command.now.folder command.now.uids (X.lent site.old) (X.lent site.new) }
 {
     let folder = command.folder.as_str();
     let accounts = match open_accounts(alloc, site, folder, command.uids.as_slice()) {

@@ -17,6 +17,9 @@ pub enum Stop {
     /// A call of the site failed.
     Site,
 
+    /// What is kept under this uid is no account that can be read.
+    Damaged { uid: u32 },
+
     /// The keeper of this account failed while the account was opened.
     Keeper { uid: u32 },
 
@@ -44,7 +47,7 @@ impl Stop {
             Stop::PortEnded | Stop::Terms => 0,
             Stop::Site | Stop::Keeper { .. } => 2,
             Stop::Port => 3,
-            Stop::Account { .. } => 4,
+            Stop::Damaged { .. } | Stop::Account { .. } => 4,
             Stop::Memory => 8,
             Stop::Logs => 7,
         }
@@ -57,6 +60,12 @@ impl Display for Stop {
             Stop::PortEnded => f.write_str("the port ended"),
             Stop::Terms => f.write_str("all terms were served"),
             Stop::Site => f.write_str("the folder, a file in it or the address failed"),
+            Stop::Damaged { uid } => {
+                write!(
+                    f,
+                    "account {uid} can't be opened: its file holds no account"
+                )
+            }
             Stop::Keeper { uid } => write!(
                 f,
                 "the file of account {uid} failed while it was opened"

@@ -1,14 +1,15 @@
 -- What is kept once an entry was put or added.
-use Rattle.std.specs.Prelude.{◌≡◌, ◌≢◌, ◌<◌, ◌≤◌, ◌⊎◌, ℕ, zero, suc, Bool, true, false, cond, List, [], ◌∷◌, ◌++◌}
-use Rattle.std.specs.Prelude.{length, get_or, set, bytes_eq, Some, None, if◌then◌else◌, Result, Ok, Err, IfOk, OnErr}
-use Rattle.std.specs.Prelude.{refl}
-use Rattle.std.proofs.Common.{sym, ap, subst, ◌∙◌, arith, inl, inr}
+use Rattle.std.specs.Prelude.{◌≡◌, ◌≢◌, ◌<◌, ◌≤◌, ◌⊎◌, ◌&&◌, ◌||◌, ◌==◌, ℕ, zero, suc, Bool, true, false, cond, List}
+use Rattle.std.specs.Prelude.{[], ◌∷◌, ◌++◌, length, get_or, set, bytes_eq, All, Contains, Some, None, if◌then◌else◌}
+use Rattle.std.specs.Prelude.{Result, Ok, Err, IfOk, OnOk, OnErr, refl}
+use Rattle.std.proofs.Common.{sym, ap, ap₂, subst, ◌∙◌, arith, inl, inr}
 use Rattle.std.proofs.lemmas.Bool.{eqb-true}
+use Rattle.std.proofs.lemmas.List.Elements.{All-contains, All-push, All-weaker}
 use Rattle.ss_bso.specs.declared.changes.Kept.{Kept}
 use Rattle.ss_bso.specs.Changes.{fresh_kept}
 use Rattle.ss_site.specs.Sites.{IsEntry, IsWith}
-use Rattle.ss_site.specs.Tables.{TableEntry, is_at, entries_of, NoneBefore, IsPlace}
-use Rattle.ss_text.proofs.Basics.{both_left, both_right, same_text}
+use Rattle.ss_site.specs.Tables.{TableEntry, is_at, entries_of, knows, NoneBefore, IsPlace, KeepsPlaces}
+use Rattle.ss_text.proofs.Basics.{both_left, both_right, bytes_eq-same, no_way, or_true, own_number, same_text}
 
 -- an entry stands at one place
 one_place : (folder : List ℕ) (uid : ℕ) (f : List ℕ) (u : ℕ) (held : TableEntry) (b : Bool) → is_at folder uid held ≡ true → ((f ≢ folder) ⊎ (u ≢ uid)) → is_at f u held ≡ b → is_at f u held ≡ false
@@ -106,3 +107,77 @@ with_ok (Err fault) P Q so is = is
 pub entry_told : (folder : List ℕ) (uid : ℕ) (kept : Kept) (told : Bool) (table : List TableEntry) → kept ≡ entries_of table folder uid → IsEntry folder uid (Some kept) (if told then Some (entries_of table) else None)
 entry_told folder uid kept true table same = ap Some same
 entry_told folder uid kept false table same = tt
+
+-- ---- folders and uids that have entries
+
+or_on : (b c d : Bool) → (c ≡ true → d ≡ true) → (b || c) ≡ true → (b || d) ≡ true
+or_on true c d so is = refl
+or_on false c d so is = so is
+
+known_there : (folder : List ℕ) (uid : ℕ) (entries : List TableEntry) (i : ℕ) (d : TableEntry) → i < length entries → is_at folder uid (get_or entries i d) ≡ true → knows entries (folder, uid) ≡ true
+known_there folder uid [] i d inside is = absurd (omega (arith, inside))
+known_there folder uid (held ∷ entries) zero d inside is = ap (λ b. b || knows entries (folder, uid)) is
+known_there folder uid (held ∷ entries) (suc i) d inside is =
+    ap (λ b. is_at folder uid held || b) (known_there folder uid entries i d (omega (arith, inside)) is) ∙ or_true (is_at folder uid held)
+
+unknown : (folder : List ℕ) (uid : ℕ) (entries : List TableEntry) (n : ℕ) → length entries ≤ n → NoneBefore folder uid entries n → knows entries (folder, uid) ≡ false
+unknown folder uid [] n long none = refl
+unknown folder uid (held ∷ entries) zero long none = absurd (omega (arith, long))
+unknown folder uid (held ∷ entries) (suc n) long none =
+    ap₂ (λ a b. a || b) (none 0 (omega arith) held) (unknown folder uid entries n (omega (arith, long)) (later folder uid held entries n none))
+
+-- an entry that has the folder and uid of the one in whose place it is put
+known_put : (entries : List TableEntry) (i : ℕ) (element new : TableEntry) (place : List ℕ × ℕ) → element ≡ get_or entries i element → i < length entries → new.folder ≡ element.folder → new.uid ≡ element.uid
+    → knows (set entries i new) place ≡ knows entries place
+known_put [] i element new place here inside folder uid = absurd (omega (arith, inside))
+known_put (held ∷ entries) zero element new place here inside folder uid =
+    ap₂ (λ (f : List ℕ) (u : ℕ). (bytes_eq f place.0 && u == place.1) || knows entries place) (folder ∙ ap (λ (h : TableEntry). h.folder) here) (uid ∙ ap (λ (h : TableEntry). h.uid) here)
+known_put (held ∷ entries) (suc i) element new place here inside folder uid =
+    ap (λ b. is_at place.0 place.1 held || b) (known_put entries i element new place here (omega (arith, inside)) folder uid)
+
+known_pushed : (entries : List TableEntry) (held : TableEntry) (place : List ℕ × ℕ) → knows entries place ≡ true → knows (entries ++ held ∷ []) place ≡ true
+known_pushed [] held place is = no_way false is refl
+known_pushed (first ∷ entries) held place is =
+    or_on (is_at place.0 place.1 first) (knows entries place) (knows (entries ++ held ∷ []) place) (known_pushed entries held place) is
+
+known_last : (folder : List ℕ) (uid : ℕ) (entries : List TableEntry) (held : TableEntry) → is_at folder uid held ≡ true → knows (entries ++ held ∷ []) (folder, uid) ≡ true
+known_last folder uid [] held is = ap (λ b. b || false) is
+known_last folder uid (first ∷ entries) held is = ap (λ b. is_at folder uid first || b) (known_last folder uid entries held is) ∙ or_true (is_at folder uid first)
+
+pub not_there : (folder : List ℕ) (uid : ℕ) (entries : List TableEntry) → IsPlace folder uid entries None → knows entries (folder, uid) ≡ true → ⊥
+not_there folder uid entries none there = no_way (knows entries (folder, uid)) there (unknown folder uid entries (length entries) (omega arith) none)
+
+pub keeps_put : (folder : List ℕ) (uid : ℕ) (was entries : List TableEntry) (i : ℕ) (element new : TableEntry) → was ≡ entries → IsPlace folder uid was (Some i) → element ≡ get_or entries i element
+    → new.folder ≡ element.folder → new.uid ≡ element.uid → KeepsPlaces was (set entries i new)
+keeps_put folder uid was entries i element new same found here f u place there =
+    let inside : i < length entries = subst (λ (old : List TableEntry). i < length old) same found.0 in
+    known_put entries i element new place here inside f u ∙ ap (λ (old : List TableEntry). knows old place) (sym same) ∙ there
+
+-- where one was found it is known, and known still
+pub found_known : {E : Type 0} (r : Result Kept E) (folder : List ℕ) (uid : ℕ) (was new : List TableEntry) (i : ℕ) (d : TableEntry) → IsPlace folder uid was (Some i) → KeepsPlaces was new → OnOk r (knows new (folder, uid) ≡ true)
+found_known (Ok kept) folder uid was new i d found keeps = keeps (folder, uid) (known_there folder uid was i d found.0 (found.1 d))
+found_known (Err fault) folder uid was new i d found keeps = tt
+
+pub keeps_itself : (old new : List TableEntry) → new ≡ old → KeepsPlaces old new
+keeps_itself old new same place there = ap (λ (es : List TableEntry). knows es place) same ∙ there
+
+pub keeps_pushed : {E : Type 0} (r : Result (Unit {0}) E) (old new : List TableEntry) (held : TableEntry) → IfOk r (λ done. new ≡ old ++ held ∷ []) → OnErr r (new ≡ old) → KeepsPlaces old new
+keeps_pushed (Ok done) old new held added refused place there = ap (λ (es : List TableEntry). knows es place) added ∙ known_pushed old held place there
+keeps_pushed (Err fault) old new held added refused place there = keeps_itself old new refused place there
+
+pub knows_pushed : {E : Type 0} (r : Result (Unit {0}) E) (folder : List ℕ) (old new : List TableEntry) (held : TableEntry) → held.folder ≡ folder → IfOk r (λ done. new ≡ old ++ held ∷ []) → OnOk r (knows new (folder, held.uid) ≡ true)
+knows_pushed (Ok done) folder old new held named added =
+    ap (λ (es : List TableEntry). knows es (folder, held.uid)) added ∙ known_last folder held.uid old held (ap₂ (λ a b. a && b) (bytes_eq-same held.folder folder named) (own_number held.uid))
+knows_pushed (Err fault) folder old new held named added = tt
+
+-- ---- keepers that were given
+
+pub known_still : (keepers : List (List ℕ × ℕ)) (old new : List TableEntry) → KeepsPlaces old new → All (λ (p : List ℕ × ℕ). knows old p ≡ true) keepers → All (λ (p : List ℕ × ℕ). knows new p ≡ true) keepers
+known_still keepers old new keeps all = All-weaker (λ (p : List ℕ × ℕ). knows old p ≡ true) (λ (p : List ℕ × ℕ). knows new p ≡ true) keeps keepers all
+
+pub known_more : (keepers : List (List ℕ × ℕ)) (place : List ℕ × ℕ) (old new : List TableEntry) → KeepsPlaces old new → All (λ (p : List ℕ × ℕ). knows old p ≡ true) keepers → knows new place ≡ true
+    → All (λ (p : List ℕ × ℕ). knows new p ≡ true) (keepers ++ place ∷ [])
+known_more keepers place old new keeps all is = All-push (λ (p : List ℕ × ℕ). knows new p ≡ true) keepers place (known_still keepers old new keeps all) is
+
+pub was_known : (keepers : List (List ℕ × ℕ)) (place : List ℕ × ℕ) (entries : List TableEntry) → All (λ (p : List ℕ × ℕ). knows entries p ≡ true) keepers → Contains keepers place → knows entries place ≡ true
+was_known keepers place entries all there = All-contains (λ (p : List ℕ × ℕ). knows entries p ≡ true) keepers place all there

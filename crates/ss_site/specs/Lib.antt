@@ -1,3 +1,4 @@
+pub mod Missing
 pub mod Sites
 pub mod Counted
 pub mod Tables

@@ -14,4 +14,4 @@ pub use counted_keeper::CountedKeeper;
 pub use counted_port::CountedPort;
 pub use counted_store::CountedStore;
 pub use memory_site::{KeptTerm, MemSite};
-pub use site::{Site, SiteFault};
+pub use site::{NoKeeper, Site, SiteFault};

@@ -1,18 +1,19 @@
 //! A site in memory.
 
-ghost use Rattle.std.specs.Prelude.{◌≡◌, ◌⊎◌, ℕ, [], Some, None, IfOk, IfErr, OnOk, OnErr, map, option_and_then};
+ghost use Rattle.std.specs.Prelude.{◌≡◌, ◌⊎◌, ℕ, [], All, true, Some, None, IfOk, IfErr, OnOk, OnErr, map};
+ghost use Rattle.std.specs.Prelude.{option_and_then};
 ghost use Rattle.std.specs.Option.{option_copied};
 ghost use Rattle.ss_links.specs.Counts.{RoseBy};
 ghost use Rattle.ss_links.specs.Stores.{Files, files_of};
-ghost use Rattle.ss_site.specs.Sites.{Counts, Lent, Term, HasCause, HasLent, IsBack, IsEntry, HasRetired, CountsKeeper};
-ghost use Rattle.ss_site.specs.Sites.{CountsPort, CountsStore, AddsTerm};
-ghost use Rattle.ss_site.specs.Memories.{site_counts, site_lent, site_terms, site_kept, site_logs};
-ghost use Rattle.ss_site.specs.Tables.{entries_of, held_of};
+ghost use Rattle.ss_site.specs.Sites.{Counts, Lent, Term, HasCause, HasKeeperCause, HasLent, HasLentKeeper, IsBack};
+ghost use Rattle.ss_site.specs.Sites.{IsEntry, IsGiven, HasRetired, StaysTold, CountsKeeper, CountsPort, CountsStore};
+ghost use Rattle.ss_site.specs.Sites.{AddsTerm};
+ghost use Rattle.ss_site.specs.Tables.{entries_of, held_of, knows, place_given};
 
 use crate::counted_keeper::CountedKeeper;
 use crate::counted_port::CountedPort;
 use crate::counted_store::CountedStore;
-use crate::site::{Site, SiteFault};
+use crate::site::{NoKeeper, Site, SiteFault};
 use crate::table::Table;
 use ss_bso::Kept;
 use ss_keeper::{KeepFault, MemKeeper};
@@ -42,6 +43,8 @@ pub struct MemSite<T> {
     // None as long as the store that holds them is out.
     logs: Option<MemStore>,
     faults: u64,
+    failed: u64,
+    damaged: u64,
     links: u64,
     ends: u64,
     rests: u64,
@@ -49,11 +52,17 @@ pub struct MemSite<T> {
     back: u64,
     // Of the ports that it gave.
     addresses: Vec<String>,
+    // Of the keepers that it gave. Each has an entry.
+    keepers: Vec<(String, u32)>,
     failing: Numbered,
     wanting: Numbered,
+    damaging: Numbered,
+    ghost known: { All (λ place. knows table place ≡ true) (map place_given keepers.items) },
 }
 
 impl<T> MemSite<T> {
+    ghost use Rattle.ss_site.specs.Memories.{site_counts, site_lent, site_terms, site_kept, site_logs};
+
     /// A site that gives these ports and clocks that count from `first`, and keeps these entries: of several under one
     /// folder and uid the first counts, and where there is none a fresh one is kept. The calls of `listen`, `keeper`,
     /// `log` and `ended` with the numbers `failing` fail, counted together from 1.
@@ -64,8 +73,20 @@ impl<T> MemSite<T> {
         kept: Vec<(String, u32, Kept)>,
         failing: Vec<u64>,
     ) -> Result<MemSite<T>, AllocError>
-        ensures counts { IfOk result (λ site. site_counts site ≡ record { faults = 0; links = 0; ends = 0; rests = 0 }) }
-        ensures lent { IfOk result (λ site. site_lent site ≡ record { given = 0; back = 0; addresses = [] }) }
+        ensures counts { IfOk result (λ site. site_counts site ≡ record {
+          faults = 0;
+          refused = record { failed = 0; damaged = 0 };
+          links = 0;
+          ends = 0;
+          rests = 0;
+        }) }
+        ensures lent { IfOk result (λ site. site_lent site ≡ record {
+          given = 0;
+          back = 0;
+          addresses = [];
+          keepers = [];
+          readings = None;
+        }) }
         ensures terms { IfOk result (λ site. site_terms site ≡ Some []) }
         ensures kept { IfOk result (λ site. site_kept site ≡ Some (entries_of (map held_of kept.items))) }
         ensures logs { IfOk result (λ site. site_logs site ≡ Some (files_of [])) }
@@ -83,14 +104,18 @@ impl<T> MemSite<T> {
             terms: Vec::new(alloc),
             logs: Some(MemStore::new(Vec::new(alloc), Vec::new(alloc))),
             faults: 0,
+            failed: 0,
+            damaged: 0,
             links: 0,
             ends: 0,
             rests: 0,
             given: 0,
             back: 0,
             addresses: Vec::new(alloc),
+            keepers: Vec::new(alloc),
             failing: Numbered::new(failing),
             wanting: Numbered::new(Vec::new(alloc)),
+            damaging: Numbered::new(Vec::new(alloc)),
         })
     }
 
@@ -104,6 +129,19 @@ impl<T> MemSite<T> {
         ensures logs { site_logs result ≡ site_logs self }
     {
         self.wanting = Numbered::new(wanting);
+        self
+    }
+
+    /// The same site, whose calls of `keeper` with the numbers `damaging`, counted from 1, find no account in what is kept,
+    /// unless they fail or find no memory.
+    pub fn with_damage(mut self, damaging: Vec<u64>) -> MemSite<T>
+        ensures counts { site_counts result ≡ site_counts self }
+        ensures lent { site_lent result ≡ site_lent self }
+        ensures terms { site_terms result ≡ site_terms self }
+        ensures kept { site_kept result ≡ site_kept self }
+        ensures logs { site_logs result ≡ site_logs self }
+    {
+        self.damaging = Numbered::new(damaging);
         self
     }
 
@@ -143,7 +181,21 @@ impl<T> MemSite<T> {
         ensures logs { site_logs self.new ≡ site_logs self.old }
     {
         self.faults = self.faults.saturating_add(1);
+        self.failed = self.failed.saturating_add(1);
         SiteFault::Fault
+    }
+
+    // Finds damage, and counts it.
+    fn find_damage(&mut self) -> NoKeeper
+        ensures cause { HasKeeperCause {T = Unit {0}} (Err result) (site_counts self.old) (site_counts self.new) }
+        ensures lent { site_lent self.new ≡ site_lent self.old }
+        ensures terms { site_terms self.new ≡ site_terms self.old }
+        ensures kept { site_kept self.new ≡ site_kept self.old }
+        ensures logs { site_logs self.new ≡ site_logs self.old }
+    {
+        self.faults = self.faults.saturating_add(1);
+        self.damaged = self.damaged.saturating_add(1);
+        NoKeeper::Damaged
     }
 
     // Begins a call that can fail, by the plans.
@@ -164,11 +216,9 @@ impl<T> MemSite<T> {
         Ok(())
     }
 
-    // Counts a keeper or a port that is given.
+    // Counts a keeper, a port or a store that is given.
     fn lend(&mut self)
-        ensures given { RoseBy 1 (site_lent self.old).given (site_lent self.new).given }
-        ensures back { (site_lent self.new).back ≡ (site_lent self.old).back }
-        ensures addresses { (site_lent self.new).addresses ≡ (site_lent self.old).addresses }
+        ensures given { IsGiven (site_lent self.old) (site_lent self.new) }
         ensures counts { site_counts self.new ≡ site_counts self.old }
         ensures terms { site_terms self.new ≡ site_terms self.old }
         ensures kept { site_kept self.new ≡ site_kept self.old }
@@ -190,6 +240,8 @@ fn copies_of(alloc: Global, journals: &[(u32, &Journal)]) -> Result<Vec<(u32, Jo
 }
 
 impl<T: Drop> Site for MemSite<T> {
+    ghost use Rattle.ss_site.specs.Memories.{site_counts, site_lent, site_terms, site_kept, site_logs};
+
     type Port = CountedPort<MemPort>;
 
     type Keeper = CountedKeeper<MemKeeper>;
@@ -236,15 +288,26 @@ impl<T: Drop> Site for MemSite<T> {
         alloc: Global,
         folder: &str,
         uid: u32,
-    ) -> Result<CountedKeeper<MemKeeper>, SiteFault> {
+    ) -> Result<CountedKeeper<MemKeeper>, NoKeeper> {
+        let is_damaged = self.damaging.fails();
         self.begin_call()?;
+        if is_damaged {
+            return Err(self.find_damage());
+        }
+        let Ok(name) = String::from_str(alloc, folder) else {
+            return Err(NoKeeper::Memory);
+        };
+        if self.keepers.reserve(1).is_err() {
+            return Err(NoKeeper::Memory);
+        }
         match self.table.copy_of(alloc, folder, uid) {
             Ok(kept) => {
+                self.keepers.push_reserved((name, uid));
                 self.lend();
                 Ok(CountedKeeper::new(MemKeeper::new(kept, Vec::new(alloc))))
             }
-            Err(KeepFault::Fault) => Err(self.fail()),
-            Err(KeepFault::Memory) => Err(SiteFault::Memory),
+            Err(KeepFault::Fault) => Err(NoKeeper::from(self.fail())),
+            Err(KeepFault::Memory) => Err(NoKeeper::Memory),
         }
     }
 

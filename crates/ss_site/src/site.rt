@@ -3,8 +3,10 @@
 ghost use Rattle.std.specs.Prelude.{◌≡◌, ℕ, Option, List, IfOk, OnOk, OnErr};
 ghost use Rattle.ss_links.specs.Ports.{idle_port};
 ghost use Rattle.ss_links.specs.Stores.{Files};
-ghost use Rattle.ss_site.specs.Sites.{Counts, Lent, Term, Entries, HasCause, HasLent, Listens, IsBack, IsEntry};
-ghost use Rattle.ss_site.specs.Sites.{HasRetired, CountsKeeper, CountsPort, CountsStore, AddsTerm};
+ghost use Rattle.ss_site.specs.Missing.{without_keeper};
+ghost use Rattle.ss_site.specs.Sites.{Counts, Lent, Term, Entries, HasCause, HasKeeperCause, HasLent, HasLentKeeper};
+ghost use Rattle.ss_site.specs.Sites.{Listens, IsBack, IsEntry, HasRetired, StaysTold, CountsKeeper, CountsPort};
+ghost use Rattle.ss_site.specs.Sites.{CountsStore, AddsTerm};
 
 use ss_keeper::Keeper;
 use ss_laws::Journal;
@@ -20,6 +22,30 @@ pub enum SiteFault {
 
     /// Memory ran out.
     Memory,
+}
+
+/// Why a site gave no keeper.
+#[derive(Clone, Copy, Debug, PartialEq, Eq)]
+pub enum NoKeeper {
+    /// The site failed; it counts this.
+    Fault,
+
+    /// What is kept there is no account that can be read; the site counts this.
+    Damaged,
+
+    /// Memory ran out.
+    Memory,
+}
+
+impl From<SiteFault> for NoKeeper {
+    ghost from_gives = { λ fault missing. missing ≡ without_keeper fault };
+
+    fn from(fault: SiteFault) -> NoKeeper {
+        match fault {
+            SiteFault::Fault => NoKeeper::Fault,
+            SiteFault::Memory => NoKeeper::Memory,
+        }
+    }
 }
 
 /// Where a server's links, keepers, clocks and stores of logs come from and go back to, and where it tells its terms.
@@ -39,7 +65,8 @@ pub trait Site {
     /// Its counts.
     ghost counts: { Self → Counts };
 
-    /// The keepers, ports and stores that it gave, those that came back, and the addresses of the ports.
+    /// The keepers, ports and stores that it gave, those that came back, the addresses of the ports, the folders and uids
+    /// of the keepers, and what its clocks read, where that is told.
     ghost lent: { Self → Lent };
 
     /// The terms that it was told, where it tells them.
@@ -61,19 +88,21 @@ pub trait Site {
         ensures logs { logs self.new ≡ logs self.old };
 
     /// The keeper of an account, which tells its entry and has not failed.
-    fn keeper(&mut self, alloc: Global, folder: &str, uid: u32) -> Result<Self::Keeper, SiteFault>
+    fn keeper(&mut self, alloc: Global, folder: &str, uid: u32) -> Result<Self::Keeper, NoKeeper>
         ensures fresh { IfOk result (λ keeper. Self.Keeper.keep_faults keeper ≡ 0) }
         ensures entry { IfOk result (λ keeper. IsEntry folder.now uid (Self.Keeper.told keeper) (kept self.old)) }
-        ensures cause { HasCause result (counts self.old) (counts self.new) }
-        ensures lent { HasLent result (lent self.old) (lent self.new) }
+        ensures cause { HasKeeperCause result (counts self.old) (counts self.new) }
+        ensures lent { HasLentKeeper folder.now uid result (lent self.old) (lent self.new) }
         ensures terms { terms self.new ≡ terms self.old }
         ensures kept { kept self.new ≡ kept self.old }
         ensures logs { logs self.new ≡ logs self.old };
 
-    /// Takes the keeper of an account back: what it tells is the entry from now on. That it came back is counted, and
-    /// that it had failed.
+    /// Takes the keeper of an account back: what it tells is the entry from now on. Where the entries are told, they are
+    /// told still, unless the site never gave a keeper of this folder and uid. That it came back is counted, and that it
+    /// had failed.
     fn retire(&mut self, folder: &str, uid: u32, keeper: Self::Keeper)
         ensures entry { HasRetired folder.now uid (Self.Keeper.told keeper) (kept self.old) (kept self.new) }
+        ensures stays { StaysTold folder.now uid (lent self.old).keepers (kept self.old) (kept self.new) }
         ensures counted { CountsKeeper (Self.Keeper.keep_faults keeper) (counts self.old) (counts self.new) }
         ensures back { IsBack (lent self.old) (lent self.new) }
         ensures terms { terms self.new ≡ terms self.old }
@@ -87,8 +116,9 @@ pub trait Site {
         ensures kept { kept self.new ≡ kept self.old }
         ensures logs { logs self.new ≡ logs self.old };
 
-    /// A clock for a worker.
+    /// A clock for a worker, which has not been read yet.
     fn clock(&mut self) -> Self::Clock
+        ensures unread { Self.Clock.coming result ≡ (lent self.old).readings }
         ensures counts { counts self.new ≡ counts self.old }
         ensures lent { lent self.new ≡ lent self.old }
         ensures terms { terms self.new ≡ terms self.old }

@@ -1,10 +1,10 @@
 //! What a site in memory keeps, under folders and uids.
 
-ghost use Rattle.std.specs.Prelude.{◌≡◌, ◌++◌, ◌∷◌, [], IfOk, OnErr, IsTrue, string_bytes};
+ghost use Rattle.std.specs.Prelude.{◌≡◌, ◌++◌, ◌∷◌, [], true, IfOk, OnOk, OnErr, IsTrue, string_bytes};
 ghost use Rattle.ss_bso.specs.Changes.{fresh_kept};
 ghost use Rattle.ss_site.specs.Sites.{IsWith};
 ghost use Rattle.ss_site.specs.Counted.{keeper_in};
-ghost use Rattle.ss_site.specs.Tables.{is_at, entries_of, IsPlace};
+ghost use Rattle.ss_site.specs.Tables.{is_at, entries_of, knows, IsPlace, KeepsPlaces};
 
 use crate::counted_keeper::CountedKeeper;
 use ss_bso::Kept;
@@ -126,6 +126,8 @@ impl Table {
     ) -> Result<Kept, KeepFault>
         ensures copied { IfOk result (λ kept. kept ≡ entries_of self.old folder.now uid) }
         ensures same { entries_of self.new ≡ entries_of self.old }
+        ensures place { OnOk result (knows self.new (folder.now, uid) ≡ true) }
+        ensures places { KeepsPlaces self.old self.new }
     {
         match self.place_of(folder, uid) {
             Some(at) => self.entries[at].copy(alloc),
@@ -138,7 +140,9 @@ impl Table {
 
     /// Puts a fresh entry behind the others.
     fn add(&mut self, alloc: Global, folder: &str, uid: u32) -> Result<(), AllocError>
-        ensures { entries_of self.new ≡ entries_of self.old }
+        ensures same { entries_of self.new ≡ entries_of self.old }
+        ensures place { OnOk result (knows self.new (folder.now, uid) ≡ true) }
+        ensures places { KeepsPlaces self.old self.new }
     {
         let folder = String::from_str(alloc, folder)?;
         self.push(alloc, folder, uid, Kept::fresh(alloc))
@@ -146,8 +150,10 @@ impl Table {
 
     /// Makes what a keeper holds the entry, where there is one.
     pub(crate) fn put(&mut self, folder: &str, uid: u32, keeper: CountedKeeper<MemKeeper>) -> bool
-        ensures { IsTrue result → IsWith folder.now uid (keeper_in keeper).kept (entries_of self.old)
+        ensures put { IsTrue result → IsWith folder.now uid (keeper_in keeper).kept (entries_of self.old)
             (entries_of self.new) }
+        ensures there { knows self.old (folder.now, uid) ≡ true → IsTrue result }
+        ensures places { KeepsPlaces self.old self.new }
     {
         match self.place_of(folder, uid) {
             Some(at) => {

@@ -23,6 +23,8 @@ pub struct Failing {
     pub site: u64,
     /// The call of the site that finds no memory.
     pub memory: u64,
+    /// The call for a keeper of the site that finds no account.
+    pub lost: u64,
     /// The call of the store of a server's logs.
     pub log: u64,
 }
@@ -58,6 +60,7 @@ impl Case {
                 port: 0,
                 site: 0,
                 memory: 0,
+                lost: 0,
                 log: 0,
             },
             gate: 0,
@@ -88,6 +91,7 @@ impl Case {
             "port" => self.failing.port = value,
             "site" => self.failing.site = value,
             "memory" => self.failing.memory = value,
+            "lost" => self.failing.lost = value,
             "log" => self.failing.log = value,
             "gate" => self.gate = value,
             "rests" => self.rests = value == 1,

@@ -46,7 +46,7 @@ fn ports(
     Ok(vec![in alloc; port]?)
 }
 
-/// A site that keeps these entries, some of whose calls fail or find no memory.
+/// A site that keeps these entries, some of whose calls fail, find no memory or find no account.
 fn failing_site(
     alloc: Global,
     ports: Vec<MemPort>,
@@ -54,9 +54,10 @@ fn failing_site(
     failing: Failing,
 ) -> Result<Terms, AllocError> {
     let wanting = vec![in alloc; failing.memory]?;
+    let damaging = vec![in alloc; failing.lost]?;
     let failing = vec![in alloc; failing.site]?;
     let site = MemSite::new(alloc, ports, 1000, kept, failing)?;
-    Ok(site.without_memory(wanting))
+    Ok(site.without_memory(wanting).with_damage(damaging))
 }
 
 /// The site of a case.

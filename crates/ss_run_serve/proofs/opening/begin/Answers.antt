@@ -9,3 +9,6 @@ returns-in-Err-clause-as_before g c =
     let same = c.into_keeper.ensures ∙ ap (λ (a : Held g.row.X-Keeper.Denot). a.keeper) c.in-Err.ensures.returned in
     retired_as_before c.args.folder.now c.args.uid (g.X.Keeper.Keeper.told c.into_keeper.result) (g.X.Site.kept c.args.site.now) (g.X.Site.kept c.retire.new.self)
     (subst (λ (k : g.row.X-Keeper.Denot). IsEntry c.args.folder.now c.args.uid (g.X.Keeper.Keeper.told k) (g.X.Site.kept c.args.site.now)) (sym same) c.requires.entry) c.retire.ensures.entry
+
+pub returns-in-Err-clause-stays : goal.returns-in-Err-clause-stays
+returns-in-Err-clause-stays g c = c.retire.ensures.stays c.requires.given

@@ -4,12 +4,14 @@ use Rattle.std.proofs.lemmas.List.{map-append, take_more}
 use Rattle.std.proofs.lemmas.List.Elements.{All-push, All-weaker, Contains-get_or}
 use Rattle.ss_booked.specs.declared.booked.Booked.{Booked}
 use Rattle.ss_site.specs.Sites.{Counts, Entries, IsEntry}
-use Rattle.ss_run_serve.specs.Hosted.{Hosted, hosted_at}
+use Rattle.ss_run_serve.specs.Hosted.{Hosted, hosted, hosted_at}
+use Rattle.ss_run_serve.specs.Lending.{keepers_at}
 use Rattle.ss_run_serve.specs.Opening.{AreAsBefore, CountsFaults, OpensAccount, IsUnopened}
 use Rattle.ss_run_serve.proofs.Opened.{take_whole}
 use Rattle.ss_run_serve.proofs.Lent.{all_back, out_as, out_then}
+use Rattle.ss_run_serve.proofs.Given.{given_still, hosted_uids, keepers_more, opened_so_far}
 use Rattle.ss_run_serve.proofs.Retired.{all_as_before, as_before_then, counts_then, counts_unchanged, entry_as_before}
-use Rattle.ss_run_serve.proofs.Retired.{refused_then}
+use Rattle.ss_run_serve.proofs.Retired.{refused_from, refused_on, refused_then, tells_same, tells_then}
 use Rattle.ss_run_serve.proofs.opening.open_accounts.Goals as goal
 
 pub returns-in-Err-clause-refused : goal.returns-in-Err-clause-refused
@@ -37,6 +39,41 @@ returns-in-Err-clause-counted g c =
     counts_then (g.X.Site.counts c.args.site.now) (g.X.Site.counts c.open_account.new.site) (g.X.Site.counts c.retire_all.new.site) (map (hosted_at g.X.Keeper.Keeper.told g.X.Keeper.Keeper.keep_faults) c.loop-uid.accounts.items)
     (subst (λ (n : Counts). CountsFaults n (g.X.Site.counts c.open_account.new.site)) c.loop-uid.invariant.counts c.open_account.ensures.counted) c.retire_all.ensures.counted
 
+pub returns-in-Err-clause-refused_as : goal.returns-in-Err-clause-refused_as
+returns-in-Err-clause-refused_as g c =
+    refused_on c.in-Err.stop (g.X.Site.counts c.args.site.now).refused (g.X.Site.counts c.open_account.new.site).refused (g.X.Site.counts c.retire_all.new.site).refused c.retire_all.ensures.counted.refused
+    (refused_from c.in-Err.stop (g.X.Site.counts c.args.site.now).refused (g.X.Site.counts c.loop-uid.site).refused (g.X.Site.counts c.open_account.new.site).refused (ap (λ (n : Counts). n.refused) c.loop-uid.invariant.counts) c.in-Err.ensures.refused_as)
+
+pub returns-in-Err-clause-stays : goal.returns-in-Err-clause-stays
+returns-in-Err-clause-stays g c =
+    tells_then (g.X.Site.kept c.args.site.now) (g.X.Site.kept c.open_account.new.site) (g.X.Site.kept c.retire_all.new.site)
+    (tells_then (g.X.Site.kept c.args.site.now) (g.X.Site.kept c.loop-uid.site) (g.X.Site.kept c.open_account.new.site) (tells_same (g.X.Site.kept c.args.site.now) (g.X.Site.kept c.loop-uid.site) c.loop-uid.invariant.kept) c.open_account.ensures.stays)
+    c.retire_all.ensures.stays
+
+pub returns-clause-stays : goal.returns-clause-stays
+returns-clause-stays g c = tells_same (g.X.Site.kept c.args.site.now) (g.X.Site.kept c.loop-uid.site) c.loop-uid.invariant.kept
+
+-- the keepers of the accounts so far were given, and perhaps one more
+pub retire_all-requires : goal.retire_all-requires
+retire_all-requires g c = record { given =
+    given_still c.args.folder.now (map (hosted_at g.X.Keeper.Keeper.told g.X.Keeper.Keeper.keep_faults) c.loop-uid.accounts.items) (get_or c.args.uids.now c.loop-uid.uid-index 0) (g.X.Site.lent c.args.site.now).keepers (g.X.Site.lent c.loop-uid.site).keepers (g.X.Site.lent c.open_account.new.site).keepers
+    (c.loop-uid.invariant.keepers ∙ ap (λ (us : List ℕ). (g.X.Site.lent c.args.site.now).keepers ++ keepers_at c.args.folder.now us) (sym c.loop-uid.invariant.uids ∙ sym (hosted_uids (hosted g.X.Keeper.Keeper.told g.X.Keeper.Keeper.keep_faults) c.loop-uid.accounts.items))) c.open_account.ensures.keepers }
+
+pub returns-clause-given : goal.returns-clause-given
+returns-clause-given g c = c.loop-uid.invariant.keepers ∙ ap (λ (us : List ℕ). (g.X.Site.lent c.args.site.now).keepers ++ keepers_at c.args.folder.now us) (take_whole c.args.uids.now c.loop-uid.uid-index (omega arith))
+
+pub returns-clause-opens : goal.returns-clause-opens
+returns-clause-opens g c = (c.loop-uid.uid-index, c.loop-uid.invariant.keepers)
+
+pub returns-in-Err-clause-opens : goal.returns-in-Err-clause-opens
+returns-in-Err-clause-opens g c =
+    let inside : c.loop-uid.uid-index < length c.args.uids.now = omega arith in
+    let opens = opened_so_far c.args.folder.now c.args.uids.now c.loop-uid.uid-index inside (g.X.Site.lent c.args.site.now).keepers (g.X.Site.lent c.loop-uid.site).keepers (g.X.Site.lent c.open_account.new.site).keepers c.loop-uid.invariant.keepers c.open_account.ensures.keepers in
+    (opens.0, c.retire_all.ensures.returned.keepers ∙ opens.1)
+
+pub returns-clause-readings : goal.returns-clause-readings
+returns-clause-readings g c = c.loop-uid.invariant.readings
+
 pub returns-in-Err-clause-terms : goal.returns-in-Err-clause-terms
 returns-in-Err-clause-terms g c = c.retire_all.ensures.terms ∙ c.open_account.ensures.terms ∙ c.loop-uid.invariant.terms
 
@@ -60,6 +97,8 @@ loop-uid-preserved g c =
       long = omega (arith, invariant.long, c.push_reserved.ensures.len);
       counts = c.in-Ok-open_account.ensures.unchanged.0 ∙ invariant.counts;
       addresses = c.open_account.ensures.addresses ∙ invariant.addresses;
+      keepers = keepers_more c.args.folder.now c.args.uids.now c.loop-uid.uid-index inside (g.X.Site.lent c.args.site.now).keepers (g.X.Site.lent c.loop-uid.site).keepers (g.X.Site.lent c.open_account.new.site).keepers invariant.keepers c.in-Ok-open_account.ensures.keeper;
+      readings = c.in-Ok-open_account.ensures.readings ∙ invariant.readings;
       lent = out_then c.loop-uid.uid-index 1 (g.X.Site.lent c.args.site.now) (g.X.Site.lent c.loop-uid.site) (g.X.Site.lent c.open_account.new.site) invariant.lent c.in-Ok-open_account.ensures.lent;
       terms = c.open_account.ensures.terms ∙ invariant.terms;
       kept = c.in-Ok-open_account.ensures.unchanged.1 ∙ invariant.kept;

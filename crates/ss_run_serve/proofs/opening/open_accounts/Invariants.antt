@@ -1,7 +1,7 @@
-use Rattle.std.specs.Prelude.{◌≡◌, ◌≤◌, ℕ, length, map, take, vec_len, vec_capacity, All}
+use Rattle.std.specs.Prelude.{◌≡◌, ◌≤◌, ◌++◌, ℕ, length, map, take, vec_len, vec_capacity, All}
 use Rattle.ss_booked.specs.declared.booked.Booked.{Booked}
 use Rattle.ss_run_serve.specs.Hosted.{hosted_at}
-use Rattle.ss_run_serve.specs.Lending.{AreOut}
+use Rattle.ss_run_serve.specs.Lending.{keepers_at, AreOut}
 use Rattle.ss_run_serve.specs.Opening.{OpensAccount}
 use Rattle.ss_run_serve.proofs.opening.open_accounts.Given as goal
 
@@ -14,6 +14,8 @@ invariant-loop-uid g l = record {
   long : vec_len l.accounts ≡ l.uid-index;
   counts : g.X.Site.counts l.site ≡ g.X.Site.counts l.initial.site;
   addresses : (g.X.Site.lent l.site).addresses ≡ (g.X.Site.lent l.initial.site).addresses;
+  keepers : (g.X.Site.lent l.site).keepers ≡ (g.X.Site.lent l.initial.site).keepers ++ keepers_at l.folder (take l.uid-index l.uids);
+  readings : (g.X.Site.lent l.site).readings ≡ (g.X.Site.lent l.initial.site).readings;
   lent : AreOut l.uid-index (g.X.Site.lent l.initial.site) (g.X.Site.lent l.site);
   terms : g.X.Site.terms l.site ≡ g.X.Site.terms l.initial.site;
   kept : g.X.Site.kept l.site ≡ g.X.Site.kept l.initial.site;

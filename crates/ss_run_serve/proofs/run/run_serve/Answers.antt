@@ -39,3 +39,16 @@ returns-in-Err-Memory-clause-listens g c = inl refl
 
 pub returns-in_default-clause-listens : goal.returns-in_default-clause-listens
 returns-in_default-clause-listens g c = inl refl
+
+pub returns-clause-opens : goal.returns-clause-opens
+returns-clause-opens g c =
+    inr (c.in-Serve.command, subst (λ command. Asks (map (λ word. string_bytes word) c.args.words.now) command) c.in-Serve.is c.in-Ok.ensures.asks, c.serve-stop.ensures.opens)
+
+pub returns-in-Err-Refused-clause-opens : goal.returns-in-Err-Refused-clause-opens
+returns-in-Err-Refused-clause-opens g c = inl refl
+
+pub returns-in-Err-Memory-clause-opens : goal.returns-in-Err-Memory-clause-opens
+returns-in-Err-Memory-clause-opens g c = inl refl
+
+pub returns-in_default-clause-opens : goal.returns-in_default-clause-opens
+returns-in_default-clause-opens g c = inl refl

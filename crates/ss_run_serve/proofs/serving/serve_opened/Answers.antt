@@ -1,6 +1,5 @@
-use Rattle.std.specs.Prelude.{◌≡◌, ◌∷◌, [], ◌++◌, ℕ, List, map, length, Err, refl}
+use Rattle.std.specs.Prelude.{◌≡◌, ◌∷◌, [], ◌++◌, ℕ, List, map, replicate, Err, refl}
 use Rattle.std.proofs.Common.{arith, sym, ap, inl, inr, subst, ◌∙◌}
-use Rattle.std.proofs.lemmas.List.{length-map}
 use Rattle.ss_site.specs.declared.site.SiteFault.{SiteFault}
 use Rattle.ss_site.specs.Sites.{CountsPort, HasCause, Lent}
 use Rattle.ss_run_serve.specs.declared.stop.Stop.TheVariants as stops
@@ -14,14 +13,14 @@ use Rattle.ss_run_serve.proofs.serving.serve_opened.Goals as goal
 
 pub returns-in_default-clause-came : goal.returns-in_default-clause-came
 returns-in_default-clause-came g c =
-    came_to_unserved c.args.command.now.manner g.X.Port.Link.Told.told g.X.Port.Link.Closable.closed (g.G.Gate.says c.args.gate.now) (map (hosted_at g.X.Keeper.Keeper.told g.X.Keeper.Keeper.keep_faults) c.args.accounts.items) c.args.command.now.workers c.args.command.now.connections c.args.command.now.terms
+    came_to_unserved c.args.command.now.manner g.X.Port.Link.Told.told g.X.Port.Link.Closable.closed (g.G.Gate.says c.args.gate.now) (map (hosted_at g.X.Keeper.Keeper.told g.X.Keeper.Keeper.keep_faults) c.args.accounts.items) (replicate c.args.command.now.workers (g.X.Site.lent c.args.site.now).readings) c.args.command.now.connections c.args.command.now.terms
     (g.X.Site.terms c.args.site.now) (g.X.Site.terms c.clocks_of.new.site) (g.X.Site.counts c.args.site.now) (g.X.Site.counts c.args.site.now) (g.X.Site.counts c.clocks_of.new.site) stops.Memory
     (Kept stops.Memory (number_in c.args.book.now) (files_in g.X.Log.Store.held c.args.book.now) (files_in g.X.Log.Store.held c.args.book.now)) (logged_of stops.Memory [] (files_in g.X.Log.Store.held c.args.book.now) (files_in g.X.Log.Store.held c.args.book.now) (none_saved (files_in g.X.Log.Store.held c.args.book.now)))
     c.clocks_of.ensures.terms refl c.clocks_of.ensures.counts
 
 pub returns-in-Err-Fault-clause-came : goal.returns-in-Err-Fault-clause-came
 returns-in-Err-Fault-clause-came g c =
-    came_to_unserved c.args.command.now.manner g.X.Port.Link.Told.told g.X.Port.Link.Closable.closed (g.G.Gate.says c.args.gate.now) (map (hosted_at g.X.Keeper.Keeper.told g.X.Keeper.Keeper.keep_faults) c.args.accounts.items) c.args.command.now.workers c.args.command.now.connections c.args.command.now.terms
+    came_to_unserved c.args.command.now.manner g.X.Port.Link.Told.told g.X.Port.Link.Closable.closed (g.G.Gate.says c.args.gate.now) (map (hosted_at g.X.Keeper.Keeper.told g.X.Keeper.Keeper.keep_faults) c.args.accounts.items) (replicate c.args.command.now.workers (g.X.Site.lent c.args.site.now).readings) c.args.command.now.connections c.args.command.now.terms
     (g.X.Site.terms c.args.site.now) (g.X.Site.terms c.listen.new.self) (g.X.Site.counts c.args.site.now) (g.X.Site.counts c.clocks_of.new.site) (g.X.Site.counts c.listen.new.self) stops.Site
     (Kept stops.Site (number_in c.args.book.now) (files_in g.X.Log.Store.held c.args.book.now) (files_in g.X.Log.Store.held c.args.book.now)) (logged_of stops.Site [] (files_in g.X.Log.Store.held c.args.book.now) (files_in g.X.Log.Store.held c.args.book.now) (none_saved (files_in g.X.Log.Store.held c.args.book.now)))
     (c.listen.ensures.terms ∙ c.clocks_of.ensures.terms) c.clocks_of.ensures.counts
@@ -29,7 +28,7 @@ returns-in-Err-Fault-clause-came g c =
 
 pub returns-in-Err-Memory-clause-came : goal.returns-in-Err-Memory-clause-came
 returns-in-Err-Memory-clause-came g c =
-    came_to_unserved c.args.command.now.manner g.X.Port.Link.Told.told g.X.Port.Link.Closable.closed (g.G.Gate.says c.args.gate.now) (map (hosted_at g.X.Keeper.Keeper.told g.X.Keeper.Keeper.keep_faults) c.args.accounts.items) c.args.command.now.workers c.args.command.now.connections c.args.command.now.terms
+    came_to_unserved c.args.command.now.manner g.X.Port.Link.Told.told g.X.Port.Link.Closable.closed (g.G.Gate.says c.args.gate.now) (map (hosted_at g.X.Keeper.Keeper.told g.X.Keeper.Keeper.keep_faults) c.args.accounts.items) (replicate c.args.command.now.workers (g.X.Site.lent c.args.site.now).readings) c.args.command.now.connections c.args.command.now.terms
     (g.X.Site.terms c.args.site.now) (g.X.Site.terms c.listen.new.self) (g.X.Site.counts c.args.site.now) (g.X.Site.counts c.clocks_of.new.site) (g.X.Site.counts c.listen.new.self) stops.Memory
     (Kept stops.Memory (number_in c.args.book.now) (files_in g.X.Log.Store.held c.args.book.now) (files_in g.X.Log.Store.held c.args.book.now)) (logged_of stops.Memory [] (files_in g.X.Log.Store.held c.args.book.now) (files_in g.X.Log.Store.held c.args.book.now) (none_saved (files_in g.X.Log.Store.held c.args.book.now)))
     (c.listen.ensures.terms ∙ c.clocks_of.ensures.terms) c.clocks_of.ensures.counts
@@ -37,12 +36,12 @@ returns-in-Err-Memory-clause-came g c =
 
 pub returns-clause-came : goal.returns-clause-came
 returns-clause-came g c =
-    came_to_shut c.args.command.now.manner g.X.Port.Link.Told.told g.X.Port.Link.Closable.closed (g.G.Gate.says c.args.gate.now) (map (hosted_at g.X.Keeper.Keeper.told g.X.Keeper.Keeper.keep_faults) c.args.accounts.items) (map g.X.Clock.Clock.coming c.in-Ok.clocks.items) c.args.command.now.workers c.args.command.now.connections c.args.command.now.terms
+    came_to_shut c.args.command.now.manner g.X.Port.Link.Told.told g.X.Port.Link.Closable.closed (g.G.Gate.says c.args.gate.now) (map (hosted_at g.X.Keeper.Keeper.told g.X.Keeper.Keeper.keep_faults) c.args.accounts.items) (map g.X.Clock.Clock.coming c.in-Ok.clocks.items) (replicate c.args.command.now.workers (g.X.Site.lent c.args.site.now).readings) c.args.command.now.connections c.args.command.now.terms
     (g.X.Site.terms c.args.site.now) (g.X.Site.terms c.listen.new.self) (g.X.Site.terms c.serve_terms-accounts.new.site) (g.X.Site.terms c.shut.new.self)
     (g.X.Site.counts c.args.site.now) (g.X.Site.counts c.listen.new.self) (g.X.Site.counts c.serve_terms-accounts.new.site) (g.X.Site.counts c.shut.new.self) (g.X.Port.Port.counts (port_in c.serve_terms-accounts.new.port))
     (map (hosted_at g.X.Keeper.Keeper.told g.X.Keeper.Keeper.keep_faults) c.serve_terms-accounts.result.0.items) c.serve_terms-accounts.result.1 (number_in c.args.book.now) (files_in g.X.Log.Store.held c.args.book.now) (files_in g.X.Log.Store.held c.serve_terms-accounts.new.book)
     (c.listen.ensures.terms ∙ c.clocks_of.ensures.terms) c.shut.ensures.terms (c.in-Ok-listen.ensures.cause ∙ c.clocks_of.ensures.counts)
-    (let long : length (map g.X.Clock.Clock.coming c.in-Ok.clocks.items) ≡ c.args.command.now.workers = omega (arith, length-map c.in-Ok.clocks.items g.X.Clock.Clock.coming, c.in-Ok.ensures.count) in long) c.serve_terms-accounts.ensures.course
+    c.in-Ok.ensures.unread c.serve_terms-accounts.ensures.course
     (subst (λ (port : g.row.X-Port.Denot). CountsPort (g.X.Port.Port.counts port) (g.X.Site.counts c.serve_terms-accounts.new.site) (g.X.Site.counts c.shut.new.self)) c.into_port.ensures c.shut.ensures.counted)
 
 pub returns-in_default-clause-returned : goal.returns-in_default-clause-returned
@@ -69,3 +68,16 @@ returns-clause-listens g c =
     inr (c.shut.ensures.back.addresses ∙ ap (λ (l : Lent). l.addresses) c.serve_terms-accounts.ensures.lent ∙ c.in-Ok-listen.ensures.lent.2
     ∙ ap (λ (l : Lent). l.addresses ++ c.as_str.result.now ∷ []) c.clocks_of.ensures.lent
     ∙ ap (λ (address : List ℕ). (g.X.Site.lent c.args.site.now).addresses ++ address ∷ []) c.as_str.ensures)
+
+pub returns-clause-keepers : goal.returns-clause-keepers
+returns-clause-keepers g c =
+    c.shut.ensures.back.keepers ∙ ap (λ (l : Lent). l.keepers) c.serve_terms-accounts.ensures.lent ∙ c.in-Ok-listen.ensures.lent.3 ∙ ap (λ (l : Lent). l.keepers) c.clocks_of.ensures.lent
+
+pub returns-in_default-clause-keepers : goal.returns-in_default-clause-keepers
+returns-in_default-clause-keepers g c = ap (λ (l : Lent). l.keepers) c.clocks_of.ensures.lent
+
+pub returns-in-Err-Fault-clause-keepers : goal.returns-in-Err-Fault-clause-keepers
+returns-in-Err-Fault-clause-keepers g c = ap (λ (l : Lent). l.keepers) (c.in-Err-Fault.ensures.lent ∙ c.clocks_of.ensures.lent)
+
+pub returns-in-Err-Memory-clause-keepers : goal.returns-in-Err-Memory-clause-keepers
+returns-in-Err-Memory-clause-keepers g c = ap (λ (l : Lent). l.keepers) (c.in-Err-Memory.ensures.lent ∙ c.clocks_of.ensures.lent)

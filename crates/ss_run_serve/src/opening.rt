@@ -49,7 +49,8 @@ fn open_kept<X: Site>(
     ensures unchanged { OnOk result ((X.counts site.new ≡ X.counts site.old) × (X.kept site.new ≡ X.kept site.old)) }
     ensures refused { IfErr result (IsUnopened folder.now (X.kept site.old) (X.counts site.old) (X.counts site.new)
         uid) }
-    ensures refused_as { IfErr result (λ stop. IsRefusedAs stop (X.counts site.old).refused (X.counts site.new).refused) }
+    ensures refused_as { IfErr result (λ stop. IsRefusedAs stop (X.counts site.old).refused
+        (X.counts site.new).refused) }
     ensures as_before { OnErr result (AreAsBefore (X.kept site.old) (X.kept site.new)) }
     ensures stays { TellsStill (X.kept site.old) (X.kept site.new) }
     ensures counted { CountsFaults (X.counts site.old) (X.counts site.new) }
@@ -85,7 +86,8 @@ fn begin<X: Site>(
     ensures most { IfOk result (λ b. (journal_of b).most ≡ most_entries) }
     ensures unchanged { OnOk result ((X.counts site.new ≡ X.counts site.old) × (X.kept site.new ≡ X.kept site.old)) }
     ensures refused { IfErr result (λ stop. stop ≡ Stop.Memory) }
-    ensures refused_as { IfErr result (λ stop. IsRefusedAs stop (X.counts site.old).refused (X.counts site.new).refused) }
+    ensures refused_as { IfErr result (λ stop. IsRefusedAs stop (X.counts site.old).refused
+        (X.counts site.new).refused) }
     ensures as_before { OnErr result (AreAsBefore (X.kept site.old) (X.kept site.new)) }
     ensures stays { TellsStill (X.kept site.old) (X.kept site.new) }
     ensures counted { CountsFaults (X.counts site.old) (X.counts site.new) }
@@ -116,7 +118,8 @@ fn open_account<X: Site>(
     ensures unchanged { OnOk result ((X.counts site.new ≡ X.counts site.old) × (X.kept site.new ≡ X.kept site.old)) }
     ensures refused { IfErr result (IsUnopened folder.now (X.kept site.old) (X.counts site.old) (X.counts site.new)
         uid) }
-    ensures refused_as { IfErr result (λ stop. IsRefusedAs stop (X.counts site.old).refused (X.counts site.new).refused) }
+    ensures refused_as { IfErr result (λ stop. IsRefusedAs stop (X.counts site.old).refused
+        (X.counts site.new).refused) }
     ensures as_before { OnErr result (AreAsBefore (X.kept site.old) (X.kept site.new)) }
     ensures stays { TellsStill (X.kept site.old) (X.kept site.new) }
     ensures counted { CountsFaults (X.counts site.old) (X.counts site.new) }
@@ -155,7 +158,8 @@ pub(crate) fn open_accounts<X: Site>(
     ensures unchanged { OnOk result ((X.counts site.new ≡ X.counts site.old) × (X.kept site.new ≡ X.kept site.old)) }
     ensures refused { IfErr result (λ stop. RefusesOne folder.now (X.kept site.old) (X.counts site.old)
         (X.counts site.new) uids.now stop) }
-    ensures refused_as { IfErr result (λ stop. IsRefusedAs stop (X.counts site.old).refused (X.counts site.new).refused) }
+    ensures refused_as { IfErr result (λ stop. IsRefusedAs stop (X.counts site.old).refused
+        (X.counts site.new).refused) }
     ensures as_before { OnErr result (AreAsBefore (X.kept site.old) (X.kept site.new)) }
     ensures stays { TellsStill (X.kept site.old) (X.kept site.new) }
     ensures counted { CountsFaults (X.counts site.old) (X.counts site.new) }
@@ -164,7 +168,8 @@ pub(crate) fn open_accounts<X: Site>(
     ensures lent { IfOk result (λ accounts. AreOut (length accounts.items) (X.lent site.old) (X.lent site.new)) }
     ensures returned { OnErr result (AllAreBack (X.lent site.old) (X.lent site.new)) }
     ensures addresses { (X.lent site.new).addresses ≡ (X.lent site.old).addresses }
-    ensures given { OnOk result ((X.lent site.new).keepers ≡ (X.lent site.old).keepers ++ keepers_at folder.now uids.now) }
+    ensures given { OnOk result ((X.lent site.new).keepers ≡ (X.lent site.old).keepers
+        ++ keepers_at folder.now uids.now) }
     ensures opens { OpensAt folder.now uids.now (X.lent site.old) (X.lent site.new) }
     ensures readings { OnOk result ((X.lent site.new).readings ≡ (X.lent site.old).readings) }
 {

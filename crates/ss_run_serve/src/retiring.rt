@@ -32,8 +32,8 @@ pub(crate) fn retire_all<X: Site>(
     folder: &str,
     accounts: Vec<(u32, Booked<X::Keeper>)>,
 )
-    requires given { All (λ account. Contains (X.lent site.old).keepers (folder.now, account.0)) (map (hosted_at X.Keeper.told X.Keeper.keep_faults)
-        accounts.items) }
+    requires given { All (λ account. Contains (X.lent site.old).keepers (folder.now, account.0))
+        (map (hosted_at X.Keeper.told X.Keeper.keep_faults) accounts.items) }
     ensures entries { HaveRetired folder.now (map (hosted_at X.Keeper.told X.Keeper.keep_faults) accounts.items)
         (X.kept site.old) (X.kept site.new) }
     ensures stays { TellsStill (X.kept site.old) (X.kept site.new) }

@@ -38,7 +38,8 @@ fn clocks_of<X: Site>(
 where
     X::Clock: Drop,
     ensures count { IfOk result (λ clocks. vec_len clocks ≡ workers) }
-    ensures unread { IfOk result (λ clocks. map X.Clock.coming clocks.items ≡ replicate workers (X.lent site.old).readings) }
+    ensures unread { IfOk result (λ clocks. map X.Clock.coming clocks.items
+        ≡ replicate workers (X.lent site.old).readings) }
     ensures counts { X.counts site.new ≡ X.counts site.old }
     ensures terms { X.terms site.new ≡ X.terms site.old }
     ensures kept { X.kept site.new ≡ X.kept site.old }
@@ -75,8 +76,10 @@ where
     requires begun { All (λ account. IsBegun account.1) (map (hosted_at X.Keeper.told X.Keeper.keep_faults)
         accounts.items) }
     ensures came { CameTo command.now.manner X.Port.Link.Told.told X.Port.Link.closed (G.says gate.now)
-        (map (hosted_at X.Keeper.told X.Keeper.keep_faults) accounts.items) (replicate command.now.workers (X.lent site.old).readings) command.now.connections command.now.terms
-        (X.terms site.old) (X.terms site.new) (X.counts site.old) (X.counts site.new) (map (hosted_at X.Keeper.told X.Keeper.keep_faults) result.0.items) result.1
+        (map (hosted_at X.Keeper.told X.Keeper.keep_faults) accounts.items)
+        (replicate command.now.workers (X.lent site.old).readings) command.now.connections command.now.terms
+        (X.terms site.old) (X.terms site.new) (X.counts site.old) (X.counts site.new)
+        (map (hosted_at X.Keeper.told X.Keeper.keep_faults) result.0.items) result.1
         (λ told. AreLogged result.1 (logs_of (number_in book.old) told) (files_in X.Log.held book.old)
         (files_in X.Log.held book.new)) }
     ensures cut { HasCut (failures_in X.Log.store_faults book.new) result.1 }
@@ -125,8 +128,10 @@ where
     requires begun { All (λ account. IsBegun account.1) (map (hosted_at X.Keeper.told X.Keeper.keep_faults)
         accounts.items) }
     ensures came { CameTo command.now.manner X.Port.Link.Told.told X.Port.Link.closed (G.says gate.now)
-        (map (hosted_at X.Keeper.told X.Keeper.keep_faults) accounts.items) (replicate command.now.workers (X.lent site.old).readings) command.now.connections command.now.terms
-        (X.terms site.old) (X.terms site.new) (X.counts site.old) (X.counts site.new) (map (hosted_at X.Keeper.told X.Keeper.keep_faults) result.0.items) result.1
+        (map (hosted_at X.Keeper.told X.Keeper.keep_faults) accounts.items)
+        (replicate command.now.workers (X.lent site.old).readings) command.now.connections command.now.terms
+        (X.terms site.old) (X.terms site.new) (X.counts site.old) (X.counts site.new)
+        (map (hosted_at X.Keeper.told X.Keeper.keep_faults) result.0.items) result.1
         (λ told. AreLoggedAt command.now.logs result.1 told (X.logs site.old) (X.logs site.new)) }
     ensures failed { LogsFailed (X.counts site.old) (X.counts site.new) result.1 }
     ensures kept { X.kept site.new ≡ X.kept site.old }

@@ -30,8 +30,8 @@ pub struct KeptTerm<T> {
 }
 
 /// A site in memory. It gives its ports in order; past the last one a call of `listen` is a fault. It tells what is
-/// kept as long as keepers come back to the folder and uid of which they came, and all terms. It has one store of logs,
-/// whatever the folder, and tells the logs while that isn't out; while it is, a call of `log` is a fault.
+/// kept as long as each keeper comes back to a folder and uid of which it gave one, and all terms. It has one store of
+/// logs, whatever the folder, and tells the logs while that isn't out; while it is, a call of `log` is a fault.
 #[derive(Drop)]
 pub struct MemSite<T> {
     // From the last one to the next one.
@@ -132,8 +132,8 @@ impl<T> MemSite<T> {
         self
     }
 
-    /// The same site, whose calls of `keeper` with the numbers `damaging`, counted from 1, find no account in what is kept,
-    /// unless they fail or find no memory.
+    /// The same site, whose calls of `keeper` with the numbers `damaging`, counted from 1, find no account in what is
+    /// kept, unless they fail or find no memory.
     pub fn with_damage(mut self, damaging: Vec<u64>) -> MemSite<T>
         ensures counts { site_counts result ≡ site_counts self }
         ensures lent { site_lent result ≡ site_lent self }

@@ -65,8 +65,8 @@ pub trait Site {
     /// Its counts.
     ghost counts: { Self → Counts };
 
-    /// The keepers, ports and stores that it gave, those that came back, the addresses of the ports, the folders and uids
-    /// of the keepers, and what its clocks read, where that is told.
+    /// The keepers, ports and stores that it gave, those that came back, the addresses of the ports, the folders and
+    /// uids of the keepers, and what its clocks read, where that is told.
     ghost lent: { Self → Lent };
 
     /// The terms that it was told, where it tells them.
@@ -97,9 +97,9 @@ pub trait Site {
         ensures kept { kept self.new ≡ kept self.old }
         ensures logs { logs self.new ≡ logs self.old };
 
-    /// Takes the keeper of an account back: what it tells is the entry from now on. Where the entries are told, they are
-    /// told still, unless the site never gave a keeper of this folder and uid. That it came back is counted, and that it
-    /// had failed.
+    /// Takes the keeper of an account back: what it tells is the entry from now on. Where the entries are told, they
+    /// are told still, unless the site never gave a keeper of this folder and uid. That it came back is counted, and
+    /// that it had failed.
     fn retire(&mut self, folder: &str, uid: u32, keeper: Self::Keeper)
         ensures entry { HasRetired folder.now uid (Self.Keeper.told keeper) (kept self.old) (kept self.new) }
         ensures stays { StaysTold folder.now uid (lent self.old).keepers (kept self.old) (kept self.new) }

@@ -107,7 +107,7 @@ docs/SERVING.md tells how an account is moved, and how the digest is checked by 
 No server may have the file open. Standard error names what failed.
 
 exit status: 0 written; 1 faulty words; 2 the folder or the file failed, or a server has the file open; 3 the output failed; 4 the
-file holds no account, or is damaged; 8 no memory. Unless it is 0 or 3 nothing is written.
+file holds no account, or a row out of form; 8 no memory. Unless it is 0 or 3 nothing is written.
 
 example: syncstore dump data 7 > seven
 ";
@@ -125,7 +125,8 @@ No server may have the file open. An account that has anything is left as it is.
 is no dump the first bad line, or its digest, or the first collection, row or batch for which there is no account.
 
 exit status: 0 restored; 1 faulty words; 2 the folder or the file failed, or a server has the file open; 4 the account has something,
-or its file is damaged; 5 the input is no dump; 6 more than 1073741824 bytes; 7 the input failed; 8 no memory. Unless it is 0 nothing is restored.
+or its file a row out of form; 5 the input is no dump; 6 more than 1073741824 bytes; 7 the input failed; 8 no memory. Unless it is
+0 nothing is restored.
 
 example: syncstore restore elsewhere 7 < seven
 ";
@@ -201,8 +202,8 @@ until it is stopped by a signal, at any moment: what was answered is in the file
   --from N           the number of the first term's logs: 1 to 999999, 1 where nothing is said; only beside --journal
 
 exit status: 0 all terms were served; 1 faulty words; 2 a folder, a file or the address failed; 3 the port failed while it listened;
-4 a file holds no account, or is damaged; 7 a log couldn't be saved; 8 no memory outside a response. Standard error tells when it listens, a
-line a term and a log, and why it stops.
+4 a file holds no account, or a row out of form; 7 a log couldn't be saved; 8 no memory outside a response. Standard error tells when
+it listens, a line a term and a log, and why it stops.
 
 example: syncstore serve 127.0.0.1:8000 data 7 8
 ";

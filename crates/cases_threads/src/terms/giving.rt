@@ -1,31 +1,30 @@
-//! A site in memory that gives ports and clocks. Its line has the first reading of its clocks, and how many links each of
-//! its ports gives.
+//! A site in memory that gives ports and clocks. Its line has the first reading of its clocks, and how many links each
+//! of its ports gives.
 
-ghost use Rattle.std.specs.Prelude.{◌≡◌, All, IfOk};
-ghost use Rattle.ss_links.specs.Links.{IsUnused, link_tells};
-
-use ss_links::{Accepted, MemLink, MemPort, Port};
+use crate::terms::case::Planned;
+use crate::terms::terms::port;
+use ss_links::{Accepted, MemPort, Port};
 use ss_outside::Clock;
 use ss_site::{CountedPort, MemSite, Site, SiteFault};
 use std::alloc::{AllocError, Global};
 
-/// Links from which nothing comes, as many as are asked.
-fn links(alloc: Global, count: u64) -> Result<Vec<MemLink>, AllocError>
-    ensures { IfOk result (λ links. All (λ link. IsUnused (link_tells link)) links.items) }
-{
+/// A port with so many links, from which nothing comes.
+fn idle_port(alloc: Global, count: u64) -> Result<MemPort, AllocError> {
     let mut links = Vec::new(alloc);
     for _ in 0..count {
-        links.push(MemLink::new(alloc, Vec::new(alloc), 0, Vec::new(alloc))?)?;
+        links.push(Planned {
+            pieces: Vec::new(alloc),
+            failing: 0,
+        })?;
     }
-    Ok(links)
+    port(alloc, links, 0, false)
 }
 
 /// The ports of a line, each by how many links it gives.
 fn ports(alloc: Global, words: &str) -> anyhow::Result<Vec<MemPort>> {
     let mut ports = Vec::new(alloc);
     for word in words.split(' ') {
-        let links = links(alloc, word.parse::<u64>()?)?;
-        ports.push(MemPort::new(links, Vec::new(alloc)))?;
+        ports.push(idle_port(alloc, word.parse::<u64>()?)?)?;
     }
     Ok(ports)
 }
@@ -41,8 +40,8 @@ fn count(port: &mut CountedPort<MemPort>) -> u64 {
     port.links()
 }
 
-/// A line on the next port.
-fn listened(
+/// A line on the port that is given, or on why there is none.
+fn line(
     alloc: Global,
     given: Result<CountedPort<MemPort>, SiteFault>,
 ) -> Result<String, AllocError> {
@@ -65,20 +64,26 @@ fn readings(alloc: Global, site: &mut MemSite<u8>) -> Result<String, AllocError>
     format!(in alloc; "{first} {second}")
 }
 
+/// The readings of two clocks of a site, and a line on each of so many ports.
+fn lines(alloc: Global, site: &mut MemSite<u8>, ports: usize) -> Result<String, AllocError> {
+    let first = readings(alloc, site)?;
+    let second = readings(alloc, site)?;
+    let mut text = format!(in alloc; "two clocks read {first} and {second}")?;
+    for _ in 0..ports {
+        let port = site.listen(alloc, "a");
+        text.push_str(line(alloc, port)?.as_str())?;
+    }
+    Ok(text)
+}
+
 /// What is told of the ports and the clocks of a site, of which one port more is asked than it has.
 pub fn giving_line(alloc: Global, line: &str) -> anyhow::Result<String> {
     let (first, words) = line.split_once(' ').unwrap_or((line, ""));
     let first = first.parse::<u64>()?;
     let ports = ports(alloc, words)?;
-    let count = ports.len();
+    let asked = ports.len().saturating_add(1);
     let mut site = MemSite::new(alloc, ports, first, Vec::new(alloc), Vec::new(alloc))?;
-    let mut text = String::from_str(alloc, "two clocks read ")?;
-    text.push_str(readings(alloc, &mut site)?.as_str())?;
-    text.push_str(" and ")?;
-    text.push_str(readings(alloc, &mut site)?.as_str())?;
-    for _ in 0..=count {
-        text.push_str(listened(alloc, site.listen(alloc, "a"))?.as_str())?;
-    }
+    let text = lines(alloc, &mut site, asked);
     drop(site);
-    Ok(text)
+    Ok(text?)
 }

@@ -55,9 +55,11 @@ returns-clause-stays g c = tells_same (g.X.Site.kept c.args.site.now) (g.X.Site.
 
 -- the keepers of the accounts so far were given, and perhaps one more
 pub retire_all-requires : goal.retire_all-requires
-retire_all-requires g c = record { given =
-    given_still c.args.folder.now (map (hosted_at g.X.Keeper.Keeper.told g.X.Keeper.Keeper.keep_faults) c.loop-uid.accounts.items) (get_or c.args.uids.now c.loop-uid.uid-index 0) (g.X.Site.lent c.args.site.now).keepers (g.X.Site.lent c.loop-uid.site).keepers (g.X.Site.lent c.open_account.new.site).keepers
-    (c.loop-uid.invariant.keepers ∙ ap (λ (us : List ℕ). (g.X.Site.lent c.args.site.now).keepers ++ keepers_at c.args.folder.now us) (sym c.loop-uid.invariant.uids ∙ sym (hosted_uids (hosted g.X.Keeper.Keeper.told g.X.Keeper.Keeper.keep_faults) c.loop-uid.accounts.items))) c.open_account.ensures.keepers }
+retire_all-requires g c = record {
+  given =
+      given_still c.args.folder.now (map (hosted_at g.X.Keeper.Keeper.told g.X.Keeper.Keeper.keep_faults) c.loop-uid.accounts.items) (get_or c.args.uids.now c.loop-uid.uid-index 0) (g.X.Site.lent c.args.site.now).keepers (g.X.Site.lent c.loop-uid.site).keepers (g.X.Site.lent c.open_account.new.site).keepers
+      (c.loop-uid.invariant.keepers ∙ ap (λ (us : List ℕ). (g.X.Site.lent c.args.site.now).keepers ++ keepers_at c.args.folder.now us) (sym c.loop-uid.invariant.uids ∙ sym (hosted_uids (hosted g.X.Keeper.Keeper.told g.X.Keeper.Keeper.keep_faults) c.loop-uid.accounts.items))) c.open_account.ensures.keepers;
+}
 
 pub returns-clause-given : goal.returns-clause-given
 returns-clause-given g c = c.loop-uid.invariant.keepers ∙ ap (λ (us : List ℕ). (g.X.Site.lent c.args.site.now).keepers ++ keepers_at c.args.folder.now us) (take_whole c.args.uids.now c.loop-uid.uid-index (omega arith))

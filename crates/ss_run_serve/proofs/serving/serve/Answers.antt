@@ -63,13 +63,15 @@ returns-clause-listens g c =
 
 -- the keepers that come back were given as the accounts were opened
 pub retire_all-requires : goal.retire_all-requires
-retire_all-requires g c = record { given =
-    let view : ℕ × Booked g.row.X-Keeper.Denot g.X.Keeper.Keeper → ℕ × Hosted = hosted_at g.X.Keeper.Keeper.told g.X.Keeper.Keeper.keep_faults in
-    let before : List (ℕ × Hosted) = map view c.in-Ok.accounts.items in
-    let after : List (ℕ × Hosted) = map view c.serve_logged-accounts.result.0.items in
-    let uids : uids_in before ≡ c.as_slice.result.now = hosted_uids (hosted g.X.Keeper.Keeper.told g.X.Keeper.Keeper.keep_faults) c.in-Ok.accounts.items ∙ c.in-Ok.ensures.uids in
-    are_given c.as_str-folder.result.now after c.as_slice.result.now (g.X.Site.lent c.args.site.now).keepers (g.X.Site.lent c.serve_logged-accounts.new.site).keepers
-    (subst (λ (us : List ℕ). IsPermutation us (uids_in after)) uids c.serve_logged-accounts.ensures.came.uids) (c.serve_logged-accounts.ensures.keepers ∙ c.in-Ok.ensures.given) }
+retire_all-requires g c = record {
+  given =
+      let view : ℕ × Booked g.row.X-Keeper.Denot g.X.Keeper.Keeper → ℕ × Hosted = hosted_at g.X.Keeper.Keeper.told g.X.Keeper.Keeper.keep_faults in
+      let before : List (ℕ × Hosted) = map view c.in-Ok.accounts.items in
+      let after : List (ℕ × Hosted) = map view c.serve_logged-accounts.result.0.items in
+      let uids : uids_in before ≡ c.as_slice.result.now = hosted_uids (hosted g.X.Keeper.Keeper.told g.X.Keeper.Keeper.keep_faults) c.in-Ok.accounts.items ∙ c.in-Ok.ensures.uids in
+      are_given c.as_str-folder.result.now after c.as_slice.result.now (g.X.Site.lent c.args.site.now).keepers (g.X.Site.lent c.serve_logged-accounts.new.site).keepers
+      (subst (λ (us : List ℕ). IsPermutation us (uids_in after)) uids c.serve_logged-accounts.ensures.came.uids) (c.serve_logged-accounts.ensures.keepers ∙ c.in-Ok.ensures.given);
+}
 
 -- the keepers that were given as the accounts were opened are all that were given
 opens_on : (folder folder' uids uids' : List ℕ) (old opened new : Lent) → folder ≡ folder' → uids ≡ uids' → OpensAt folder uids old opened → new.keepers ≡ opened.keepers → OpensAt folder' uids' old new

@@ -64,9 +64,9 @@ module _ {L : Type 0} where
   HasStopped command terms old new stops.Logs = Rose old.counts.faults new.counts.faults
 
   module _ (tells : L → Meanings) (closed : L → Bool) (says : ℕ → ℕ → Bool → Type 0) where
-    -- the listed accounts were opened from their entries, with one clock of the site for each worker, of which none was read, and then served by these terms, in the
-    -- command's manner of reading conditions, no more than were asked, each of at most so many connections. There are as many reports as the port gave links, and what is kept of each
-    -- listed account is what the last term left of it
+    -- the listed accounts were opened from their entries, with one clock of the site for each worker, of which none was read, and then
+    -- served by these terms, in the command's manner of reading conditions, no more than were asked, each of at most so many connections.
+    -- There are as many reports as the port gave links, and what is kept of each listed account is what the last term left of it
     pub record AreServedBy (command : ServeCommand) (terms : List (Term (LinkReport L))) (old new : ServedSite (LinkReport L)) : Type 0 where
       pub opened : List (ℕ × Hosted)
       pub uids : uids_in opened ≡ command.uids

@@ -42,6 +42,7 @@ use Rattle.ss_run_serve.specs.Hosted.{Hosted, IsBegun, hosted, hosted_at, journa
 use Rattle.ss_run_serve.specs.Retiring.{uids_in}
 use Rattle.ss_run_serve.specs.Terms.{IsOneLeft}
 use Rattle.ss_run_serve.specs.Once.{Follows, TermsGoOn, HasFailed, IsDone, IsLast, IsLost, IsOnce, IsUnheard, IsUntold}
+use Rattle.ss_run_serve.specs.Once.{stand}
 use Rattle.ss_run_serve.specs.Once.{TookPlace}
 use Rattle.ss_run_serve.specs.Logs.{logs_of_term, ArePartlySaved, AreSaved, AreLoggedOnce, HasCut, IsCut}
 use Rattle.ss_run_serve.proofs.Saving.{cut_logged, logged_once}
@@ -177,7 +178,7 @@ module _ {K : Type 0} {G : Ghosts K} (told : K → Option Kept) (faults : K → 
         → TermSays fixed entries_in failures manner tells closed given handed reports coming coming' stop → HasAdded (term_told handed reports) terms terms'
         → new ≡ old → RoseBy (length reports) port.links port'.links → length reports ≤ connections → AreAllGated says reports → IsLast connections port port' next
         → AreLoggedOnce next (logs_of_term number (term_told handed reports).journals) logs logs'
-        → IsOnce manner tells closed says (hosted_all given) (hosted_all handed) coming coming' terms terms' old new connections port port' next number logs logs'
+        → IsOnce manner tells closed says connections number next (stand (hosted_all given) coming terms old port logs) (stand (hosted_all handed) coming' terms' new port' logs')
     once_told given handed reports coming coming' stop terms terms' old new connections port port' next number logs logs' town so added counts links few gated why logged = inr (inr (record {
       term = term_told handed reports;
       told = added;
@@ -194,7 +195,7 @@ module _ {K : Type 0} {G : Ghosts K} (told : K → Option Kept) (faults : K → 
         → HasAdded (record { reports = reports; journals = map {B = ℕ × Journal} (λ (a : ℕ × Booked K G). (a.0, journal_of a.1)) handed }) terms terms'
         → new ≡ old → RoseBy (length reports) port.links port'.links → length reports ≤ connections → AreAllGated says reports → HasEnded stop connections port port' → Follows stop port' next
         → AreSaved (logs_of_term number (map {B = ℕ × Journal} (λ (a : ℕ × Booked K G). (a.0, journal_of a.1)) handed)) logs logs'
-        → IsOnce manner tells closed says (hosted_all given) (hosted_all handed) coming coming' terms terms' old new connections port port' next number logs logs'
+        → IsOnce manner tells closed says connections number next (stand (hosted_all given) coming terms old port logs) (stand (hosted_all handed) coming' terms' new port' logs')
     once_done given handed reports coming coming' stop terms terms' old new connections port port' next number logs logs' town so added counts links few gated why follows saved =
         once_told given handed reports coming coming' stop terms terms' old new connections port port' next number logs logs' town so added counts links few gated (last_is stop connections port port' next town why follows)
         (logged_once next (logs_of_term number (term_told handed reports).journals) logs logs' saved)
@@ -206,7 +207,7 @@ module _ {K : Type 0} {G : Ghosts K} (told : K → Option Kept) (faults : K → 
         → HasAdded (record { reports = reports; journals = map {B = ℕ × Journal} (λ (a : ℕ × Booked K G). (a.0, journal_of a.1)) handed }) terms terms'
         → new ≡ old → RoseBy (length reports) port.links port'.links → length reports ≤ connections → AreAllGated says reports → IsCut faults last
         → ArePartlySaved (logs_of_term number (map {B = ℕ × Journal} (λ (a : ℕ × Booked K G). (a.0, journal_of a.1)) handed)) logs logs'
-        → IsOnce manner tells closed says (hosted_all given) (hosted_all handed) coming coming' terms terms' old new connections port port' (Some last) number logs logs'
+        → IsOnce manner tells closed says connections number (Some last) (stand (hosted_all given) coming terms old port logs) (stand (hosted_all handed) coming' terms' new port' logs')
     once_cut given handed reports coming coming' stop terms terms' old new connections port port' faults last number logs logs' town so added counts links few gated cut partly =
         once_told given handed reports coming coming' stop terms terms' old new connections port port' (Some last) number logs logs' town so added counts links few gated (cut_last faults connections port port' last cut)
         (cut_logged faults last (logs_of_term number (term_told handed reports).journals) logs logs' cut partly)
@@ -215,7 +216,7 @@ module _ {K : Type 0} {G : Ghosts K} (told : K → Option Kept) (faults : K → 
     pub once_untold : (given handed : List (ℕ × Booked K G)) (reports : List (LinkReport L)) (coming coming' : List (Option (List ℕ))) (stop : TermStop) (terms terms' : Option (List (Term (LinkReport L))))
         (old new : Counts) (connections : ℕ) (port port' : Accepts) (last : Stop) (number : ℕ) (logs : Option Files) → ((fault : TownFault) → stop ≡ ended.Town fault → ⊥)
         → TermSays fixed entries_in failures manner tells closed given handed reports coming coming' stop → terms' ≡ terms → IsUntold old new last → RoseBy (length reports) port.links port'.links → length reports ≤ connections → AreAllGated says reports
-        → IsOnce manner tells closed says (hosted_all given) (hosted_all handed) coming coming' terms terms' old new connections port port' (Some last) number logs logs
+        → IsOnce manner tells closed says connections number (Some last) (stand (hosted_all given) coming terms old port logs) (stand (hosted_all handed) coming' terms' new port' logs)
     once_untold given handed reports coming coming' stop terms terms' old new connections port port' last number logs town so same why links few gated = inr (inl (record {
       stop = last;
       is = refl;
@@ -305,7 +306,7 @@ module _ {K : Type 0} {G : Ghosts K} (told : K → Option Kept) (faults : K → 
     pub once_refused : (given handed : List (ℕ × Booked K G)) (reports : List (LinkReport L)) (coming coming' : List (Option (List ℕ))) (stop : TermStop) (fault : TownFault)
         (terms : Option (List (Term (LinkReport L)))) (old : Counts) (connections : ℕ) (port port' : Accepts) (number : ℕ) (logs : Option Files) → stop ≡ ended.Town fault → All (λ (a : ℕ × Hosted). IsBegun a.1) (hosted_all given)
         → TermSays fixed entries_in failures manner tells closed given handed reports coming coming' stop → HasEnded stop connections port port'
-        → IsOnce manner tells closed says (hosted_all given) (hosted_all handed) coming coming' terms terms old old connections port port' (Some stops.Memory) number logs logs
+        → IsOnce manner tells closed says connections number (Some stops.Memory) (stand (hosted_all given) coming terms old port logs) (stand (hosted_all handed) coming' terms old port' logs)
     once_refused given handed reports coming coming' stop fault terms old connections port port' number logs town begun so why =
         let refused : IsRefused fixed entries_in fault given handed reports coming coming' =
         (let P : TermStop → Type 0 = λ (s : TermStop). TermSays fixed entries_in failures manner tells closed given handed reports coming coming' s in subst P town so) in

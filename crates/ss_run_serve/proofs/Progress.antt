@@ -38,7 +38,7 @@ use Rattle.ss_run_serve.proofs.Retired.{untold_refused}
 use Rattle.ss_run_serve.specs.Retiring.{uids_in}
 use Rattle.ss_run_serve.specs.Terms.{BeginsAnew, links_of, short_of, AreTerms, AreTold, IsOneLeft, IsTermOf}
 use Rattle.ss_run_serve.specs.Terms.{KeeperFailed}
-use Rattle.ss_run_serve.specs.Once.{HasFailed, IsDone, IsLast, IsLost, IsOnce, IsUnheard, IsUntold, TookPlace}
+use Rattle.ss_run_serve.specs.Once.{HasFailed, IsDone, IsLast, IsLost, IsOnce, IsUnheard, IsUntold, TookPlace, stand}
 use Rattle.ss_run_serve.specs.Course.{AreWithin, Course, IsToldOf, SameKeeper, Stops}
 use Rattle.ss_run_serve.specs.Logs.{Named, logs_of, logs_of_term, AreLogged, AreSaved}
 use Rattle.ss_run_serve.proofs.Saving.{all_partly, logged_of, logged_then, logs_more, none_saved, number_after}
@@ -294,13 +294,13 @@ module _ {L : Type 0} (manner : Manner) (tells : L → Meanings) (closed : L →
         (logged_then stop (logs_of number progress.terms) (logs_of_term number' term.journals) logs logs' logs'' progress.saved logged)
 
     saved_more : (progress : Progress opened coming connections asked told told' old mid port left given coming' number number' logs logs')
-        → (done : IsDone manner tells closed says given handed coming' coming'' told' told'' mid new connections port port' None number' logs' logs'') → AreSaved (logs_of number (progress.terms ++ done.term ∷ [])) logs logs''
+        → (done : IsDone manner tells closed says connections number' None (stand given coming' told' mid port logs') (stand handed coming'' told'' new port' logs'')) → AreSaved (logs_of number (progress.terms ++ done.term ∷ [])) logs logs''
     saved_more progress done = subst (λ (all : List Named). AreSaved all logs logs'') (more_logs progress done.term)
         (saved_then (logs_of number progress.terms) (logs_of_term number' done.term.journals) logs logs' logs'' progress.saved done.logged)
 
     -- a term took place, after which no further one begins
     pub progress_done : (stop : Stop) → connections ≤ 1000 → Progress opened coming connections asked told told' old mid port left given coming' number number' logs logs'
-        → IsDone manner tells closed says given handed coming' coming'' told' told'' mid new connections port port' (Some stop) number' logs' logs''
+        → IsDone manner tells closed says connections number' (Some stop) (stand given coming' told' mid port logs') (stand handed coming'' told'' new port' logs'')
         → Course manner tells closed says opened coming connections asked told told'' old new port' handed stop number logs logs''
     progress_done stop small progress done =
         let stage = stage_more opened coming port port' progress.terms progress.handed given handed coming' coming'' connections done.term small progress.stage progress.anew done.took in
@@ -369,7 +369,7 @@ module _ {L : Type 0} (manner : Manner) (tells : L → Meanings) (closed : L →
     untold_stops terms stops.Logs why = absurd why
 
     -- no term took place
-    pub progress_lost : (stop : Stop) → Progress opened coming connections asked told told' old mid port left given coming' number number' logs logs' → IsLost given handed told' told'' mid new port port' (Some stop) logs' logs''
+    pub progress_lost : (stop : Stop) → Progress opened coming connections asked told told' old mid port left given coming' number number' logs logs' → IsLost (Some stop) (stand given coming' told' mid port logs') (stand handed coming'' told'' new port' logs'')
         → Course manner tells closed says opened coming connections asked told told'' old new port' handed stop number logs logs''
     progress_lost stop progress lost =
         let same : lost.stop ≡ stop = cc in
@@ -397,7 +397,7 @@ module _ {L : Type 0} (manner : Manner) (tells : L → Meanings) (closed : L →
 
     -- a term took place, and the site wasn't told
     pub progress_unheard : (stop : Stop) → connections ≤ 1000 → Progress opened coming connections asked told told' old mid port left given coming' number number' logs logs'
-        → IsUnheard manner tells closed says given handed coming' coming'' told' told'' mid new connections port port' (Some stop) logs' logs''
+        → IsUnheard manner tells closed says connections (Some stop) (stand given coming' told' mid port logs') (stand handed coming'' told'' new port' logs'')
         → Course manner tells closed says opened coming connections asked told told'' old new port' handed stop number logs logs''
     progress_unheard stop small progress unheard =
         let same : unheard.stop ≡ stop = cc in
@@ -437,7 +437,7 @@ module _ {L : Type 0} (manner : Manner) (tells : L → Meanings) (closed : L →
 
     -- of the terms so far as many were short as the port rested times
     rested_more : connections ≤ 1000 → asked ≤ 999999999999 → (progress : Progress opened coming connections asked told told' old mid port left given coming' number number' logs logs')
-        → (done : IsDone manner tells closed says given handed coming' coming'' told' told'' mid new connections port port' None number' logs' logs'') → asked ≢ 0
+        → (done : IsDone manner tells closed says connections number' None (stand given coming' told' mid port logs') (stand handed coming'' told'' new port' logs'')) → asked ≢ 0
         → RoseBy (short_of connections (progress.terms ++ done.term ∷ [])) 0 port'.rests
     rested_more small most progress done asks =
         let counted = progress.remaining.some asks in
@@ -456,7 +456,7 @@ module _ {L : Type 0} (manner : Manner) (tells : L → Meanings) (closed : L →
 
     -- the last term that was asked took place
     pub progress_terms : connections ≤ 1000 → asked ≤ 999999999999 → left ≡ 1 → Progress opened coming connections asked told told' old mid port left given coming' number number' logs logs'
-        → IsDone manner tells closed says given handed coming' coming'' told' told'' mid new connections port port' None number' logs' logs''
+        → IsDone manner tells closed says connections number' None (stand given coming' told' mid port logs') (stand handed coming'' told'' new port' logs'')
         → Course manner tells closed says opened coming connections asked told told'' old new port' handed stops.Terms number logs logs''
     progress_terms small most last progress done =
         let stage = stage_more opened coming port port' progress.terms progress.handed given handed coming' coming'' connections done.term small progress.stage progress.anew done.took in
@@ -484,7 +484,7 @@ module _ {L : Type 0} (manner : Manner) (tells : L → Meanings) (closed : L →
 
     -- a term took place, and the accounts couldn't all begin anew
     pub progress_short : (accounts : List (ℕ × Hosted)) → connections ≤ 1000 → Progress opened coming connections asked told told' old mid port left given coming' number number' logs logs'
-        → IsDone manner tells closed says given handed coming' coming'' told' told'' mid new connections port port' None number' logs' logs'' → AllZip SameKeeper handed accounts
+        → IsDone manner tells closed says connections number' None (stand given coming' told' mid port logs') (stand handed coming'' told'' new port' logs'') → AllZip SameKeeper handed accounts
         → Course manner tells closed says opened coming connections asked told told'' old new port' accounts stops.Memory number logs logs''
     progress_short accounts small progress done keepers =
         let stage = stage_more opened coming port port' progress.terms progress.handed given handed coming' coming'' connections done.term small progress.stage progress.anew done.took in
@@ -510,7 +510,7 @@ module _ {L : Type 0} (manner : Manner) (tells : L → Meanings) (closed : L →
 
     -- a term took place, and the accounts begin anew
     pub progress_on : (accounts : List (ℕ × Hosted)) (number'' : ℕ) → connections ≤ 1000 → asked ≤ 999999999999 → left ≢ 1 → Progress opened coming connections asked told told' old mid port left given coming' number number' logs logs'
-        → IsDone manner tells closed says given handed coming' coming'' told' told'' mid new connections port port' None number' logs' logs'' → AllZip BeginsAnew handed accounts
+        → IsDone manner tells closed says connections number' None (stand given coming' told' mid port logs') (stand handed coming'' told'' new port' logs'') → AllZip BeginsAnew handed accounts
         → number'' ≡ raised_count number' → Progress opened coming connections asked told told'' old new port' (left - 1) accounts coming'' number number'' logs logs''
     progress_on accounts number'' small most more progress done anew next = record {
       terms = progress.terms ++ done.term ∷ [];
@@ -532,20 +532,20 @@ module _ {L : Type 0} (manner : Manner) (tells : L → Meanings) (closed : L →
 
     -- a term after which no further one begins
     pub progress_stop : (stop : Stop) (last : Option Stop) → connections ≤ 1000 → Progress opened coming connections asked told told' old mid port left given coming' number number' logs logs'
-        → IsOnce manner tells closed says given handed coming' coming'' told' told'' mid new connections port port' last number' logs' logs'' → last ≡ Some stop
+        → IsOnce manner tells closed says connections number' last (stand given coming' told' mid port logs') (stand handed coming'' told'' new port' logs'') → last ≡ Some stop
         → Course manner tells closed says opened coming connections asked told told'' old new port' handed stop number logs logs''
     progress_stop stop last small progress once is =
-        let now : IsOnce manner tells closed says given handed coming' coming'' told' told'' mid new connections port port' (Some stop) number' logs' logs'' =
-        subst (λ (l : Option Stop). IsOnce manner tells closed says given handed coming' coming'' told' told'' mid new connections port port' l number' logs' logs'') is once in
+        let now : IsOnce manner tells closed says connections number' (Some stop) (stand given coming' told' mid port logs') (stand handed coming'' told'' new port' logs'') =
+        subst (λ (l : Option Stop). IsOnce manner tells closed says connections number' l (stand given coming' told' mid port logs') (stand handed coming'' told'' new port' logs'')) is once in
         elim now [ inl lost ↦ progress_lost stop progress lost | inr took ↦ elim took [ inl unheard ↦ progress_unheard stop small progress unheard | inr done ↦ progress_done stop small progress done ] ]
 
     -- a term after which a further one may begin
-    pub once_on : (last : Option Stop) → IsOnce manner tells closed says given handed coming' coming'' told' told'' mid new connections port port' last number' logs' logs'' → last ≡ None
-        → IsDone manner tells closed says given handed coming' coming'' told' told'' mid new connections port port' None number' logs' logs''
+    pub once_on : (last : Option Stop) → IsOnce manner tells closed says connections number' last (stand given coming' told' mid port logs') (stand handed coming'' told'' new port' logs'') → last ≡ None
+        → IsDone manner tells closed says connections number' None (stand given coming' told' mid port logs') (stand handed coming'' told'' new port' logs'')
     once_on last once is =
-        let now : IsOnce manner tells closed says given handed coming' coming'' told' told'' mid new connections port port' None number' logs' logs'' =
-        subst (λ (l : Option Stop). IsOnce manner tells closed says given handed coming' coming'' told' told'' mid new connections port port' l number' logs' logs'') is once in
+        let now : IsOnce manner tells closed says connections number' None (stand given coming' told' mid port logs') (stand handed coming'' told'' new port' logs'') =
+        subst (λ (l : Option Stop). IsOnce manner tells closed says connections number' l (stand given coming' told' mid port logs') (stand handed coming'' told'' new port' logs'')) is once in
         elim now [ inl lost ↦ impossible lost.stop lost.is | inr took ↦ elim took [ inl unheard ↦ impossible unheard.stop unheard.is | inr done ↦ done ] ]
       where
-        impossible : (stop : Stop) → None ≡ Some stop → IsDone manner tells closed says given handed coming' coming'' told' told'' mid new connections port port' None number' logs' logs''
+        impossible : (stop : Stop) → None ≡ Some stop → IsDone manner tells closed says connections number' None (stand given coming' told' mid port logs') (stand handed coming'' told'' new port' logs'')
         impossible stop is = absurd cc

@@ -55,17 +55,30 @@ IsLast connections old new (Some stops.Logs) = ⊤
 IsLast connections old new (Some _) = ⊥
 
 module _ {L : Type 0} where
+  -- How things stand between two terms: the accounts, what each clock is to read, the terms that the site was told, its counts, what
+  -- its port has given, and the files of logs.
+  pub record Standing : Type 0 where
+    pub accounts : List (ℕ × Hosted)
+    pub coming : List (Option (List ℕ))
+    pub terms : Option (List (Term (LinkReport L)))
+    pub counts : Counts
+    pub port : Accepts
+    pub logs : Option Files
+
+  abbrev pub stand : List (ℕ × Hosted) → List (Option (List ℕ)) → Option (List (Term (LinkReport L))) → Counts → Accepts → Option Files → Standing
+  stand accounts coming terms counts port logs = record { accounts = accounts; coming = coming; terms = terms; counts = counts; port = port; logs = logs }
+
   -- no term took place: the accounts come back as they were left, and the server stops
-  pub record IsLost (given handed : List (ℕ × Hosted)) (terms terms' : Option (List (Term (LinkReport L)))) (old new : Counts) (port port' : Accepts) (last : Option Stop) (logs logs' : Option Files) : Type 0 where
+  pub record IsLost (last : Option Stop) (before after : Standing) : Type 0 where
     pub stop : Stop
     pub is : last ≡ Some stop
-    pub why : IsUntold old new stop
-    pub untold : terms' ≡ terms
-    pub unlogged : logs' ≡ logs
-    pub links : port'.links ≡ port.links
-    pub left : All (IsOneLeft given) handed
-    pub uids : IsPermutation (uids_in given) (uids_in handed)
-    pub failed : Any HasFailed given → Any HasFailed handed
+    pub why : IsUntold before.counts after.counts stop
+    pub untold : after.terms ≡ before.terms
+    pub unlogged : after.logs ≡ before.logs
+    pub links : after.port.links ≡ before.port.links
+    pub left : All (IsOneLeft before.accounts) after.accounts
+    pub uids : IsPermutation (uids_in before.accounts) (uids_in after.accounts)
+    pub failed : Any HasFailed before.accounts → Any HasFailed after.accounts
 
   module _ (manner : Manner) (tells : L → Meanings) (closed : L → Bool) (says : ℕ → ℕ → Bool → Type 0) where
     -- a term took place in this manner: its reports are of all links that the port gave, and its journals those of the accounts that come back.
@@ -78,29 +91,24 @@ module _ {L : Type 0} where
       pub few : length term.reports ≤ connections
 
     -- a term took place and the site wasn't told: the server stops
-    pub record IsUnheard (given handed : List (ℕ × Hosted)) (coming coming' : List (Option (List ℕ))) (terms terms' : Option (List (Term (LinkReport L)))) (old new : Counts)
-        (connections : ℕ) (port port' : Accepts) (last : Option Stop) (logs logs' : Option Files) : Type 0 where
+    pub record IsUnheard (connections : ℕ) (last : Option Stop) (before after : Standing) : Type 0 where
       pub stop : Stop
       pub is : last ≡ Some stop
-      pub why : IsUntold old new stop
-      pub untold : terms' ≡ terms
-      pub unlogged : logs' ≡ logs
+      pub why : IsUntold before.counts after.counts stop
+      pub untold : after.terms ≡ before.terms
+      pub unlogged : after.logs ≡ before.logs
       pub term : Term (LinkReport L)
-      pub took : TookPlace given handed coming coming' connections port port' term
+      pub took : TookPlace before.accounts after.accounts before.coming after.coming connections before.port after.port term
 
     -- a term took place, the site was told, and then the logs were saved
-    pub record IsDone (given handed : List (ℕ × Hosted)) (coming coming' : List (Option (List ℕ))) (terms terms' : Option (List (Term (LinkReport L)))) (old new : Counts)
-        (connections : ℕ) (port port' : Accepts) (last : Option Stop) (number : ℕ) (logs logs' : Option Files) : Type 0 where
+    pub record IsDone (connections number : ℕ) (last : Option Stop) (before after : Standing) : Type 0 where
       pub term : Term (LinkReport L)
-      pub told : HasAdded term terms terms'
-      pub took : TookPlace given handed coming coming' connections port port' term
-      pub counts : new ≡ old
-      pub why : IsLast connections port port' last
-      pub logged : AreLoggedOnce last (logs_of_term number term.journals) logs logs'
+      pub told : HasAdded term before.terms after.terms
+      pub took : TookPlace before.accounts after.accounts before.coming after.coming connections before.port after.port term
+      pub counts : after.counts ≡ before.counts
+      pub why : IsLast connections before.port after.port last
+      pub logged : AreLoggedOnce last (logs_of_term number term.journals) before.logs after.logs
 
-    -- one of the three
-    abbrev pub IsOnce : List (ℕ × Hosted) → List (ℕ × Hosted) → List (Option (List ℕ)) → List (Option (List ℕ)) → Option (List (Term (LinkReport L))) → Option (List (Term (LinkReport L))) → Counts → Counts
-        → ℕ → Accepts → Accepts → Option Stop → ℕ → Option Files → Option Files → Type 0
-    IsOnce given handed coming coming' terms terms' old new connections port port' last number logs logs' =
-        IsLost given handed terms terms' old new port port' last logs logs' ⊎ IsUnheard given handed coming coming' terms terms' old new connections port port' last logs logs'
-        ⊎ IsDone given handed coming coming' terms terms' old new connections port port' last number logs logs'
+    -- one of the three: at most so many connections are served, the term has this number, and no further one follows for this cause
+    abbrev pub IsOnce : ℕ → ℕ → Option Stop → Standing → Standing → Type 0
+    IsOnce connections number last before after = IsLost last before after ⊎ IsUnheard connections last before after ⊎ IsDone connections number last before after

@@ -125,11 +125,24 @@ where
     requires bare { AreBare (λ b. (journal_of b).entries) crew.accounts.items }
     requires begun { All (λ account. IsBegun account.1) (map (hosted_at X.Keeper.told X.Keeper.keep_faults)
         crew.accounts.items) }
-    ensures once { IsOnce manner X.Port.Link.Told.told X.Port.Link.closed (G.says gate.now)
-        (map (hosted_at X.Keeper.told X.Keeper.keep_faults) crew.accounts.items)
-        (map (hosted_at X.Keeper.told X.Keeper.keep_faults) result.0.accounts.items) (map X.Clock.coming crew.clocks.items) (map X.Clock.coming result.0.clocks.items)
-        (X.terms site.old) (X.terms site.new) (X.counts site.old) (X.counts site.new) connections (X.Port.counts (port_in port.old)) (X.Port.counts (port_in port.new)) result.1
-        (number_in book.old) (files_in X.Log.held book.old) (files_in X.Log.held book.new) }
+    ensures once { IsOnce manner X.Port.Link.Told.told X.Port.Link.closed (G.says gate.now) connections
+        (number_in book.old) result.1
+        (record {
+          accounts = map (hosted_at X.Keeper.told X.Keeper.keep_faults) crew.accounts.items;
+          coming = map X.Clock.coming crew.clocks.items;
+          terms = X.terms site.old;
+          counts = X.counts site.old;
+          port = X.Port.counts (port_in port.old);
+          logs = files_in X.Log.held book.old;
+        })
+        (record {
+          accounts = map (hosted_at X.Keeper.told X.Keeper.keep_faults) result.0.accounts.items;
+          coming = map X.Clock.coming result.0.clocks.items;
+          terms = X.terms site.new;
+          counts = X.counts site.new;
+          port = X.Port.counts (port_in port.new);
+          logs = files_in X.Log.held book.new;
+        }) }
     ensures number { IfNone result.1 (number_in book.new ≡ raised_count (number_in book.old)) }
     ensures cut { IfSome result.1 (HasCut (failures_in X.Log.store_faults book.new)) }
     ensures same { is_kept book.new ≡ is_kept book.old }

@@ -1,6 +1,6 @@
 -- Worlds that events lead to.
-use Rattle.std.proofs.Common.{◌≡◌, ℕ, zero, suc, List, [], ◌∷◌, ◌++◌, map, slice_get, Some, Bool, sym, subst, refl, ap}
-use Rattle.std.proofs.Common.{inl, inr, ◌∙◌}
+use Rattle.std.proofs.Common.{◌≡◌, ℕ, zero, suc, List, [], ◌∷◌, ◌++◌, map, slice_get, Option, Some, None, MatchOption}
+use Rattle.std.proofs.Common.{Bool, sym, subst, refl, ap, inl, inr, ◌∙◌}
 use Rattle.std.specs.Prelude.{Result, Ok, Err, IfErr, OnOk}
 use Rattle.std.specs.List.{All}
 use Rattle.std.proofs.lemmas.List.Elements.{All-get_or}
@@ -21,7 +21,7 @@ use Rattle.ss_world.specs.Worlds.{Seat, Idle, Syncs, WorldView}
 use Rattle.ss_world.specs.Happening.{At, Delivers, Happens, IsLost, Runs, Step, ReadsClock, last}
 use Rattle.ss_world.specs.Promises.{AreAll, AreTrusted, EndsWell, IsTrusted, OneTree, StandsForOne, fetched_at}
 use Rattle.ss_world.specs.Promises.{first_rows, rows}
-use Rattle.ss_world.specs.Stepping.{Fails, IsCutShort}
+use Rattle.ss_world.specs.Stepping.{Fails, IsCutShort, IsUnheard}
 use Rattle.ss_world.specs.Reaching.{IsOpenable, IsReached, IsWellDelivered, IsWholeFetch, Promised}
 use Rattle.ss_world.proofs.Promised.{ends, fetches, stands, turns}
 
@@ -104,23 +104,32 @@ module _ (trusts : ℕ → Bool) (w v : WorldView) (r : IsReached trusts w) wher
   lost : (n now : ℕ) → At w n v (IsLost w n now v) → Promised trusts w (Deliver n now) v
   lost n now h = let p = promised trusts w (LoseReply n now) v r tt h in record { reached = p.reached; stands = p.stands; turns = of_lost w v n now p.turns }
 
+  -- a reply that couldn't be handed on is lost
+  unheard_lost : (n now : ℕ) → At w n v (IsUnheard w n now v) → At w n v (IsLost w n now v)
+  unheard_lost n now h = go (slice_get w.seats n) h
+    where
+      go : (o : Option Seat) → MatchOption o (v ≡ w) (IsUnheard w n now v) → MatchOption o (v ≡ w) (IsLost w n now v)
+      go None e = e
+      go (Some (Idle d)) e = e
+      go (Some (Syncs m)) e = e.0
+
   cut : (event : Event) → IsCutShort w event v → Promised trusts w event v
   cut (Deliver n now) (inl same) = left (Deliver n now) same
   cut (Deliver n now) (inr (inl t)) = ticked now (Deliver n now) t
-  cut (Deliver n now) (inr (inr h)) = lost n now h
+  cut (Deliver n now) (inr (inr h)) = lost n now (unheard_lost n now h)
   cut (LoseReply n now) (inl same) = left (LoseReply n now) same
   cut (LoseReply n now) (inr t) = ticked now (LoseReply n now) t
   cut (Other now request) (inl same) = left (Other now request) same
   cut (Other now request) (inr t) = ticked now (Other now request) t
-  cut (Start n fetch) same = left (Start n fetch) same
-  cut (LoseRequest n) same = left (LoseRequest n) same
-  cut (Anew n) same = left (Anew n) same
+  cut (Start n fetch) none = absurd none
+  cut (LoseRequest n) none = absurd none
+  cut (Anew n) none = absurd none
   cut (Change n now edit) same = left (Change n now edit) same
-  cut (Tick now) same = left (Tick now) same
+  cut (Tick now) none = absurd none
   cut Reopen same = left Reopen same
 
   pub failed : (event : Event) (e : WorldFault) → Fails w event v e → Promised trusts w event v
-  failed event e (inl h) = cut event h.1
+  failed event e (inl h) = cut event h.1.left
   failed event e (inr h) = left event h.left
 
 -- ---- what a delivery leads to

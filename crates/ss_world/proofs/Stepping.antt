@@ -1,28 +1,30 @@
 -- What a step comes to.
-use Rattle.std.proofs.Common.{◌≡◌, ℕ, List, set, slice_get, Option, Some, None, option_map, MatchOption, false, sym}
-use Rattle.std.proofs.Common.{subst, refl, ap, inl, inr, ◌∙◌}
+use Rattle.std.proofs.Common.{◌≡◌, ◌⊎◌, ℕ, List, set, slice_get, Option, Some, None, option_map, MatchOption, false, cond}
+use Rattle.std.proofs.Common.{sym, subst, refl, ap, inl, inr, ◌∙◌}
 use Rattle.std.specs.Bool.{MatchBool}
 use Rattle.std.specs.Option.{option_map_or}
-use Rattle.std.specs.Prelude.{Result, Ok, Err, IsErrAnd, IfErr, OnOk}
+use Rattle.std.specs.Prelude.{Result, Ok, Err, IsErrAnd, IfErr, OnOk, OnErr}
 use Rattle.std.proofs.lemmas.Option.{none-some}
 use Rattle.ss_query.specs.declared.requests.Request.{Request}
 use Rattle.ss_query.specs.Api.{api}
 use Rattle.ss_client.specs.declared.summaries.Fetch.{Fetch}
 use Rattle.ss_client.specs.Runs.{MachineView}
 use Rattle.ss_client.specs.Asking.{ask, awaits}
+use Rattle.ss_client.specs.Told.{TakesMemory}
 use Rattle.ss_serving.specs.Bookmarks.{Server}
 use Rattle.ss_serving.specs.Asking.{told_by, touches}
 use Rattle.ss_serving.specs.Steps.{Answers, Reopens, Ticks}
 use Rattle.ss_world.specs.declared.events.Edit.{Edit}
-use Rattle.ss_world.specs.declared.events.Event.TheVariants.{Deliver}
+use Rattle.ss_world.specs.declared.events.Event.{Event}
+use Rattle.ss_world.specs.declared.events.Event.TheVariants.{Deliver, LoseReply, Change, Other}
 use Rattle.ss_world.specs.declared.faults.WorldFault.{WorldFault}
 use Rattle.ss_world.specs.declared.faults.WorldFault.TheVariants as fault
 use Rattle.ss_world.specs.Seats.{started}
 use Rattle.ss_world.specs.Worlds.{Seat, Idle, Syncs, WorldView}
 use Rattle.ss_world.specs.Happening.{At, Asked, Delivers, Edits, IsDelivered, IsEdited, IsGivenUp, IsLost, OpensAnew}
 use Rattle.ss_world.specs.Happening.{Starts, ReadsClock}
-use Rattle.ss_world.specs.Stepping.{Begins, Changes, Fails, GivesUp, Hears, IsEditedSeat, IsHeard, at_device}
-use Rattle.ss_world.specs.Stepping.{change_fault, start_fault}
+use Rattle.ss_world.specs.Stepping.{Begins, Changes, Fails, GivesUp, Hears, IsEditedSeat, IsHeard, IsUnheard, IsWanting}
+use Rattle.ss_world.specs.Stepping.{at_device, change_fault, request_fault, start_fault}
 
 -- a world of a server and seats
 abbrev pub world : Server → List Seat → WorldView
@@ -55,10 +57,6 @@ lost w server after seats new n now m is there a gives =
     subst (λ x. At x n (world after new) (IsLost x n now (world after new))) is
     (subst (λ (o : Option Seat). MatchOption o (world after new ≡ world server seats) (IsLost (world server seats) n now (world after new))) (sym there)
     (record { server = after; answers = a; is = ap (world after) (gives (Syncs m) there) }))
-
--- the reply couldn't be handed on
-pub undelivered : (w v : WorldView) (n now : ℕ) → At w n v (IsLost w n now v) → Fails w (Deliver n now) v fault.Memory
-undelivered w v n now h = inl (refl, inr (inr h))
 
 -- ---- a delivery
 
@@ -125,6 +123,57 @@ ticked w server after seats now is t = subst (λ x. ReadsClock x now (world afte
 
 pub reopened : (w : WorldView) (server after : Server) (seats : List Seat) → world server seats ≡ w → Reopens server after → OpensAnew w (world after seats)
 reopened w server after seats is r = subst (λ x. OpensAnew x (world after seats)) is (record { server = after; reopens = r; is = refl })
+
+-- ---- want of memory
+
+-- want of memory is handed on
+pub wanted : {X : Type 0} (r : Result X WorldFault) (w : WorldView) (event : Event) (v : WorldView) → IsWanting w event v → IsErrAnd r (λ e. e ≡ fault.Memory) → IfErr r (Fails w event v)
+wanted r w event v wanting = handed_on r (λ e. e ≡ fault.Memory) (Fails w event v) (λ e is. inl (is, wanting))
+
+-- a device that is there has a request under way
+requesting : (seats : List Seat) (n : ℕ) (m : MachineView) → slice_get seats n ≡ Some (Syncs m) → at_device seats n (request_fault n) ≡ None
+requesting seats n m there = ap (λ o. option_map_or (request_fault n) o (Some (fault.NoDevice n))) there
+
+module _ (w : WorldView) (server : Server) (seats : List Seat) (n now : ℕ) (m : MachineView) (is : world server seats ≡ w) (there : slice_get seats n ≡ Some (Syncs m)) where
+  tested : at_device w.seats n (request_fault n) ≡ None
+  tested = subst (λ x. at_device x.seats n (request_fault n) ≡ None) is (requesting seats n m there)
+
+  -- before a request came to the account
+  pub unasked : IsWanting w (Deliver n now) (world server seats)
+  unasked = record { tested = tested; left = inl is }
+
+  pub unasked_loss : IsWanting w (LoseReply n now) (world server seats)
+  unasked_loss = record { tested = tested; left = inl is }
+
+  -- the account found no memory
+  pub unanswered : (after : Server) → Ticks server now after → IsWanting w (Deliver n now) (world after seats)
+  unanswered after t = record { tested = tested; left = inr (inl (ticked w server after seats now is t)) }
+
+  pub unanswered_loss : (after : Server) → Ticks server now after → IsWanting w (LoseReply n now) (world after seats)
+  unanswered_loss after t = record { tested = tested; left = inr (ticked w server after seats now is t) }
+
+  -- the reply couldn't be handed on
+  pub undelivered : (after : Server) (new : List Seat) → Answers server now (ask m) after → GivesUp seats n new
+      → TakesMemory m (api server.account now (ask m)).reply.status (told_by (awaits m.stage) (api server.account now (ask m)).reply) → IsWanting w (Deliver n now) (world after new)
+  undelivered after new a gives takes = record { tested = tested; left = inr (inr (subst (λ x. At x n (world after new) (IsUnheard x n now (world after new))) is unheard)) }
+    where
+      unheard : At (world server seats) n (world after new) (IsUnheard (world server seats) n now (world after new))
+      unheard =
+          subst (λ (o : Option Seat). MatchOption o (world after new ≡ world server seats) (IsUnheard (world server seats) n now (world after new))) (sym there)
+          (record { server = after; answers = a; is = ap (world after) (gives (Syncs m) there) }, takes)
+
+-- somebody else isn't answered
+pub unserved : (w : WorldView) (server after : Server) (seats : List Seat) (now : ℕ) (request : Request) → world server seats ≡ w → touches request ≡ false → Ticks server now after → IsWanting w (Other now request) (world after seats)
+unserved w server after seats now request is spared t =
+    record { tested = ap (λ b. cond b (Some fault.Touches) None) spared; left = inr (ticked w server after seats now is t) }
+
+-- an edit fails: its device isn't there, or syncs, or is as before
+pub unchanged : {X : Type 0} (r : Result X WorldFault) (w : WorldView) (server : Server) (seats new : List Seat) (n now : ℕ) (edit : Edit) → world server seats ≡ w
+    → IfErr r (λ e. (e ≡ fault.Memory) ⊎ (at_device seats n (change_fault n edit) ≡ Some e)) → IfErr r (λ e. e ≡ fault.Memory → at_device seats n (start_fault n) ≡ None) → OnErr r (new ≡ seats) → IfErr r (Fails w (Change n now edit) (world server new))
+unchanged (Ok x) w server seats new n now edit is refused wanting left = tt
+unchanged (Err e) w server seats new n now edit is refused wanting left =
+    subst (λ x. Fails x (Change n now edit) (world server new) e) is
+    (elim refused [ inl m ↦ inl (m, record { tested = wanting m; left = ap (world server) left }) | inr q ↦ inr (record { cause = q; left = ap (world server) left }) ])
 
 -- two facts of a value that is there
 pub both : {X E P Q R : Type 0} (r : Result X E) → (P → Q → R) → OnOk r P → OnOk r Q → OnOk r R

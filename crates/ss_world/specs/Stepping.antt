@@ -1,5 +1,5 @@
 -- When an event is refused, and what a step leaves (this project).
-use Rattle.std.specs.Prelude.{◌≡◌, ◌⊎◌, ℕ, List, set, slice_get, Option, Some, None, option_map, if◌then◌else◌, ⊤}
+use Rattle.std.specs.Prelude.{◌≡◌, ◌⊎◌, ℕ, List, set, slice_get, Option, Some, None, option_map, if◌then◌else◌, true, ⊤}
 use Rattle.std.specs.Option.{option_map_or}
 use Rattle.ss_hearing.specs.declared.answer.Answer.{Answer}
 use Rattle.ss_device.specs.Device.{DeviceView, IsDevice}
@@ -7,8 +7,11 @@ use Rattle.ss_device.specs.declared.faults.EditFault.{EditFault}
 use Rattle.ss_device.specs.declared.faults.EditFault.TheVariants.{NoItem, NotFolder, Twice, Root, Under, Memory}
 use Rattle.ss_client.specs.declared.summaries.Fetch.{Fetch}
 use Rattle.ss_client.specs.Machine.{Next, Follows}
+use Rattle.ss_client.specs.Asking.{ask, awaits}
+use Rattle.ss_client.specs.Told.{TakesMemory, leads_on}
+use Rattle.ss_query.specs.Api.{api}
 use Rattle.ss_query.specs.Fit.{IsFitRequest}
-use Rattle.ss_serving.specs.Asking.{touches}
+use Rattle.ss_serving.specs.Asking.{told_by, touches}
 use Rattle.ss_world.specs.declared.events.Edit.{Edit}
 use Rattle.ss_world.specs.declared.events.Event.{Event}
 use Rattle.ss_world.specs.declared.events.Event.TheVariants.{Start, Deliver, LoseRequest, LoseReply, Anew, Change}
@@ -17,7 +20,7 @@ use Rattle.ss_world.specs.declared.faults.WorldFault.{WorldFault}
 use Rattle.ss_world.specs.declared.faults.WorldFault.TheVariants as fault
 use Rattle.ss_world.specs.Seats.{after, device_of, started}
 use Rattle.ss_world.specs.Worlds.{Seat, Idle, Syncs, WorldView}
-use Rattle.ss_world.specs.Happening.{At, ChangesDevice, IsLost, ReadsClock, edit_fault}
+use Rattle.ss_world.specs.Happening.{At, ChangesDevice, Loses, ReadsClock, edit_fault}
 
 -- ---- causes
 
@@ -63,18 +66,35 @@ edit_refusal Under = fault.Edit Under
 
 -- ---- want of memory
 
+-- the causes that are looked for before any memory is taken: all but those of an edit by itself
+abbrev pub tested_fault : WorldView → Event → Option WorldFault
+tested_fault w (Change n now edit) = at_device w.seats n (start_fault n)
+tested_fault w event = fault_of w event
+
+-- the account answers a device's request, and the reply is lost, which takes memory to hand on, or with which the run might go on
+abbrev pub IsUnheard : WorldView → ℕ → ℕ → WorldView → Seat → Type 0
+IsUnheard w n now v (Idle d) = v ≡ w
+IsUnheard w n now v (Syncs m) =
+    Loses w n now m v × TakesMemory m (api w.server.account now (ask m)).reply.status (told_by (awaits m.stage) (api w.server.account now (ask m)).reply)
+
 -- Where memory is wanting the world is as before; or the account answered that it was wanting (507), and has read its clock alone;
--- or the reply couldn't be handed on to the device, and is lost.
+-- or the reply couldn't be handed on to the device, and is lost. It is never wanting where a sync begins or is given up, or the clock
+-- is read: these take none.
 abbrev pub IsCutShort : WorldView → Event → WorldView → Type 0
-IsCutShort w (Deliver n now) v = (v ≡ w) ⊎ (ReadsClock w now v ⊎ At w n v (IsLost w n now v))
+IsCutShort w (Deliver n now) v = (v ≡ w) ⊎ (ReadsClock w now v ⊎ At w n v (IsUnheard w n now v))
 IsCutShort w (LoseReply n now) v = (v ≡ w) ⊎ ReadsClock w now v
 IsCutShort w (Other now request) v = (v ≡ w) ⊎ ReadsClock w now v
-IsCutShort w (Start n fetch) v = v ≡ w
-IsCutShort w (LoseRequest n) v = v ≡ w
-IsCutShort w (Anew n) v = v ≡ w
+IsCutShort w (Start n fetch) v = ⊥
+IsCutShort w (LoseRequest n) v = ⊥
+IsCutShort w (Anew n) v = ⊥
 IsCutShort w (Change n now edit) v = v ≡ w
-IsCutShort w (Tick now) v = v ≡ w
+IsCutShort w (Tick now) v = ⊥
 IsCutShort w Reopen v = v ≡ w
+
+-- memory was wanting: the causes that come before had been looked for, and this is left
+pub record IsWanting (w : WorldView) (event : Event) (v : WorldView) : Type 0 where
+  pub tested : tested_fault w event ≡ None
+  pub left : IsCutShort w event v
 
 -- ---- a step
 
@@ -85,7 +105,7 @@ pub record Refuses (w : WorldView) (event : Event) (e : WorldFault) (v : WorldVi
 
 -- what a step leaves that answers a fault: memory was wanting, or the event is refused for this
 abbrev pub Fails : WorldView → Event → WorldView → WorldFault → Type 0
-Fails w event v e = ((e ≡ fault.Memory) × IsCutShort w event v) ⊎ Refuses w event e v
+Fails w event v e = ((e ≡ fault.Memory) × IsWanting w event v) ⊎ Refuses w event e v
 
 -- what others ask is within the limits of one request
 abbrev pub IsFitEvent : Event → Type 0
@@ -105,6 +125,11 @@ IsFitEvent Reopen = ⊤
 abbrev pub IsHeard : Answer → Seat → Seat → Type 0
 IsHeard answer new (Idle d) = new ≡ Idle d
 IsHeard answer new (Syncs m) = (next : Next) × Follows m.device m.run m.stage answer next × (new ≡ after m next)
+
+-- an answer with which the run of a device might go on
+abbrev pub LeadsOn : Answer → Seat → Type 0
+LeadsOn answer (Idle d) = ⊥
+LeadsOn answer (Syncs m) = leads_on m.run m.stage answer ≡ true
 
 -- a device that has no sync under way is edited
 pub record IsEditOf (now : ℕ) (edit : Edit) (new : Seat) (d : DeviceView) : Type 0 where

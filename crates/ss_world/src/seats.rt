@@ -2,10 +2,11 @@
 
 ghost use Rattle.std.specs.Prelude.{◌≡◌, ◌⊎◌, slice_get, Some, None, IfOk, IfErr, OnOk, OnErr};
 ghost use Rattle.ss_client.specs.Sound.{TellsOurs};
+ghost use Rattle.ss_hearing.specs.Hearing.{status_of};
 ghost use Rattle.ss_serving.specs.Asking.{told_by};
 ghost use Rattle.ss_device.specs.Device.{IsDevice};
 ghost use Rattle.ss_world.specs.Seats.{device_of, started};
-ghost use Rattle.ss_world.specs.Stepping.{Begins, Changes, GivesUp, Hears, IsEditedSeat, IsHeard, at_device};
+ghost use Rattle.ss_world.specs.Stepping.{Begins, Changes, GivesUp, Hears, IsEditedSeat, IsHeard, LeadsOn, at_device};
 ghost use Rattle.ss_world.specs.Stepping.{change_fault, edit_refusal, request_fault, start_fault};
 ghost use Rattle.ss_world.specs.Happening.{ChangesDevice, edit_fault};
 ghost use Rattle.ss_world.specs.declared.faults.WorldFault.TheVariants as fault;
@@ -110,11 +111,13 @@ pub(crate) fn start_at(
     }
 }
 
-/// What a device's machine does with an answer. Where memory is wanting, the device is as it was started.
+/// What a device's machine does with an answer. Where memory is wanting, the device is as it was started; never where
+/// the answer stops the run by itself.
 fn heard(seat: Seat, told: (Global, Answer)) -> (Seat, Result<(), AllocError>)
     requires { TellsOurs told.1 }
     ensures heard { OnOk result.1 (IsHeard told.1 result.0 seat) }
     ensures lost { OnErr result.1 (result.0 ≡ Seat.Idle (device_of seat)) }
+    ensures wanting { OnErr result.1 (LeadsOn told.1 seat) }
 {
     let (alloc, answer) = told;
     match seat {
@@ -133,6 +136,7 @@ fn hear_at(alloc: Global, seats: &mut Vec<Seat>, n: u32, answer: Answer) -> Resu
     requires { TellsOurs answer }
     ensures heard { OnOk result (Hears answer seats.old.items n seats.new.items) }
     ensures lost { OnErr result (GivesUp seats.old.items n seats.new.items) }
+    ensures wanting { OnErr result ((seat : Seat) → slice_get seats.old.items n ≡ Some seat → LeadsOn answer seat) }
 {
     match seats.get_mut(n as usize) {
         None => Ok(()),
@@ -150,6 +154,8 @@ pub(crate) fn answer_at(
 ) -> Result<(), AllocError>
     ensures heard { OnOk result (Hears (told_by awaited reply.now) seats.old.items n seats.new.items) }
     ensures lost { OnErr result (GivesUp seats.old.items n seats.new.items) }
+    ensures wanting { OnErr result ((seat : Seat) → slice_get seats.old.items n ≡ Some seat
+        → (reply.now.status ≡ status_of awaited) ⊎ LeadsOn (told_by awaited reply.now) seat) }
 {
     match tell(alloc, awaited, reply) {
         Ok(answer) => hear_at(alloc, seats, n, answer),
@@ -208,6 +214,7 @@ fn edit_seat(
 ) -> Result<(), WorldFault>
     ensures changed { OnOk result (IsEditedSeat now change.now seat.new seat.old) }
     ensures refused { IfErr result (λ e. (e ≡ fault.Memory) ⊎ (change_fault n change.now seat.old ≡ Some e)) }
+    ensures wanting { IfErr result (λ e. e ≡ fault.Memory → start_fault n seat.old ≡ None) }
     ensures left { OnErr result (seat.new ≡ seat.old) }
 {
     match seat {
@@ -231,6 +238,7 @@ pub(crate) fn edit_at(
         × Changes now change.now seats.old.items n seats.new.items) }
     ensures refused { IfErr result (λ e. (e ≡ fault.Memory) ⊎ (at_device seats.old.items n (change_fault n change.now)
         ≡ Some e)) }
+    ensures wanting { IfErr result (λ e. e ≡ fault.Memory → at_device seats.old.items n (start_fault n) ≡ None) }
     ensures left { OnErr result (seats.new.items ≡ seats.old.items) }
 {
     match seats.get_mut(n as usize) {

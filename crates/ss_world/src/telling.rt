@@ -1,9 +1,9 @@
 //! What a device is told of a reply.
 
-ghost use Rattle.std.specs.Prelude.{◌≡◌, map, unwrap_or, IfOk};
+ghost use Rattle.std.specs.Prelude.{◌≡◌, map, unwrap_or, IfOk, OnErr};
 ghost use Rattle.ss_serving.specs.Bookmarks.{sheet_of};
 ghost use Rattle.ss_serving.specs.Asking.{our_limits, first_failed, page_told, said_by, told_by};
-ghost use Rattle.ss_hearing.specs.Hearing.{answer_or_failure};
+ghost use Rattle.ss_hearing.specs.Hearing.{answer_or_failure, status_of};
 ghost use Rattle.ss_client.specs.Sound.{TellsOurs};
 ghost use Rattle.ss_hearing.specs.declared.answer.Awaited.TheVariants as awaited;
 
@@ -170,6 +170,7 @@ fn said_by(alloc: Global, awaited: Awaited, reply: &Reply) -> Result<Answer, All
 pub(crate) fn tell(alloc: Global, awaited: Awaited, reply: &Reply) -> Result<Answer, AllocError>
     ensures told { IfOk result (λ answer. answer ≡ told_by awaited reply.now) }
     ensures ours { IfOk result TellsOurs }
+    ensures wanting { OnErr result (reply.now.status ≡ status_of awaited) }
 {
     if reply.status == awaited.status() {
         return said_by(alloc, awaited, reply);

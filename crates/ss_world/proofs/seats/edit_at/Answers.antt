@@ -1,8 +1,8 @@
-use Rattle.std.proofs.Common.{◌≡◌, ◌⊎◌, length, set, slice_get, Some, refl, sym, ap, subst, inl, inr, ◌∙◌}
+use Rattle.std.proofs.Common.{◌≡◌, ◌⊎◌, length, set, slice_get, Some, None, refl, sym, ap, subst, inl, inr, ◌∙◌}
 use Rattle.std.proofs.lemmas.List.{set-get_or}
 use Rattle.std.proofs.lemmas.Option.{same_Some, slice_get_read}
 use Rattle.std.proofs.lemmas.Result.{on_ok_weaker, on_err_weaker, IfErr-weaker}
-use Rattle.ss_world.specs.Stepping.{IsEditedSeat, at_device, change_fault}
+use Rattle.ss_world.specs.Stepping.{IsEditedSeat, at_device, change_fault, start_fault}
 use Rattle.ss_world.specs.declared.faults.WorldFault.TheVariants as fault
 use Rattle.ss_world.proofs.Stepping.{cause_at}
 use Rattle.ss_world.proofs.seats.edit_at.Goals as goal
@@ -25,3 +25,9 @@ returns-in-Some-clause-refused c =
 pub returns-in-Some-clause-left : goal.returns-in-Some-clause-left
 returns-in-Some-clause-left c =
     on_err_weaker c.edit_seat.result (λ h. ap (set c.args.seats.now.items c.args.n) (h ∙ c.in-Some.ensures.value) ∙ set-get_or c.args.seats.now.items c.args.n c.in-Some.seat.now) c.edit_seat.ensures.left
+
+pub returns-in-Some-clause-wanting : goal.returns-in-Some-clause-wanting
+returns-in-Some-clause-wanting c =
+    let at : slice_get c.args.seats.now.items c.args.n ≡ Some c.in-Some.seat.now = slice_get_read c.args.seats.now.items (length c.args.seats.now.items) c.args.n c.in-Some.seat.now refl c.in-Some.ensures.item.3.0 c.in-Some.ensures.value in
+    IfErr-weaker c.edit_seat.result (λ e. e ≡ fault.Memory → start_fault c.args.n c.in-Some.seat.now ≡ None) (λ e. e ≡ fault.Memory → at_device c.args.seats.now.items c.args.n (start_fault c.args.n) ≡ None)
+    (λ e h m. cause_at c.args.seats.now.items c.args.n c.in-Some.seat.now (start_fault c.args.n) at ∙ h m) c.edit_seat.ensures.wanting

@@ -3,6 +3,7 @@
 //! to the next one. The program has no contract: its stored run is the test.
 #![tactic(auto)]
 
+mod accounts;
 mod syncs;
 mod worlds;
 

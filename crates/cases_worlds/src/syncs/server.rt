@@ -1,36 +1,17 @@
 //! A server with one account in memory.
 
-ghost use Rattle.ss_query.specs.Fit.{IsFitRequest};
-
+use crate::accounts::{Response, Served};
 use crate::syncs::twists::Twist;
 use crate::syncs::wire::{Answer, Answers};
-use anyhow::bail;
-use ss_account::Account;
-use ss_bso::Kept;
-use ss_http::{Buffer, FieldLines, Message, read_message};
-use ss_keeper::SureKeeper;
-use ss_outside::SureSource;
-use ss_query::Request;
-use ss_route::{Local, Manner, Routed, not_listed, render, render_local, route};
-use ss_text::{Bytes, Stamp};
+use ss_http::{FieldLines, Message};
+use ss_route::Manner;
+use ss_text::Bytes;
 use std::alloc::{AllocError, Global};
-
-/// The account that is served.
-const UID: u32 = 7;
-
-/// A response, with its status and the number of its records where it is a list.
-#[derive(Drop)]
-struct Response {
-    bytes: Vec<u8>,
-    status: u16,
-    count: Option<u64>,
-}
 
 /// Serves account 7. Its clock stands until it is set.
 #[derive(Drop)]
 pub struct Server {
-    account: Account<SureKeeper>,
-    buffer: Buffer,
+    served: Served,
     now: u64,
     // Whether each response is its link's last.
     closes: bool,
@@ -39,55 +20,6 @@ pub struct Server {
     twist: Option<Twist>,
     // What was asked since the last sync began, with the status of its answer and the number of its records.
     asked: Vec<String>,
-}
-
-/// An account in which nothing is kept.
-fn fresh(alloc: Global) -> anyhow::Result<Account<SureKeeper>> {
-    match Account::open(alloc, SureKeeper::new(Kept::fresh(alloc))) {
-        Ok(account) => Ok(account),
-        Err((keeper, _)) => {
-            drop(keeper);
-            bail!("no account")
-        }
-    }
-}
-
-/// The message of a request that a client wrote whole.
-fn message_of(alloc: Global, buffer: &mut Buffer, request: Vec<u8>) -> anyhow::Result<Message> {
-    let mut pieces = Vec::new(alloc);
-    pieces.push(request)?;
-    let mut source = SureSource::new(pieces);
-    match read_message(alloc, buffer, &mut source) {
-        Ok(message) => Ok(message),
-        Err(fault) => bail!("no message: {fault}"),
-    }
-}
-
-/// The reply of an account, as its response.
-fn asked(
-    alloc: Global,
-    account: &mut Account<SureKeeper>,
-    now: u64,
-    request: &Request,
-    last: bool,
-) -> Result<Response, AllocError>
-    requires fit { IsFitRequest request.now }
-{
-    let reply = account.step(alloc, now, request);
-    Ok(Response {
-        bytes: render(alloc, &reply, false, last)?,
-        status: reply.status,
-        count: reply.count,
-    })
-}
-
-/// The response that no account is asked for.
-fn local(alloc: Global, local: &Local, now: u64, last: bool) -> Result<Response, AllocError> {
-    Ok(Response {
-        bytes: render_local(alloc, local, Stamp::clamp(now), last)?,
-        status: local.status,
-        count: None,
-    })
 }
 
 /// A message without fields.
@@ -125,8 +57,7 @@ fn line(alloc: Global, message: &Message, response: &Response) -> anyhow::Result
 impl Server {
     pub fn new(alloc: Global) -> anyhow::Result<Server> {
         Ok(Server {
-            buffer: Buffer::new(alloc)?,
-            account: fresh(alloc)?,
+            served: Served::fresh(alloc, Manner::Profile)?,
             now: 1000,
             closes: false,
             meddles: 0,
@@ -137,7 +68,7 @@ impl Server {
 
     /// Begins anew with an account in which nothing is kept. The clock stays.
     pub fn empty(&mut self, alloc: Global) -> anyhow::Result<()> {
-        self.account = fresh(alloc)?;
+        self.served = Served::fresh(alloc, Manner::Profile)?;
         self.forget(alloc);
         Ok(())
     }
@@ -179,19 +110,7 @@ impl Server {
 
     /// The response to a message.
     fn respond(&mut self, alloc: Global, message: &Message) -> anyhow::Result<Response> {
-        let response = match route(alloc, Manner::Profile, message) {
-            Routed::Memory => bail!("no memory"),
-            Routed::Ask { uid, request, .. } if uid == UID => asked(
-                alloc,
-                &mut self.account,
-                self.now,
-                &request,
-                self.closes,
-            )?,
-            Routed::Ask { .. } => local(alloc, &not_listed(), self.now, self.closes)?,
-            Routed::Local(said) => local(alloc, &said, self.now, self.closes)?,
-        };
-        Ok(response)
+        self.served.respond(alloc, self.now, message, self.closes)
     }
 
     /// Asks something beside a sync, and tells it.
@@ -219,7 +138,7 @@ impl Server {
 
     /// The answer to the bytes of a request.
     fn answer_to(&mut self, alloc: Global, request: Vec<u8>) -> anyhow::Result<Answer> {
-        let message = message_of(alloc, &mut self.buffer, request)?;
+        let message = self.served.message(alloc, request)?;
         self.put_another(alloc, &message)?;
         let response = self.respond(alloc, &message)?;
         self.asked.push(line(alloc, &message, &response)?)?;

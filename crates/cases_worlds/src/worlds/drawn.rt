@@ -1,20 +1,26 @@
 //! Lists of drawn events: edits, syncs, lost requests and replies, devices and servers that are started anew, and other
-//! requests.
+//! requests. Each is played in a world, and the first ones over bytes too.
 
 use crate::worlds::checks::is_of_device;
+use crate::worlds::comparing::are_same;
 use crate::worlds::draws::Draw;
 use crate::worlds::items::{id, item, word};
 use crate::worlds::playing::{add, bookmarks, fresh, is_idle};
+use crate::worlds::plays::{Play, Way};
 use crate::worlds::watching::Watch;
-use crate::worlds::worked::{list, post, put};
+use crate::worlds::worked::{list, post, put, tell};
 use anyhow::bail;
 use ss_client::Fetch;
 use ss_query::Request;
+use ss_route::Manner;
 use ss_text::Cond;
-use ss_world::{Edit, Event, World};
+use ss_world::{Edit, Event};
 use std::alloc::Global;
 
 const LISTS: u64 = 2000;
+
+/// The first so many of them are played over bytes too.
+const OVER_BYTES: u64 = 200;
 
 const EVENTS: u64 = 40;
 
@@ -126,24 +132,23 @@ fn event(alloc: Global, draw: &mut Draw, clock: &mut u64) -> anyhow::Result<Even
 }
 
 /// A device begins a sync, and what it had under way is given up.
-fn begin(alloc: Global, watch: &mut Watch, world: &mut World, device: u32) -> anyhow::Result<()> {
-    watch.step(alloc, world, &Event::Anew { device })?;
+fn begin(alloc: Global, watch: &mut Watch, play: &mut Play, device: u32) -> anyhow::Result<()> {
+    watch.step(alloc, play, &Event::Anew { device })?;
     let fetch = Fetch::Newer;
-    watch.step(alloc, world, &Event::Start { device, fetch })?;
-    Ok(())
+    watch.step(alloc, play, &Event::Start { device, fetch })
 }
 
 /// A device's requests come to the account, at most so many, until it has none under way.
 fn deliver_all(
     alloc: Global,
     watch: &mut Watch,
-    world: &mut World,
+    play: &mut Play,
     device: u32,
     now: u64,
 ) -> anyhow::Result<()> {
     for _ in 0..20 {
-        if !is_idle(world, device) {
-            watch.step(alloc, world, &Event::Deliver { device, now })?;
+        if !is_idle(play, device) {
+            watch.step(alloc, play, &Event::Deliver { device, now })?;
         }
     }
     Ok(())
@@ -153,23 +158,23 @@ fn deliver_all(
 fn sync(
     alloc: Global,
     watch: &mut Watch,
-    world: &mut World,
+    play: &mut Play,
     device: u32,
     now: u64,
 ) -> anyhow::Result<()> {
-    begin(alloc, watch, world, device)?;
-    deliver_all(alloc, watch, world, device, now)?;
-    if !is_idle(world, device) {
+    begin(alloc, watch, play, device)?;
+    deliver_all(alloc, watch, play, device, now)?;
+    if !is_idle(play, device) {
         bail!("a sync that doesn't end");
     }
     Ok(())
 }
 
 /// Whether the rows stand for the tree of each device.
-fn do_agree(alloc: Global, world: &World) -> anyhow::Result<bool> {
-    let rows = bookmarks(alloc, world)?;
+fn do_agree(alloc: Global, play: &Play) -> anyhow::Result<bool> {
+    let rows = bookmarks(alloc, play)?;
     for n in 0..DEVICES {
-        let Some(device) = world.device(n) else {
+        let Some(device) = play.device(n) else {
             bail!("no device");
         };
         if !is_of_device(alloc, &rows, device)? {
@@ -180,20 +185,25 @@ fn do_agree(alloc: Global, world: &World) -> anyhow::Result<bool> {
 }
 
 /// Plays a list of events; whether the devices agree after a sync of each.
-fn play(alloc: Global, watch: &mut Watch, world: &mut World, number: u64) -> anyhow::Result<bool> {
+fn play_list(
+    alloc: Global,
+    watch: &mut Watch,
+    play: &mut Play,
+    number: u64,
+) -> anyhow::Result<bool> {
     if number.checked_rem(LARGE) == Some(0) {
-        add_many(alloc, world)?;
+        add_many(alloc, play)?;
     }
-    let clock = play_events(alloc, watch, world, number)?;
-    sync_all(alloc, watch, world, clock.saturating_add(800_000))?;
-    do_agree(alloc, world)
+    let clock = play_events(alloc, watch, play, number)?;
+    sync_all(alloc, watch, play, clock.saturating_add(800_000))?;
+    do_agree(alloc, play)
 }
 
 /// Device 0 gets as many bookmarks as an upload of several POSTs has.
-fn add_many(alloc: Global, world: &mut World) -> anyhow::Result<()> {
+fn add_many(alloc: Global, play: &mut Play) -> anyhow::Result<()> {
     for k in 0..MANY {
         let text = format!(in alloc; "x{k}")?;
-        add(alloc, world, 0, text.as_str())?;
+        add(alloc, play, 0, text.as_str())?;
     }
     Ok(())
 }
@@ -202,29 +212,55 @@ fn add_many(alloc: Global, world: &mut World) -> anyhow::Result<()> {
 fn play_events(
     alloc: Global,
     watch: &mut Watch,
-    world: &mut World,
+    play: &mut Play,
     number: u64,
 ) -> anyhow::Result<u64> {
     let mut draw = Draw::new(number);
     let mut clock: u64 = 1000;
     for _ in 0..EVENTS {
         let event = event(alloc, &mut draw, &mut clock)?;
-        watch.step(alloc, world, &event)?;
+        watch.step(alloc, play, &event)?;
     }
     Ok(clock)
 }
 
 /// Both devices sync, and the first one again.
-fn sync_all(alloc: Global, watch: &mut Watch, world: &mut World, now: u64) -> anyhow::Result<()> {
+fn sync_all(alloc: Global, watch: &mut Watch, play: &mut Play, now: u64) -> anyhow::Result<()> {
     for device in [0, 1, 0] {
-        sync(alloc, watch, world, device, now)?;
+        sync(alloc, watch, play, device, now)?;
     }
     Ok(())
 }
 
-fn played(alloc: Global, watch: &mut Watch, number: u64) -> anyhow::Result<bool> {
-    let mut world = fresh(alloc, DEVICES)?;
-    play(alloc, watch, &mut world, number)
+/// Tells what each device is in the end.
+fn tell_all(alloc: Global, watch: &mut Watch, play: &Play) -> anyhow::Result<()> {
+    for n in 0..DEVICES {
+        watch.lines.push(tell(alloc, play, n)?)?;
+    }
+    Ok(())
+}
+
+/// What came of a list.
+#[derive(Drop)]
+struct Played {
+    watch: Watch,
+    /// Whether the devices agree in the end.
+    agree: bool,
+}
+
+/// Whether a list is played over bytes too, so that it is told what comes of its events.
+fn is_over_bytes(number: u64) -> bool {
+    number < OVER_BYTES
+}
+
+fn played(alloc: Global, way: Way, number: u64) -> anyhow::Result<Played> {
+    let mut watch = Watch::new(alloc, DEVICES as usize, is_over_bytes(number))?;
+    let mut play = fresh(alloc, way, DEVICES)?;
+    let agree = play_list(alloc, &mut watch, &mut play, number)?;
+    if is_over_bytes(number) {
+        tell_all(alloc, &mut watch, &play)?;
+    }
+    Ok(Played { watch, agree })
 }
 
 /// What all lists come to.
@@ -235,15 +271,68 @@ struct Total {
     unheard: u64,
     refused: u64,
     violations: u64,
+    /// Of how many each line is the same over bytes, by the letter and as browsers ask.
+    by_letter: u64,
+    as_browsers: u64,
 }
 
 impl Total {
-    fn add(&mut self, watch: &Watch, agree: bool) {
-        self.agree = self.agree.saturating_add(u64::from(agree));
+    fn new() -> Total {
+        Total {
+            agree: 0,
+            commits: 0,
+            unheard: 0,
+            refused: 0,
+            violations: 0,
+            by_letter: 0,
+            as_browsers: 0,
+        }
+    }
+
+    fn add(&mut self, played: &Played) {
+        let watch = &played.watch;
+        self.agree = self.agree.saturating_add(u64::from(played.agree));
         self.commits = self.commits.saturating_add(watch.commits);
         self.unheard = self.unheard.saturating_add(watch.unheard);
         self.refused = self.refused.saturating_add(watch.refused);
         self.violations = self.violations.saturating_add(watch.violations);
+    }
+
+    /// Plays a list over bytes; 1 where each of its lines is the same as in the world, else 0.
+    fn play_over(
+        &mut self,
+        alloc: Global,
+        manner: Manner,
+        number: u64,
+        lines: &[String],
+    ) -> anyhow::Result<u64> {
+        let played = played(alloc, Way::Bytes(manner), number)?;
+        self.violations = self.violations.saturating_add(played.watch.violations);
+        Ok(u64::from(are_same(lines, played.watch.lines.as_slice())))
+    }
+
+    /// Plays a list over bytes in both manners.
+    fn play_over_bytes(
+        &mut self,
+        alloc: Global,
+        number: u64,
+        lines: &[String],
+    ) -> anyhow::Result<()> {
+        let by_letter = self.play_over(alloc, Manner::Profile, number, lines)?;
+        self.by_letter = self.by_letter.saturating_add(by_letter);
+        let as_browsers = self.play_over(alloc, Manner::Browser, number, lines)?;
+        self.as_browsers = self.as_browsers.saturating_add(as_browsers);
+        Ok(())
+    }
+
+    /// Plays a list.
+    fn play(&mut self, alloc: Global, number: u64) -> anyhow::Result<()> {
+        let played = played(alloc, Way::World, number)?;
+        self.add(&played);
+        if is_over_bytes(number) {
+            self.play_over_bytes(alloc, number, played.watch.lines.as_slice())?;
+        }
+        Ok(())
     }
 }
 
@@ -253,17 +342,9 @@ fn often(count: u64) -> &'static str {
 }
 
 pub fn drawn_lines(alloc: Global) -> anyhow::Result<Vec<String>> {
-    let mut total = Total {
-        agree: 0,
-        commits: 0,
-        unheard: 0,
-        refused: 0,
-        violations: 0,
-    };
+    let mut total = Total::new();
     for number in 0..LISTS {
-        let mut watch = Watch::new(alloc, DEVICES as usize)?;
-        let agree = played(alloc, &mut watch, number)?;
-        total.add(&watch, agree);
+        total.play(alloc, number)?;
     }
     Ok(vec![in alloc;
         format!(in alloc;
@@ -275,6 +356,10 @@ pub fn drawn_lines(alloc: Global) -> anyhow::Result<Vec<String>> {
             often(total.commits),
             often(total.unheard),
             often(total.refused)
+        )?,
+        format!(in alloc;
+            "{OVER_BYTES} of the lists over bytes: each line is the same in {} by the letter, in {} as browsers ask",
+            total.by_letter, total.as_browsers
         )?,
     ]?)
 }

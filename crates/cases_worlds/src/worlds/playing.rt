@@ -1,13 +1,14 @@
-//! Steps of a world, and what is seen of it.
+//! Steps of a play, and what is seen of it.
 
 use crate::worlds::items::{id, item};
+use crate::worlds::plays::{Play, Way};
 use anyhow::bail;
-use ss_bso::{Kept, Row};
+use ss_bso::Row;
 use ss_client::Fetch;
 use ss_device::Device;
 use ss_query::Request;
 use ss_text::Id;
-use ss_world::{Edit, Event, Seat, World, WorldFault};
+use ss_world::{Edit, Event, Seat, WorldFault};
 use std::alloc::Global;
 use std::collections::BTreeMap;
 
@@ -19,55 +20,35 @@ fn new_devices(alloc: Global, count: u32) -> anyhow::Result<Vec<Device>> {
     Ok(devices)
 }
 
-/// The world of a fresh account and these devices.
-pub fn opened(alloc: Global, devices: Vec<Device>) -> anyhow::Result<World> {
-    match World::new(alloc, devices, Kept::fresh(alloc)) {
-        Ok(world) => Ok(world),
-        Err(_) => bail!("no world"),
-    }
-}
-
 /// A fresh account and new devices.
-pub fn fresh(alloc: Global, devices: u32) -> anyhow::Result<World> {
-    opened(alloc, new_devices(alloc, devices)?)
-}
-
-/// What an event is answered.
-pub fn step(alloc: Global, world: &mut World, event: &Event) -> anyhow::Result<Option<WorldFault>> {
-    if !event.is_fit() {
-        bail!("more than one request may ask");
-    }
-    match world.step(alloc, event) {
-        Ok(()) => Ok(None),
-        Err(WorldFault::Memory) => bail!("no memory"),
-        Err(fault) => Ok(Some(fault)),
-    }
+pub fn fresh(alloc: Global, way: Way, devices: u32) -> anyhow::Result<Play> {
+    Play::fresh(alloc, way, new_devices(alloc, devices)?)
 }
 
 /// Does an event that isn't refused.
-pub fn happen(alloc: Global, world: &mut World, event: &Event) -> anyhow::Result<()> {
-    match step(alloc, world, event)? {
+pub fn happen(alloc: Global, play: &mut Play, event: &Event) -> anyhow::Result<()> {
+    match play.step(alloc, event)? {
         None => Ok(()),
         Some(_) => bail!("a refused event"),
     }
 }
 
 /// Begins a sync that fetches all rows.
-pub fn start(alloc: Global, world: &mut World, device: u32) -> anyhow::Result<()> {
+pub fn start(alloc: Global, play: &mut Play, device: u32) -> anyhow::Result<()> {
     let event = Event::Start {
         device,
         fetch: Fetch::Whole,
     };
-    happen(alloc, world, &event)
+    happen(alloc, play, &event)
 }
 
 /// Delivers a request and its reply, at a reading of the clock.
-pub fn deliver(alloc: Global, world: &mut World, device: u32, now: u64) -> anyhow::Result<()> {
-    happen(alloc, world, &Event::Deliver { device, now })
+pub fn deliver(alloc: Global, play: &mut Play, device: u32, now: u64) -> anyhow::Result<()> {
+    happen(alloc, play, &Event::Deliver { device, now })
 }
 
 /// Adds an item to `unfiled`.
-pub fn add(alloc: Global, world: &mut World, device: u32, text: &str) -> anyhow::Result<()> {
+pub fn add(alloc: Global, play: &mut Play, device: u32, text: &str) -> anyhow::Result<()> {
     let edit = Edit::Add {
         parent: id(alloc, "unfiled")?,
         item: item(alloc, text)?,
@@ -77,15 +58,15 @@ pub fn add(alloc: Global, world: &mut World, device: u32, text: &str) -> anyhow:
         now: 900,
         edit,
     };
-    happen(alloc, world, &event)
+    happen(alloc, play, &event)
 }
 
 /// Rows by id.
 pub type ById = BTreeMap<Id, Row>;
 
 /// The rows of the bookmarks.
-pub fn bookmarks(alloc: Global, world: &World) -> anyhow::Result<ById> {
-    let plain = world.account().plain(alloc)?;
+pub fn bookmarks(alloc: Global, play: &Play) -> anyhow::Result<ById> {
+    let plain = play.plain(alloc)?;
     let mut rows = BTreeMap::new(alloc);
     for row in plain.rows.into_vec() {
         if row.collection.as_str() == "bookmarks" {
@@ -96,23 +77,23 @@ pub fn bookmarks(alloc: Global, world: &World) -> anyhow::Result<ById> {
 }
 
 /// The request that a device has under way.
-pub fn request(alloc: Global, world: &World, device: u32) -> anyhow::Result<Option<Request>> {
-    match world.seats().get(device as usize) {
+pub fn request(alloc: Global, play: &Play, device: u32) -> anyhow::Result<Option<Request>> {
+    match play.seats().get(device as usize) {
         Some(Seat::Syncs(machine)) => Ok(Some(machine.request(alloc)?)),
         _ => Ok(None),
     }
 }
 
 /// How many records a device's request puts, where it is a POST.
-pub fn posts(alloc: Global, world: &World, device: u32) -> anyhow::Result<Option<usize>> {
-    match request(alloc, world, device)? {
+pub fn posts(alloc: Global, play: &Play, device: u32) -> anyhow::Result<Option<usize>> {
+    match request(alloc, play, device)? {
         Some(Request::Post { records, .. }) => Ok(Some(records.parts.as_slice().len())),
         _ => Ok(None),
     }
 }
 
-pub fn is_idle(world: &World, device: u32) -> bool {
-    match world.seats().get(device as usize) {
+pub fn is_idle(play: &Play, device: u32) -> bool {
+    match play.seats().get(device as usize) {
         Some(Seat::Idle(_)) => true,
         _ => false,
     }

@@ -1,11 +1,12 @@
 //! A long upload over a server that is started anew after each request.
 
 use crate::worlds::items::{id, item};
-use crate::worlds::playing::{bookmarks, deliver, happen, is_idle, opened, posts, start};
+use crate::worlds::playing::{bookmarks, deliver, happen, is_idle, posts, start};
+use crate::worlds::plays::{Play, Way};
 use crate::worlds::worked::tell;
 use anyhow::bail;
 use ss_device::Device;
-use ss_world::{Event, World};
+use ss_world::Event;
 use std::alloc::Global;
 
 const ITEMS: u64 = 5996;
@@ -38,16 +39,16 @@ struct Counts {
 
 impl Counts {
     /// Counts the request under way, if it is a POST.
-    fn count_post(&mut self, alloc: Global, world: &World) -> anyhow::Result<()> {
-        if posts(alloc, world, 0)?.is_some() {
+    fn count_post(&mut self, alloc: Global, play: &Play) -> anyhow::Result<()> {
+        if posts(alloc, play, 0)?.is_some() {
             self.posts = self.posts.saturating_add(1);
         }
         Ok(())
     }
 
     /// Looks at the rows, and counts where their number changed.
-    fn count_rows(&mut self, alloc: Global, world: &World) -> anyhow::Result<()> {
-        let seen = bookmarks(alloc, world)?.len();
+    fn count_rows(&mut self, alloc: Global, play: &Play) -> anyhow::Result<()> {
+        let seen = bookmarks(alloc, play)?.len();
         if seen != self.rows {
             self.commits = self.commits.saturating_add(1);
             self.rows = seen;
@@ -56,17 +57,17 @@ impl Counts {
     }
 
     /// A request comes to the account, and the server is started anew.
-    fn round(&mut self, alloc: Global, world: &mut World, now: u64) -> anyhow::Result<()> {
-        self.count_post(alloc, world)?;
-        deliver(alloc, world, 0, now)?;
+    fn round(&mut self, alloc: Global, play: &mut Play, now: u64) -> anyhow::Result<()> {
+        self.count_post(alloc, play)?;
+        deliver(alloc, play, 0, now)?;
         self.requests = self.requests.saturating_add(1);
-        happen(alloc, world, &Event::Reopen)?;
-        self.count_rows(alloc, world)
+        happen(alloc, play, &Event::Reopen)?;
+        self.count_rows(alloc, play)
     }
 }
 
 /// The rounds of an upload, at most 100.
-fn rounds(alloc: Global, world: &mut World) -> anyhow::Result<Counts> {
+fn rounds(alloc: Global, play: &mut Play) -> anyhow::Result<Counts> {
     let mut upload = Counts {
         requests: 0,
         posts: 0,
@@ -74,26 +75,26 @@ fn rounds(alloc: Global, world: &mut World) -> anyhow::Result<Counts> {
         rows: 0,
     };
     for now in 0..100 {
-        if !is_idle(world, 0) {
-            upload.round(alloc, world, now)?;
+        if !is_idle(play, 0) {
+            upload.round(alloc, play, now)?;
         }
     }
     Ok(upload)
 }
 
 /// The upload: how many requests it has, and how often the rows change.
-fn upload(alloc: Global, world: &mut World) -> anyhow::Result<String> {
-    start(alloc, world, 0)?;
-    let upload = rounds(alloc, world)?;
-    let told = tell(alloc, world, 0)?;
+fn upload(alloc: Global, play: &mut Play) -> anyhow::Result<String> {
+    start(alloc, play, 0)?;
+    let upload = rounds(alloc, play)?;
+    let told = tell(alloc, play, 0)?;
     Ok(format!(in alloc;
         "{ITEMS} bookmarks, the server is started anew after each request: {} requests, {} POSTs, {} commit: {told}",
         upload.requests, upload.posts, upload.commits
     )?)
 }
 
-pub fn uploads_line(alloc: Global) -> anyhow::Result<String> {
+pub fn uploads_line(alloc: Global, way: Way) -> anyhow::Result<String> {
     let devices = vec![in alloc; device(alloc)?]?;
-    let mut world = opened(alloc, devices)?;
-    upload(alloc, &mut world)
+    let mut play = Play::fresh(alloc, way, devices)?;
+    upload(alloc, &mut play)
 }

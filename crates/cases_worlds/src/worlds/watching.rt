@@ -1,15 +1,16 @@
-//! A plain check of a world after each event.
+//! A plain check of a play after each event.
 
 use crate::worlds::checks::is_one_tree;
-use crate::worlds::playing::{ById, bookmarks, request, step};
+use crate::worlds::playing::{ById, bookmarks, request};
+use crate::worlds::plays::Play;
 use ss_bso::Row;
 use ss_query::{Mode, Request};
 use ss_text::Id;
-use ss_world::{Event, World, WorldFault};
+use ss_world::{Event, Seat, WorldFault};
 use std::alloc::{AllocError, Global};
 use std::collections::BTreeMap;
 
-/// What was seen of a world after its last event.
+/// What was seen of a play up to its last event.
 #[derive(Drop)]
 pub struct Watch {
     rows: ById,
@@ -23,6 +24,10 @@ pub struct Watch {
     pub refused: u64,
     /// How often rows changed that may not, or in part, or to no tree.
     pub violations: u64,
+    /// Whether it is told what came of each event.
+    tells: bool,
+    /// What came of each event, where it is told.
+    pub lines: Vec<String>,
 }
 
 /// The device whose request comes to the account.
@@ -88,8 +93,36 @@ fn is_whole(before: &ById, after: &ById, ids: &[Id]) -> bool {
     newest(before) < stamp && written == ids.len()
 }
 
+/// What an event is answered, and what rows and devices are after it.
+fn line(
+    alloc: Global,
+    play: &Play,
+    rows: &ById,
+    answer: &Option<WorldFault>,
+) -> anyhow::Result<String> {
+    let mut line = match answer {
+        None => String::from_str(alloc, "done")?,
+        Some(fault) => format!(in alloc; "{fault:?}")?,
+    };
+    line.push_str(format!(in alloc; ", {} rows at {}", rows.len(), newest(rows))?.as_str())?;
+    for seat in play.seats() {
+        let state = match seat {
+            Seat::Idle(_) => "idle",
+            Seat::Syncs(_) => "syncing",
+        };
+        let device = seat.device();
+        let more = format!(in alloc;
+            "; {state} at {} with {} rows",
+            device.stamp().get(),
+            device.mirror().len()
+        )?;
+        line.push_str(more.as_str())?;
+    }
+    Ok(line)
+}
+
 impl Watch {
-    pub fn new(alloc: Global, devices: usize) -> Result<Watch, AllocError> {
+    pub fn new(alloc: Global, devices: usize, tells: bool) -> Result<Watch, AllocError> {
         let mut posted = Vec::new(alloc);
         for _ in 0..devices {
             posted.push(Vec::new(alloc))?;
@@ -101,6 +134,8 @@ impl Watch {
             unheard: 0,
             refused: 0,
             violations: 0,
+            tells,
+            lines: Vec::new(alloc),
         })
     }
 
@@ -126,16 +161,11 @@ impl Watch {
     }
 
     /// The device that may change rows by an event.
-    fn writer(
-        &mut self,
-        alloc: Global,
-        world: &World,
-        event: &Event,
-    ) -> anyhow::Result<Option<u32>> {
+    fn writer(&mut self, alloc: Global, play: &Play, event: &Event) -> anyhow::Result<Option<u32>> {
         let Some(n) = delivered(event) else {
             return Ok(None);
         };
-        match request(alloc, world, n)? {
+        match request(alloc, play, n)? {
             Some(request) if self.note(alloc, n, &request)? => Ok(Some(n)),
             _ => Ok(None),
         }
@@ -158,15 +188,10 @@ impl Watch {
     }
 
     /// Does an event, and checks what it leaves.
-    pub fn step(
-        &mut self,
-        alloc: Global,
-        world: &mut World,
-        event: &Event,
-    ) -> anyhow::Result<Option<WorldFault>> {
-        let writer = self.writer(alloc, world, event)?;
-        let answer = step(alloc, world, event)?;
-        let rows = bookmarks(alloc, world)?;
+    pub fn step(&mut self, alloc: Global, play: &mut Play, event: &Event) -> anyhow::Result<()> {
+        let writer = self.writer(alloc, play, event)?;
+        let answer = play.step(alloc, event)?;
+        let rows = bookmarks(alloc, play)?;
         if !self.is_fine(alloc, &rows, writer)? {
             self.violations = self.violations.saturating_add(1);
         }
@@ -179,7 +204,10 @@ impl Watch {
         if answer.is_some() {
             self.refused = self.refused.saturating_add(1);
         }
+        if self.tells {
+            self.lines.push(line(alloc, play, &rows, &answer)?)?;
+        }
         self.rows = rows;
-        Ok(answer)
+        Ok(())
     }
 }

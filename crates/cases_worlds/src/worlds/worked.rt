@@ -1,20 +1,21 @@
-//! Worked worlds.
+//! Worked plays.
 
 use crate::worlds::checks::{is_of_device, is_one_tree};
 use crate::worlds::items::{id, item, name, word};
-use crate::worlds::playing::{add, bookmarks, deliver, fresh, happen, is_idle, posts, start, step};
+use crate::worlds::playing::{add, bookmarks, deliver, fresh, happen, is_idle, posts, start};
+use crate::worlds::plays::{Play, Way};
 use anyhow::bail;
 use ss_bso::{Failures, Field, Fields, Parts, Records};
 use ss_client::Fetch;
 use ss_query::{Mode, Query, Request, Sort};
 use ss_text::{Cond, Ids};
-use ss_world::{Edit, Event, World, WorldFault};
+use ss_world::{Edit, Event, WorldFault};
 use std::alloc::Global;
 
 /// What rows and a device are after an event.
-pub fn tell(alloc: Global, world: &World, n: u32) -> anyhow::Result<String> {
-    let rows = bookmarks(alloc, world)?;
-    let Some(device) = world.device(n) else {
+pub fn tell(alloc: Global, play: &Play, n: u32) -> anyhow::Result<String> {
+    let rows = bookmarks(alloc, play)?;
+    let Some(device) = play.device(n) else {
         bail!("no device");
     };
     let tree = if is_one_tree(alloc, &rows)? {
@@ -27,7 +28,7 @@ pub fn tell(alloc: Global, world: &World, n: u32) -> anyhow::Result<String> {
     } else {
         "not the device's"
     };
-    let state = if is_idle(world, n) { "idle" } else { "syncing" };
+    let state = if is_idle(play, n) { "idle" } else { "syncing" };
     Ok(format!(in alloc;
         "{} rows, {tree}, {whose}; it is {state}, at {}, and remembers {} rows",
         rows.len(),
@@ -38,90 +39,90 @@ pub fn tell(alloc: Global, world: &World, n: u32) -> anyhow::Result<String> {
 
 /// Delivers a device's requests, each a hundredth of a second after the one before, until it is idle, at most 100; what
 /// it asked.
-pub fn finish(alloc: Global, world: &mut World, n: u32, from: u64) -> anyhow::Result<String> {
+pub fn finish(alloc: Global, play: &mut Play, n: u32, from: u64) -> anyhow::Result<String> {
     let mut deliveries: u64 = 0;
     let mut uploads: u64 = 0;
     let mut records: usize = 0;
     for _ in 0..100 {
-        if is_idle(world, n) {
+        if is_idle(play, n) {
             break;
         }
-        if let Some(count) = posts(alloc, world, n)? {
+        if let Some(count) = posts(alloc, play, n)? {
             uploads = uploads.saturating_add(1);
             records = records.saturating_add(count);
         }
-        deliver(alloc, world, n, from.saturating_add(deliveries))?;
+        deliver(alloc, play, n, from.saturating_add(deliveries))?;
         deliveries = deliveries.saturating_add(1);
     }
     Ok(format!(in alloc; "{deliveries} deliveries, {uploads} POSTs of {records} records")?)
 }
 
 /// A device gets three bookmarks.
-fn add_three(alloc: Global, world: &mut World) -> anyhow::Result<()> {
+fn add_three(alloc: Global, play: &mut Play) -> anyhow::Result<()> {
     for text in ["b1", "b2", "b3"] {
-        add(alloc, world, 0, text)?;
+        add(alloc, play, 0, text)?;
     }
     Ok(())
 }
 
 /// A device syncs three bookmarks.
-fn three(alloc: Global, world: &mut World) -> anyhow::Result<String> {
-    add_three(alloc, world)?;
-    start(alloc, world, 0)?;
-    let asked = finish(alloc, world, 0, 998)?;
-    let told = tell(alloc, world, 0)?;
+fn three(alloc: Global, play: &mut Play) -> anyhow::Result<String> {
+    add_three(alloc, play)?;
+    start(alloc, play, 0)?;
+    let asked = finish(alloc, play, 0, 998)?;
+    let told = tell(alloc, play, 0)?;
     Ok(format!(in alloc; "three bookmarks: {asked}: {told}")?)
 }
 
 /// A device with three bookmarks is about to send its POST.
-fn fetch_none(alloc: Global, world: &mut World) -> anyhow::Result<()> {
-    add_three(alloc, world)?;
-    start(alloc, world, 0)?;
-    deliver(alloc, world, 0, 998)?;
-    deliver(alloc, world, 0, 999)
+fn fetch_none(alloc: Global, play: &mut Play) -> anyhow::Result<()> {
+    add_three(alloc, play)?;
+    start(alloc, play, 0)?;
+    deliver(alloc, play, 0, 998)?;
+    deliver(alloc, play, 0, 999)
 }
 
 /// A request of device 0 comes to the account, and the reply is lost.
-fn lose_reply(alloc: Global, world: &mut World, now: u64) -> anyhow::Result<()> {
-    happen(alloc, world, &Event::LoseReply { device: 0, now })
+fn lose_reply(alloc: Global, play: &mut Play, now: u64) -> anyhow::Result<()> {
+    happen(alloc, play, &Event::LoseReply { device: 0, now })
 }
 
 /// The reply of the POST is lost.
-fn lost(alloc: Global, world: &mut World) -> anyhow::Result<String> {
-    fetch_none(alloc, world)?;
-    lose_reply(alloc, world, 1000)?;
-    let told = tell(alloc, world, 0)?;
+fn lost(alloc: Global, play: &mut Play) -> anyhow::Result<String> {
+    fetch_none(alloc, play)?;
+    lose_reply(alloc, play, 1000)?;
+    let told = tell(alloc, play, 0)?;
     Ok(format!(in alloc; "its POST's reply is lost: {told}")?)
 }
 
 /// The device whose POST's reply was lost syncs again.
-fn lost_again(alloc: Global, world: &mut World) -> anyhow::Result<String> {
-    start(alloc, world, 0)?;
-    let asked = finish(alloc, world, 0, 1100)?;
-    let told = tell(alloc, world, 0)?;
+fn lost_again(alloc: Global, play: &mut Play) -> anyhow::Result<String> {
+    start(alloc, play, 0)?;
+    let asked = finish(alloc, play, 0, 1100)?;
+    let told = tell(alloc, play, 0)?;
     Ok(format!(in alloc; "it syncs again: {asked}: {told}")?)
 }
 
 /// Two devices fetch the empty collection, and both send their POST.
-fn both(alloc: Global, world: &mut World) -> anyhow::Result<String> {
+fn both(alloc: Global, play: &mut Play) -> anyhow::Result<String> {
     for (device, text) in [(0, "b1"), (1, "b2")] {
-        add(alloc, world, device, text)?;
-        start(alloc, world, device)?;
-        deliver(alloc, world, device, 998)?;
-        deliver(alloc, world, device, 999)?;
+        add(alloc, play, device, text)?;
+        start(alloc, play, device)?;
+        deliver(alloc, play, device, 998)?;
+        deliver(alloc, play, device, 999)?;
     }
-    deliver(alloc, world, 0, 1000)?;
-    deliver(alloc, world, 1, 1001)?;
-    let told = tell(alloc, world, 1)?;
+    deliver(alloc, play, 0, 1000)?;
+    deliver(alloc, play, 1, 1001)?;
+    let told = tell(alloc, play, 1)?;
     Ok(format!(in alloc;
         "two devices fetched nothing and both POST, the second one's is 412: {told}"
     )?)
 }
 
 /// The second device goes on.
-fn both_again(alloc: Global, world: &mut World) -> anyhow::Result<String> {
-    let asked = finish(alloc, world, 1, 1002)?;
-    let told = tell(alloc, world, 1)?;
+fn both_again(alloc: Global, play: &mut Play) -> anyhow::Result<String> {
+    let asked = finish(alloc, play, 1, 1002)?;
+    let told = tell(alloc, play, 1)?;
     Ok(format!(in alloc; "it fetches again: {asked}: {told}")?)
 }
 
@@ -207,19 +208,19 @@ pub fn list(alloc: Global, collection: &str) -> anyhow::Result<Request> {
 }
 
 /// Whether a request of others is refused since it touches the bookmarks.
-fn is_refused(alloc: Global, world: &mut World, request: Request) -> anyhow::Result<bool> {
+fn is_refused(alloc: Global, play: &mut Play, request: Request) -> anyhow::Result<bool> {
     let event = Event::Other { now: 1000, request };
-    match step(alloc, world, &event)? {
+    match play.step(alloc, &event)? {
         Some(WorldFault::Touches) => Ok(true),
         _ => Ok(false),
     }
 }
 
 /// How many requests of others are refused of these.
-fn count_refused(alloc: Global, world: &mut World, requests: Vec<Request>) -> anyhow::Result<u32> {
+fn count_refused(alloc: Global, play: &mut Play, requests: Vec<Request>) -> anyhow::Result<u32> {
     let mut refused: u32 = 0;
     for request in requests {
-        if is_refused(alloc, world, request)? {
+        if is_refused(alloc, play, request)? {
             refused = refused.saturating_add(1);
         }
     }
@@ -227,9 +228,9 @@ fn count_refused(alloc: Global, world: &mut World, requests: Vec<Request>) -> an
 }
 
 /// Others ask what they may; each of these is done.
-fn ask_all(alloc: Global, world: &mut World, requests: Vec<Request>) -> anyhow::Result<()> {
+fn ask_all(alloc: Global, play: &mut Play, requests: Vec<Request>) -> anyhow::Result<()> {
     for request in requests {
-        happen(alloc, world, &Event::Other { now: 1000, request })?;
+        happen(alloc, play, &Event::Other { now: 1000, request })?;
     }
     Ok(())
 }
@@ -244,17 +245,17 @@ fn permitted(alloc: Global) -> anyhow::Result<Vec<Request>> {
 }
 
 /// What others ask of the bookmarks, and what else.
-fn others(alloc: Global, world: &mut World) -> anyhow::Result<String> {
-    let refused = count_refused(alloc, world, touching(alloc)?)?;
-    ask_all(alloc, world, permitted(alloc)?)?;
+fn others(alloc: Global, play: &mut Play) -> anyhow::Result<String> {
+    let refused = count_refused(alloc, play, touching(alloc)?)?;
+    ask_all(alloc, play, permitted(alloc)?)?;
     Ok(format!(in alloc;
         "others write or delete bookmarks: {refused} Touches of 6; they read them and write forms: each done"
     )?)
 }
 
 /// How an event is answered.
-fn answer(alloc: Global, world: &mut World, event: &Event) -> anyhow::Result<String> {
-    match step(alloc, world, event)? {
+fn answer(alloc: Global, play: &mut Play, event: &Event) -> anyhow::Result<String> {
+    match play.step(alloc, event)? {
         None => Ok(String::from_str(alloc, "done")?),
         Some(fault) => Ok(format!(in alloc; "{fault:?}")?),
     }
@@ -283,13 +284,13 @@ fn events(alloc: Global, device: u32) -> anyhow::Result<Vec<Event>> {
 /// How events are answered, in their order.
 fn answers(
     alloc: Global,
-    world: &mut World,
+    play: &mut Play,
     title: &str,
     events: &[Event],
 ) -> anyhow::Result<String> {
     let mut line = format!(in alloc; "{title}:")?;
     for event in events.iter() {
-        let answer = answer(alloc, world, event)?;
+        let answer = answer(alloc, play, event)?;
         line.push_str(" ")?;
         line.push_str(answer.as_str())?;
     }
@@ -314,62 +315,57 @@ fn busy(alloc: Global) -> anyhow::Result<Vec<Event>> {
 }
 
 /// How the events of a device, in the order of their definition, are answered.
-fn answers_of(
-    alloc: Global,
-    world: &mut World,
-    title: &str,
-    device: u32,
-) -> anyhow::Result<String> {
+fn answers_of(alloc: Global, play: &mut Play, title: &str, device: u32) -> anyhow::Result<String> {
     let events = events(alloc, device)?;
-    answers(alloc, world, title, &events)
+    answers(alloc, play, title, &events)
 }
 
 /// How events of a device that syncs are answered.
-fn answers_of_busy(alloc: Global, world: &mut World) -> anyhow::Result<String> {
+fn answers_of_busy(alloc: Global, play: &mut Play) -> anyhow::Result<String> {
     let events = busy(alloc)?;
-    answers(alloc, world, "a device that syncs", &events)
+    answers(alloc, play, "a device that syncs", &events)
 }
 
 /// How events of an idle device, of one that syncs and of one that isn't there are answered.
-fn refusals(alloc: Global, world: &mut World) -> anyhow::Result<Vec<String>> {
+fn refusals(alloc: Global, play: &mut Play) -> anyhow::Result<Vec<String>> {
     let mut lines = Vec::new(alloc);
-    lines.push(answers_of(alloc, world, "an idle device", 0)?)?;
-    lines.push(answers_of_busy(alloc, world)?)?;
-    lines.push(answers_of(alloc, world, "no device", 1)?)?;
+    lines.push(answers_of(alloc, play, "an idle device", 0)?)?;
+    lines.push(answers_of_busy(alloc, play)?)?;
+    lines.push(answers_of(alloc, play, "no device", 1)?)?;
     Ok(lines)
 }
 
-fn told_of_three(alloc: Global) -> anyhow::Result<String> {
-    let mut world = fresh(alloc, 1)?;
-    three(alloc, &mut world)
+fn told_of_three(alloc: Global, way: Way) -> anyhow::Result<String> {
+    let mut play = fresh(alloc, way, 1)?;
+    three(alloc, &mut play)
 }
 
-fn lost_twice(alloc: Global, world: &mut World) -> anyhow::Result<Vec<String>> {
-    Ok(vec![in alloc; lost(alloc, world)?, lost_again(alloc, world)?]?)
+fn lost_twice(alloc: Global, play: &mut Play) -> anyhow::Result<Vec<String>> {
+    Ok(vec![in alloc; lost(alloc, play)?, lost_again(alloc, play)?]?)
 }
 
-fn told_of_lost(alloc: Global) -> anyhow::Result<Vec<String>> {
-    let mut world = fresh(alloc, 1)?;
-    lost_twice(alloc, &mut world)
+fn told_of_lost(alloc: Global, way: Way) -> anyhow::Result<Vec<String>> {
+    let mut play = fresh(alloc, way, 1)?;
+    lost_twice(alloc, &mut play)
 }
 
-fn both_twice(alloc: Global, world: &mut World) -> anyhow::Result<Vec<String>> {
-    Ok(vec![in alloc; both(alloc, world)?, both_again(alloc, world)?]?)
+fn both_twice(alloc: Global, play: &mut Play) -> anyhow::Result<Vec<String>> {
+    Ok(vec![in alloc; both(alloc, play)?, both_again(alloc, play)?]?)
 }
 
-fn told_of_both(alloc: Global) -> anyhow::Result<Vec<String>> {
-    let mut world = fresh(alloc, 2)?;
-    both_twice(alloc, &mut world)
+fn told_of_both(alloc: Global, way: Way) -> anyhow::Result<Vec<String>> {
+    let mut play = fresh(alloc, way, 2)?;
+    both_twice(alloc, &mut play)
 }
 
-fn told_of_others(alloc: Global) -> anyhow::Result<String> {
-    let mut world = fresh(alloc, 1)?;
-    others(alloc, &mut world)
+fn told_of_others(alloc: Global, way: Way) -> anyhow::Result<String> {
+    let mut play = fresh(alloc, way, 1)?;
+    others(alloc, &mut play)
 }
 
-fn told_of_refusals(alloc: Global) -> anyhow::Result<Vec<String>> {
-    let mut world = fresh(alloc, 1)?;
-    refusals(alloc, &mut world)
+fn told_of_refusals(alloc: Global, way: Way) -> anyhow::Result<Vec<String>> {
+    let mut play = fresh(alloc, way, 1)?;
+    refusals(alloc, &mut play)
 }
 
 /// Puts lines behind others, in their order.
@@ -380,13 +376,13 @@ fn append(lines: &mut Vec<String>, more: Vec<String>) -> anyhow::Result<()> {
     Ok(())
 }
 
-/// The lines of the worked worlds.
-pub fn worked_lines(alloc: Global) -> anyhow::Result<Vec<String>> {
+/// The lines of the worked plays.
+pub fn worked_lines(alloc: Global, way: Way) -> anyhow::Result<Vec<String>> {
     let mut lines = Vec::new(alloc);
-    lines.push(told_of_three(alloc)?)?;
-    append(&mut lines, told_of_lost(alloc)?)?;
-    append(&mut lines, told_of_both(alloc)?)?;
-    lines.push(told_of_others(alloc)?)?;
-    append(&mut lines, told_of_refusals(alloc)?)?;
+    lines.push(told_of_three(alloc, way)?)?;
+    append(&mut lines, told_of_lost(alloc, way)?)?;
+    append(&mut lines, told_of_both(alloc, way)?)?;
+    lines.push(told_of_others(alloc, way)?)?;
+    append(&mut lines, told_of_refusals(alloc, way)?)?;
     Ok(lines)
 }

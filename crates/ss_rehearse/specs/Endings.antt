@@ -3,10 +3,11 @@ use Rattle.std.specs.Prelude.{◌≡◌, ℕ, List, ◌++◌}
 use Rattle.ss_outside.specs.Told.{Meanings, HasWritten}
 use Rattle.ss_outside.specs.Causes.{Rose}
 use Rattle.ss_rehearse.specs.declared.endings.Ending.{Ending}
-use Rattle.ss_rehearse.specs.declared.endings.Ending.TheVariants.{Done, Output, Memory}
+use Rattle.ss_rehearse.specs.declared.endings.Ending.TheVariants.{Done, OtherWords, Output, Memory}
 
 abbrev pub status_of : Ending → ℕ
 status_of Done = 0
+status_of OtherWords = 1
 status_of Output = 3
 status_of Memory = 8
 
@@ -14,4 +15,4 @@ status_of Memory = 8
 abbrev pub Wrote : List ℕ → Ending → Meanings → Meanings → Type 0
 Wrote text Done output output' = HasWritten text output output' × (output'.write_faults ≡ output.write_faults)
 Wrote text Output output output' = (sent : List ℕ) × (rest : List ℕ) × (text ≡ sent ++ rest) × HasWritten sent output output' × Rose output.write_faults output'.write_faults
-Wrote text Memory output output' = ⊥
+Wrote text ending output output' = ⊥

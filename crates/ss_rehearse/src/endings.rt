@@ -9,13 +9,16 @@ use std::fmt::{self, Display, Formatter, Write};
 /// How a run of `rehearse` ended.
 #[derive(Clone, Copy, Debug)]
 pub enum Ending {
-    /// All was written.
+    /// All was written: status 0.
     Done,
 
-    /// A write of the output failed.
+    /// The words ask for another command, or for nothing, and nothing was written: status 1.
+    OtherWords,
+
+    /// A write of the output failed: status 3.
     Output,
 
-    /// No memory.
+    /// No memory: status 8.
     Memory,
 }
 
@@ -26,6 +29,7 @@ impl Ending {
     {
         match self {
             Ending::Done => 0,
+            Ending::OtherWords => 1,
             Ending::Output => 3,
             Ending::Memory => 8,
         }
@@ -36,6 +40,7 @@ impl Display for Ending {
     fn fmt<W: Write>(&self, f: &mut Formatter<W>) -> fmt::Result {
         match self {
             Ending::Done => f.write_str("done"),
+            Ending::OtherWords => f.write_str("the words ask for something else"),
             Ending::Output => f.write_str("the output can't be written"),
             Ending::Memory => f.write_str("no memory was found"),
         }

@@ -23,8 +23,8 @@ use Rattle.ss_http.specs.Reading.{ReadsNext, EndsWith, RisesWith}
 use Rattle.ss_http.specs.Responses.{memory_response}
 use Rattle.ss_http.proofs.MessageLemmas.{reads_append, reads_further}
 use Rattle.ss_route.specs.Wire.{wire, refusal_of}
-use Rattle.ss_run_answer.specs.declared.answer.Ending.{Ending}
-use Rattle.ss_run_answer.specs.declared.answer.Ending.TheVariants as endings
+use Rattle.ss_run_answer.specs.declared.endings.Ending.{Ending}
+use Rattle.ss_run_answer.specs.declared.endings.Ending.TheVariants as endings
 use Rattle.ss_run_answer.specs.Turns.{Asked, asks, told, asked_by_message, Course, entered, unread, IsCourseOf, left_by}
 use Rattle.ss_run_answer.specs.Turns.{response_to, Turn, AreTurns, closes, account_after, responses, RefusesBytes}
 use Rattle.ss_run_answer.specs.Turns.{refusal_response, IsReading, AreReadings, GoesOn, AnswersInput, IsTurn, WasSent}
@@ -443,6 +443,8 @@ stopped uid at input input' input2 output output' output2 coming coming' coming2
     unanswered uid at input input' input2 output output' output2 coming coming' coming2 kept account count fault got endings.Input p more read cause ends rises stops
 stopped uid at input input' input2 output output' output2 coming coming' coming2 kept account count fault got endings.Memory p more read cause ends rises stops =
     unanswered uid at input input' input2 output output' output2 coming coming' coming2 kept account count fault got endings.Memory p more read cause ends rises stops
+stopped uid at input input' input2 output output' output2 coming coming' coming2 kept account count fault got endings.OtherWords p more read cause ends rises stops =
+    unanswered uid at input input' input2 output output' output2 coming coming' coming2 kept account count fault got endings.OtherWords p more read cause ends rises stops
 
 -- as many messages were answered as may be
 pub ended_counting : (uid : ℕ) (at : Option ℕ) (input input' output output' : Meanings) (coming coming' : Option (List ℕ)) (kept : Kept) (account : Plain) (count : ℕ)

@@ -27,8 +27,8 @@ use Rattle.ss_route.specs.declared.routed.Routed.TheVariants as routes
 use Rattle.ss_route.specs.Refusals.{said}
 use Rattle.ss_route.specs.Routing.{routed}
 use Rattle.ss_route.specs.Wire.{wire, local_wire, not_listed, refusal_of}
-use Rattle.ss_run_answer.specs.declared.answer.Ending.{Ending}
-use Rattle.ss_run_answer.specs.declared.answer.Ending.TheVariants as endings
+use Rattle.ss_run_answer.specs.declared.endings.Ending.{Ending}
+use Rattle.ss_run_answer.specs.declared.endings.Ending.TheVariants as endings
 use Rattle.ss_run_answer.specs.declared.response.Response.{Response}
 use Rattle.ss_run_answer.specs.declared.response.Response.TheVariants.{Whole, Short}
 
@@ -181,6 +181,7 @@ Cause endings.Output turns refused rest input input' output output' =
     Rose output.write_faults output'.write_faults
     × ((EndsIn turns × (refused ≡ None)) ⊎ ((last : Refused) × (refused ≡ Some last) × RefusesBytes rest last × GoesOn turns))
 Cause endings.Memory turns refused rest input input' output output' = GoesOn turns × (refused ≡ None)
+Cause endings.OtherWords turns refused rest input input' output output' = ⊥
 
 -- what was written: the whole; after a failure of the output a front of it
 abbrev pub Sends : Ending → List ℕ → List ℕ → Type 0
@@ -192,6 +193,7 @@ Sends endings.Refused sent whole = sent ≡ whole
 Sends endings.Count sent whole = sent ≡ whole
 Sends endings.Input sent whole = sent ≡ whole
 Sends endings.Memory sent whole = sent ≡ whole
+Sends endings.OtherWords sent whole = sent ≡ whole
 
 -- the counts of faults stand where they stood, but for the one that the ending tells of
 abbrev pub RaisesOnlyEnding : Ending → Meanings → Meanings → Meanings → Meanings → Type 0

@@ -6,8 +6,8 @@ ghost use Rattle.ss_bso.specs.Validity.{IsValid};
 ghost use Rattle.ss_query.specs.Fit.{IsFitRequest};
 ghost use Rattle.ss_run_answer.specs.Turns.{AnswersInput, IsReading, IsTurn, Stops, asked_by_message, asks, told};
 ghost use Rattle.ss_run_answer.specs.Turns.{bytes_of, closes, ending_of};
-ghost use Rattle.ss_run_answer.specs.Words.{status_of};
 
+use crate::endings::Ending;
 use crate::response::Response;
 use ss_account::Account;
 use ss_bso::Kept;
@@ -21,49 +21,6 @@ use std::alloc::Global;
 
 /// How many messages one run answers.
 const MOST: u64 = 1_000_000;
-
-/// How a run ended.
-#[derive(Clone, Copy, Debug, PartialEq, Eq)]
-pub enum Ending {
-    /// The input ended between messages.
-    End,
-
-    /// The last message asked to close.
-    Asked,
-
-    /// The input ended inside a message.
-    Cut,
-
-    /// What came is no message, and was answered by a refusal.
-    Refused,
-
-    /// As many messages were answered as may be.
-    Count,
-
-    /// A read of the input failed.
-    Input,
-
-    /// A write of the output failed.
-    Output,
-
-    /// No memory was found for the run itself.
-    Memory,
-}
-
-/// The status of a run that ended so.
-pub fn status_of(ending: Ending) -> u8
-    ensures { result ≡ status_of ending }
-{
-    match ending {
-        Ending::End | Ending::Asked => 0,
-        Ending::Input => 2,
-        Ending::Output => 3,
-        Ending::Cut => 4,
-        Ending::Refused => 5,
-        Ending::Count => 6,
-        Ending::Memory => 8,
-    }
-}
 
 /// The next reading of the clock of a run (hundredths of a second), of which `count` were taken.
 fn reading<C: Clock>(at: Option<u64>, count: u64, clock: &mut C) -> u64

@@ -9,11 +9,12 @@ use Rattle.ss_logs.specs.declared.faults.LogFault.TheVariants as log
 use Rattle.ss_audit.specs.declared.verdict.Verdict.{Verdict}
 use Rattle.ss_audit.specs.declared.verdict.Verdict.TheVariants.{Yes, No}
 use Rattle.ss_run_audit.specs.declared.endings.Ending.{Ending}
-use Rattle.ss_run_audit.specs.declared.endings.Ending.TheVariants.{Sound, Input, Output, BadLine, TooLong, Unsound}
-use Rattle.ss_run_audit.specs.declared.endings.Ending.TheVariants.{Memory}
+use Rattle.ss_run_audit.specs.declared.endings.Ending.TheVariants.{Sound, OtherWords, Input, Output, BadLine}
+use Rattle.ss_run_audit.specs.declared.endings.Ending.TheVariants.{TooLong, Unsound, Memory}
 
 abbrev pub status_of : Ending → ℕ
 status_of Sound = 0
+status_of OtherWords = 1
 status_of Input = 2
 status_of Output = 3
 status_of (BadLine n) = 5

@@ -9,7 +9,8 @@ use Rattle.ss_logs.specs.Logs.{AreLogs, IsWhyNoLogs}
 use Rattle.ss_audit.specs.declared.verdict.Verdict.{Verdict}
 use Rattle.ss_audit.specs.Verdicts.{IsVerdict}
 use Rattle.ss_run_audit.specs.declared.endings.Ending.{Ending}
-use Rattle.ss_run_audit.specs.Endings.{Wrote, refused_end, status_of, told_end, unread_end}
+use Rattle.ss_run_audit.specs.declared.endings.Ending.TheVariants.{OtherWords}
+use Rattle.ss_run_audit.specs.Endings.{Wrote, refused_end, told_end, unread_end}
 use Rattle.ss_run_audit.specs.Tellings.{verdict_text}
 
 -- the text is that of logs, and this is the verdict on them
@@ -29,7 +30,7 @@ pub data Audits (ending : Ending) (input input' output output' : Meanings) : Typ
 abbrev pub Asks : List (List ℕ) → Type 0
 Asks words = (words ≡ codes "audit" ∷ []) ⊎ (words ≡ codes "audit" ∷ codes "--" ∷ [])
 
--- What words that ask for an audit do, with the status. Where they ask for none the status is 1, and nothing is read or written
-pub data Runs (words : List (List ℕ)) (status : ℕ) (input input' output output' : Meanings) : Type 0 where
-  audits : (ending : Ending) → Asks words → status ≡ status_of ending → Audits ending input input' output output' → Runs words status input input' output output'
-  asks_nothing : (Asks words → ⊥) → status ≡ 1 → input' ≡ input → output' ≡ output → Runs words status input input' output output'
+-- What words that ask for an audit do, and how the run ends. Where they ask for none that is the end, and nothing is read or written
+pub data Runs (words : List (List ℕ)) (ending : Ending) (input input' output output' : Meanings) : Type 0 where
+  audits : Asks words → Audits ending input input' output output' → Runs words ending input input' output output'
+  asks_nothing : (Asks words → ⊥) → ending ≡ OtherWords → input' ≡ input → output' ≡ output → Runs words ending input input' output output'

@@ -13,25 +13,28 @@ use std::fmt::{self, Display, Formatter, Write};
 /// How a run of `audit` ended. Lines are counted from 1.
 #[derive(Clone, Copy, Debug, PartialEq, Eq)]
 pub enum Ending {
-    /// The logs are sound, and that was written.
+    /// The logs are sound, and that was written: status 0.
     Sound,
 
-    /// A read of the input failed.
+    /// The words ask for no audit, and nothing was read or written: status 1.
+    OtherWords,
+
+    /// A read of the input failed: status 2.
     Input,
 
-    /// A write of the output failed.
+    /// A write of the output failed: status 3.
     Output,
 
-    /// This line is not the next one of a log; where the input ends too early, it is the one behind the last.
+    /// This line is not the next one of a log; where the input ends too early, it is the one behind the last. Status 5.
     BadLine { line: u64 },
 
-    /// The input has more than 268,435,456 bytes.
+    /// The input has more than 268,435,456 bytes: status 6.
     TooLong,
 
-    /// The logs aren't sound, and where and why was written.
+    /// The logs aren't sound, and where and why was written: status 7.
     Unsound,
 
-    /// No memory.
+    /// No memory: status 8.
     Memory,
 }
 
@@ -42,6 +45,7 @@ impl Ending {
     {
         match self {
             Ending::Sound => 0,
+            Ending::OtherWords => 1,
             Ending::Input => 2,
             Ending::Output => 3,
             Ending::BadLine { .. } => 5,
@@ -97,6 +101,7 @@ impl Display for Ending {
     fn fmt<W: Write>(&self, f: &mut Formatter<W>) -> fmt::Result {
         match self {
             Ending::Sound => f.write_str("the logs are sound"),
+            Ending::OtherWords => f.write_str("the words ask for no audit"),
             Ending::Input => f.write_str("the input can't be read"),
             Ending::Output => f.write_str("the output can't be written"),
             Ending::BadLine { line } => write!(f, "line {line} is not the next line of a log"),

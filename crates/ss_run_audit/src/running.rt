@@ -1,8 +1,8 @@
 //! A run of `audit`.
 
-ghost use Rattle.std.specs.Prelude.{◌≡◌, map, string_bytes, IfOk, IfErr};
+ghost use Rattle.std.specs.Prelude.{map, string_bytes, IfOk, IfErr};
 ghost use Rattle.ss_logs.specs.Logs.{IsWhyNoLogs};
-ghost use Rattle.ss_run_audit.specs.Endings.{Wrote, status_of, told_end};
+ghost use Rattle.ss_run_audit.specs.Endings.{Wrote, told_end};
 ghost use Rattle.ss_run_audit.specs.Runs.{Audits, IsAuditOf, Runs};
 
 use crate::endings::Ending;
@@ -51,36 +51,34 @@ pub fn audit_input<S: Source, T: Sink>(alloc: Global, input: &mut S, output: &mu
     }
 }
 
-/// Tells people how a run ended, where its output doesn't, and answers its status.
-fn tell<E: Sink>(alloc: Global, err: &mut E, ending: Ending) -> u8
-    ensures { result ≡ status_of ending }
-{
+/// Tells people how a run ended, where its output doesn't.
+fn tell<E: Sink>(alloc: Global, err: &mut E, ending: Ending) {
     if let Ending::Sound | Ending::Unsound = ending {
-        return ending.status();
+        return;
     }
     if let Ok(line) = format!(in alloc; "syncstore: {ending}\n") {
         let _ = write_all(err, line.as_bytes());
     }
-    ending.status()
 }
 
-/// Runs the word `audit`, and answers the status: 0 where the logs are sound; 1 where the words are others, and nothing is
-/// read; 2 and 3 where the input and the output failed; 5 where a line isn't the next one of a log; 6 where the input has
-/// more than 268,435,456 bytes; 7 where the logs aren't sound; 8 without memory. With status 0 and 7 the verdict was
-/// written, with 3 a front of it, and else nothing. What `err` is told is for people, and nothing is said of it.
+/// Runs the word `audit`, and answers how that ended: `Sound` and `Unsound` where the verdict was written, yes and no;
+/// `OtherWords` where the words are others, and nothing is read; else by its cause. With `Output` a front of the
+/// verdict was written, and with the others nothing. What `err` is told is for people, and nothing is said of it.
 pub fn run_audit<S: Source, T: Sink, E: Sink>(
     alloc: Global,
     words: &[String],
     input: &mut S,
     output: &mut T,
     err: &mut E,
-) -> u8
+) -> Ending
     ensures { Runs (map (λ word. string_bytes word) words.now) result (S.Told.told input.old) (S.Told.told input.new)
         (T.Told.told output.old) (T.Told.told output.new) }
 {
     if asks(words) {
-        return tell(alloc, err, audit_input(alloc, input, output));
+        let ending = audit_input(alloc, input, output);
+        tell(alloc, err, ending);
+        return ending;
     }
     explain(alloc, words, err);
-    1
+    Ending::OtherWords
 }

@@ -16,6 +16,7 @@ pub bad_tree : (text : List ℕ) (f : Front) (e : Ending) → IsFront text f →
 bad_tree text f (ending.BadTree id) h u = record { lines = f.lines.items; back = drop f.used text; begins = begins text f h; unseated = u }
 bad_tree text f ending.Memory h u = tt
 bad_tree text f ending.Done h u = absurd u
+bad_tree text f ending.OtherWords h u = absurd u
 bad_tree text f ending.Unfit h u = absurd u
 bad_tree text f ending.Input h u = absurd u
 bad_tree text f ending.Output h u = absurd u
@@ -39,6 +40,7 @@ bad_rows text f d back n (ending.Cut m) h t is count s = inr (stuck_so text f d 
 bad_rows text f d back n (ending.BadLine m) h t is count s = inr (inl (stuck_so text f d back n (ending.BadLine m) h t is count s))
 bad_rows text f d back n ending.Memory h t is count s = tt
 bad_rows text f d back n ending.Done h t is count s = absurd s
+bad_rows text f d back n ending.OtherWords h t is count s = absurd s
 bad_rows text f d back n ending.Unfit h t is count s = absurd s
 bad_rows text f d back n ending.Input h t is count s = absurd s
 bad_rows text f d back n ending.Output h t is count s = absurd s

@@ -96,6 +96,7 @@ stops text rows used before n (ending.Cut m) h is s = stuck_at text rows used be
 stops text rows used before n (ending.BadLine m) h is s = stuck_at text rows used before n (ending.BadLine m) h is s
 stops text rows used before n ending.Memory h is s = tt
 stops text rows used before n ending.Done h is s = absurd s
+stops text rows used before n ending.OtherWords h is s = absurd s
 stops text rows used before n ending.Unfit h is s = absurd s
 stops text rows used before n ending.Input h is s = absurd s
 stops text rows used before n ending.Output h is s = absurd s

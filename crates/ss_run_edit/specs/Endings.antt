@@ -5,11 +5,12 @@ use Rattle.ss_outside.specs.Causes.{Rose}
 use Rattle.ss_input.specs.declared.faults.InputFault.{InputFault}
 use Rattle.ss_input.specs.declared.faults.InputFault.TheVariants as fault
 use Rattle.ss_run_edit.specs.declared.endings.Ending.{Ending}
-use Rattle.ss_run_edit.specs.declared.endings.Ending.TheVariants.{Done, Unfit, Input, Output, Cut, BadLine, BadTree}
-use Rattle.ss_run_edit.specs.declared.endings.Ending.TheVariants.{Refused, TooLong, Memory}
+use Rattle.ss_run_edit.specs.declared.endings.Ending.TheVariants.{Done, OtherWords, Unfit, Input, Output, Cut}
+use Rattle.ss_run_edit.specs.declared.endings.Ending.TheVariants.{BadLine, BadTree, Refused, TooLong, Memory}
 
 abbrev pub status_of : Ending → ℕ
 status_of Done = 0
+status_of OtherWords = 1
 status_of Unfit = 1
 status_of Input = 2
 status_of Output = 3

@@ -9,8 +9,8 @@ use Rattle.ss_words.specs.declared.commands.Command.TheVariants.{Edit, Merge}
 use Rattle.ss_words.specs.Commands.{Asks}
 use Rattle.ss_run_edit.specs.declared.changes.Change.{Change}
 use Rattle.ss_run_edit.specs.declared.endings.Ending.{Ending}
-use Rattle.ss_run_edit.specs.declared.endings.Ending.TheVariants.{Unfit, Memory}
-use Rattle.ss_run_edit.specs.Endings.{Wrote, ending_of, status_of}
+use Rattle.ss_run_edit.specs.declared.endings.Ending.TheVariants.{OtherWords, Unfit, Memory}
+use Rattle.ss_run_edit.specs.Endings.{Wrote, ending_of}
 use Rattle.ss_run_edit.specs.Changes.{IsEditOf, RefusesEdit, change_of, fits}
 use Rattle.ss_run_edit.specs.Merging.{IsMergeOf, RefusesMerge}
 
@@ -51,13 +51,12 @@ pub data Edits (command : EditCommand) (ending : Ending) (input input' output ou
 abbrev pub Merges : Ending → Meanings → Meanings → Meanings → Meanings → Type 0
 Merges ending input input' output output' = Turns IsMergeOf RefusesMerge ending input input' output output'
 
--- What words that ask `edit` or `merge` do, with the status. Where they ask neither the status is 1, and nothing is done; the same with 8,
+-- What words that ask `edit` or `merge` do, and how the run ends. Where they ask neither that is the end, and nothing is done; the same
 -- where no memory was found for the words
-pub data Runs {C : Type 0} (words : List (List ℕ)) (status : ℕ) (input input' output output' : Meanings) (coming coming' : Option (List ℕ)) (clock clock' : C) : Type 0 where
-  edits : (command : EditCommand) (ending : Ending) → Asks words (Edit command) → status ≡ status_of ending → Edits command ending input input' output output' coming coming'
-      → IfSome command.at (λ at. clock' ≡ clock) → Runs words status input input' output output' coming coming' clock clock'
-  merges : (ending : Ending) → Asks words Merge → status ≡ status_of ending → Merges ending input input' output output' → coming' ≡ coming → clock' ≡ clock
-      → Runs words status input input' output output' coming coming' clock clock'
-  asks_neither : ((command : EditCommand) → Asks words (Edit command) → ⊥) → (Asks words Merge → ⊥) → status ≡ 1 → TouchesNothing input input' output output' coming coming' → clock' ≡ clock
-      → Runs words status input input' output output' coming coming' clock clock'
-  no_memory : status ≡ 8 → TouchesNothing input input' output output' coming coming' → clock' ≡ clock → Runs words status input input' output output' coming coming' clock clock'
+pub data Runs {C : Type 0} (words : List (List ℕ)) (ending : Ending) (input input' output output' : Meanings) (coming coming' : Option (List ℕ)) (clock clock' : C) : Type 0 where
+  edits : (command : EditCommand) → Asks words (Edit command) → Edits command ending input input' output output' coming coming' → IfSome command.at (λ at. clock' ≡ clock)
+      → Runs words ending input input' output output' coming coming' clock clock'
+  merges : Asks words Merge → Merges ending input input' output output' → coming' ≡ coming → clock' ≡ clock → Runs words ending input input' output output' coming coming' clock clock'
+  asks_neither : ((command : EditCommand) → Asks words (Edit command) → ⊥) → (Asks words Merge → ⊥) → ending ≡ OtherWords → TouchesNothing input input' output output' coming coming' → clock' ≡ clock
+      → Runs words ending input input' output output' coming coming' clock clock'
+  no_memory : ending ≡ Memory → TouchesNothing input input' output output' coming coming' → clock' ≡ clock → Runs words ending input input' output output' coming coming' clock clock'

@@ -13,34 +13,37 @@ use std::fmt::{self, Display, Formatter, Write};
 /// How a run of `edit` or `merge` ended. Lines are counted from 1, over the whole input.
 #[derive(Drop, Debug)]
 pub enum Ending {
-    /// All was written.
+    /// All was written: status 0.
     Done,
 
-    /// The item that the words would add isn't fit: its record would not read back as it.
+    /// The words ask for another command, or for nothing, and nothing was read or written: status 1.
+    OtherWords,
+
+    /// The item that the words would add isn't fit: its record would not read back as it. Status 1.
     Unfit,
 
-    /// A read of the input failed.
+    /// A read of the input failed: status 2.
     Input,
 
-    /// A write of the output failed.
+    /// A write of the output failed: status 3.
     Output,
 
-    /// The input ended where this line was awaited.
+    /// The input ended where this line was awaited: status 4.
     Cut { line: u64 },
 
-    /// This line isn't the next line of the input's form.
+    /// This line isn't the next line of the input's form: status 5.
     BadLine { line: u64 },
 
-    /// No line of the device's file is bad, and this item has not its place in it.
+    /// No line of the device's file is bad, and this item has not its place in it: status 5.
     BadTree { id: Id },
 
-    /// The device refuses the edit.
+    /// The device refuses the edit: status 5.
     Refused { fault: EditFault },
 
-    /// The input has more than 268,435,456 bytes.
+    /// The input has more than 268,435,456 bytes: status 6.
     TooLong,
 
-    /// No memory.
+    /// No memory: status 8.
     Memory,
 }
 
@@ -51,7 +54,7 @@ impl Ending {
     {
         match self {
             Ending::Done => 0,
-            Ending::Unfit => 1,
+            Ending::OtherWords | Ending::Unfit => 1,
             Ending::Input => 2,
             Ending::Output => 3,
             Ending::Cut { .. } => 4,
@@ -98,6 +101,7 @@ impl Display for Ending {
     fn fmt<W: Write>(&self, f: &mut Formatter<W>) -> fmt::Result {
         match self {
             Ending::Done => f.write_str("done"),
+            Ending::OtherWords => f.write_str("the words ask for something else"),
             Ending::Unfit => f.write_str("no item can have this id"),
             Ending::Input => f.write_str("the input can't be read"),
             Ending::Output => f.write_str("the output can't be written"),

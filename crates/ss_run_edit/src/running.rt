@@ -1,7 +1,6 @@
 //! A run of `edit` or `merge`.
 
-ghost use Rattle.std.specs.Prelude.{◌≡◌, map, string_bytes};
-ghost use Rattle.ss_run_edit.specs.Endings.{status_of};
+ghost use Rattle.std.specs.Prelude.{map, string_bytes};
 ghost use Rattle.ss_run_edit.specs.Runs.{Runs};
 
 use crate::editing::edit;
@@ -14,25 +13,44 @@ use std::alloc::Global;
 /// What people are told where no memory is found to tell them more.
 const NO_MEMORY: &str = "syncstore: no memory was found\n";
 
-// Tells people how a run ended, where it isn't done, and answers its status.
-fn tell<E: Sink>(alloc: Global, err: &mut E, ending: &Ending) -> u8
-    ensures { result ≡ status_of ending.now }
-{
-    if let Ending::Done = ending {
-        return ending.status();
+/// Tells people how a run ended, where it isn't done. Why words ask for neither is left to the caller to tell.
+fn tell<E: Sink>(alloc: Global, err: &mut E, ending: &Ending) {
+    if let Ending::Done | Ending::OtherWords = ending {
+        return;
     }
     let _ = match format!(in alloc; "syncstore: {ending}\n") {
         Ok(line) => write_all(err, line.as_bytes()),
         Err(_) => write_all(err, NO_MEMORY.as_bytes()),
     };
-    ending.status()
 }
 
-/// Runs the words `edit ACTION ..` and `merge`, and answers the status: 0 where all was written; 1 where the words ask
-/// neither, or an item that can't be, and nothing is read or written; 2 and 3 where the input and the output failed; 4
-/// where the input ended too early; 5 where a line, a place of an item or the edit is refused; 6 where the input has
-/// more than 268,435,456 bytes; 8 without memory. Unless the status is 0 or 3 nothing is written. What `err` is told is
-/// for people, and nothing is said of it.
+/// Does what the words ask.
+fn carry_out<S: Source, T: Sink, C: Clock>(
+    alloc: Global,
+    words: &[String],
+    input: &mut S,
+    output: &mut T,
+    clock: &mut C,
+) -> Ending
+    ensures { Runs (map (λ word. string_bytes word) words.now) result (S.Told.told input.old) (S.Told.told input.new)
+        (T.Told.told output.old) (T.Told.told output.new) (C.coming clock.old) (C.coming clock.new) clock.old clock.new }
+{
+    let command = match read_command(alloc, words) {
+        Ok(command) => command,
+        Err(WordsFault::Refused(_)) => return Ending::OtherWords,
+        Err(WordsFault::Memory) => return Ending::Memory,
+    };
+    match command {
+        Command::Edit(command) => edit(alloc, command, input, output, clock),
+        Command::Merge => merge(alloc, input, output),
+        _ => Ending::OtherWords,
+    }
+}
+
+/// Runs the words `edit ACTION ..` and `merge`, and answers how that ended: `Done` where all was written; `OtherWords`
+/// where the words ask neither, and `Unfit` where they ask for an item that can't be, and nothing is read or written;
+/// else by its cause. Unless it is `Done` or `Output` nothing is written. What `err` is told is for people, and nothing
+/// is said of it.
 pub fn run_device_command<S: Source, T: Sink, C: Clock, E: Sink>(
     alloc: Global,
     words: &[String],
@@ -40,21 +58,11 @@ pub fn run_device_command<S: Source, T: Sink, C: Clock, E: Sink>(
     output: &mut T,
     clock: &mut C,
     err: &mut E,
-) -> u8
+) -> Ending
     ensures { Runs (map (λ word. string_bytes word) words.now) result (S.Told.told input.old) (S.Told.told input.new)
         (T.Told.told output.old) (T.Told.told output.new) (C.coming clock.old) (C.coming clock.new) clock.old clock.new }
 {
-    let command = match read_command(alloc, words) {
-        Ok(command) => command,
-        Err(WordsFault::Refused(_)) => return 1,
-        Err(WordsFault::Memory) => {
-            let _ = write_all(err, NO_MEMORY.as_bytes());
-            return 8;
-        }
-    };
-    match command {
-        Command::Edit(command) => tell(alloc, err, &edit(alloc, command, input, output, clock)),
-        Command::Merge => tell(alloc, err, &merge(alloc, input, output)),
-        _ => 1,
-    }
+    let ending = carry_out(alloc, words, input, output, clock);
+    tell(alloc, err, &ending);
+    ending
 }

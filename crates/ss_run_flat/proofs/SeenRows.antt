@@ -97,6 +97,7 @@ stops kind text flat line used ending.Done h s = absurd s
 stops kind text flat line used ending.Input h s = absurd s
 stops kind text flat line used ending.Output h s = absurd s
 stops kind text flat line used ending.TooLong h s = absurd s
+stops kind text flat line used ending.OtherWords h s = absurd s
 
 -- ---- the text as a whole
 
@@ -108,6 +109,7 @@ no_file text ending.Done s = absurd s
 no_file text ending.Input s = absurd s
 no_file text ending.Output s = absurd s
 no_file text ending.TooLong s = absurd s
+no_file text ending.OtherWords s = absurd s
 
 some_behind : (text : List ℕ) (used : ℕ) → used < length text → drop used text ≢ []
 some_behind text used less nil = let l : length text - used ≡ 0 = sym (length-drop used text) ∙ ap length nil in absurd (omega arith)

@@ -9,7 +9,8 @@ use Rattle.ss_device_file.specs.declared.lines.Line.TheVariants.{Row, End}
 use Rattle.ss_device_file.specs.Files.{has_line}
 use Rattle.ss_device_file.proofs.Unique.{front_same}
 use Rattle.ss_run_flat.specs.declared.endings.Ending.{Ending}
-use Rattle.ss_run_flat.specs.declared.endings.Ending.TheVariants.{Done, Input, Output, Cut, BadLine, TooLong, Memory}
+use Rattle.ss_run_flat.specs.declared.endings.Ending.TheVariants.{Done, OtherWords, Input, Output, Cut, BadLine}
+use Rattle.ss_run_flat.specs.declared.endings.Ending.TheVariants.{TooLong, Memory}
 use Rattle.ss_run_flat.proofs.Lines.{end_formed}
 use Rattle.ss_run_flat.specs.Files.{IsExcess, IsFile, IsNoFile, IsRow, IsStuck, IsStuckAt, row_lines}
 
@@ -77,6 +78,7 @@ unrefused text rows Done h s = absurd s
 unrefused text rows Input h s = absurd s
 unrefused text rows Output h s = absurd s
 unrefused text rows TooLong h s = absurd s
+unrefused text rows OtherWords h s = absurd s
 
 -- ---- two refusals
 
@@ -120,11 +122,14 @@ one_refusal text Done other s t p q = absurd s
 one_refusal text Input other s t p q = absurd s
 one_refusal text Output other s t p q = absurd s
 one_refusal text TooLong other s t p q = absurd s
+one_refusal text OtherWords other s t p q = absurd s
 one_refusal text (Cut n) Done s t p q = absurd t
 one_refusal text (Cut n) Input s t p q = absurd t
 one_refusal text (Cut n) Output s t p q = absurd t
 one_refusal text (Cut n) TooLong s t p q = absurd t
+one_refusal text (Cut n) OtherWords s t p q = absurd t
 one_refusal text (BadLine n) Done s t p q = absurd t
 one_refusal text (BadLine n) Input s t p q = absurd t
 one_refusal text (BadLine n) Output s t p q = absurd t
 one_refusal text (BadLine n) TooLong s t p q = absurd t
+one_refusal text (BadLine n) OtherWords s t p q = absurd t

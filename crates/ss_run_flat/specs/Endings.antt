@@ -5,10 +5,12 @@ use Rattle.ss_outside.specs.Causes.{Rose}
 use Rattle.ss_input.specs.declared.faults.InputFault.{InputFault}
 use Rattle.ss_input.specs.declared.faults.InputFault.TheVariants as fault
 use Rattle.ss_run_flat.specs.declared.endings.Ending.{Ending}
-use Rattle.ss_run_flat.specs.declared.endings.Ending.TheVariants.{Done, Input, Output, Cut, BadLine, TooLong, Memory}
+use Rattle.ss_run_flat.specs.declared.endings.Ending.TheVariants.{Done, OtherWords, Input, Output, Cut, BadLine}
+use Rattle.ss_run_flat.specs.declared.endings.Ending.TheVariants.{TooLong, Memory}
 
 abbrev pub status_of : Ending → ℕ
 status_of Done = 0
+status_of OtherWords = 1
 status_of Input = 2
 status_of Output = 3
 status_of (Cut n) = 4

@@ -6,7 +6,8 @@ use Rattle.ss_input.specs.declared.faults.InputFault.{InputFault}
 use Rattle.ss_input.specs.Inputs.{IsUnread, IsWhole}
 use Rattle.ss_flat.specs.declared.kinds.FlatKind.{FlatKind}
 use Rattle.ss_run_flat.specs.declared.endings.Ending.{Ending}
-use Rattle.ss_run_flat.specs.Endings.{Wrote, ending_of, status_of}
+use Rattle.ss_run_flat.specs.declared.endings.Ending.TheVariants.{OtherWords}
+use Rattle.ss_run_flat.specs.Endings.{Wrote, ending_of}
 use Rattle.ss_run_flat.specs.Files.{IsFile, IsNoFile, name_of, stored_rows}
 use Rattle.ss_run_flat.specs.Tellings.{IsTelling}
 
@@ -33,7 +34,7 @@ pub record Asks (words : List (List ℕ)) (kind : FlatKind) : Type 0 where
   pub words_are : words ≡ codes "flat" ∷ others
   pub behind : AsksBehind others kind
 
--- What words that ask for a kind do, with the status. Where they ask for none the status is 1, and nothing is read or written
-pub data Runs (words : List (List ℕ)) (status : ℕ) (input input' output output' : Meanings) : Type 0 where
-  flattens : (kind : FlatKind) (ending : Ending) → Asks words kind → status ≡ status_of ending → Flattens kind ending input input' output output' → Runs words status input input' output output'
-  asks_nothing : ((kind : FlatKind) → Asks words kind → ⊥) → status ≡ 1 → input' ≡ input → output' ≡ output → Runs words status input input' output output'
+-- What words that ask for a kind do, and how the run ends. Where they ask for none that is the end, and nothing is read or written
+pub data Runs (words : List (List ℕ)) (ending : Ending) (input input' output output' : Meanings) : Type 0 where
+  flattens : (kind : FlatKind) → Asks words kind → Flattens kind ending input input' output output' → Runs words ending input input' output output'
+  asks_nothing : ((kind : FlatKind) → Asks words kind → ⊥) → ending ≡ OtherWords → input' ≡ input → output' ≡ output → Runs words ending input input' output output'

@@ -11,25 +11,28 @@ use std::fmt::{self, Display, Formatter, Write};
 /// How a run of `flat` ended. Lines are counted from 1.
 #[derive(Clone, Copy, Debug, PartialEq, Eq)]
 pub enum Ending {
-    /// All was written.
+    /// All was written: status 0.
     Done,
 
-    /// A read of the input failed.
+    /// The words ask for no kind of rows, and nothing was read or written: status 1.
+    OtherWords,
+
+    /// A read of the input failed: status 2.
     Input,
 
-    /// A write of the output failed.
+    /// A write of the output failed: status 3.
     Output,
 
-    /// The input ended where this line was awaited.
+    /// The input ended where this line was awaited: status 4.
     Cut { line: u64 },
 
-    /// This line is no row, nor the end; or it stands behind the end.
+    /// This line is no row, nor the end; or it stands behind the end. Status 5.
     BadLine { line: u64 },
 
-    /// The input has more than 268,435,456 bytes.
+    /// The input has more than 268,435,456 bytes: status 6.
     TooLong,
 
-    /// No memory.
+    /// No memory: status 8.
     Memory,
 }
 
@@ -40,6 +43,7 @@ impl Ending {
     {
         match self {
             Ending::Done => 0,
+            Ending::OtherWords => 1,
             Ending::Input => 2,
             Ending::Output => 3,
             Ending::Cut { .. } => 4,
@@ -74,6 +78,7 @@ impl Display for Ending {
     fn fmt<W: Write>(&self, f: &mut Formatter<W>) -> fmt::Result {
         match self {
             Ending::Done => f.write_str("done"),
+            Ending::OtherWords => f.write_str("the words ask for no kind of rows"),
             Ending::Input => f.write_str("the input can't be read"),
             Ending::Output => f.write_str("the output can't be written"),
             Ending::Cut { line } => write!(f, "the input ends before line {line} is whole"),

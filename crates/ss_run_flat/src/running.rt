@@ -1,7 +1,7 @@
 //! A run of `flat`.
 
-ghost use Rattle.std.specs.Prelude.{◌≡◌, map, string_bytes, IfOk, IfErr};
-ghost use Rattle.ss_run_flat.specs.Endings.{Wrote, status_of};
+ghost use Rattle.std.specs.Prelude.{map, string_bytes, IfOk, IfErr};
+ghost use Rattle.ss_run_flat.specs.Endings.{Wrote};
 ghost use Rattle.ss_run_flat.specs.Files.{IsNoFile};
 ghost use Rattle.ss_run_flat.specs.Runs.{Flattens, IsFlatOf, Runs};
 
@@ -53,38 +53,38 @@ pub fn flat<S: Source, T: Sink>(
     }
 }
 
-/// Tells people how a run ended, where it isn't done, and answers its status.
-fn tell<E: Sink>(alloc: Global, err: &mut E, ending: Ending) -> u8
-    ensures { result ≡ status_of ending }
-{
+/// Tells people how a run ended, where it isn't done.
+fn tell<E: Sink>(alloc: Global, err: &mut E, ending: Ending) {
     if let Ending::Done = ending {
-        return ending.status();
+        return;
     }
     if let Ok(line) = format!(in alloc; "syncstore: {ending}\n") {
         let _ = write_all(err, line.as_bytes());
     }
-    ending.status()
 }
 
-/// Runs the words `flat history` and `flat forms`, and answers the status: 0 where all was written; 1 where the words
-/// are others, and nothing is read; 2 and 3 where the input and the output failed; 4 where the input ended too early; 5
-/// where a line is no row, or stands behind the end; 6 where the input has more than 268,435,456 bytes; 8 without
-/// memory. Unless the status is 0 or 3 nothing is written. What `err` is told is for people, and nothing is said of it.
+/// Runs the words `flat history` and `flat forms`, and answers how that ended: `Done` where all was written;
+/// `OtherWords` where the words are others, and nothing is read; else by its cause. Unless it is `Done` or `Output`
+/// nothing is written. What `err` is told is for people, and nothing is said of it.
 pub fn run_flat<S: Source, T: Sink, E: Sink>(
     alloc: Global,
     words: &[String],
     input: &mut S,
     output: &mut T,
     err: &mut E,
-) -> u8
+) -> Ending
     ensures { Runs (map (λ word. string_bytes word) words.now) result (S.Told.told input.old) (S.Told.told input.new)
         (T.Told.told output.old) (T.Told.told output.new) }
 {
     match kind_asked(words) {
-        Some(kind) => tell(alloc, err, flat(alloc, kind, input, output)),
+        Some(kind) => {
+            let ending = flat(alloc, kind, input, output);
+            tell(alloc, err, ending);
+            ending
+        }
         None => {
             explain(alloc, words, err);
-            1
+            Ending::OtherWords
         }
     }
 }

@@ -13,6 +13,7 @@ use Rattle.ss_client.specs.Runs.{MachineView}
 use Rattle.ss_client.specs.Machine.{Next}
 use Rattle.ss_run_sync.specs.Moves.{IsFront}
 use Rattle.ss_run_sync.specs.Course.{Account, Exchange, request_at, request_next}
+use Rattle.ss_run_sync.specs.declared.endings.Ending.{Ending}
 use Rattle.ss_run_sync.specs.declared.linking.Came.{Came}
 use Rattle.ss_run_sync.specs.declared.linking.Came.TheVariants as came
 use Rattle.ss_run_sync.specs.Links.{Used, hung_of, exchanges_of, IsLeftLink, link_in_list, IsEnded, Comes, IsRun}
@@ -112,10 +113,10 @@ run_joined account m what f f' a b address p q r y told =
 nothing : (words : List (List ℕ)) (old new : Outside) → new.hung ≡ old.hung → Joined words old new
 nothing words old new e y told = (y, [], sym e ∙ told, sym (append-nil y), inl refl)
 
-pub joined_of : (words : List (List ℕ)) (status : ℕ) (old new : Outside) (a b : Meanings) → Runs words status old new a b → Joined words old new
-joined_of words status old new a b (syncs command ending asks (undialled what e l i h f) p) = nothing words old new h
-joined_of words status old new a b (syncs command ending asks (dialled d what s r c) p) = λ y told.
+pub joined_of : (words : List (List ℕ)) (result : Ending) (old new : Outside) (a b : Meanings) → Runs words result old new a b → Joined words old new
+joined_of words result old new a b (syncs command ending asks (undialled what e l i h f) p) = nothing words old new h
+joined_of words result old new a b (syncs command ending asks (dialled d what s r c) p) = λ y told.
     let j = run_joined (account_of command) (machine_of command d) what old.dial_faults new.dial_faults old.hung new.hung (address_of command) old.asked new.asked r y told in
     (j.0, j.1, j.2, j.3, inr (command, d, asks, s, j.4))
-joined_of words status old new a b (asks_nothing asks e same w) = nothing words old new (ap (λ (o : Outside). o.hung) same)
-joined_of words status old new a b (out_of_memory same p) = nothing words old new (ap (λ (o : Outside). o.hung) same)
+joined_of words result old new a b (asks_nothing asks e same w) = nothing words old new (ap (λ (o : Outside). o.hung) same)
+joined_of words result old new a b (out_of_memory same p) = nothing words old new (ap (λ (o : Outside). o.hung) same)

@@ -1,4 +1,4 @@
--- How a sync ends: its status and its line (this project's).
+-- The status and the line of a sync by how it ends (this project's).
 use Rattle.std.specs.Prelude.{◌≡◌, ◌⊎◌, ℕ, List, [], ◌++◌, Option, Some, None, codes, decimal}
 use Rattle.ss_outside.specs.Told.{Meanings, HasWritten}
 use Rattle.ss_outside.specs.Causes.{Rose}
@@ -8,16 +8,12 @@ use Rattle.ss_plan.specs.declared.limits.PlanFault.TheVariants as plan
 use Rattle.ss_client.specs.declared.summaries.Summary.{Summary}
 use Rattle.ss_client.specs.declared.summaries.SyncFault.{SyncFault}
 use Rattle.ss_client.specs.declared.summaries.SyncFault.TheVariants as fault
-use Rattle.ss_run_sync.specs.declared.reports.Trouble.{Trouble}
-use Rattle.ss_run_sync.specs.declared.reports.Trouble.TheVariants.{Wire, Device, Store, Memory}
+use Rattle.ss_run_sync.specs.declared.endings.Ending.{Ending}
+use Rattle.ss_run_sync.specs.declared.endings.Ending.TheVariants.{Synced, OtherWords, Stopped, Failed, Unprinted}
+use Rattle.ss_run_sync.specs.declared.endings.Trouble.{Trouble}
+use Rattle.ss_run_sync.specs.declared.endings.Trouble.TheVariants.{Wire, Device, Store, Memory}
 use Rattle.ss_run_sync.specs.declared.reports.Report.{Report}
 use Rattle.ss_run_sync.specs.declared.reports.Report.TheVariants.{Line, Short}
-
--- a sync is done, or its run stopped, or something failed
-pub data Ending : Type 0 where
-  Synced : Summary → Ending
-  Stopped : SyncFault → Ending
-  Failed : Trouble → Ending
 
 -- ---- statuses
 
@@ -48,8 +44,10 @@ status_of_stop fault.Memory = 8
 
 abbrev pub status_of : Ending → ℕ
 status_of (Synced summary) = 0
+status_of OtherWords = 1
 status_of (Stopped f) = status_of_stop f
 status_of (Failed trouble) = status_of_trouble trouble
+status_of Unprinted = 10
 
 -- ---- lines
 
@@ -91,33 +89,36 @@ stopped_line (fault.Plan f) = size_line (too_large f)
 stopped_line (fault.BadReply number) = numbered_line (codes "stopped: reply ") number
 stopped_line fault.Memory = codes "stopped: memory\n"
 
+-- of words that ask no sync nothing is printed
 abbrev pub line_of : Ending → List ℕ
 line_of (Synced summary) = synced_line summary
+line_of OtherWords = []
 line_of (Stopped f) = stopped_line f
 line_of (Failed trouble) = line_of_trouble trouble
+line_of Unprinted = []
 
 -- ---- what is told
 
-abbrev pub status_told : Report → ℕ
-status_told (Line status line) = status
-status_told (Short trouble) = status_of_trouble trouble
+abbrev pub ending_told : Report → Ending
+ending_told (Line ending line) = ending
+ending_told (Short trouble) = Failed trouble
 
 abbrev pub line_told : Report → List ℕ
-line_told (Line status line) = line.items
+line_told (Line ending line) = line.items
 line_told (Short trouble) = line_of_trouble trouble
 
 -- a report tells this end
 abbrev pub Tells : Ending → Report → Type 0
-Tells ending (Line status line) = (status ≡ status_of ending) × (line.items ≡ line_of ending)
+Tells ending (Line told line) = (told ≡ ending) × (line.items ≡ line_of ending)
 Tells ending (Short trouble) = ending ≡ Failed trouble
 
 -- a report tells this stop, or that no memory was found for its line
 abbrev pub Reports : SyncFault → Report → Type 0
-Reports f (Line status line) = (status ≡ status_of_stop f) × (line.items ≡ stopped_line f)
+Reports f (Line told line) = (told ≡ Stopped f) × (line.items ≡ stopped_line f)
 Reports f (Short trouble) = trouble ≡ Memory
 
--- the line was printed, and this is the status; or a write failed, a front of the line was printed, and the status is 10
-abbrev pub Prints : ℕ → List ℕ → ℕ → Meanings → Meanings → Type 0
-Prints status line result output output' =
-    ((result ≡ status) × HasWritten line output output' × (output'.write_faults ≡ output.write_faults))
-    ⊎ ((result ≡ 10) × Rose output.write_faults output'.write_faults × (sent : List ℕ) × (rest : List ℕ) × (line ≡ sent ++ rest) × HasWritten sent output output')
+-- the line of this end was printed, and the run ends so; or a write failed, and a front of the line was printed
+abbrev pub Prints : Ending → List ℕ → Ending → Meanings → Meanings → Type 0
+Prints ending line result output output' =
+    ((result ≡ ending) × HasWritten line output output' × (output'.write_faults ≡ output.write_faults))
+    ⊎ ((result ≡ Unprinted) × Rose output.write_faults output'.write_faults × (sent : List ℕ) × (rest : List ℕ) × (line ≡ sent ++ rest) × HasWritten sent output output')

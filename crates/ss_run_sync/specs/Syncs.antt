@@ -18,12 +18,14 @@ use Rattle.ss_run_sync.specs.Course.{Account}
 use Rattle.ss_words.specs.declared.commands.SyncCommand.{SyncCommand}
 use Rattle.ss_run_sync.specs.declared.linking.Came.{Came}
 use Rattle.ss_run_sync.specs.declared.linking.Came.TheVariants as came
-use Rattle.ss_run_sync.specs.declared.reports.Trouble.{Trouble}
-use Rattle.ss_run_sync.specs.declared.reports.Trouble.TheVariants as trouble
+use Rattle.ss_run_sync.specs.declared.endings.Ending.{Ending}
+use Rattle.ss_run_sync.specs.declared.endings.Ending.TheVariants.{Synced, Stopped, Failed}
+use Rattle.ss_run_sync.specs.declared.endings.Trouble.{Trouble}
+use Rattle.ss_run_sync.specs.declared.endings.Trouble.TheVariants as trouble
 use Rattle.ss_run_sync.specs.declared.reports.Report.{Report}
 use Rattle.ss_run_sync.specs.declared.reports.Report.TheVariants.{Line, Short}
 use Rattle.ss_run_sync.specs.Naming.{host_named}
-use Rattle.ss_run_sync.specs.Endings.{Ending, Synced, Stopped, Failed, Tells, synced_line}
+use Rattle.ss_run_sync.specs.Endings.{Tells, synced_line}
 use Rattle.ss_run_sync.specs.Links.{IsRun}
 
 -- what a sync's dial and store tell and count: the addresses that were asked for, the links that were hung up, the files, and how many
@@ -73,7 +75,7 @@ Loads name (Err trouble.Wire) held held' faults faults' = ⊥
 
 -- what is told of a device that is done, which was saved with all other files as before; or why not, with all files as before
 abbrev pub Saves : List ℕ → DeviceView → Summary → Report → Option Files → Option Files → ℕ → ℕ → Type 0
-Saves name d summary (Line status line) held held' faults faults' = (status ≡ 0) × (line.items ≡ synced_line summary) × HasSaved name (device_text d) held held' × (faults' ≡ faults)
+Saves name d summary (Line told line) held held' faults faults' = (told ≡ Synced summary) × (line.items ≡ synced_line summary) × HasSaved name (device_text d) held held' × (faults' ≡ faults)
 Saves name d summary (Short trouble.Store) held held' faults faults' = (held' ≡ held) × Rose faults faults'
 Saves name d summary (Short trouble.Memory) held held' faults faults' = (held' ≡ held) × (faults' ≡ faults)
 Saves name d summary (Short what) held held' faults faults' = ⊥

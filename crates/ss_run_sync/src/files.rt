@@ -3,8 +3,9 @@
 ghost use Rattle.std.specs.Prelude.{◌≡◌, IfOk, IfErr};
 ghost use Rattle.ss_run_sync.specs.Syncs.{Loads, Saves, Starts};
 
+use crate::endings::{Ending, Trouble};
 use crate::lines::synced;
-use crate::reports::{Report, Trouble};
+use crate::reports::Report;
 use ss_client::Summary;
 use ss_device::{Device, write_device};
 use ss_device_file::{DeviceFault, read_device};
@@ -59,7 +60,10 @@ pub(crate) fn save<S: Store>(
         return Report::Short(Trouble::Memory);
     };
     match store.save(alloc, name, bytes.as_slice()) {
-        Ok(()) => Report::Line { status: 0, line },
+        Ok(()) => Report::Line {
+            ending: Ending::Synced(*summary),
+            line,
+        },
         Err(StoreFault::Fault) => Report::Short(Trouble::Store),
         Err(StoreFault::Memory) => Report::Short(Trouble::Memory),
     }

@@ -3,7 +3,7 @@
 ghost use Rattle.std.specs.Prelude.{◌≡◌, ◌++◌, OnOk, IfOk, decimal};
 ghost use Rattle.ss_text.specs.Time.{stamp_text};
 ghost use Rattle.ss_run_sync.specs.Endings.{refused_record, synced_line, refused_line, changing_line, numbered_line};
-ghost use Rattle.ss_run_sync.specs.Endings.{stopped_line, status_of_stop, too_large};
+ghost use Rattle.ss_run_sync.specs.Endings.{stopped_line, too_large};
 
 use itoa::Buffer;
 use ss_client::{Summary, SyncFault};
@@ -100,7 +100,7 @@ fn numbered(alloc: Global, words: &[u8], number: u64) -> Result<Vec<u8>, AllocEr
 }
 
 /// How much of what is too large.
-fn too_large(fault: &PlanFault) -> Option<u64>
+pub(crate) fn too_large(fault: &PlanFault) -> Option<u64>
     ensures { result ≡ too_large fault.now }
 {
     match fault {
@@ -130,21 +130,5 @@ pub(crate) fn stopped(alloc: Global, fault: &SyncFault) -> Result<Vec<u8>, Alloc
         },
         SyncFault::BadReply { number } => numbered(alloc, b"stopped: reply ", *number),
         SyncFault::Memory => Vec::from_slice(alloc, b"stopped: memory\n"),
-    }
-}
-
-/// The status of a run that stopped.
-pub(crate) fn status_of_stop(fault: &SyncFault) -> u8
-    ensures { result ≡ status_of_stop fault.now }
-{
-    match fault {
-        SyncFault::Refused { .. } => 3,
-        SyncFault::Changing { .. } => 4,
-        SyncFault::Plan(fault) => match too_large(fault) {
-            Some(_) => 5,
-            None => 8,
-        },
-        SyncFault::BadReply { .. } => 9,
-        SyncFault::Memory => 8,
     }
 }

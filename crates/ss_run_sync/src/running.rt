@@ -2,16 +2,17 @@
 
 ghost use Rattle.std.specs.Prelude.{◌≡◌, ◌≢◌, map, string_bytes};
 ghost use Rattle.ss_words.specs.Urls.{HasHost};
-ghost use Rattle.ss_run_sync.specs.Endings.{Reports};
+ghost use Rattle.ss_run_sync.specs.Endings.{Reports, status_of};
 ghost use Rattle.ss_run_sync.specs.Syncs.{Went};
 ghost use Rattle.ss_run_sync.specs.Joined.{Joined};
 ghost use Rattle.ss_run_sync.specs.Runs.{Runs, Causes};
 
+use crate::endings::{Ending, Trouble};
 use crate::files::{load, save};
-use crate::lines::{status_of_stop, stopped};
+use crate::lines::stopped;
 use crate::linking::{Came, over_links};
 use crate::naming::host_named;
-use crate::reports::{Report, Trouble};
+use crate::reports::Report;
 use ss_client::{Fetch, Machine, SyncFault};
 use ss_links::{Dial, Store};
 use ss_outside::Sink;
@@ -19,12 +20,12 @@ use ss_words::{Command, SyncCommand, WordsFault, read_command};
 use std::alloc::Global;
 
 /// What is told of a run that stopped.
-fn stop(alloc: Global, fault: &SyncFault) -> Report
-    ensures { Reports fault.now result }
+fn stop(alloc: Global, fault: SyncFault) -> Report
+    ensures { Reports fault result }
 {
-    match stopped(alloc, fault) {
+    match stopped(alloc, &fault) {
         Ok(line) => Report::Line {
-            status: status_of_stop(fault),
+            ending: Ending::Stopped(fault),
             line,
         },
         Err(_) => Report::Short(Trouble::Memory),
@@ -87,7 +88,7 @@ fn sync<D: Dial, S: Store>(
         Came::Done(device, summary) => {
             save(alloc, command.file.as_str(), &device, &summary, store)
         }
-        Came::Stop(fault) => stop(alloc, &fault),
+        Came::Stop(fault) => stop(alloc, fault),
         Came::Wire => Report::Short(Trouble::Wire),
         Came::Memory => Report::Short(Trouble::Memory),
     }
@@ -100,7 +101,7 @@ fn run<D: Dial, S: Store, T: Sink>(
     dial: &mut D,
     store: &mut S,
     output: &mut T,
-) -> u8
+) -> Ending
     ensures { Runs (map (λ word. string_bytes word) words.now) result
         (record {
           asked = D.asked dial.old;
@@ -122,27 +123,27 @@ fn run<D: Dial, S: Store, T: Sink>(
 {
     let command = match read_command(alloc, words) {
         Ok(command) => command,
-        Err(WordsFault::Refused(_)) => return 1,
+        Err(WordsFault::Refused(_)) => return Ending::OtherWords,
         Err(WordsFault::Memory) => return Report::Short(Trouble::Memory).print(output),
     };
     let Command::Sync(command) = command else {
-        return 1;
+        return Ending::OtherWords;
     };
     sync(alloc, &command, dial, store).print(output)
 }
 
-/// Runs the words `sync URL FILE [--newer]`, prints one line of how it went, and answers the status: 0 where the device
-/// was synced and saved; 1 where the words ask no sync, and nothing is done or printed; 2 where a dial or a link
-/// failed; 3 where the server refused a request, 4 where something changed four times, 5 where the plan is beyond the
-/// server's limits, 9 where a reply can't be read; 6 where the file is no device's file; 7 where it could not be read
-/// or written; 8 without memory; 10 where the line could not be printed.
+/// Runs the words `sync URL FILE [--newer]`, prints one line of how it went, and answers how it ended: `Synced` where
+/// the device was synced and saved; `OtherWords` where the words ask no sync, and nothing is done or printed; `Stopped`
+/// where the server refused a request, something changed four times, the plan is beyond the server's limits or a reply
+/// can't be read; `Failed` where a dial or a link failed, the file is no device's file or could not be read or written,
+/// or without memory; `Unprinted` where the line could not be printed.
 pub fn run_sync<D: Dial, S: Store, T: Sink>(
     alloc: Global,
     words: &[String],
     dial: &mut D,
     store: &mut S,
     output: &mut T,
-) -> u8
+) -> Ending
     // What was dialled, sent, heard, saved and printed.
     ensures runs { Runs (map (λ word. string_bytes word) words.now) result
         (record {
@@ -181,7 +182,7 @@ pub fn run_sync<D: Dial, S: Store, T: Sink>(
           store_faults = S.store_faults store.new;
         }) }
     // Which count rose, by the status.
-    ensures causes { Causes result
+    ensures causes { Causes (status_of result)
         (record {
           asked = D.asked dial.old;
           hung = D.hung dial.old;
@@ -200,7 +201,7 @@ pub fn run_sync<D: Dial, S: Store, T: Sink>(
         })
         (T.Told.told output.old) (T.Told.told output.new) }
     // Only a sync that is done changes a file.
-    ensures kept { result ≢ 0 → result ≢ 10 → S.held store.new ≡ S.held store.old }
+    ensures kept { status_of result ≢ 0 → status_of result ≢ 10 → S.held store.new ≡ S.held store.old }
 {
     run(alloc, words, dial, store, output)
 }

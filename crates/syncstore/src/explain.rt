@@ -1,25 +1,28 @@
-//! What the program says on standard error of faulty words, and of a status that isn't 0. Where no memory is found for
-//! a text, a fixed one stands in its place, which takes none.
+//! What the program says on standard error of faulty words, and of how a command ended. Where no memory is found for a
+//! text, a fixed one stands in its place, which takes none.
 
 use crate::refusals::{refused, shown};
 use ss_real_site::Trouble;
+use ss_run_answer::Ending;
 use ss_run_move::{MoveCommand, Verb, read_move};
 use ss_words::{Command, ServeCommand, WordsFault, read_command};
 use std::alloc::{AllocError, Global};
 use std::io::{self, Eprint, ErrorKind};
 
-/// The status where the words can't be read: want of memory, or words that are no text.
-pub fn status_of_words(error: &io::Error) -> u8 {
-    if error.kind() == ErrorKind::OutOfMemory {
-        8
-    } else {
-        1
-    }
-}
-
 /// Says on standard error that no memory was found.
 pub fn explain_memory(rt: &impl Eprint) {
     let _ = eprintln!(rt; "syncstore: no memory was found");
+}
+
+/// Says on standard error why the words can't be read, want of memory or words that are no text, and answers the
+/// status.
+pub fn explain_unread(rt: &impl Eprint, error: &io::Error) -> u8 {
+    if error.kind() == ErrorKind::OutOfMemory {
+        explain_memory(rt);
+        return 8;
+    }
+    let _ = eprintln!(rt; "syncstore: words that are no text of UTF-8; try syncstore --help");
+    1
 }
 
 /// Says a text on standard error, or that no memory was found for it.
@@ -46,17 +49,17 @@ pub fn explain_empty(rt: &impl Eprint, word: &str, command: &str) {
     let _ = eprintln!(rt; "syncstore: {word} is an empty word; try syncstore {command} --help");
 }
 
-/// Says on standard error what a status of `answer` means.
-pub fn explain(rt: &impl Eprint, status: u8) {
-    let text = match status {
-        0 => return,
-        1 => "words that are no text of UTF-8; try syncstore --help",
-        2 => "reading the input failed",
-        3 => "writing the output failed",
-        4 => "the input ended inside a message",
-        5 => "what came is no message",
-        6 => "1,000,000 messages were answered",
-        _ => return explain_memory(rt),
+/// Says on standard error how a run of `answer` with these words ended, where its input wasn't answered to its end.
+pub fn explain_answer(rt: &impl Eprint, alloc: Global, words: &[String], ending: Ending) {
+    let text = match ending {
+        Ending::End | Ending::Asked => return,
+        Ending::OtherWords => return explain_words(rt, alloc, words),
+        Ending::Input => "reading the input failed",
+        Ending::Output => "writing the output failed",
+        Ending::Cut => "the input ended inside a message",
+        Ending::Refused => "what came is no message",
+        Ending::Count => "1,000,000 messages were answered",
+        Ending::Memory => return explain_memory(rt),
     };
     let _ = eprintln!(rt; "syncstore: {text}");
 }

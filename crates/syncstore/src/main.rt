@@ -17,10 +17,10 @@ mod usage;
 use ss_links::{TcpGate, Traffic};
 use ss_outside::{StdSink, StdSource, SystemClock};
 use ss_real_site::{Folders, RealSite};
-use ss_rehearse::run_rehearsal;
+use ss_rehearse::{Ending as RehearseEnding, run_rehearsal};
 use ss_run_answer::run_offline;
 use ss_run_audit::{NAME as AUDIT, run_audit};
-use ss_run_edit::run_device_command;
+use ss_run_edit::{Ending as EditEnding, run_device_command};
 use ss_run_flat::{NAME as FLAT, run_flat};
 use ss_run_move::Verb;
 use ss_run_serve::run_serve;
@@ -33,13 +33,9 @@ fn run_here(system: &HostRuntime, words: &[String]) -> u8 {
     let mut input = StdSource::new(system.stdin());
     let mut output = StdSink::new(system.stdout());
     let mut clock = SystemClock::new(system);
-    let status = run_offline(system.alloc(), words, &mut input, &mut output, &mut clock);
-    if status == 1 {
-        explain::explain_words(system, system.alloc(), words);
-    } else {
-        explain::explain(system, status);
-    }
-    status
+    let ending = run_offline(system.alloc(), words, &mut input, &mut output, &mut clock);
+    explain::explain_answer(system, system.alloc(), words, ending);
+    ending.status()
 }
 
 /// Runs a command on the device's file that is the standard input, and answers its status.
@@ -48,7 +44,7 @@ fn run_device(system: &HostRuntime, words: &[String]) -> u8 {
     let mut output = StdSink::new(system.stdout());
     let mut clock = SystemClock::new(system);
     let mut err = StdSink::new(system.stderr());
-    let status = run_device_command(
+    let ending = run_device_command(
         system.alloc(),
         words,
         &mut input,
@@ -56,10 +52,10 @@ fn run_device(system: &HostRuntime, words: &[String]) -> u8 {
         &mut clock,
         &mut err,
     );
-    if status == 1 {
+    if let EditEnding::OtherWords = &ending {
         explain::explain_words(system, system.alloc(), words);
     }
-    status
+    ending.status()
 }
 
 /// Runs the command `flat` on the rows that are the standard input, and answers its status.
@@ -67,7 +63,7 @@ fn flatten(system: &HostRuntime, words: &[String]) -> u8 {
     let mut input = StdSource::new(system.stdin());
     let mut output = StdSink::new(system.stdout());
     let mut err = StdSink::new(system.stderr());
-    run_flat(system.alloc(), words, &mut input, &mut output, &mut err)
+    run_flat(system.alloc(), words, &mut input, &mut output, &mut err).status()
 }
 
 /// Audits the logs that are the standard input, and answers the status.
@@ -75,18 +71,18 @@ fn audit(system: &HostRuntime, words: &[String]) -> u8 {
     let mut input = StdSource::new(system.stdin());
     let mut output = StdSink::new(system.stdout());
     let mut err = StdSink::new(system.stderr());
-    run_audit(system.alloc(), words, &mut input, &mut output, &mut err)
+    run_audit(system.alloc(), words, &mut input, &mut output, &mut err).status()
 }
 
 /// Runs the command `rehearse`, and answers its status.
 fn rehearse(system: &HostRuntime, words: &[String]) -> u8 {
     let mut output = StdSink::new(system.stdout());
     let mut err = StdSink::new(system.stderr());
-    let status = run_rehearsal(system.alloc(), words, &mut output, &mut err);
-    if status == 1 {
+    let ending = run_rehearsal(system.alloc(), words, &mut output, &mut err);
+    if let RehearseEnding::OtherWords = ending {
         explain::explain_words(system, system.alloc(), words);
     }
-    status
+    ending.status()
 }
 
 /// Whether the first word is the name of a command.
@@ -116,14 +112,10 @@ fn name_of(words: &[String]) -> Option<Name> {
 fn main(rt: HostRuntime) -> ExitCode {
     let arguments = match env::args(&rt) {
         Ok(arguments) => arguments,
-        Err(error) => {
-            let status = explain::status_of_words(&error);
-            explain::explain(&rt, status);
-            return ExitCode::from(status);
-        }
+        Err(error) => return ExitCode::from(explain::explain_unread(&rt, &error)),
     };
     let Ok(words) = arguments.skip(1).collect::<Vec<String>>(rt.alloc()) else {
-        explain::explain(&rt, 8);
+        explain::explain_memory(&rt);
         return ExitCode::from(8);
     };
     if let Some(text) = usage::asked_for(words.as_slice()) {

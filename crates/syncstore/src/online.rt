@@ -2,10 +2,12 @@
 
 use crate::explain::{explain_empty, explain_memory, explain_words, say};
 use crate::refusals::shown;
+use ss_client::SyncFault;
 use ss_device_file::{DeviceFault, read_device};
 use ss_links::{FileStore, Store, TcpDial};
 use ss_outside::StdSink;
-use ss_run_sync::run_sync;
+use ss_plan::PlanFault;
+use ss_run_sync::{Ending, Trouble, run_sync};
 use ss_words::{Command, Server, SyncCommand, read_command};
 use std::alloc::{AllocError, Global};
 use std::io::ErrorKind;
@@ -103,53 +105,90 @@ fn fault_of_file(
     }
 }
 
-/// What a status of `sync` means, and of which server or file it speaks.
-fn reason(
+/// What is said of a link or a file that failed.
+fn reason_of_trouble(
     system: &HostRuntime,
     alloc: Global,
     command: &SyncCommand,
-    status: u8,
+    trouble: Trouble,
 ) -> Result<String, AllocError> {
     let (host, port) = (command.server.host.as_str(), command.server.port);
     let name = command.file.as_str();
     let file = shown(alloc, name)?;
     let file = file.as_str();
-    match status {
-        2 => format!(in alloc;
+    match trouble {
+        Trouble::Wire => format!(in alloc;
             "the link to {host}:{port} failed: {}",
             look(system, &command.server).text()
         ),
-        3 => format!(in alloc; "{host}:{port} refused a request or a record; {file} is as before"),
-        4 => format!(in alloc;
-            "the bookmarks at {host}:{port} changed four times meanwhile; {file} is as before, so sync again"
-        ),
-        5 => format!(in alloc; "{host}:{port} doesn't take so much; {file} is as before"),
-        6 => fault_of_device(system, alloc, name, file),
-        7 => fault_of_file(system, alloc, name, file),
-        8 => format!(in alloc; "no memory was found; {file} is as before"),
-        9 => format!(in alloc;
-            "a reply of {host}:{port} is none of a storage server, or ended early; {file} is as before"
-        ),
-        _ => format!(in alloc; "writing the output failed"),
+        Trouble::Device => fault_of_device(system, alloc, name, file),
+        Trouble::Store => fault_of_file(system, alloc, name, file),
+        Trouble::Memory => format!(in alloc; "no memory was found; {file} is as before"),
     }
 }
 
-/// Says on standard error what a status of `sync` means.
-fn explain(system: &HostRuntime, alloc: Global, words: &[String], status: u8) {
+/// What is said of a sync that stopped.
+fn reason_of_stop(
+    alloc: Global,
+    command: &SyncCommand,
+    fault: &SyncFault,
+) -> Result<String, AllocError> {
+    let (host, port) = (command.server.host.as_str(), command.server.port);
+    let file = shown(alloc, command.file.as_str())?;
+    let file = file.as_str();
+    match fault {
+        SyncFault::Refused { .. } => format!(in alloc;
+            "{host}:{port} refused a request or a record; {file} is as before"
+        ),
+        SyncFault::Changing { .. } => format!(in alloc;
+            "the bookmarks at {host}:{port} changed four times meanwhile; {file} is as before, so sync again"
+        ),
+        SyncFault::Memory | SyncFault::Plan(PlanFault::Memory) => format!(in alloc;
+            "no memory was found; {file} is as before"
+        ),
+        SyncFault::Plan(_) => format!(in alloc;
+            "{host}:{port} doesn't take so much; {file} is as before"
+        ),
+        SyncFault::BadReply { .. } => format!(in alloc;
+            "a reply of {host}:{port} is none of a storage server, or ended early; {file} is as before"
+        ),
+    }
+}
+
+/// The sync that words ask; None too where no memory is found for it.
+fn sync_asked(alloc: Global, words: &[String]) -> Option<SyncCommand> {
     match read_command(alloc, words) {
-        Ok(Command::Sync(command)) => match reason(system, alloc, &command, status) {
-            Ok(reason) => say(system, format!(in alloc; "syncstore: {reason}")),
-            Err(_) => explain_memory(system),
+        Ok(Command::Sync(command)) => Some(command),
+        _ => None,
+    }
+}
+
+/// Says on standard error how a sync with these words ended, where it isn't done.
+fn explain(system: &HostRuntime, alloc: Global, words: &[String], ending: &Ending) {
+    let reason = match ending {
+        Ending::Synced(_) => return,
+        Ending::OtherWords => return explain_words(system, alloc, words),
+        Ending::Unprinted => String::from_str(alloc, "writing the output failed"),
+        Ending::Stopped(fault) => match sync_asked(alloc, words) {
+            Some(command) => reason_of_stop(alloc, &command, fault),
+            None => Err(AllocError),
         },
-        _ => explain_words(system, alloc, words),
+        Ending::Failed(trouble) => match sync_asked(alloc, words) {
+            Some(command) => reason_of_trouble(system, alloc, &command, *trouble),
+            None => Err(AllocError),
+        },
+    };
+    match reason {
+        Ok(reason) => say(system, format!(in alloc; "syncstore: {reason}")),
+        Err(_) => explain_memory(system),
     }
 }
 
 /// Whether words ask a sync of a file whose name is empty.
 fn names_no_file(alloc: Global, words: &[String]) -> bool {
-    match read_command(alloc, words) {
-        Ok(Command::Sync(command)) => command.file.as_str().is_empty(),
-        _ => false,
+    match sync_asked(alloc, words) {
+        Some(command) => command.file.as_str().is_empty(),
+        None => false,
     }
 }
 
@@ -162,9 +201,7 @@ pub fn sync(system: &HostRuntime, words: &[String]) -> u8 {
     let mut dial = TcpDial::new(system);
     let mut store = FileStore::new(system);
     let mut output = StdSink::new(system.stdout());
-    let status = run_sync(system.alloc(), words, &mut dial, &mut store, &mut output);
-    if status != 0 {
-        explain(system, system.alloc(), words, status);
-    }
-    status
+    let ending = run_sync(system.alloc(), words, &mut dial, &mut store, &mut output);
+    explain(system, system.alloc(), words, &ending);
+    ending.status()
 }

@@ -21,11 +21,11 @@ fn run(alloc: Global, case: Case) -> anyhow::Result<(u8, String)> {
     let mut input = MemSource::new(pieces, vec![in alloc; failing_read]?);
     let mut output = MemSink::new(alloc, ROOM, vec![in alloc; failing_write]?)?;
     let mut clock = CountClock::new(0);
-    let status = run_offline(alloc, words.as_slice(), &mut input, &mut output, &mut clock);
+    let ending = run_offline(alloc, words.as_slice(), &mut input, &mut output, &mut clock);
     let Some(written) = output.written() else {
         bail!("too much was written");
     };
-    Ok((status, String::from_utf8_lossy(alloc, written)?))
+    Ok((ending.status(), String::from_utf8_lossy(alloc, written)?))
 }
 
 /// What came of a run: its status, and what was written, as a JSON text.

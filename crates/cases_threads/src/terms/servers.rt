@@ -132,12 +132,12 @@ fn verdict(alloc: Global, logs: Vec<Vec<u8>>) -> anyhow::Result<String> {
     let mut input = SureSource::new(logs);
     let mut output = SureSink::new(alloc, 4096)?;
     let mut err = SureSink::new(alloc, 4096)?;
-    let status = run_audit(alloc, words.as_slice(), &mut input, &mut output, &mut err);
+    let ending = run_audit(alloc, words.as_slice(), &mut input, &mut output, &mut err);
     let Some(written) = output.written() else {
         bail!("the output has no room");
     };
     match str::from_utf8(written) {
-        Ok(line) => Ok(format!(in alloc; "{}, {status}", line.trim_end())?),
+        Ok(line) => Ok(format!(in alloc; "{}, {}", line.trim_end(), ending.status())?),
         Err(_) => bail!("no text"),
     }
 }

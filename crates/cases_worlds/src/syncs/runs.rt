@@ -91,7 +91,7 @@ pub fn run<A: Answers + Drop>(
 ) -> Result<Ran, AllocError> {
     let mut store = MemStore::new(copy_of(alloc, files)?, numbers(alloc, failing.store)?);
     let mut output = MemSink::new(alloc, ROOM, numbers(alloc, failing.output)?)?;
-    let status = run_sync(alloc, words, net, &mut store, &mut output);
+    let ending = run_sync(alloc, words, net, &mut store, &mut output);
     let name = match words.get(2) {
         Some(name) => name.as_str(),
         None => "",
@@ -102,7 +102,7 @@ pub fn run<A: Answers + Drop>(
     };
     let printed = output.written().unwrap_or(b"untold");
     Ok(Ran {
-        status,
+        status: ending.status(),
         line: String::from_utf8_lossy(alloc, printed)?,
         file,
         keeps_others: keeps_others(files, name, &store),

@@ -14,8 +14,8 @@ returns-in-Err-Refused g c =
 
 pub returns : goal.returns
 returns g c =
-    answers c.in-Answer.command.uid c.in-Answer.command.at c.answer.result (subst (λ command. Asks (map (λ word. string_bytes word) c.args.words.now) command) c.in-Answer.is c.in-Ok.ensures.asks)
-    c.status_of.ensures c.answer.ensures.answered c.answer.ensures.unread
+    answers c.in-Answer.command.uid c.in-Answer.command.at (subst (λ command. Asks (map (λ word. string_bytes word) c.args.words.now) command) c.in-Answer.is c.in-Ok.ensures.asks)
+    c.answer.ensures.answered c.answer.ensures.unread
 
 pub returns-in_default : goal.returns-in_default
 returns-in_default g c =

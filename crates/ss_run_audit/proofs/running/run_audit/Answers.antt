@@ -3,4 +3,4 @@ use Rattle.ss_run_audit.specs.Runs.{audits}
 use Rattle.ss_run_audit.proofs.running.run_audit.Goals as goal
 
 pub returns-then-asks : goal.returns-then-asks
-returns-then-asks g c = audits c.audit_input.result (c.if-asks.ensures.yes refl) c.tell.ensures c.audit_input.ensures
+returns-then-asks g c = audits (c.if-asks.ensures.yes refl) c.audit_input-ending.ensures

@@ -2,4 +2,4 @@ use Rattle.ss_run_flat.specs.Runs.{flattens}
 use Rattle.ss_run_flat.proofs.running.run_flat.Goals as goal
 
 pub returns-in-Some : goal.returns-in-Some
-returns-in-Some g c = flattens c.in-Some.kind c.flat.result c.in-Some.ensures.asks c.tell.ensures c.flat.ensures
+returns-in-Some g c = flattens c.in-Some.kind c.in-Some.ensures.asks c.flat-ending.ensures

@@ -5,7 +5,7 @@ use Rattle.ss_words.specs.Commands.{Asks}
 use Rattle.ss_words.specs.Refused.{AsksNothing}
 use Rattle.ss_words.proofs.Asked.{one_command}
 use Rattle.ss_rehearse.specs.Runs.{asks_other, rehearses}
-use Rattle.ss_rehearse.proofs.running.run_rehearsal.Goals as goal
+use Rattle.ss_rehearse.proofs.running.carry_out.Goals as goal
 
 pub returns-in-Err-Refused : goal.returns-in-Err-Refused
 returns-in-Err-Refused g c =
@@ -19,4 +19,4 @@ returns-in_default g c =
 
 pub returns : goal.returns
 returns g c =
-    rehearses c.in-Rehearse.command c.write_summary-ending.result (subst (λ (command : Command). Asks (map (λ word. string_bytes word) c.args.words.now) command) c.in-Rehearse.is c.in-Ok.ensures.asks) c.tell.ensures c.write_summary-ending.ensures
+    rehearses c.in-Rehearse.command (subst (λ (command : Command). Asks (map (λ word. string_bytes word) c.args.words.now) command) c.in-Rehearse.is c.in-Ok.ensures.asks) c.write_summary.ensures

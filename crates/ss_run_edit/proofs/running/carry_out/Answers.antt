@@ -5,7 +5,7 @@ use Rattle.ss_words.specs.Refused.{AsksNothing}
 use Rattle.ss_words.specs.Commands.{Asks}
 use Rattle.ss_words.proofs.Asked.{one_command}
 use Rattle.ss_run_edit.specs.Runs.{asks_neither, edits, merges}
-use Rattle.ss_run_edit.proofs.running.run_device_command.Goals as goal
+use Rattle.ss_run_edit.proofs.running.carry_out.Goals as goal
 
 pub returns-in-Err-Refused : goal.returns-in-Err-Refused
 returns-in-Err-Refused g c =
@@ -14,11 +14,11 @@ returns-in-Err-Refused g c =
 
 pub returns-in-Edit : goal.returns-in-Edit
 returns-in-Edit g c =
-    edits c.in-Edit.command c.edit.result (subst (λ (x : Command). Asks (map (λ word. string_bytes word) c.args.words.now) x) c.in-Edit.is c.in-Ok.ensures.asks) c.tell.ensures c.edit.ensures.edits c.edit.ensures.unread
+    edits c.in-Edit.command (subst (λ (x : Command). Asks (map (λ word. string_bytes word) c.args.words.now) x) c.in-Edit.is c.in-Ok.ensures.asks) c.edit.ensures.edits c.edit.ensures.unread
 
 pub returns-in-Merge : goal.returns-in-Merge
 returns-in-Merge g c =
-    merges c.merge.result (subst (λ (x : Command). Asks (map (λ word. string_bytes word) c.args.words.now) x) c.in-Merge.is c.in-Ok.ensures.asks) c.tell-in-Merge.ensures c.merge.ensures refl refl
+    merges (subst (λ (x : Command). Asks (map (λ word. string_bytes word) c.args.words.now) x) c.in-Merge.is c.in-Ok.ensures.asks) c.merge.ensures refl refl
 
 pub returns : goal.returns
 returns g c =

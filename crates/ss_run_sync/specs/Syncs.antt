@@ -37,6 +37,11 @@ pub record Outside : Type 0 where
   pub held : Option Files
   pub store_faults : ℕ
 
+-- the same, of a dial and a store of any kinds that tell and count it so
+abbrev pub outside_of : {D S : Type 0} → (D → Option (List Address)) → (D → Option (List HungLink)) → (D → ℕ) → (S → Option Files) → (S → ℕ) → D → S → Outside
+outside_of asked hung dial_faults held store_faults dial store =
+    record { asked = asked dial; hung = hung dial; dial_faults = dial_faults dial; held = held store; store_faults = store_faults store }
+
 -- ---- the device
 
 -- bytes that are no device's file, for a cause of the format's

@@ -3,7 +3,7 @@
 ghost use Rattle.std.specs.Prelude.{◌≡◌, ◌≢◌, map, string_bytes};
 ghost use Rattle.ss_words.specs.Urls.{HasHost};
 ghost use Rattle.ss_run_sync.specs.Endings.{Reports, status_of};
-ghost use Rattle.ss_run_sync.specs.Syncs.{Went};
+ghost use Rattle.ss_run_sync.specs.Syncs.{Went, outside_of};
 ghost use Rattle.ss_run_sync.specs.Joined.{Joined};
 ghost use Rattle.ss_run_sync.specs.Runs.{Runs, Causes};
 
@@ -52,22 +52,8 @@ fn sync<D: Dial, S: Store>(
 ) -> Report
     requires { HasHost command.now.server }
     ensures { Went command.now result
-        (record {
-          asked = D.asked dial.old;
-          hung = D.hung dial.old;
-          dial_faults = D.dial_faults dial.old;
-          held = S.held
-              store.old;
-          store_faults = S.store_faults store.old;
-        })
-        (record {
-          asked = D.asked dial.new;
-          hung = D.hung dial.new;
-          dial_faults = D.dial_faults dial.new;
-          held = S.held
-              store.new;
-          store_faults = S.store_faults store.new;
-        }) }
+        (outside_of D.asked D.hung D.dial_faults S.held S.store_faults dial.old store.old)
+        (outside_of D.asked D.hung D.dial_faults S.held S.store_faults dial.new store.new) }
 {
     let Ok(host) = host_named(alloc, &command.server) else {
         return Report::Short(Trouble::Memory);
@@ -103,22 +89,8 @@ fn run<D: Dial, S: Store, T: Sink>(
     output: &mut T,
 ) -> Ending
     ensures { Runs (map (λ word. string_bytes word) words.now) result
-        (record {
-          asked = D.asked dial.old;
-          hung = D.hung dial.old;
-          dial_faults = D.dial_faults dial.old;
-          held = S.held
-              store.old;
-          store_faults = S.store_faults store.old;
-        })
-        (record {
-          asked = D.asked dial.new;
-          hung = D.hung dial.new;
-          dial_faults = D.dial_faults dial.new;
-          held = S.held
-              store.new;
-          store_faults = S.store_faults store.new;
-        })
+        (outside_of D.asked D.hung D.dial_faults S.held S.store_faults dial.old store.old)
+        (outside_of D.asked D.hung D.dial_faults S.held S.store_faults dial.new store.new)
         (T.Told.told output.old) (T.Told.told output.new) }
 {
     let command = match read_command(alloc, words) {
@@ -146,59 +118,17 @@ pub fn run_sync<D: Dial, S: Store, T: Sink>(
 ) -> Ending
     // What was dialled, sent, heard, saved and printed.
     ensures runs { Runs (map (λ word. string_bytes word) words.now) result
-        (record {
-          asked = D.asked dial.old;
-          hung = D.hung dial.old;
-          dial_faults = D.dial_faults dial.old;
-          held = S.held
-              store.old;
-          store_faults = S.store_faults store.old;
-        })
-        (record {
-          asked = D.asked dial.new;
-          hung = D.hung dial.new;
-          dial_faults = D.dial_faults dial.new;
-          held = S.held
-              store.new;
-          store_faults = S.store_faults store.new;
-        })
+        (outside_of D.asked D.hung D.dial_faults S.held S.store_faults dial.old store.old)
+        (outside_of D.asked D.hung D.dial_faults S.held S.store_faults dial.new store.new)
         (T.Told.told output.old) (T.Told.told output.new) }
     // What went over all links together: the requests of the machine for the responses that came.
     ensures joined { Joined (map (λ word. string_bytes word) words.now)
-        (record {
-          asked = D.asked dial.old;
-          hung = D.hung dial.old;
-          dial_faults = D.dial_faults dial.old;
-          held = S.held
-              store.old;
-          store_faults = S.store_faults store.old;
-        })
-        (record {
-          asked = D.asked dial.new;
-          hung = D.hung dial.new;
-          dial_faults = D.dial_faults dial.new;
-          held = S.held
-              store.new;
-          store_faults = S.store_faults store.new;
-        }) }
+        (outside_of D.asked D.hung D.dial_faults S.held S.store_faults dial.old store.old)
+        (outside_of D.asked D.hung D.dial_faults S.held S.store_faults dial.new store.new) }
     // Which count rose, by the status.
     ensures causes { Causes (status_of result)
-        (record {
-          asked = D.asked dial.old;
-          hung = D.hung dial.old;
-          dial_faults = D.dial_faults dial.old;
-          held = S.held
-              store.old;
-          store_faults = S.store_faults store.old;
-        })
-        (record {
-          asked = D.asked dial.new;
-          hung = D.hung dial.new;
-          dial_faults = D.dial_faults dial.new;
-          held = S.held
-              store.new;
-          store_faults = S.store_faults store.new;
-        })
+        (outside_of D.asked D.hung D.dial_faults S.held S.store_faults dial.old store.old)
+        (outside_of D.asked D.hung D.dial_faults S.held S.store_faults dial.new store.new)
         (T.Told.told output.old) (T.Told.told output.new) }
     // Only a sync that is done changes a file.
     ensures kept { status_of result ≢ 0 → status_of result ≢ 10 → S.held store.new ≡ S.held store.old }

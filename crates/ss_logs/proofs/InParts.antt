@@ -97,7 +97,7 @@ over_calls text used le n back form at = no_front (next_line n) back (at ∙ dro
 abbrev empty_log : ℕ → ℕ → Kept → Journal
 empty_log moment most kept = record { opening = account_at moment kept; most = most; entries = [] }
 
-begun : (moment most : ℕ) (kept : Kept) → moment ≤ last_stamp → most < 2 ^ 32 → dump.IsTold kept → IsLog (empty_log moment most kept)
+begun : (moment most : ℕ) (kept : Kept) → moment ≤ last_stamp → most < 2 ^ 32 → dump.IsFormedInOrder kept → IsLog (empty_log moment most kept)
 begun moment most kept h k t = record { moment = h; most = k; opening = t; entries = tt }
 
 pub other_head : (text : List ℕ) (l : LogLine) (k : ℕ) → IsLogFront text l k → ((moment most : ℕ) → l ≡ Log moment most → ⊥) → NoHead text
@@ -134,7 +134,7 @@ joined : (ls : List Line) (l : Line) (ms : List Line) (ps : List LogLine) → to
 joined ls l ms ps = ap (λ t. t ++ ps) (map-append (λ line. Account line) ls (l ∷ ms)) ∙ append_assoc (told ls) (told (l ∷ ms)) ps
 
 -- the dump that goes on with a line begins with no whole one
-begun_dump : (lines : List Line) (awaited : Line) (g : dump.GoesOn lines awaited) (kept : Kept) → dump.IsTold kept → (zs : List Line) → lines ≡ dump.dump_lines kept ++ zs → ⊥
+begun_dump : (lines : List Line) (awaited : Line) (g : dump.GoesOn lines awaited) (kept : Kept) → dump.IsFormedInOrder kept → (zs : List Line) → lines ≡ dump.dump_lines kept ++ zs → ⊥
 begun_dump lines awaited g kept h [] e =
     dump_goes_on kept g.kept awaited g.behind h g.told (g.lines_are ∙ ap (λ ls. ls ++ awaited ∷ g.behind) (e ∙ append-nil (dump.dump_lines kept)))
 begun_dump lines awaited g kept h (z ∷ zs) e =
@@ -142,7 +142,7 @@ begun_dump lines awaited g kept h (z ∷ zs) e =
     (g.lines_are ∙ (ap (λ ls. ls ++ awaited ∷ g.behind) e ∙ append_assoc (dump.dump_lines kept) (z ∷ zs) (awaited ∷ g.behind)))
 
 -- the next line of a log that has told a part of its opening is the next line of this
-next_told : (lines : List Line) (awaited : Line) → dump.GoesOn lines awaited → (kept : Kept) → dump.IsTold kept → (ps : List LogLine) (l : LogLine) (behind : List LogLine)
+next_told : (lines : List Line) (awaited : Line) → dump.GoesOn lines awaited → (kept : Kept) → dump.IsFormedInOrder kept → (ps : List LogLine) (l : LogLine) (behind : List LogLine)
     → told (dump.dump_lines kept) ++ ps ≡ told lines ++ l ∷ behind → (x : Line) × (l ≡ Account x) × dump.GoesOn lines x
 next_told lines awaited g kept h ps l behind e =
     elim (fork (told (dump.dump_lines kept)) (told lines) ps (l ∷ behind) e) [

@@ -16,5 +16,5 @@ returns c = record {
       let played =
       played_on w c.fill.new.world end 100 t1 t3 (filling c.args.items c.args.seed) (parting c.args.items ++ meeting) first last c.in_ok-filled.ensures.played
       (played_on c.fill.new.world c.part.new.world end t1 t2 t3 (parting c.args.items) meeting [] last c.in_ok-parted.ensures.played c.in_ok-met.ensures.played) in
-      summary_ends c.args.items c.args.seed w end (first ++ last) t3 c.told_summary.result (λ t. t.items) c.in_ok-world.ensures.fresh c.in_ok-world.ensures.reached played c.told.ensures;
+      summary_ends c.args.items c.args.seed w end (first ++ last) t3 c.told_summary.result (λ t. t.items) c.in_ok-world.ensures.fresh c.in_ok-world.ensures.reached played c.told_summary.ensures;
 }

@@ -11,6 +11,8 @@ use Rattle.ss_client.specs.declared.summaries.Fetch.{Fetch}
 use Rattle.ss_client.specs.Runs.{MachineView}
 use Rattle.ss_client.specs.Asking.{ask, awaits}
 use Rattle.ss_client.specs.Told.{TakesMemory}
+use Rattle.ss_device.specs.declared.faults.EditFault.{EditFault}
+use Rattle.ss_device.specs.declared.faults.EditFault.TheVariants.{NoItem, NotFolder, Twice, Root, Under, Memory}
 use Rattle.ss_serving.specs.Bookmarks.{Server}
 use Rattle.ss_serving.specs.Asking.{told_by, touches}
 use Rattle.ss_serving.specs.Steps.{Answers, Reopens, Ticks}
@@ -24,7 +26,7 @@ use Rattle.ss_world.specs.Worlds.{Seat, Idle, Syncs, WorldView}
 use Rattle.ss_world.specs.Happening.{At, Asked, Delivers, Edits, IsDelivered, IsEdited, IsGivenUp, IsLost, OpensAnew}
 use Rattle.ss_world.specs.Happening.{Starts, ReadsClock}
 use Rattle.ss_world.specs.Stepping.{Begins, Changes, Fails, GivesUp, Hears, IsEditedSeat, IsHeard, IsUnheard, IsWanting}
-use Rattle.ss_world.specs.Stepping.{at_device, change_fault, request_fault, start_fault}
+use Rattle.ss_world.specs.Stepping.{at_device, change_fault, edit_refusal, request_fault, start_fault, tested_change}
 
 -- a world of a server and seats
 abbrev pub world : Server → List Seat → WorldView
@@ -167,9 +169,23 @@ pub unserved : (w : WorldView) (server after : Server) (seats : List Seat) (now 
 unserved w server after seats now request is spared t =
     record { tested = ap (λ b. cond b (Some fault.Touches) None) spared; left = inr (ticked w server after seats now is t) }
 
+-- what holds of each fault
+pub each_fault : {X E : Type 0} (r : Result X E) (Q : E → Type 0) → ((e : E) → Q e) → IfErr r Q
+each_fault (Ok x) Q h = tt
+each_fault (Err e) Q h = h e
+
+-- want of memory alone is told as such
+pub wanting_edit : (f : EditFault) → edit_refusal f ≡ fault.Memory → f ≡ Memory
+wanting_edit Memory e = refl
+wanting_edit NoItem e = cc
+wanting_edit NotFolder e = cc
+wanting_edit Twice e = cc
+wanting_edit Root e = cc
+wanting_edit Under e = cc
+
 -- an edit fails: its device isn't there, or syncs, or is as before
 pub unchanged : {X : Type 0} (r : Result X WorldFault) (w : WorldView) (server : Server) (seats new : List Seat) (n now : ℕ) (edit : Edit) → world server seats ≡ w
-    → IfErr r (λ e. (e ≡ fault.Memory) ⊎ (at_device seats n (change_fault n edit) ≡ Some e)) → IfErr r (λ e. e ≡ fault.Memory → at_device seats n (start_fault n) ≡ None) → OnErr r (new ≡ seats) → IfErr r (Fails w (Change n now edit) (world server new))
+    → IfErr r (λ e. (e ≡ fault.Memory) ⊎ (at_device seats n (change_fault n edit) ≡ Some e)) → IfErr r (λ e. e ≡ fault.Memory → at_device seats n (tested_change n edit) ≡ None) → OnErr r (new ≡ seats) → IfErr r (Fails w (Change n now edit) (world server new))
 unchanged (Ok x) w server seats new n now edit is refused wanting left = tt
 unchanged (Err e) w server seats new n now edit is refused wanting left =
     subst (λ x. Fails x (Change n now edit) (world server new) e) is

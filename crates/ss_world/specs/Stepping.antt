@@ -2,7 +2,9 @@
 use Rattle.std.specs.Prelude.{◌≡◌, ◌⊎◌, ℕ, List, set, slice_get, Option, Some, None, option_map, if◌then◌else◌, true, ⊤}
 use Rattle.std.specs.Option.{option_map_or}
 use Rattle.ss_hearing.specs.declared.answer.Answer.{Answer}
+use Rattle.ss_tree.specs.Entries.{tree}
 use Rattle.ss_device.specs.Device.{DeviceView, IsDevice}
+use Rattle.ss_device.specs.Edits.{change_fault as item_fault}
 use Rattle.ss_device.specs.declared.faults.EditFault.{EditFault}
 use Rattle.ss_device.specs.declared.faults.EditFault.TheVariants.{NoItem, NotFolder, Twice, Root, Under, Memory}
 use Rattle.ss_client.specs.declared.summaries.Fetch.{Fetch}
@@ -13,6 +15,7 @@ use Rattle.ss_query.specs.Api.{api}
 use Rattle.ss_query.specs.Fit.{IsFitRequest}
 use Rattle.ss_serving.specs.Asking.{told_by, touches}
 use Rattle.ss_world.specs.declared.events.Edit.{Edit}
+use Rattle.ss_world.specs.declared.events.Edit.TheVariants as edits
 use Rattle.ss_world.specs.declared.events.Event.{Event}
 use Rattle.ss_world.specs.declared.events.Event.TheVariants.{Start, Deliver, LoseRequest, LoseReply, Anew, Change}
 use Rattle.ss_world.specs.declared.events.Event.TheVariants.{Other, Tick, Reopen}
@@ -66,9 +69,21 @@ edit_refusal Under = fault.Edit Under
 
 -- ---- want of memory
 
--- the causes that are looked for before any memory is taken: all but those of an edit by itself
+-- Why an edit is refused before it takes memory, if it is: its item isn't there, or is a root. To add an item takes memory first, and
+-- so does it to look for the folder that one is moved to.
+abbrev pub tested_edit : DeviceView → Edit → Option EditFault
+tested_edit d (edits.Add parent item) = None
+tested_edit d (edits.Rename id title) = item_fault (tree d.tree) id
+tested_edit d (edits.Move id parent) = item_fault (tree d.tree) id
+tested_edit d (edits.Delete id) = item_fault (tree d.tree) id
+
+abbrev pub tested_change : ℕ → Edit → Seat → Option WorldFault
+tested_change n edit (Idle d) = option_map fault.Edit (tested_edit d edit)
+tested_change n edit (Syncs m) = Some (fault.Busy n)
+
+-- the causes that are looked for before any memory is taken: all but those of an edit that takes some first
 abbrev pub tested_fault : WorldView → Event → Option WorldFault
-tested_fault w (Change n now edit) = at_device w.seats n (start_fault n)
+tested_fault w (Change n now edit) = at_device w.seats n (tested_change n edit)
 tested_fault w event = fault_of w event
 
 -- the account answers a device's request, and the reply is lost, which takes memory to hand on, or with which the run might go on

@@ -7,7 +7,8 @@ ghost use Rattle.ss_serving.specs.Asking.{told_by};
 ghost use Rattle.ss_device.specs.Device.{IsDevice};
 ghost use Rattle.ss_world.specs.Seats.{device_of, started};
 ghost use Rattle.ss_world.specs.Stepping.{Begins, Changes, GivesUp, Hears, IsEditedSeat, IsHeard, LeadsOn, at_device};
-ghost use Rattle.ss_world.specs.Stepping.{change_fault, edit_refusal, request_fault, start_fault};
+ghost use Rattle.ss_world.specs.Stepping.{change_fault, edit_refusal, request_fault, start_fault, tested_change};
+ghost use Rattle.ss_world.specs.Stepping.{tested_edit};
 ghost use Rattle.ss_world.specs.Happening.{ChangesDevice, edit_fault};
 ghost use Rattle.ss_world.specs.declared.faults.WorldFault.TheVariants as fault;
 
@@ -171,6 +172,7 @@ fn apply(alloc: Global, device: &mut Device, now: u64, edit: &Edit) -> Result<()
     ensures changed { OnOk result (ChangesDevice now edit.now device.old device.new) }
     ensures edits { OnOk result (edit_fault device.old edit.now ≡ None) }
     ensures refused { IfErr result (λ e. (e ≡ EditFault.Memory) ⊎ (edit_fault device.old edit.now ≡ Some e)) }
+    ensures wanting { IfErr result (λ e. e ≡ EditFault.Memory → tested_edit device.old edit.now ≡ None) }
     ensures left { OnErr result (device.new ≡ device.old) }
 {
     match edit {
@@ -187,6 +189,7 @@ fn edit(alloc: Global, device: &mut Device, now: u64, edit: &Edit) -> Result<(),
     ensures changed { OnOk result (ChangesDevice now edit.now device.old device.new) }
     ensures edits { OnOk result (edit_fault device.old edit.now ≡ None) }
     ensures refused { IfErr result (λ e. (e ≡ EditFault.Memory) ⊎ (edit_fault device.old edit.now ≡ Some e)) }
+    ensures wanting { IfErr result (λ e. e ≡ EditFault.Memory → tested_edit device.old edit.now ≡ None) }
     ensures left { OnErr result (device.new ≡ device.old) }
 {
     let done = apply(alloc, device, now, edit);
@@ -214,7 +217,7 @@ fn edit_seat(
 ) -> Result<(), WorldFault>
     ensures changed { OnOk result (IsEditedSeat now change.now seat.new seat.old) }
     ensures refused { IfErr result (λ e. (e ≡ fault.Memory) ⊎ (change_fault n change.now seat.old ≡ Some e)) }
-    ensures wanting { IfErr result (λ e. e ≡ fault.Memory → start_fault n seat.old ≡ None) }
+    ensures wanting { IfErr result (λ e. e ≡ fault.Memory → tested_change n change.now seat.old ≡ None) }
     ensures left { OnErr result (seat.new ≡ seat.old) }
 {
     match seat {
@@ -238,7 +241,8 @@ pub(crate) fn edit_at(
         × Changes now change.now seats.old.items n seats.new.items) }
     ensures refused { IfErr result (λ e. (e ≡ fault.Memory) ⊎ (at_device seats.old.items n (change_fault n change.now)
         ≡ Some e)) }
-    ensures wanting { IfErr result (λ e. e ≡ fault.Memory → at_device seats.old.items n (start_fault n) ≡ None) }
+    ensures wanting { IfErr result (λ e. e ≡ fault.Memory → at_device seats.old.items n (tested_change n change.now)
+        ≡ None) }
     ensures left { OnErr result (seats.new.items ≡ seats.old.items) }
 {
     match seats.get_mut(n as usize) {

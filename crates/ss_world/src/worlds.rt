@@ -208,7 +208,8 @@ impl World {
 
     /// What an event makes of the world, by the definition of each. What others ask has to be within the limits of one
     /// request. A fault tells the first cause for which the event is refused, and the world is as before; or it tells
-    /// that memory was wanting, for an event that takes some, once its causes but those of an edit were looked for.
+    /// that memory was wanting, for an event that takes some, once its causes were looked for, but for those of an edit
+    /// that takes some first.
     /// From a world that events led to from an opening the bookmarks stand for one valid tree then: the one before, or
     /// the merged one where the event was the last POST of a device that came to the account.
     pub fn step(&mut self, alloc: Global, happening: &Event) -> Result<(), WorldFault>

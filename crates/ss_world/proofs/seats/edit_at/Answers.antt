@@ -2,7 +2,7 @@ use Rattle.std.proofs.Common.{◌≡◌, ◌⊎◌, length, set, slice_get, Some
 use Rattle.std.proofs.lemmas.List.{set-get_or}
 use Rattle.std.proofs.lemmas.Option.{same_Some, slice_get_read}
 use Rattle.std.proofs.lemmas.Result.{on_ok_weaker, on_err_weaker, IfErr-weaker}
-use Rattle.ss_world.specs.Stepping.{IsEditedSeat, at_device, change_fault, start_fault}
+use Rattle.ss_world.specs.Stepping.{IsEditedSeat, at_device, change_fault, tested_change}
 use Rattle.ss_world.specs.declared.faults.WorldFault.TheVariants as fault
 use Rattle.ss_world.proofs.Stepping.{cause_at}
 use Rattle.ss_world.proofs.seats.edit_at.Goals as goal
@@ -29,5 +29,5 @@ returns-in-Some-clause-left c =
 pub returns-in-Some-clause-wanting : goal.returns-in-Some-clause-wanting
 returns-in-Some-clause-wanting c =
     let at : slice_get c.args.seats.now.items c.args.n ≡ Some c.in-Some.seat.now = slice_get_read c.args.seats.now.items (length c.args.seats.now.items) c.args.n c.in-Some.seat.now refl c.in-Some.ensures.item.3.0 c.in-Some.ensures.value in
-    IfErr-weaker c.edit_seat.result (λ e. e ≡ fault.Memory → start_fault c.args.n c.in-Some.seat.now ≡ None) (λ e. e ≡ fault.Memory → at_device c.args.seats.now.items c.args.n (start_fault c.args.n) ≡ None)
-    (λ e h m. cause_at c.args.seats.now.items c.args.n c.in-Some.seat.now (start_fault c.args.n) at ∙ h m) c.edit_seat.ensures.wanting
+    IfErr-weaker c.edit_seat.result (λ e. e ≡ fault.Memory → tested_change c.args.n c.args.change.now c.in-Some.seat.now ≡ None) (λ e. e ≡ fault.Memory → at_device c.args.seats.now.items c.args.n (tested_change c.args.n c.args.change.now) ≡ None)
+    (λ e h m. cause_at c.args.seats.now.items c.args.n c.in-Some.seat.now (tested_change c.args.n c.args.change.now) at ∙ h m) c.edit_seat.ensures.wanting

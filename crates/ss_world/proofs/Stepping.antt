@@ -141,11 +141,11 @@ module _ (w : WorldView) (server : Server) (seats : List Seat) (n now : ℕ) (m 
   tested = subst (λ x. at_device x.seats n (request_fault n) ≡ None) is (requesting seats n m there)
 
   -- before a request came to the account
-  pub unasked : IsWanting w (Deliver n now) (world server seats)
-  unasked = record { tested = tested; left = inl is }
+  pub unasked : IsWanting w (Deliver n now) w
+  unasked = record { tested = tested; left = inl refl }
 
-  pub unasked_loss : IsWanting w (LoseReply n now) (world server seats)
-  unasked_loss = record { tested = tested; left = inl is }
+  pub unasked_loss : IsWanting w (LoseReply n now) w
+  unasked_loss = record { tested = tested; left = inl refl }
 
   -- the account found no memory
   pub unanswered : (after : Server) → Ticks server now after → IsWanting w (Deliver n now) (world after seats)

@@ -16,8 +16,8 @@ returns-in-Some-clause-heard c =
 
 pub returns-in-Some-clause-lost : goal.returns-in-Some-clause-lost
 returns-in-Some-clause-lost c =
-    on_err_weaker c.replace_with.result (λ h seat there. ap (set c.args.seats.now.items c.args.n) (h ∙ ap (λ x. Idle (device_of x)) (c.in-Some.ensures.value ∙ get_or_from_slice_get c.args.seats.now.items c.args.n seat c.in-Some.seat.now there))) c.replace_with.ensures.1
+    on_err_weaker c.replace_with.result (λ h seat there. ap (set c.args.seats.now.items c.args.n) (h ∙ ap (λ x. Idle (device_of x)) (c.in-Some.ensures.value ∙ get_or_from_slice_get c.args.seats.now.items c.args.n seat c.in-Some.seat.now there))) c.replace_with.ensures.1.0
 
 pub returns-in-Some-clause-wanting : goal.returns-in-Some-clause-wanting
 returns-in-Some-clause-wanting c =
-    on_err_weaker c.replace_with.result (λ h seat there. subst (LeadsOn c.args.answer) (c.in-Some.ensures.value ∙ get_or_from_slice_get c.args.seats.now.items c.args.n seat c.in-Some.seat.now there) h) c.replace_with.ensures.2
+    on_err_weaker c.replace_with.result (λ h seat there. subst (LeadsOn c.args.answer) (c.in-Some.ensures.value ∙ get_or_from_slice_get c.args.seats.now.items c.args.n seat c.in-Some.seat.now there) h) c.replace_with.ensures.1.1

@@ -15,7 +15,7 @@ pub returns-in_err-request-clause-refused : goal.returns-in_err-request-clause-r
 returns-in_err-request-clause-refused c =
     let before = server_of c.self.inside.account in
     let seats = c.self.inside.seats.items in
-    wanted c.from_residual-in_err-request.result c.args.self.now (Deliver c.args.n c.args.now) (world before seats)
+    wanted c.from_residual-in_err-request.result c.args.self.now (Deliver c.args.n c.args.now) c.args.self.now
     (unasked c.args.self.now before seats c.args.n c.args.now c.in_ok-machine.machine.now c.self.view_is (rw c.as_slice.ensures.value at c.in_ok-machine.ensures.there)) c.from_residual-in_err-request.ensures.1
 
 pub returns-in_err-reply-clause-refused : goal.returns-in_err-reply-clause-refused

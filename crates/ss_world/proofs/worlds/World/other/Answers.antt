@@ -8,8 +8,8 @@ pub returns-in_err-_reply-clause-refused : goal.returns-in_err-_reply-clause-ref
 returns-in_err-_reply-clause-refused c =
     let after = server_of c.ask.new.account in
     let seats = c.self.inside.seats.items in
-    wanted c.from_residual-in_err-_reply.result c.args.self.now (Other c.args.now c.args.request.now) (world after seats)
-    (unserved c.args.self.now (server_of c.self.inside.account) after seats c.args.now c.args.request.now c.self.view_is (sym c.touches.ensures ∙ c.if-touches.false) c.in_err-_reply.ensures.ticks) c.from_residual-in_err-_reply.ensures.1
+    wanted c.from_residual.result c.args.self.now (Other c.args.now c.args.request.now) (world after seats)
+    (unserved c.args.self.now (server_of c.self.inside.account) after seats c.args.now c.args.request.now c.self.view_is (sym c.touches.ensures ∙ c.if-touches.false) c.in_err-_reply.ensures.ticks) c.from_residual.ensures.1
 
 pub returns-clause-happens : goal.returns-clause-happens
 returns-clause-happens c =

@@ -54,22 +54,22 @@ IsLast connections old new (Some stops.Memory) = ⊤
 IsLast connections old new (Some stops.Logs) = ⊤
 IsLast connections old new (Some _) = ⊥
 
-module _ {L : Type 0} where
-  -- How things stand between two terms: the accounts, what each clock is to read, the terms that the site was told, its counts, what
-  -- its port has given, and the files of logs.
-  pub record Standing : Type 0 where
-    pub accounts : List (ℕ × Hosted)
-    pub coming : List (Option (List ℕ))
-    pub terms : Option (List (Term (LinkReport L)))
-    pub counts : Counts
-    pub port : Accepts
-    pub logs : Option Files
+-- How things stand between two terms: the accounts, what each clock is to read, the terms that the site was told, its counts, what its
+-- port has given, and the files of logs.
+pub record Standing (L : Type 0) : Type 0 where
+  pub accounts : List (ℕ × Hosted)
+  pub coming : List (Option (List ℕ))
+  pub terms : Option (List (Term (LinkReport L)))
+  pub counts : Counts
+  pub port : Accepts
+  pub logs : Option Files
 
-  abbrev pub stand : List (ℕ × Hosted) → List (Option (List ℕ)) → Option (List (Term (LinkReport L))) → Counts → Accepts → Option Files → Standing
+module _ {L : Type 0} where
+  abbrev pub stand : List (ℕ × Hosted) → List (Option (List ℕ)) → Option (List (Term (LinkReport L))) → Counts → Accepts → Option Files → Standing L
   stand accounts coming terms counts port logs = record { accounts = accounts; coming = coming; terms = terms; counts = counts; port = port; logs = logs }
 
   -- no term took place: the accounts come back as they were left, and the server stops
-  pub record IsLost (last : Option Stop) (before after : Standing) : Type 0 where
+  pub record IsLost (last : Option Stop) (before after : Standing L) : Type 0 where
     pub stop : Stop
     pub is : last ≡ Some stop
     pub why : IsUntold before.counts after.counts stop
@@ -91,7 +91,7 @@ module _ {L : Type 0} where
       pub few : length term.reports ≤ connections
 
     -- a term took place and the site wasn't told: the server stops
-    pub record IsUnheard (connections : ℕ) (last : Option Stop) (before after : Standing) : Type 0 where
+    pub record IsUnheard (connections : ℕ) (last : Option Stop) (before after : Standing L) : Type 0 where
       pub stop : Stop
       pub is : last ≡ Some stop
       pub why : IsUntold before.counts after.counts stop
@@ -101,7 +101,7 @@ module _ {L : Type 0} where
       pub took : TookPlace before.accounts after.accounts before.coming after.coming connections before.port after.port term
 
     -- a term took place, the site was told, and then the logs were saved
-    pub record IsDone (connections number : ℕ) (last : Option Stop) (before after : Standing) : Type 0 where
+    pub record IsDone (connections number : ℕ) (last : Option Stop) (before after : Standing L) : Type 0 where
       pub term : Term (LinkReport L)
       pub told : HasAdded term before.terms after.terms
       pub took : TookPlace before.accounts after.accounts before.coming after.coming connections before.port after.port term
@@ -110,5 +110,5 @@ module _ {L : Type 0} where
       pub logged : AreLoggedOnce last (logs_of_term number term.journals) before.logs after.logs
 
     -- one of the three: at most so many connections are served, the term has this number, and no further one follows for this cause
-    abbrev pub IsOnce : ℕ → ℕ → Option Stop → Standing → Standing → Type 0
+    abbrev pub IsOnce : ℕ → ℕ → Option Stop → Standing L → Standing L → Type 0
     IsOnce connections number last before after = IsLost last before after ⊎ IsUnheard connections last before after ⊎ IsDone connections number last before after

@@ -1,6 +1,6 @@
 pub mod Coursing
 pub mod Dialling
-pub mod Ending
+pub mod Ends
 pub mod Hanging
 pub mod HostName
 pub mod Joining

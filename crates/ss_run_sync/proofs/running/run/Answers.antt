@@ -6,7 +6,7 @@ use Rattle.ss_words.specs.Refused.{AsksNothing}
 use Rattle.ss_words.specs.Commands.{Asks}
 use Rattle.ss_words.proofs.Asked.{one_command}
 use Rattle.ss_run_sync.specs.Runs.{syncs, asks_nothing}
-use Rattle.ss_run_sync.proofs.Ending.{prints_told}
+use Rattle.ss_run_sync.proofs.Ends.{prints_told}
 use Rattle.ss_run_sync.proofs.running.run.Goals as goal
 
 pub returns-in_default : goal.returns-in_default

@@ -1,4 +1,4 @@
-use Rattle.ss_run_sync.proofs.Ending.{causes_of, kept_of}
+use Rattle.ss_run_sync.proofs.Ends.{causes_of, kept_of}
 use Rattle.ss_run_sync.proofs.Joining.{joined_of}
 use Rattle.ss_run_sync.proofs.running.run_sync.Goals as goal
 

@@ -2,7 +2,7 @@ use Rattle.std.proofs.Common.{Err, refl, subst, ◌∙◌}
 use Rattle.ss_run_sync.specs.declared.linking.Came.TheVariants as came
 use Rattle.ss_run_sync.specs.declared.endings.Trouble.TheVariants as trouble
 use Rattle.ss_run_sync.specs.Syncs.{Outside, Loads, Saves}
-use Rattle.ss_run_sync.proofs.Ending.{went_undialled, went_done, went_stopped, went_wire, went_memory, ran_of}
+use Rattle.ss_run_sync.proofs.Ends.{went_undialled, went_done, went_stopped, went_wire, went_memory, ran_of}
 use Rattle.ss_run_sync.proofs.running.sync.Goals as goal
 
 pub returns-in_default : goal.returns-in_default

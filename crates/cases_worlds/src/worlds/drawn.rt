@@ -253,7 +253,7 @@ fn is_over_bytes(number: u64) -> bool {
     number < OVER_BYTES
 }
 
-fn played(alloc: Global, way: Way, number: u64) -> anyhow::Result<Played> {
+fn outcome_of(alloc: Global, way: Way, number: u64) -> anyhow::Result<Played> {
     let mut watch = Watch::new(alloc, DEVICES as usize, is_over_bytes(number))?;
     let mut play = fresh(alloc, way, DEVICES)?;
     let agree = play_list(alloc, &mut watch, &mut play, number)?;
@@ -306,7 +306,7 @@ impl Total {
         number: u64,
         lines: &[String],
     ) -> anyhow::Result<u64> {
-        let played = played(alloc, Way::Bytes(manner), number)?;
+        let played = outcome_of(alloc, Way::Bytes(manner), number)?;
         self.violations = self.violations.saturating_add(played.watch.violations);
         Ok(u64::from(are_same(lines, played.watch.lines.as_slice())))
     }
@@ -327,7 +327,7 @@ impl Total {
 
     /// Plays a list.
     fn play(&mut self, alloc: Global, number: u64) -> anyhow::Result<()> {
-        let played = played(alloc, Way::World, number)?;
+        let played = outcome_of(alloc, Way::World, number)?;
         self.add(&played);
         if is_over_bytes(number) {
             self.play_over_bytes(alloc, number, played.watch.lines.as_slice())?;

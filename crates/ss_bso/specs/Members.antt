@@ -53,7 +53,7 @@ sortindex_of member = member_field (λ d. sortindex_value (option_and_then as_i6
 unfoldable pub ttl_of : Option Data → Result (Field ℕ) Reason
 ttl_of member = member_field (λ d. ttl_value (option_and_then as_u64 (as_number d))) member
 
--- go on with the value, or stop with the first error
+-- go on with the value, or stop with the first fault
 infixl 10 ◌>>=◌
 abbrev pub ◌>>=◌ : {A B E : Type 0} → Result A E → (A → Result B E) → Result B E
 (Ok x) >>= f = f x

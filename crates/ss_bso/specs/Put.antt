@@ -23,3 +23,9 @@ put old collection part time = record {
   payload = field_value part.fields.payload (option_map_or (λ row. row.payload) old []) [] (λ text. text);
   expires = field_value part.fields.ttl (option_and_then (λ row. row.expires) old) None (λ seconds. Some (time + 100 * seconds));
 }
+
+-- the payload that a part sets
+abbrev pub payload_set : Field (List ℕ) → List ℕ
+payload_set Keep = []
+payload_set Clear = []
+payload_set (Set text) = text

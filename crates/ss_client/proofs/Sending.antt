@@ -13,7 +13,8 @@ use Rattle.ss_bso.specs.Limits.{payload_size, part_bytes}
 use Rattle.ss_plan.specs.declared.limits.Limits.{Limits}
 use Rattle.ss_plan.specs.declared.limits.PlanFault.{PlanFault}
 use Rattle.ss_plan.specs.Plan.{Readings, part, puts, plan}
-use Rattle.ss_plan.specs.Refusals.{payload_set, payload_bytes, first_over, refusal, or_else}
+use Rattle.ss_plan.specs.Refusals.{payload_bytes, first_over, refusal, or_else}
+use Rattle.ss_bso.specs.Put.{payload_set}
 use Rattle.ss_route.specs.Sending.{IsUpload, uploads_text}
 use Rattle.ss_sync.specs.Posts.{fits, IsNext}
 use Rattle.ss_client.specs.Sound.{AreOurs}

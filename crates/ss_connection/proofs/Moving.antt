@@ -5,7 +5,7 @@ use Rattle.ss_desk.proofs.Lists.{append_fixed}
 use Rattle.ss_outside.specs.Told.{Meanings, HasRead, HasWritten, Takes, Loses, Writes}
 use Rattle.ss_outside.proofs.Telling.{Takes-none, Takes-append, Loses-none, Loses-append, Writes-none, Writes-append}
 use Rattle.ss_outside.proofs.Telling.{idle_append}
-use Rattle.ss_connection.specs.Ends.{Moves}
+use Rattle.ss_outside.specs.Told.{Moves}
 
 pub moves_none : (a : Meanings) → Moves [] [] a a
 moves_none a = record {

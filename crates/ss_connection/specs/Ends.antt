@@ -14,18 +14,13 @@ use Rattle.ss_route.specs.declared.manner.Manner.{Manner}
 use Rattle.ss_route.specs.declared.routed.Local.{Local}
 use Rattle.ss_route.specs.Wire.{local_wire, refusal_of}
 use Rattle.ss_connection.specs.Known.{Known}
-use Rattle.ss_connection.specs.Sending.{clamped_reading, OrMemory}
+use Rattle.ss_connection.specs.Sending.{OrMemory}
+use Rattle.ss_text.specs.Time.{clamped_reading}
 use Rattle.ss_connection.specs.Turns.{Exchange, SaysEach, most_messages}
 use Rattle.ss_connection.specs.declared.notes.End.{End}
 use Rattle.ss_connection.specs.declared.notes.End.TheVariants as ends
 use Rattle.ss_connection.specs.declared.notes.TurnNote.{TurnNote}
-
--- reads brought these bytes, and writes took those
-pub record Moves (got sent : List ℕ) (link link' : Meanings) : Type 0 where
-  pub taken : Takes got link.taken link'.taken
-  pub left : Loses got link.left link'.left
-  pub written : Writes sent link.written link'.written
-  pub idle : sent ≡ [] → link'.written ≡ link.written
+use Rattle.ss_outside.specs.Told.{Moves}
 
 -- these readings were taken of a clock, one after the other
 abbrev pub AreReadings : List ℕ → Option (List ℕ) → Option (List ℕ) → Type 0

@@ -10,9 +10,11 @@ use Rattle.ss_route.specs.declared.manner.Manner.{Manner}
 use Rattle.ss_route.specs.declared.routed.Local.{Local}
 use Rattle.ss_route.specs.Wire.{local_wire, refusal_of}
 use Rattle.ss_connection.specs.Known.{Known}
-use Rattle.ss_connection.specs.Sending.{clamped_reading, OrMemory, WasSent, WasCut}
+use Rattle.ss_connection.specs.Sending.{OrMemory, WasSent, WasCut}
+use Rattle.ss_text.specs.Time.{clamped_reading}
 use Rattle.ss_connection.specs.Turns.{Exchange, SaysEach, most_messages}
-use Rattle.ss_connection.specs.Ends.{AreRead, AreReadings, GoesOn, Moves}
+use Rattle.ss_connection.specs.Ends.{AreRead, AreReadings, GoesOn}
+use Rattle.ss_outside.specs.Told.{Moves}
 use Rattle.ss_connection.specs.declared.notes.End.{End}
 use Rattle.ss_connection.specs.declared.notes.End.TheVariants as ends
 use Rattle.ss_connection.specs.declared.notes.TurnNote.{TurnNote}

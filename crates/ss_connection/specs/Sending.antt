@@ -7,10 +7,6 @@ use Rattle.ss_http.specs.Responses.{memory_response}
 use Rattle.ss_connection.specs.declared.response.Response.{Response}
 use Rattle.ss_connection.specs.declared.response.Response.TheVariants.{Whole, Short}
 
--- a reading of the clock as a time: the lesser of it and the last one
-abbrev pub clamped_reading : ℕ → ℕ
-clamped_reading now = min now last_stamp
-
 -- the bytes of a response that is ready
 abbrev pub bytes_of : Response → List ℕ
 bytes_of (Whole text) = text.items

@@ -23,7 +23,8 @@ use Rattle.ss_route.specs.Refusals.{said}
 use Rattle.ss_route.specs.Routing.{routed}
 use Rattle.ss_route.specs.Wire.{wire, local_wire, not_listed}
 use Rattle.ss_connection.specs.Known.{Known}
-use Rattle.ss_connection.specs.Sending.{clamped_reading, OrMemory}
+use Rattle.ss_connection.specs.Sending.{OrMemory}
+use Rattle.ss_text.specs.Time.{clamped_reading}
 use Rattle.ss_connection.specs.declared.notes.Turn.{Turn}
 use Rattle.ss_connection.specs.declared.notes.Turn.TheVariants as turns
 use Rattle.ss_connection.specs.declared.notes.TurnNote.{TurnNote}

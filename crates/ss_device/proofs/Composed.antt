@@ -8,7 +8,8 @@ use Rattle.ss_record.proofs.IdLists.{has-cons}
 use Rattle.ss_record.specs.Items.{ItemView}
 use Rattle.ss_tree.specs.Trees.{PlacedItem, IsSame, IsUnder, IsValidTree, node, node_ids, parent_in}
 use Rattle.ss_device.proofs.Known.{has_is_node}
-use Rattle.ss_device.specs.Edits.{tree_after_delete, is_within, item_of, left_node, without_child, tree_after_add}
+use Rattle.ss_device.specs.Edits.{tree_after_delete, is_within, left_node, without_child, tree_after_add}
+use Rattle.ss_tree.specs.Trees.{item_of}
 use Rattle.ss_device.specs.Edits.{tree_after_rename, tree_after_move, moved_node, moved_only, new_node, with_child}
 use Rattle.ss_device.specs.Edits.{with_last, with_title, titled, revised_node, item_at_time, without_id}
 use Rattle.ss_text.proofs.Basics.{same_text, bytes_eq-same, some_same}

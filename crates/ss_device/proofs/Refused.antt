@@ -23,7 +23,8 @@ use Rattle.ss_tree.proofs.Ids.{has_node, node_found}
 use Rattle.ss_tree.proofs.Valid.{valid_tree, under_from}
 use Rattle.ss_device.specs.declared.faults.EditFault.{EditFault}
 use Rattle.ss_device.specs.declared.faults.EditFault.TheVariants.{NoItem, Root, NotFolder, Under, Twice, Memory}
-use Rattle.ss_device.specs.Edits.{add_fault, change_fault, item_of, is_fixed, is_met, is_within, lacks_item}
+use Rattle.ss_device.specs.Edits.{add_fault, change_fault, is_fixed, is_met, is_within, lacks_item}
+use Rattle.ss_tree.specs.Trees.{item_of}
 use Rattle.ss_device.specs.Edits.{takes_items}
 use Rattle.ss_device.specs.Edits as edits
 use Rattle.ss_device.specs.Refusals.{edit_of_move, edit_of_tree}

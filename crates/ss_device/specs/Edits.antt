@@ -33,9 +33,6 @@ without_id x xs = filter (λ y. not (bytes_eq x y)) xs
 
 -- ---- what a change makes of an item
 
-abbrev pub item_of : PlacedItem → ItemView
-item_of n = record { id = n.id; kind = n.kind; content = n.content }
-
 -- another content and time
 abbrev pub revised_node : List ℕ → ℕ → PlacedItem → PlacedItem
 revised_node content time n = record { id = n.id; kind = n.kind; content = content; parent = n.parent; children = n.children; time = time }

@@ -6,7 +6,8 @@ use Rattle.ss_tree.specs.Entries.{IsTree, entry, is_fixed, is_live, kids, tree}
 use Rattle.ss_tree.specs.Trees.{IsValidTree, PlacedItem, node, parent_in}
 use Rattle.ss_record.specs.Ids.{places}
 use Rattle.ss_record.specs.Items.{is_fit}
-use Rattle.ss_device.specs.Edits.{is_fixed as is_fixed_id, is_within, item_of}
+use Rattle.ss_device.specs.Edits.{is_fixed as is_fixed_id, is_within}
+use Rattle.ss_tree.specs.Trees.{item_of}
 
 -- the node is one of these
 abbrev pub among : ℕ → List ℕ → Bool

@@ -28,7 +28,7 @@ use Rattle.ss_device_file.specs.declared.lines.ItemLine.{ItemLine}
 use Rattle.ss_device_file.specs.Lines.{IsItemLine, record_in}
 use Rattle.ss_device_file.specs.Records.{all_ids, id_told, in_place, item_from, item_line_of, read_item, record_id}
 use Rattle.ss_device_file.specs.Records.{record_parts}
-use Rattle.ss_device_file.specs.Values.{id_of}
+use Rattle.ss_text.specs.Names.{id_of}
 use Rattle.ss_text.proofs.Basics.{same_text, and_then_some, map_some}
 use Rattle.ss_text.proofs.StampTexts.{decimal_digits}
 

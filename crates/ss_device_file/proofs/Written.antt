@@ -24,7 +24,8 @@ use Rattle.ss_device_file.specs.declared.lines.Line.{Line}
 use Rattle.ss_device_file.specs.declared.lines.Line.TheVariants.{Head, Synced, Row, Item, Dead, End}
 use Rattle.ss_device_file.specs.Lines.{HasForm, line_text}
 use Rattle.ss_device_file.specs.Values.{parts_of, is_item, line_in, line_from, head_from, synced_from, row_from}
-use Rattle.ss_device_file.specs.Values.{dead_from, row_with, tagged, id_of, time_of, version_of, text_at, number_at}
+use Rattle.ss_device_file.specs.Values.{dead_from, row_with, tagged, time_of, version_of, text_at, number_at}
+use Rattle.ss_text.specs.Names.{id_of}
 use Rattle.ss_device_file.specs.Values.{stamp_at, id_at, time_at}
 use Rattle.ss_device_file.proofs.Numbers.{stamp_small}
 use Rattle.ss_text.proofs.StampTexts.{two_are_digits, decimal_digits, stamp_again}

@@ -12,7 +12,7 @@ use Rattle.ss_record.specs.Ids.{places}
 use Rattle.ss_record.specs.Items.{ItemView}
 use Rattle.ss_record.specs.Records.{reading}
 use Rattle.ss_device_file.specs.declared.lines.ItemLine.{ItemLine}
-use Rattle.ss_device_file.specs.Values.{id_of}
+use Rattle.ss_text.specs.Names.{id_of}
 
 -- the members of a record, as its marked text is read
 abbrev pub record_parts : List ℕ → Option Members

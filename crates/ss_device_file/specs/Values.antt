@@ -9,6 +9,7 @@ use Rattle.ss_device_file.specs.declared.lines.Version.{Version}
 use Rattle.ss_device_file.specs.declared.lines.Version.TheVariants.{First, Second}
 use Rattle.ss_device_file.specs.declared.lines.Line.{Line}
 use Rattle.ss_device_file.specs.declared.lines.Line.TheVariants.{Head, Synced, Row, Item, Dead, End}
+use Rattle.ss_text.specs.Names.{id_of}
 
 abbrev pub version_number : Version → ℕ
 version_number First = 1
@@ -37,9 +38,6 @@ number_at k ps = option_and_then as_u64 (option_and_then as_number (get_item k p
 
 abbrev pub stamp_at : ℕ → Items → Option ℕ
 stamp_at k ps = option_and_then stamp_of (text_at k ps)
-
-abbrev pub id_of : List ℕ → Option (List ℕ)
-id_of text = if is_id text then Some text else None
 
 abbrev pub id_at : ℕ → Items → Option (List ℕ)
 id_at k ps = option_and_then id_of (text_at k ps)

@@ -17,7 +17,8 @@ use Rattle.ss_dupe.specs.declared.plain.Seat.{Seat}
 use Rattle.ss_dupe.specs.declared.plain.PlainTree.{PlainTree}
 use Rattle.ss_dupe.specs.Looks.{Id, Look, look, is_in}
 use Rattle.ss_dupe.specs.Plains.{AreIds, look_of, placed_at}
-use Rattle.ss_dupe.specs.Reading.{id_at, ids_at, name_at}
+use Rattle.ss_dupe.specs.Reading.{ids_at, name_at}
+use Rattle.ss_tree.specs.Entries.{id_at}
 use Rattle.ss_dupe.proofs.Basics.{same-true, same-is, same_turn, false_from, has-head, has-cases, has-nil}
 use Rattle.ss_dupe.proofs.Lists.{has-append_left, has-append_right, has-append_cases}
 use Rattle.ss_dupe.proofs.Shapes.{in-of_none}

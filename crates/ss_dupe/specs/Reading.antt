@@ -2,10 +2,7 @@
 use Rattle.std.specs.Prelude.{ℕ, ◌==◌, List, [], ◌∷◌, ◌++◌, Option, if◌then◌else◌, map, option_map, unwrap_or}
 use Rattle.ss_tree.specs.declared.entries.Entry.{Entry}
 use Rattle.ss_tree.specs.Entries.{entry}
-
--- the id of the item at a node
-abbrev pub id_at : List Entry → ℕ → List ℕ
-id_at es k = unwrap_or (option_map (λ e. e.item.id) (entry k es)) []
+use Rattle.ss_tree.specs.Entries.{id_at}
 
 -- and at each of some nodes
 abbrev pub ids_at : List Entry → List ℕ → List (List ℕ)

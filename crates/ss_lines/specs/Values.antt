@@ -14,6 +14,7 @@ use Rattle.ss_lines.specs.declared.values.Tag.TheVariants as tag
 use Rattle.ss_lines.specs.declared.lines.Line.{Line}
 use Rattle.ss_lines.specs.declared.lines.Line.TheVariants.{Account, Times, Collection, Row as RowLine, Batch}
 use Rattle.ss_lines.specs.declared.lines.Line.TheVariants.{Part as PartLine, Digest, End}
+use Rattle.ss_text.specs.Names.{id_of}
 
 -- ---- what a value says
 
@@ -55,9 +56,6 @@ natural_at k d = option_and_then natural_of (at k d)
 
 abbrev pub time_at : ℕ → Data → Option ℕ
 time_at k d = option_and_then stamp_of (text_at k d)
-
-abbrev pub id_of : List ℕ → Option (List ℕ)
-id_of text = if is_id text then Some text else None
 
 abbrev pub id_at : ℕ → Data → Option (List ℕ)
 id_at k d = option_and_then id_of (text_at k d)

@@ -34,7 +34,8 @@ use Rattle.ss_query.specs.declared.replies.Mark.{Mark}
 use Rattle.ss_query.specs.declared.replies.Mark.TheVariants.{Done, Keeper, Memory}
 use Rattle.ss_laws.specs.declared.journal.Entry.{Entry}
 use Rattle.ss_lines.specs.Lines.{IsPart, field, integer, natural, optional, time}
-use Rattle.ss_lines.specs.Values.{field_of, id_of, integer_of, name_of, optional_of, seconds_of}
+use Rattle.ss_lines.specs.Values.{field_of, integer_of, name_of, optional_of, seconds_of}
+use Rattle.ss_text.specs.Names.{id_of}
 use Rattle.ss_lines.specs.declared.lines.Line.TheVariants as told
 use Rattle.ss_lines.proofs.Told.{field_back, integer_back, integer_more, integer_other, optional_back, seconds_back}
 use Rattle.ss_lines.proofs.Told.{told_again}

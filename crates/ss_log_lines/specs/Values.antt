@@ -23,7 +23,8 @@ use Rattle.ss_query.specs.declared.requests.Sort.TheVariants.{Newest, Oldest, In
 use Rattle.ss_query.specs.declared.replies.Mark.{Mark}
 use Rattle.ss_query.specs.declared.replies.Mark.TheVariants.{Done, Keeper, Memory}
 use Rattle.ss_laws.specs.declared.journal.Entry.{Entry}
-use Rattle.ss_lines.specs.Values.{field_of, id_at, id_of, integer_of, line_from, name_at, natural_at, optional_of}
+use Rattle.ss_lines.specs.Values.{field_of, id_at, integer_of, line_from, name_at, natural_at, optional_of}
+use Rattle.ss_text.specs.Names.{id_of}
 use Rattle.ss_lines.specs.Values.{seconds_of, text_at, time_at}
 use Rattle.ss_log_lines.specs.declared.requests.Kind.{Kind}
 use Rattle.ss_log_lines.specs.declared.requests.Kind.TheVariants as kind

@@ -13,7 +13,8 @@ use Rattle.ss_tree.specs.Entries.{is_live, placed, tree, IsTree}
 use Rattle.ss_tree.proofs.Valid.{entry_in, in_entry, one_entry, node_found, node_at}
 use Rattle.ss_build.proofs.Stand.{node_has, has_node}
 use Rattle.ss_dupe.specs.Looks.{Id, is_places}
-use Rattle.ss_dupe.specs.Reading.{id_at, ids_at}
+use Rattle.ss_dupe.specs.Reading.{ids_at}
+use Rattle.ss_tree.specs.Entries.{id_at}
 use Rattle.ss_dupe.proofs.Basics.{false_from, has-cases}
 use Rattle.ss_dupe.proofs.ReadOut.{id_at-entry}
 use Rattle.ss_merge.specs.declared.merging.Origin.{Origin}

@@ -67,3 +67,16 @@ abbrev pub TakesFirst : Option (List ℕ) → Option (List ℕ) → ℕ → Type
 TakesFirst None new now = new ≡ None
 TakesFirst (Some []) new now = new ≡ Some []
 TakesFirst (Some (first ∷ rest)) new now = (now ≡ first) × (new ≡ Some rest)
+
+-- reads brought these bytes, and writes took those
+pub record Moves (got sent : List ℕ) (link link' : Meanings) : Type 0 where
+  pub taken : Takes got link.taken link'.taken
+  pub left : Loses got link.left link'.left
+  pub written : Writes sent link.written link'.written
+  pub idle : sent ≡ [] → link'.written ≡ link.written
+
+-- nothing was read or written, and the clock was not read
+pub record TouchesNothing (input input' output output' : Meanings) (coming coming' : Option (List ℕ)) : Type 0 where
+  pub unread : input' ≡ input
+  pub unwritten : output' ≡ output
+  pub unasked : coming' ≡ coming

@@ -19,7 +19,9 @@ use Rattle.ss_build.specs.Stand.{HasItsRows, agrees, row}
 use Rattle.ss_build.proofs.Items as items
 use Rattle.ss_build.proofs.Keyed.{key_in}
 use Rattle.ss_build.proofs.Stand.{node_id, node_has, node_none}
-use Rattle.ss_plan.specs.Plan.{Readings, gone, id_at, is_told, item_of, order, plan, puts, reading_at, record_at}
+use Rattle.ss_plan.specs.Plan.{Readings, gone, is_told, order, plan, puts, reading_at, record_at}
+use Rattle.ss_tree.specs.Entries.{id_at}
+use Rattle.ss_tree.specs.Trees.{item_of}
 use Rattle.ss_plan.specs.Plan.{record_due, record_for}
 use Rattle.ss_plan.specs.Written.{AreRowsAfter, sheet, sheet_after}
 use Rattle.ss_plan.proofs.Last.{after-append, after-puts, made, made-none, made-some}

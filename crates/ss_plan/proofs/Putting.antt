@@ -15,7 +15,9 @@ use Rattle.ss_tree.specs.Trees.{PlacedItem, node}
 use Rattle.ss_tree.specs.Entries.{IsTree, above, entry, kid_ids, placed, tree}
 use Rattle.ss_tree.proofs.Valid.{entry_in, node_at, valid_tree}
 use Rattle.ss_bso.specs.declared.parts.Part.{Part}
-use Rattle.ss_plan.specs.Plan.{Readings, id_at, item_of, part, puts, reading_at, record_due, record_for}
+use Rattle.ss_plan.specs.Plan.{Readings, part, puts, reading_at, record_due, record_for}
+use Rattle.ss_tree.specs.Entries.{id_at}
+use Rattle.ss_tree.specs.Trees.{item_of}
 use Rattle.ss_plan.specs.Refusals.{first_over}
 use Rattle.ss_plan.specs.declared.seats.Seat.{Seat}
 use Rattle.ss_plan.specs.Seats.{placed_at}

@@ -19,7 +19,8 @@ use Rattle.ss_record.proofs.Fit.{fit_reads_back}
 use Rattle.ss_build.proofs.Items.{In, In-filter}
 use Rattle.ss_build.proofs.Keyed.{key_found, key_in, has_key}
 use Rattle.ss_build.proofs.Stand.{node_id, node_has, root_under}
-use Rattle.ss_plan.specs.Plan.{Readings, gone, item_of, reading_at, record_at}
+use Rattle.ss_plan.specs.Plan.{Readings, gone, reading_at, record_at}
+use Rattle.ss_tree.specs.Trees.{item_of}
 use Rattle.ss_plan.specs.Written.{sheet}
 use Rattle.ss_text.proofs.Basics.{some_same}
 

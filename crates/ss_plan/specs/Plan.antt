@@ -12,6 +12,8 @@ use Rattle.ss_tree.specs.Trees.{PlacedItem, node, node_ids}
 use Rattle.ss_tree.specs.Entries.{entry, preorder, tree}
 use Rattle.ss_build.specs.Rows.{is_item}
 use Rattle.ss_build.specs.Stand.{agrees}
+use Rattle.ss_tree.specs.Trees.{item_of}
+use Rattle.ss_tree.specs.Entries.{id_at}
 
 -- ids with what their rows say
 abbrev pub Readings : Type 0
@@ -24,9 +26,6 @@ reading_at x readings = option_map (λ r. r.1) (find (λ r. bytes_eq x r.0) read
 -- its row is there and agrees
 unfoldable pub is_told : PlacedItem → Option Reading → Bool
 is_told n r = unwrap_or (option_map (agrees n) r) false
-
-abbrev pub item_of : PlacedItem → ItemView
-item_of n = record { id = n.id; kind = n.kind; content = n.content }
 
 -- the record of an item where it stands
 unfoldable pub record_at : PlacedItem → List ℕ
@@ -51,10 +50,6 @@ part x payload = record { id = x; fields = record { payload = Set payload; sorti
 -- a part for each id that has a payload
 unfoldable pub puts : (List ℕ → Option (List ℕ)) → List (List ℕ) → List Part
 puts payload xs = filter_map (λ x. option_map (part x) (payload x)) xs
-
--- the id of a node's item
-abbrev pub id_at : List Entry → ℕ → List ℕ
-id_at es k = unwrap_or (option_map (λ e. e.item.id) (entry k es)) []
 
 -- the ids of the tree, in preorder
 abbrev pub order : List Entry → List (List ℕ)

@@ -10,12 +10,7 @@ use Rattle.ss_plan.specs.declared.limits.Limits.{Limits}
 use Rattle.ss_plan.specs.declared.limits.PlanFault.{PlanFault}
 use Rattle.ss_plan.specs.declared.limits.PlanFault.TheVariants.{RecordTooLarge, BodyTooLarge, TooManyRecords}
 use Rattle.ss_plan.specs.declared.limits.PlanFault.TheVariants.{TooManyBytes}
-
--- the payload that a part sets
-abbrev pub payload_set : Field (List ℕ) → List ℕ
-payload_set Keep = []
-payload_set Clear = []
-payload_set (Set text) = text
+use Rattle.ss_bso.specs.Put.{payload_set}
 
 -- the payload bytes of a part
 abbrev pub payload_bytes : Part → ℕ

@@ -1,7 +1,8 @@
 //! Why a plan isn't sent.
 
 ghost use Rattle.std.specs.Prelude.{◌≡◌, [], ◌∷◌, IfOk, OnOk, length, option_map};
-ghost use Rattle.ss_plan.specs.Refusals.{body_bytes, first_over, lone_body, or_else, over, payload_bytes, payload_set};
+ghost use Rattle.ss_plan.specs.Refusals.{body_bytes, first_over, lone_body, or_else, over, payload_bytes};
+ghost use Rattle.ss_bso.specs.Put.{payload_set};
 ghost use Rattle.ss_plan.specs.Refusals.{refusal, total_bytes};
 ghost use Rattle.ss_plan.specs.declared.limits.PlanFault.TheVariants.{RecordTooLarge, BodyTooLarge, TooManyRecords};
 ghost use Rattle.ss_plan.specs.declared.limits.PlanFault.TheVariants.{TooManyBytes};

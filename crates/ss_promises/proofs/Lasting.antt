@@ -34,7 +34,7 @@ use Rattle.ss_query.specs.Api.{api, outcome, refusal}
 use Rattle.ss_laws.proofs.Times.{item_below}
 use Rattle.ss_laws.proofs.Valid.{valid-api, valid-tick}
 use Rattle.ss_laws.proofs.Written.{made}
-use Rattle.ss_route.specs.Sending.{payload_set}
+use Rattle.ss_bso.specs.Put.{payload_set}
 use Rattle.ss_serving.specs.Bookmarks.{bookmarks}
 use Rattle.ss_serving.specs.Typed.{IsTypedRow}
 use Rattle.ss_promises.specs.Values.{IsTypedAccount, IsTypedAsk, IsTypedBatch, IsTypedIndex, IsTypedRecord, StaysTyped}

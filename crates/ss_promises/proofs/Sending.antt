@@ -20,9 +20,10 @@ use Rattle.ss_plan.specs.declared.limits.Limits.{Limits}
 use Rattle.ss_plan.specs.declared.limits.PlanFault.{PlanFault}
 use Rattle.ss_plan.specs.Plan.{plan}
 use Rattle.ss_plan.specs.Refusals.{body_bytes, first_over, lone_body, or_else, payload_bytes}
-use Rattle.ss_plan.specs.Refusals.{payload_set as payload_planned, refusal}
+use Rattle.ss_plan.specs.Refusals.{refusal}
+use Rattle.ss_bso.specs.Put.{payload_set as payload_planned}
 use Rattle.ss_plan.proofs.Bodies.{body_text}
-use Rattle.ss_route.specs.Sending.{payload_set, upload_text, uploads_text}
+use Rattle.ss_route.specs.Sending.{upload_text, uploads_text}
 use Rattle.ss_route.specs.Texts.{json_text, list_text}
 use Rattle.ss_device.specs.Device.{DeviceView}
 use Rattle.ss_sync.specs.Posts.{IsNext, fits}

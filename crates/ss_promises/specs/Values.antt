@@ -14,7 +14,7 @@ use Rattle.ss_bso.specs.Validity.{IsValid}
 use Rattle.ss_query.specs.declared.requests.Request.{Request}
 use Rattle.ss_query.specs.declared.requests.Request.TheVariants.{Post, Put}
 use Rattle.ss_query.specs.Refused.{collection_time}
-use Rattle.ss_route.specs.Sending.{payload_set}
+use Rattle.ss_bso.specs.Put.{payload_set}
 use Rattle.ss_serving.specs.Bookmarks.{bookmarks}
 use Rattle.ss_serving.specs.Typed.{IsTypedRow}
 

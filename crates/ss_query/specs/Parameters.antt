@@ -13,6 +13,7 @@ use Rattle.ss_query.specs.declared.requests.Sort.TheVariants.{Newest, Oldest, In
 pub use Rattle.ss_bso.specs.Limits.{most_ids}
 use Rattle.ss_query.specs.declared.queries.QueryFault.{QueryFault}
 use Rattle.ss_query.specs.declared.queries.QueryFault.TheVariants as fault
+use Rattle.ss_bso.specs.Members.{◌>>=◌}
 
 -- the text of a name or a value
 abbrev pub text_of : List ℕ → List ℕ
@@ -68,12 +69,6 @@ optional read (Some value) = as_some (read value)
 abbrev pub or_default : {A : Type 0} → A → (List ℕ → Result A QueryFault) → Option (List ℕ) → Result A QueryFault
 or_default default read None = Ok default
 or_default default read (Some value) = read value
-
--- go on with the value, or stop with the first fault
-infixl 10 ◌>>=◌
-abbrev pub ◌>>=◌ : {A B E : Type 0} → Result A E → (A → Result B E) → Result B E
-(Ok x) >>= f = f x
-(Err e) >>= f = Err e
 
 -- the ids that a query names, if it does
 unfoldable pub ids_of_text : List ℕ → Result (Option (List (List ℕ))) QueryFault

@@ -14,7 +14,8 @@ use Rattle.ss_tree.specs.Trees.{IsSame, PlacedItem, node}
 use Rattle.ss_tree.specs.Entries.{IsTree, entry, kid_ids, kids, node_of, placed, stands_under, tree}
 use Rattle.ss_build.specs.Rows.{is_item}
 use Rattle.ss_merge.proofs.Whole.{same_ids}
-use Rattle.ss_plan.specs.Plan.{Readings, gone, id_at, order, plan, puts, reading_at, record_due, record_for}
+use Rattle.ss_plan.specs.Plan.{Readings, gone, order, plan, puts, reading_at, record_due, record_for}
+use Rattle.ss_tree.specs.Entries.{id_at}
 use Rattle.ss_rehearse.specs.Summaries.{children_of, count, is_own, is_renamed, nodes, once_where, same_id, same_item}
 use Rattle.ss_rehearse.specs.Summaries.{same_place, same_trees, summary_of}
 use Rattle.ss_rehearse.proofs.Orders.{Seen, seen, seen_once}

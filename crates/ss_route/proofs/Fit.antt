@@ -9,7 +9,8 @@ use Rattle.ss_bso.specs.Limits.{part_bytes}
 use Rattle.ss_bso.specs.declared.parts.Records.{Records}
 use Rattle.ss_http.specs.declared.message.Message.{Message}
 use Rattle.ss_query.specs.Fit.{IsFitRequest, most_post_records, most_post_bytes}
-use Rattle.ss_query.specs.Parameters.{◌>>=◌, as_some, optional, or_default, ids_in, stamp_in, limit_in, offset_in}
+use Rattle.ss_query.specs.Parameters.{as_some, optional, or_default, ids_in, stamp_in, limit_in, offset_in}
+use Rattle.ss_bso.specs.Members.{◌>>=◌}
 use Rattle.ss_query.specs.Parameters.{sort_in, ids_of_text, query_of_text, most_ids, parameter}
 use Rattle.ss_query.specs.declared.requests.Mode.{Mode}
 use Rattle.ss_query.specs.declared.requests.Sort.{Sort}

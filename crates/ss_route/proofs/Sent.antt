@@ -21,7 +21,8 @@ use Rattle.ss_bso.specs.declared.parts.Records.{Records}
 use Rattle.ss_http.specs.Requests.{IsCond, request_fields}
 use Rattle.ss_http.specs.declared.message.Message.{Message}
 use Rattle.ss_query.specs.Fit.{IsFitRequest, most_post_records, most_post_bytes}
-use Rattle.ss_query.specs.Parameters.{◌>>=◌, as_some, optional, or_default, ids_in, stamp_in, limit_in, offset_in}
+use Rattle.ss_query.specs.Parameters.{as_some, optional, or_default, ids_in, stamp_in, limit_in, offset_in}
+use Rattle.ss_bso.specs.Members.{◌>>=◌}
 use Rattle.ss_query.specs.Parameters.{sort_in, ids_of_text, query_of_text, parameter}
 use Rattle.ss_query.specs.declared.queries.QueryFault.{QueryFault}
 use Rattle.ss_query.specs.declared.queries.QueryFault.TheVariants as of_query
@@ -57,7 +58,8 @@ use Rattle.ss_route.specs.Refusals.{said, code, or_refusal, query_refusal, body_
 use Rattle.ss_route.specs.Routing.{is_get, asking, settled_routing, routed, request_in, collection_request}
 use Rattle.ss_route.specs.Routing.{list_request, post_request}
 use Rattle.ss_route.specs.Sending.{IsSent, IsTyped, IsReadable, IsReadableBatch, IsPageAt, IsListed, IsUnmodified}
-use Rattle.ss_route.specs.Sending.{IsUpload, page, all_ids, payload_set, account_path, target_of, uploads_text}
+use Rattle.ss_route.specs.Sending.{IsUpload, page, all_ids, account_path, target_of, uploads_text}
+use Rattle.ss_bso.specs.Put.{payload_set}
 use Rattle.ss_route.specs.Sending.{message_of, request_meant}
 use Rattle.ss_route.specs.Targets.{query_of, named_by, named_in, place_of, info_of, account_in}
 use Rattle.ss_route.proofs.Composed.{Pair, is_plain, IsPlainSegment, IsPlainPair, ArePlainSegments, ArePlainPairs}

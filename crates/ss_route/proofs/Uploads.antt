@@ -28,7 +28,8 @@ use Rattle.ss_bso.specs.declared.parts.Part.{Part}
 use Rattle.ss_bso.specs.declared.parts.Reason.{Reason}
 use Rattle.ss_bso.specs.declared.parts.Reason.TheVariants.{TooLarge}
 use Rattle.serde_json.specs.Data.{Data, string, object, array, put, no_members, Items, item, no_items}
-use Rattle.ss_route.specs.Sending.{IsUpload as SetsPayload, payload_set, upload_text, uploads_text}
+use Rattle.ss_route.specs.Sending.{IsUpload as SetsPayload, upload_text, uploads_text}
+use Rattle.ss_bso.specs.Put.{payload_set}
 use Rattle.ss_route.specs.Texts.{list_text, json_text}
 use Rattle.ss_bso.specs.declared.limits.TheConstants.{MOST_RECORD_PAYLOAD_BYTES}
 use Rattle.ss_text.proofs.NameLemmas.{IsUtf8-from_id}

@@ -8,7 +8,7 @@ use Rattle.ss_bso.specs.declared.parts.Records.{Records}
 use Rattle.ss_bso.specs.Members.{fields_of_text}
 use Rattle.ss_bso.specs.Bodies.{records_of_text}
 use Rattle.ss_query.specs.declared.replies.Said.TheVariants as words
-use Rattle.ss_query.specs.Parameters.{◌>>=◌}
+use Rattle.ss_bso.specs.Members.{◌>>=◌}
 use Rattle.ss_bso.specs.Limits.{part_bytes}
 use Rattle.ss_query.specs.Fit.{most_post_records, most_post_bytes}
 use Rattle.ss_route.specs.declared.routed.Local.{Local}

@@ -6,7 +6,7 @@ use Rattle.std.specs.List.{list_all}
 use Rattle.ss_text.specs.declared.stamps.Cond.{Cond}
 use Rattle.ss_text.specs.declared.stamps.Cond.TheVariants.{Free, IfModified, IfUnmodified, IfAbsent}
 use Rattle.ss_text.specs.Time.{last_stamp, stamp_of}
-use Rattle.ss_query.specs.Parameters.{◌>>=◌}
+use Rattle.ss_bso.specs.Members.{◌>>=◌}
 use Rattle.ss_query.specs.declared.replies.Said.TheVariants as words
 use Rattle.ss_route.specs.declared.manner.Manner.{Manner}
 use Rattle.ss_route.specs.declared.manner.Manner.TheVariants.{Profile, Browser}

@@ -9,7 +9,8 @@ use Rattle.ss_text.specs.Numbers.{number_of}
 use Rattle.ss_query.specs.declared.requests.Mode.{Mode}
 use Rattle.ss_query.specs.declared.requests.Mode.TheVariants.{Plain, Begin, Append, Commit}
 use Rattle.ss_query.specs.declared.replies.Said.TheVariants as words
-use Rattle.ss_query.specs.Parameters.{◌>>=◌, parameter}
+use Rattle.ss_query.specs.Parameters.{parameter}
+use Rattle.ss_bso.specs.Members.{◌>>=◌}
 use Rattle.ss_bso.specs.Limits.{most_batch_records, most_batch_bytes}
 use Rattle.ss_query.specs.Fit.{most_post_records, most_post_bytes}
 use Rattle.ss_route.specs.declared.routed.Local.{Local}

@@ -3,7 +3,8 @@
 use Rattle.std.specs.Prelude.{◌≡◌, ℕ, Bool, true, false, List, Option, Some, None, Result, Ok, Err, ⊤}
 use Rattle.ss_text.specs.declared.stamps.Cond.{Cond}
 use Rattle.ss_http.specs.declared.message.Message.{Message}
-use Rattle.ss_query.specs.Parameters.{◌>>=◌, query_of_text, ids_of_text}
+use Rattle.ss_query.specs.Parameters.{query_of_text, ids_of_text}
+use Rattle.ss_bso.specs.Members.{◌>>=◌}
 use Rattle.ss_query.specs.declared.requests.Request.{Request}
 use Rattle.ss_query.specs.declared.requests.Request.TheVariants.{Info, DeleteAll, List as ListOf, Post}
 use Rattle.ss_query.specs.declared.requests.Request.TheVariants.{DeleteCollection, DeleteIds, Get, Put, Delete}

@@ -25,6 +25,7 @@ use Rattle.ss_route.specs.Posts.{token}
 use Rattle.ss_route.specs.declared.manner.Manner.{Manner}
 use Rattle.ss_route.specs.Texts.{json_text, list_text}
 use Rattle.ss_http.specs.Limits.{most_body_bytes, most_host_bytes}
+use Rattle.ss_bso.specs.Put.{payload_set}
 
 -- the query of a page of 1,000 whole records, the oldest first: of all, or of those that are newer than a time
 abbrev pub page : Option ℕ → ℕ → Query
@@ -113,12 +114,6 @@ target_of uid (Info what cond) = account_path uid ++ codes "/info/configuration"
 target_of uid (ListOf collection query cond) = account_path uid ++ listed_text query cond
 target_of uid (Post collection records mode cond) = account_path uid ++ codes "/storage/bookmarks" ++ mode_text mode
 target_of uid _ = []
-
--- the payload of a record that sets it
-abbrev pub payload_set : Field (List ℕ) → List ℕ
-payload_set Keep = []
-payload_set Clear = []
-payload_set (Set text) = text
 
 -- a record in the body of a POST
 unfoldable pub upload_text : Part → List ℕ

@@ -6,7 +6,8 @@ ghost use Rattle.ss_query.specs.Refused.{condition_of};
 ghost use Rattle.ss_text.specs.Time.{stamp_text};
 ghost use Rattle.ss_route.specs.Posts.{token};
 ghost use Rattle.ss_route.specs.Sending.{IsSent, IsHost, method_of, account_path, offset_text, newer_text, listed_text};
-ghost use Rattle.ss_route.specs.Sending.{mode_text, target_of, payload_set, upload_text, uploads_text, body_sent};
+ghost use Rattle.ss_route.specs.Sending.{mode_text, target_of, upload_text, uploads_text, body_sent};
+ghost use Rattle.ss_bso.specs.Put.{payload_set};
 ghost use Rattle.ss_route.specs.Sending.{request_sent};
 
 use crate::scalars::{put, put_json};

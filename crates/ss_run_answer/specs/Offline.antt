@@ -5,12 +5,7 @@ use Rattle.ss_run_answer.specs.declared.endings.Ending.{Ending}
 use Rattle.ss_run_answer.specs.declared.endings.Ending.TheVariants.{OtherWords, Memory}
 use Rattle.ss_run_answer.specs.Turns.{AnswersInput}
 use Rattle.ss_run_answer.specs.Words.{AsksAnswer}
-
--- nothing was read or written, and the clock was not read
-pub record TouchesNothing (input input' output output' : Meanings) (coming coming' : Option (List ℕ)) : Type 0 where
-  pub unread : input' ≡ input
-  pub unwritten : output' ≡ output
-  pub unasked : coming' ≡ coming
+use Rattle.ss_outside.specs.Told.{TouchesNothing}
 
 -- Where the words ask to answer for an account, it is answered, and the run ends so; with a first reading of the clock the one that is
 -- handed in isn't read. Where they ask something else or nothing, that is the end, and nothing is read or written. The same where no

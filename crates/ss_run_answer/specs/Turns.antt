@@ -31,6 +31,7 @@ use Rattle.ss_run_answer.specs.declared.endings.Ending.{Ending}
 use Rattle.ss_run_answer.specs.declared.endings.Ending.TheVariants as endings
 use Rattle.ss_run_answer.specs.declared.response.Response.{Response}
 use Rattle.ss_run_answer.specs.declared.response.Response.TheVariants.{Whole, Short}
+use Rattle.ss_text.specs.Time.{clamped_reading}
 
 -- what a message asks of the account that is served, and whether lists are wanted in lines; or what it is told at once
 pub data Asked : Type 0 where
@@ -63,10 +64,6 @@ abbrev pub left_by : Course → Asked → Plain → ℕ → Plain
 left_by (entered mark) (asks request newlines) account now = (marked_outcome account now request mark).account
 left_by (entered mark) (told local) account now = account
 left_by unread question account now = account
-
--- a reading of the clock as a time: the lesser of it and the last one
-abbrev pub clamped_reading : ℕ → ℕ
-clamped_reading now = min now last_stamp
 
 -- the time that a response tells: the account's moment, or where the account wasn't asked the clock's reading
 abbrev pub time_told : Course → Asked → Plain → ℕ → ℕ

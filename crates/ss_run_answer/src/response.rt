@@ -5,7 +5,8 @@ ghost use Rattle.ss_outside.specs.Told.{Meanings};
 ghost use Rattle.ss_query.specs.declared.replies.Mark.{Mark};
 ghost use Rattle.ss_http.specs.Responses.{memory_response};
 ghost use Rattle.ss_route.specs.Wire.{wire, local_wire};
-ghost use Rattle.ss_run_answer.specs.Turns.{bytes_of, clamped_reading, OrMemory, WasSent, WasCut};
+ghost use Rattle.ss_run_answer.specs.Turns.{bytes_of, OrMemory, WasSent, WasCut};
+ghost use Rattle.ss_text.specs.Time.{clamped_reading};
 
 use ss_http::{memory_response, memory_response_len};
 use ss_outside::{Sink, WriteFault, write_all};

@@ -13,6 +13,7 @@ use Rattle.ss_run_edit.specs.declared.endings.Ending.TheVariants.{OtherWords, Un
 use Rattle.ss_run_edit.specs.Endings.{Wrote, ending_of}
 use Rattle.ss_run_edit.specs.Changes.{IsEditOf, RefusesEdit, change_of, fits}
 use Rattle.ss_run_edit.specs.Merging.{IsMergeOf, RefusesMerge}
+use Rattle.ss_outside.specs.Told.{TouchesNothing}
 
 -- An input is turned into an output: it is read whole, and what is made of its text is written; or nothing is made of it, for a
 -- cause in the text; or it is not read whole. Nothing is written but what is made of the whole text
@@ -20,12 +21,6 @@ pub data Turns (Makes : List ℕ → List ℕ → Type 0) (Refuses : List ℕ �
   written : (text out : List ℕ) → IsWhole text input input' → Makes text out → Wrote out ending output output' → Turns Makes Refuses ending input input' output output'
   refused : (text : List ℕ) → IsWhole text input input' → Refuses text ending → output' ≡ output → Turns Makes Refuses ending input input' output output'
   unread : (fault : InputFault) → ending ≡ ending_of fault → IsUnread fault input input' → output' ≡ output → Turns Makes Refuses ending input input' output output'
-
--- nothing was read or written, and the clock was not read
-pub record TouchesNothing (input input' output output' : Meanings) (coming coming' : Option (List ℕ)) : Type 0 where
-  pub unread : input' ≡ input
-  pub unwritten : output' ≡ output
-  pub unasked : coming' ≡ coming
 
 -- the time of a change: the one that the words say, or one reading of the clock
 abbrev pub IsTime : Option ℕ → ℕ → Option (List ℕ) → Option (List ℕ) → Type 0

@@ -1,7 +1,7 @@
 -- How a run ends: its status, and what is written (this project's).
-use Rattle.std.specs.Prelude.{◌≡◌, ℕ, List, ◌++◌}
-use Rattle.ss_outside.specs.Told.{Meanings, HasWritten}
-use Rattle.ss_outside.specs.Causes.{Rose}
+use Rattle.std.specs.Prelude.{ℕ, List}
+use Rattle.ss_outside.specs.Told.{Meanings}
+use Rattle.ss_outside.specs.Causes.{WritesAll, WritesFront}
 use Rattle.ss_input.specs.declared.faults.InputFault.{InputFault}
 use Rattle.ss_input.specs.declared.faults.InputFault.TheVariants as fault
 use Rattle.ss_run_flat.specs.declared.endings.Ending.{Ending}
@@ -26,6 +26,6 @@ ending_of fault.Memory = Memory
 
 -- All of a text was written; or a write failed, and a front of it was written
 abbrev pub Wrote : List ℕ → Ending → Meanings → Meanings → Type 0
-Wrote text Done output output' = HasWritten text output output' × (output'.write_faults ≡ output.write_faults)
-Wrote text Output output output' = (sent : List ℕ) × (rest : List ℕ) × (text ≡ sent ++ rest) × HasWritten sent output output' × Rose output.write_faults output'.write_faults
+Wrote text Done output output' = WritesAll text output output'
+Wrote text Output output output' = WritesFront text output output'
 Wrote text ending output output' = ⊥

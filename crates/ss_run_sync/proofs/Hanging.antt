@@ -8,7 +8,8 @@ use Rattle.ss_outside.specs.Causes.{Rose}
 use Rattle.ss_links.specs.Links.{AreNone, IsUnused}
 use Rattle.ss_links.specs.Dials.{HungLink, Tells, HasHung, HangUpCounts}
 use Rattle.ss_device.specs.Device.{DeviceView}
-use Rattle.ss_run_sync.specs.Moves.{Moves, IsUnfaulted, Fails}
+use Rattle.ss_run_sync.specs.Moves.{IsUnfaulted, Fails}
+use Rattle.ss_outside.specs.Told.{Moves}
 use Rattle.ss_run_sync.specs.Course.{Account}
 use Rattle.ss_run_sync.specs.Talks.{TalkView, taken_of, written_of}
 use Rattle.ss_run_sync.specs.Links.{Used, hung_of, Hangs}

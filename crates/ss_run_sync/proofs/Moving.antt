@@ -5,7 +5,8 @@ use Rattle.ss_outside.specs.Told.{Meanings, HasRead, HasWritten, Takes, Loses}
 use Rattle.ss_outside.specs.Causes.{Rose}
 use Rattle.ss_outside.proofs.Telling.{Takes-none, Takes-append, Loses-none, Loses-append, Writes-none, Writes-append}
 use Rattle.ss_outside.proofs.Telling.{idle_append}
-use Rattle.ss_run_sync.specs.Moves.{Moves, IsUnfaulted, Fails}
+use Rattle.ss_run_sync.specs.Moves.{IsUnfaulted, Fails}
+use Rattle.ss_outside.specs.Told.{Moves}
 
 pub moves_none : (a : Meanings) → Moves [] [] a a
 moves_none a = record {

@@ -17,7 +17,8 @@ use Rattle.ss_run_sync.specs.declared.asking.Missed.{Missed}
 use Rattle.ss_run_sync.specs.declared.asking.Missed.TheVariants as missed
 use Rattle.ss_run_sync.specs.declared.conversing.Turn.{Turn}
 use Rattle.ss_run_sync.specs.declared.conversing.Turn.TheVariants.{On, End}
-use Rattle.ss_run_sync.specs.Moves.{Moves, IsUnfaulted}
+use Rattle.ss_run_sync.specs.Moves.{IsUnfaulted}
+use Rattle.ss_outside.specs.Told.{Moves}
 use Rattle.ss_run_sync.specs.Course.{Account, Exchange, request_at, request_next, requests, responses}
 use Rattle.ss_run_sync.specs.Answers.{AsksOnce}
 use Rattle.ss_run_sync.specs.Talks.{TalkView, taken_of, written_of, GoesOn, EndsIn, IsWhole, IsBadReply, IsWanting}

@@ -7,7 +7,8 @@ use Rattle.ss_http.specs.declared.heard.HeardFault.TheVariants as faults
 use Rattle.ss_http.specs.Hearing.{Hears, IsHeardFault, EndsHearing}
 use Rattle.ss_run_sync.specs.declared.asking.Missed.{Missed}
 use Rattle.ss_run_sync.specs.declared.asking.Missed.TheVariants as missed
-use Rattle.ss_run_sync.specs.Moves.{Moves, IsUnfaulted, Fails}
+use Rattle.ss_run_sync.specs.Moves.{IsUnfaulted, Fails}
+use Rattle.ss_outside.specs.Told.{Moves}
 
 -- the bytes are why no response is read: they were cut short, they begin no response, or one that is too large
 abbrev pub IsOfBytes : HeardFault → Type 0

@@ -3,13 +3,6 @@ use Rattle.std.specs.Prelude.{◌≡◌, ◌⊎◌, ℕ, List, [], ◌++◌}
 use Rattle.ss_outside.specs.Told.{Meanings, Takes, Loses, Writes}
 use Rattle.ss_outside.specs.Causes.{Rose}
 
--- reads brought these bytes, and writes took those
-pub record Moves (got sent : List ℕ) (link link' : Meanings) : Type 0 where
-  pub taken : Takes got link.taken link'.taken
-  pub left : Loses got link.left link'.left
-  pub written : Writes sent link.written link'.written
-  pub idle : sent ≡ [] → link'.written ≡ link.written
-
 -- no read and no write failed
 pub record IsUnfaulted (link link' : Meanings) : Type 0 where
   pub reads : link'.read_faults ≡ link.read_faults

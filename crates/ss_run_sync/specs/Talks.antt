@@ -12,7 +12,8 @@ use Rattle.ss_client.specs.Machine.{Next, Send, Done, Stop}
 use Rattle.ss_client.specs.Bounds.{to_follow}
 use Rattle.ss_run_sync.specs.declared.talk.Talk.{Talk}
 use Rattle.ss_run_sync.specs.declared.talk.Talk.TheVariants as talks
-use Rattle.ss_run_sync.specs.Moves.{Moves, IsUnfaulted, Fails}
+use Rattle.ss_run_sync.specs.Moves.{IsUnfaulted, Fails}
+use Rattle.ss_outside.specs.Told.{Moves}
 use Rattle.ss_run_sync.specs.Course.{Account, Exchange, request_next, requests, responses, IsCourse}
 use Rattle.ss_run_sync.specs.Answers.{IsUnread}
 

@@ -9,7 +9,8 @@ use Rattle.ss_client.specs.Machine.{Next, Send, Done, Stop, Follows}
 use Rattle.ss_run_sync.specs.declared.talk.Talk.TheVariants as talks
 use Rattle.ss_run_sync.specs.declared.conversing.Turn.{Turn}
 use Rattle.ss_run_sync.specs.declared.conversing.Turn.TheVariants.{On, End}
-use Rattle.ss_run_sync.specs.Moves.{Moves, IsUnfaulted}
+use Rattle.ss_run_sync.specs.Moves.{IsUnfaulted}
+use Rattle.ss_outside.specs.Told.{Moves}
 use Rattle.ss_run_sync.specs.Course.{Account, Exchange, requests, responses, IsCourse}
 use Rattle.ss_run_sync.specs.Talks.{GoesOn, Talks, IsCloser, IsNearer}
 

@@ -1,7 +1,8 @@
 //! How much a POST takes.
 
 ghost use Rattle.std.specs.Prelude.{◌≡◌, ◌⊎◌, ◌<◌, ◌&&◌, nat_le, true, false, length, IfOk};
-ghost use Rattle.ss_plan.specs.Refusals.{payload_bytes, payload_set};
+ghost use Rattle.ss_plan.specs.Refusals.{payload_bytes};
+ghost use Rattle.ss_bso.specs.Put.{payload_set};
 ghost use Rattle.ss_route.specs.Sending.{upload_text};
 ghost use Rattle.ss_sync.specs.Posts.{fits, IsNext};
 

@@ -1,5 +1,5 @@
 -- The forms of ids and of names (SyncStorage API 1.5).
-use Rattle.std.specs.Prelude.{ℕ, Bool, ◌&&◌, ◌||◌, ◌==◌, nat_le, List, length}
+use Rattle.std.specs.Prelude.{ℕ, Bool, ◌&&◌, ◌||◌, ◌==◌, nat_le, List, length, Option, Some, None, if◌then◌else◌}
 use Rattle.std.specs.List.{list_all}
 use Rattle.std.specs.Char.{is_ascii_alphanumeric}
 
@@ -18,3 +18,7 @@ is_name_byte b = is_ascii_alphanumeric b || b == 0x5f || b == 0x2d || b == 0x2e
 -- the form of a collection's name: 1 to 32 such bytes
 abbrev pub is_name : List ℕ → Bool
 is_name text = nat_le 1 (length text) && nat_le (length text) 32 && list_all is_name_byte text
+
+-- an id of a record
+abbrev pub id_of : List ℕ → Option (List ℕ)
+id_of text = if is_id text then Some text else None

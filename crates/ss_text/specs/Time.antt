@@ -57,3 +57,7 @@ stops Free there time = None
 stops (IfModified since) there time = if nat_le time since then Some 304 else None
 stops (IfUnmodified since) there time = if nat_lt since time then Some 412 else None
 stops IfAbsent there time = if there then Some 412 else None
+
+-- a reading of the clock as a time: the lesser of it and the last one
+abbrev pub clamped_reading : ℕ → ℕ
+clamped_reading now = min now last_stamp

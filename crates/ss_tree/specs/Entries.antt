@@ -202,3 +202,7 @@ new_entries =
     ∷ record { node = 3; parent = Some 0; item = empty_folder (codes "unfiled"); time = 0 }
     ∷ record { node = 4; parent = Some 0; item = empty_folder (codes "mobile"); time = 0 }
     ∷ []
+
+-- the id of the item at a node
+abbrev pub id_at : List Entry → ℕ → List ℕ
+id_at es k = unwrap_or (option_map (λ e. e.item.id) (entry k es)) []

@@ -5,6 +5,7 @@ use Rattle.ss_record.specs.declared.kinds.Kind.{Kind}
 use Rattle.ss_record.specs.declared.kinds.Kind.TheVariants.{Folder}
 use Rattle.ss_record.specs.Ids.{has, Apart, places, roots}
 use Rattle.ss_record.specs.Kinds.{is_folder}
+use Rattle.ss_record.specs.Items.{ItemView}
 
 -- an item in its place
 pub record PlacedItem : Type 0 where
@@ -68,3 +69,7 @@ empty_node r = record { id = r; kind = Folder; content = codes "{}"; parent = So
 -- `places` and the four roots, with nothing below
 unfoldable pub empty_tree : List PlacedItem
 empty_tree = places_node ∷ map empty_node roots
+
+-- the item that stands in a place
+abbrev pub item_of : PlacedItem → ItemView
+item_of n = record { id = n.id; kind = n.kind; content = n.content }

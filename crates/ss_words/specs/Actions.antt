@@ -3,7 +3,7 @@ use Rattle.std.specs.Prelude.{ℕ, List, [], ◌∷◌, Option, Some, None, code
 use Rattle.std.specs.Prelude.{if◌then◌else◌}
 use Rattle.ss_words.specs.declared.actions.Action.{Action}
 use Rattle.ss_words.specs.declared.actions.Action.TheVariants.{New, Bookmark, Folder, Separator, Rename, Move, Delete}
-use Rattle.ss_words.specs.Values.{id_of}
+use Rattle.ss_text.specs.Names.{id_of}
 
 abbrev pub new_in : List (List ℕ) → Option Action
 new_in [] = Some New

@@ -36,10 +36,6 @@ optional_number low high (Some text) = option_map (λ number. Some number) (numb
 abbrev pub number_given : OptionName → ℕ → ℕ → Line → Option (Option ℕ)
 number_given option low high line = option_and_then (optional_number low high) (given option line)
 
--- an id of a record
-abbrev pub id_of : List ℕ → Option (List ℕ)
-id_of text = if is_id text then Some text else None
-
 -- the accounts that all these words name
 abbrev pub uids_of : List (List ℕ) → Option (List ℕ)
 uids_of [] = Some []

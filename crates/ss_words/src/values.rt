@@ -4,7 +4,8 @@ ghost use Rattle.std.specs.Prelude.{◌≡◌, ◌≤◌, ◌==◌, Some, None, 
 ghost use Rattle.std.specs.Option.{option_copied};
 ghost use Rattle.ss_route.specs.Targets.{uid_of};
 ghost use Rattle.ss_words.specs.Refused.{AsksNothing};
-ghost use Rattle.ss_words.specs.Values.{given, number_in, optional_number, number_given, id_of, accounts_of, uids_of};
+ghost use Rattle.ss_words.specs.Values.{given, number_in, optional_number, number_given, accounts_of, uids_of};
+ghost use Rattle.ss_text.specs.Names.{id_of};
 ghost use Rattle.ss_words.specs.Values.{are_distinct, are_accounts};
 
 use crate::lines::Line;

@@ -2,7 +2,8 @@ use Rattle.std.proofs.Common.{◌≡◌, true}
 use Rattle.ss_record.specs.Items.{is_fit}
 use Rattle.ss_tree.specs.Trees.{node}
 use Rattle.ss_tree.specs.Entries.{tree}
-use Rattle.ss_device.specs.Edits.{item_of, left_node}
+use Rattle.ss_device.specs.Edits.{left_node}
+use Rattle.ss_tree.specs.Trees.{item_of}
 use Rattle.ss_device.proofs.Composed.{delete_same, left_change, still, through}
 use Rattle.ss_device.proofs.deletions.take_out.Goals as goal
 

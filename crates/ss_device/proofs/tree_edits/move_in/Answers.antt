@@ -3,7 +3,8 @@ use Rattle.ss_record.specs.Ids.{places}
 use Rattle.ss_record.specs.Items.{is_fit}
 use Rattle.ss_tree.specs.Trees.{node}
 use Rattle.ss_tree.specs.Entries.{tree}
-use Rattle.ss_device.specs.Edits.{item_of, moved_only, item_at_time}
+use Rattle.ss_device.specs.Edits.{moved_only, item_at_time}
+use Rattle.ss_tree.specs.Trees.{item_of}
 use Rattle.ss_device.proofs.Composed.{move_same, still, through}
 use Rattle.ss_device.proofs.Known.{has_is_node}
 use Rattle.ss_device.proofs.Refused.{change_loose, change_not_memory, fixed_inner, move_from_change, move_no_parent}

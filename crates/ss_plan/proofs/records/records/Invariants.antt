@@ -3,7 +3,8 @@ use Rattle.ss_record.specs.Items.{is_fit}
 use Rattle.ss_tree.specs.declared.entries.Entry.{Entry}
 use Rattle.ss_tree.specs.Entries.{entry, tree}
 use Rattle.ss_tree.proofs.Valid.{In}
-use Rattle.ss_plan.specs.Plan.{id_at, puts, record_for}
+use Rattle.ss_plan.specs.Plan.{puts, record_for}
+use Rattle.ss_tree.specs.Entries.{id_at}
 use Rattle.ss_plan.proofs.records.records.Given as goal
 
 abbrev pub invariant-loop-node : goal.invariant-loop-node

@@ -1,7 +1,8 @@
 use Rattle.std.proofs.Common.{◌++◌, ◌∙◌, ap₂, codes}
 use Rattle.serde_json.specs.Data.{string}
 use Rattle.serde_json.specs.Written.{compact_text}
-use Rattle.ss_plan.specs.Refusals.{lone_body, payload_set}
+use Rattle.ss_plan.specs.Refusals.{lone_body}
+use Rattle.ss_bso.specs.Put.{payload_set}
 use Rattle.ss_plan.proofs.Bodies.{body_text, five}
 use Rattle.ss_plan.proofs.refusals.write_body.Goals as goal
 

@@ -1,6 +1,6 @@
 use Rattle.std.proofs.Common.{◌≤◌, ◌∙◌, ap, arith, length, map, sym, take_all}
 use Rattle.ss_tree.proofs.Settled.{kid_ids_are}
-use Rattle.ss_plan.specs.Plan.{id_at}
+use Rattle.ss_tree.specs.Entries.{id_at}
 use Rattle.ss_plan.proofs.seats.children_of.Goals as goal
 
 pub returns : goal.returns

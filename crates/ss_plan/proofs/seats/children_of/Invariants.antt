@@ -1,5 +1,5 @@
 use Rattle.std.proofs.Common.{◌≡◌, take, map}
-use Rattle.ss_plan.specs.Plan.{id_at}
+use Rattle.ss_tree.specs.Entries.{id_at}
 use Rattle.ss_plan.proofs.seats.children_of.Given as goal
 
 abbrev pub invariant-loop-child : goal.invariant-loop-child

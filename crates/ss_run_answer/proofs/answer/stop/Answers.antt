@@ -4,7 +4,8 @@ use Rattle.std.specs.Option.{option_map_or}
 use Rattle.ss_http.specs.Responses.{memory_response}
 use Rattle.ss_route.specs.declared.routed.Local.{Local}
 use Rattle.ss_route.specs.Wire.{local_wire, refusal_of}
-use Rattle.ss_run_answer.specs.Turns.{Refused, refusal_response, clamped_reading, WasSent, WasCut, bytes_of}
+use Rattle.ss_run_answer.specs.Turns.{Refused, refusal_response, WasSent, WasCut, bytes_of}
+use Rattle.ss_text.specs.Time.{clamped_reading}
 use Rattle.ss_run_answer.proofs.answer.stop.Goals as goal
 
 -- the refusal of a fault that is answered by this local reply

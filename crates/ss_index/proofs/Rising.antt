@@ -1,8 +1,9 @@
 -- Changes whose times rise, after the rows that are there.
-use Rattle.std.specs.Prelude.{◌≡◌, ℕ, ◌+◌, ◌≤◌, ◌<◌, Bool, true, false, not, cond, List, [], ◌∷◌, ◌++◌, length, take}
-use Rattle.std.specs.Prelude.{get_or, filter, Some, None, bytes_eq, refl}
+use Rattle.std.specs.Prelude.{◌≡◌, ℕ, zero, suc, ◌+◌, ◌≤◌, ◌<◌, Bool, true, false, not, cond, List, [], ◌∷◌, ◌++◌}
+use Rattle.std.specs.Prelude.{length, take, get_or, filter, Some, None, IfSome, bytes_eq, nat_eq, refl}
 use Rattle.std.proofs.Common.{sym, ap, subst, ◌∙◌, arith, inl, inr}
 use Rattle.std.proofs.lemmas.List.{take_more}
+use Rattle.std.proofs.lemmas.Map.Views.{IfSome-lookup_from_All}
 use Rattle.std.specs.Map.{keys_of, values_of}
 use Rattle.ss_bso.specs.declared.rows.Row.{Row}
 use Rattle.ss_bso.specs.declared.changes.RowChange.{RowChange}
@@ -10,11 +11,11 @@ use Rattle.ss_bso.specs.declared.changes.RowChange.TheVariants as row
 use Rattle.ss_bso.specs.Account.{is_alive, is_at}
 use Rattle.ss_bso.specs.Changes.{row_changed, rows_but}
 use Rattle.ss_bso.specs.Lists.{Each, Pairs}
-use Rattle.ss_bso.proofs.Lists.{Each-and, Each-append, Each-filter, Each-imp, Pairs-append}
+use Rattle.ss_bso.proofs.Lists.{All-from_Each, Each-and, Each-append, Each-filter, Each-imp, Pairs-append}
 use Rattle.indexmap.specs.IndexMap.{IndexMap}
 use Rattle.ss_list.specs.Chain.{Chain, places, value_of, last_of}
 use Rattle.ss_index.specs.Layout.{NoLater, IsKept}
-use Rattle.ss_index.specs.Ready.{IsLast, InTime, NotEarlier, NotLater, rows_left}
+use Rattle.ss_index.specs.Ready.{IsLast, InTime, NotEarlier, NotLater, PutsInOrder, Sooner, put_time, rows_left}
 use Rattle.ss_index.specs.Shelved.{rows_without}
 use Rattle.ss_index.proofs.Sweeping.{middle_value}
 use Rattle.ss_index.proofs.Walks.{keys-append, last_of-push, empty_or_ends, Each-values, no_later}
@@ -60,11 +61,6 @@ last-filter keep rows (row.Put new) e =
     (Each-filter (λ (one : Row). bytes_eq one.collection new.collection ≡ true → P one) keep rows (filter-each P (λ one. bytes_eq one.collection new.collection) rows e))
 last-filter keep rows (row.Drop collection id) e = tt
 
--- the second puts no earlier row than the first
-abbrev pub Sooner : RowChange → RowChange → Type 0
-Sooner (row.Put new) other = NotEarlier new.modified other
-Sooner (row.Drop collection id) other = Unit {0}
-
 last-changed : (change other : RowChange) (rows : List Row) → IsLast rows other → Sooner change other → IsLast (row_changed rows change) other
 last-changed (row.Drop collection id) other rows e s = last-filter (λ one. not (is_at collection id one)) rows other e
 last-changed (row.Put new) (row.Drop collection id) rows e s = tt
@@ -97,11 +93,21 @@ rising_in_time names moment rows changes e p =
     (Each-imp (λ (change : RowChange). IsLast rows change) (λ (change : RowChange). IsLast (rows_left names (filter (is_alive moment) rows)) change)
     (λ change h. last-left names (filter (is_alive moment) rows) change (last-filter (is_alive moment) rows change h)) changes e) p
 
--- how far changes were looked at
+-- how far changes were looked at: the time is that of the last row that they put, so that what no change puts later than isn't
+-- earlier
 pub record Rising (rows : List Row) (time : ℕ) (changes : List RowChange) : Type 0 where
   pub last : Each (λ (change : RowChange). IsLast rows change) changes
   pub early : Each (NotLater time) changes
   pub order : Pairs Sooner changes
+  pub reached : (other : RowChange) → Each (λ (change : RowChange). Sooner change other) changes → NotEarlier time other
+
+not_earlier-zero : (other : RowChange) → NotEarlier 0 other
+not_earlier-zero (row.Put new) = omega arith
+not_earlier-zero (row.Drop collection id) = tt
+
+-- before any change
+pub rising-none : (rows : List Row) → Rising rows 0 []
+rising-none rows = record { last = tt; early = tt; order = tt; reached = λ other all. not_earlier-zero other }
 
 not_later-more : (time later : ℕ) (change : RowChange) → time ≤ later → NotLater time change → NotLater later change
 not_later-more time later (row.Put new) le h = omega (arith, h)
@@ -112,9 +118,23 @@ sooner-from time (row.Put new) (row.Put next) h g = omega (arith, h, g)
 sooner-from time (row.Put new) (row.Drop collection id) h g = tt
 sooner-from time (row.Drop collection id) other h g = tt
 
+Each-front : {X : Type 0} (P : X → Type 0) (xs ys : List X) → Each P (xs ++ ys) → Each P xs
+Each-front P [] ys e = tt
+Each-front P (x ∷ xs) ys e = (e.0, Each-front P xs ys e.1)
+
+Each-back : {X : Type 0} (P : X → Type 0) (xs ys : List X) → Each P (xs ++ ys) → Each P ys
+Each-back P [] ys e = e
+Each-back P (x ∷ xs) ys e = Each-back P xs ys e.1
+
+-- what isn't earlier than a change after all of these isn't earlier than its time
+reached-more : (time : ℕ) (before : List RowChange) (change other : RowChange) → (Each (λ (one : RowChange). Sooner one other) before → NotEarlier time other)
+    → Each (λ (one : RowChange). Sooner one other) (before ++ change ∷ []) → NotEarlier (put_time time change) other
+reached-more time before (row.Put new) other so_far e = (Each-back (λ (one : RowChange). Sooner one other) before (row.Put new ∷ []) e).0
+reached-more time before (row.Drop collection id) other so_far e = so_far (Each-front (λ (one : RowChange). Sooner one other) before (row.Drop collection id ∷ []) e)
+
 pub rising-more : (rows : List Row) (time later : ℕ) (changes : List RowChange) (i : ℕ) (change : RowChange) → i < length changes → change ≡ get_or changes i change → Rising rows time (take i changes)
-    → IsLast rows change → NotEarlier time change → time ≤ later → NotLater later change → Rising rows later (take (i + 1) changes)
-rising-more rows time later changes i change lt is so_far last after le within =
+    → IsLast rows change → NotEarlier time change → time ≤ later → NotLater later change → later ≡ put_time time change → Rising rows later (take (i + 1) changes)
+rising-more rows time later changes i change lt is so_far last after le within reached =
     let before : List RowChange = take i changes in
     let cut : take (i + 1) changes ≡ before ++ change ∷ [] = take_more changes i change lt ∙ ap (λ one. before ++ one ∷ []) (sym is) in
     subst (λ l. Rising rows later l) (sym cut) (record {
@@ -122,4 +142,27 @@ rising-more rows time later changes i change lt is so_far last after le within =
       early = Each-append (NotLater later) before (change ∷ []) (Each-imp (NotLater time) (NotLater later) (λ one h. not_later-more time later one le h) before so_far.early) (within, tt);
       order = Pairs-append Sooner before (change ∷ []) so_far.order (tt, tt)
           (Each-imp (NotLater time) (λ (one : RowChange). Each (Sooner one) (change ∷ [])) (λ one h. (sooner-from time one change h after, tt)) before so_far.early);
+      reached = λ other e. subst (λ t. NotEarlier t other) (sym reached) (reached-more time before change other (so_far.reached other) e);
     })
+
+-- ---- a change that isn't in order
+
+each-at : {X : Type 0} (P : X → Type 0) (xs : List X) (i : ℕ) (x : X) → i < length xs → x ≡ get_or xs i x → Each P xs → P x
+each-at P [] i x lt is e = absurd (omega arith)
+each-at P (y ∷ ys) zero x lt is e = subst P (sym is) e.0
+each-at P (y ∷ ys) (suc i) x lt is e = each-at P ys i x (omega arith) is e.1
+
+before-at : {X : Type 0} (R : X → X → Type 0) (xs : List X) (i : ℕ) (x : X) → i < length xs → x ≡ get_or xs i x → Pairs R xs → Each (λ (one : X). R one x) (take i xs)
+before-at R [] i x lt is p = tt
+before-at R (y ∷ ys) zero x lt is p = tt
+before-at R (y ∷ ys) (suc i) x lt is p = (each-at (R y) ys i x (omega arith) is p.0, before-at R ys i x (omega arith) is p.1)
+
+-- a change that is refused shows that they aren't in order
+pub out_of_order : (rows : List Row) (time : ℕ) (changes : List RowChange) (i : ℕ) (change : RowChange) → i < length changes → change ≡ get_or changes i change → Rising rows time (take i changes)
+    → (IsLast rows change → NotEarlier time change → ⊥) → PutsInOrder rows changes → ⊥
+out_of_order rows time changes i change lt is so_far refused order =
+    refused (each-at (λ (one : RowChange). IsLast rows one) changes i change lt is order.0) (so_far.reached change (before-at Sooner changes i change lt is order.1))
+
+-- what holds of each row of a chain holds of the one at a place
+pub each_value : (P : Row → Type 0) (chain : Chain Row) (at : ℕ) (row : Row) → value_of chain at ≡ Some row → Each P (values_of chain.nodes) → P row
+each_value P chain at row e all = subst (λ o. IfSome o P) e (IfSome-lookup_from_All P (nat_eq at) chain.nodes (All-from_Each P (values_of chain.nodes) all))

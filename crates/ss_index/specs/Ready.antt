@@ -11,7 +11,7 @@ use Rattle.ss_bso.specs.Limits.{rows_of}
 use Rattle.ss_index.specs.declared.ready.ReadyRow.{ReadyRow}
 use Rattle.ss_index.specs.declared.ready.ReadyRow.TheVariants as entry
 use Rattle.ss_index.specs.Held.{Held}
-use Rattle.ss_bso.specs.Lists.{Each}
+use Rattle.ss_bso.specs.Lists.{Each, Pairs}
 use Rattle.ss_index.specs.declared.ready.Ready.{Ready}
 use Rattle.ss_bso.specs.declared.changes.Changes.{Changes}
 use Rattle.ss_index.specs.Shelved.{rows_in, rows_without, dropped_names}
@@ -56,6 +56,20 @@ NotLater time (row.Drop collection id) = Unit {0}
 abbrev pub NotEarlier : ℕ → RowChange → Type 0
 NotEarlier time (row.Put new) = time ≤ new.modified
 NotEarlier time (row.Drop collection id) = Unit {0}
+
+-- the second puts no earlier row than the first
+abbrev pub Sooner : RowChange → RowChange → Type 0
+Sooner (row.Put new) other = NotEarlier new.modified other
+Sooner (row.Drop collection id) other = Unit {0}
+
+-- each row that changes put is no earlier than those of its collection, and than those that they put before
+abbrev pub PutsInOrder : List Row → List RowChange → Type 0
+PutsInOrder rows changes = Each (λ (change : RowChange). IsLast rows change) changes × Pairs Sooner changes
+
+-- the time of the row that a change puts, or else this one
+abbrev pub put_time : ℕ → RowChange → ℕ
+put_time time (row.Put new) = new.modified
+put_time time (row.Drop collection id) = time
 
 -- there is room in the drawers, the counts fit, and the times rise
 pub record CanChange (drawers : List (List ℕ × Held)) (changes : List RowChange) : Type 0 where

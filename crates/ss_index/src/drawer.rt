@@ -1,6 +1,6 @@
 //! The rows of one collection: a map from ids to nodes, and a chain in the order of time.
 ghost use Rattle.std.specs.Prelude.{◌≡◌, ◌+◌, ◌-◌, ◌<◌, ◌≤◌, ◌^◌, ◌++◌, [], ◌∷◌, find, filter, map, drop, count_by};
-ghost use Rattle.std.specs.Prelude.{length, None, IfOk, OnOk, OnErr, IsOk, IsTrue};
+ghost use Rattle.std.specs.Prelude.{length, None, IfOk, OnOk, OnErr, IsFalse, IsOk, IsTrue};
 ghost use Rattle.std.specs.Option.{option_copied};
 ghost use Rattle.ss_bso.specs.Account.{is_alive};
 ghost use Rattle.ss_bso.specs.Limits.{row_bytes};
@@ -134,7 +134,8 @@ impl Drawer {
 
     /// Whether no row is of a later time.
     pub(crate) fn is_last(&self, time: Stamp) -> bool
-        ensures { IsTrue result → Each (λ other. other.modified ≤ time) self.now.rows }
+        ensures last { IsTrue result → Each (λ other. other.modified ≤ time) self.now.rows }
+        ensures sooner { IsFalse result → Each (λ other. other.modified ≤ time) self.now.rows → ⊥ }
     {
         match self.rows.back() {
             Some(at) => self.rows.get(at).modified.get() <= time.get(),

@@ -1,7 +1,7 @@
 //! The shelf: one account's rows, a drawer for each collection.
 ghost use Rattle.std.specs.Prelude.{◌≡◌, ◌+◌, ◌-◌, ◌<◌, ◌≤◌, ◌^◌, ℕ, List, [], ◌∷◌, ◌++◌, length, map, slice_get};
-ghost use Rattle.std.specs.Prelude.{AllPairs, IsFalse, None, cond, filter, fold, count_by, IfOk, IfSome, IsTrue, OnErr};
-ghost use Rattle.std.specs.Prelude.{OnOk};
+ghost use Rattle.std.specs.Prelude.{◌↔◌, AllPairs, IsFalse, None, cond, filter, fold, count_by, IfNone, IfOk, IfSome};
+ghost use Rattle.std.specs.Prelude.{IsTrue, OnErr, OnOk};
 ghost use Rattle.std.specs.Map.{lookup};
 ghost use Rattle.std.specs.Option.{option_copied, option_to_list};
 ghost use Rattle.std.specs.Str.{bytes_eq};
@@ -18,7 +18,8 @@ ghost use Rattle.ss_index.specs.Layout.{NoLater};
 ghost use Rattle.ss_index.specs.Numbers.{capped, entries_of, measured_rows, per_name};
 ghost use Rattle.ss_bso.specs.Lists.{Apart, Each, Pairs};
 ghost use Rattle.ss_index.specs.Ready.{applied, change_of, changes_of, puts_in, rows_left, spare_of, CanApply};
-ghost use Rattle.ss_index.specs.Ready.{CanChange, HasKey, InTime, IsLast, IsReady, NotEarlier, NotLater};
+ghost use Rattle.ss_index.specs.Ready.{CanChange, HasKey, InTime, IsLast, IsReady, NotEarlier, NotLater, PutsInOrder};
+ghost use Rattle.ss_index.specs.Ready.{put_time};
 ghost use Rattle.ss_index.specs.Shelved.{dropped_names, rows_in, rows_without, NoneEmpty};
 ghost use Rattle.ss_index.specs.Sweep.{AliveTo, HoldsTo, Outlives};
 ghost use Rattle.ss_index.specs.Walk.{is_above};
@@ -505,7 +506,8 @@ impl Shelf {
 
     /// Whether a row is no earlier than those of its collection.
     fn is_last(&self, row: &Row) -> bool
-        ensures { IsTrue result → IsLast (rows_in self.now) (Put row.now) }
+        ensures last { IsTrue result → IsLast (rows_in self.now) (Put row.now) }
+        ensures sooner { IsFalse result → IsLast (rows_in self.now) (Put row.now) → ⊥ }
     {
         match self.drawers.get(&row.collection) {
             Some(drawer) => drawer.is_last(row.modified),
@@ -519,6 +521,8 @@ impl Shelf {
         ensures not_before { IfSome result (λ later. NotEarlier time change.now) }
         ensures rises { IfSome result (λ later. time ≤ later) }
         ensures within { IfSome result (λ later. NotLater later change.now) }
+        ensures time { IfSome result (λ later. later ≡ put_time time change.now) }
+        ensures refused { IfNone result (IsLast (rows_in self.now) change.now → NotEarlier time change.now → ⊥) }
     {
         match change {
             RowChange::Put(row) => {
@@ -535,8 +539,9 @@ impl Shelf {
     /// Whether each row that changes put is no earlier than those of its collection and than those that they put
     /// before, so that `prepare` takes them.
     pub fn is_in_time(&self, changes: &Changes) -> bool
-        ensures { IsTrue result → InTime (rows_left (dropped_names changes.now.collections)
+        ensures taken { IsTrue result → InTime (rows_left (dropped_names changes.now.collections)
             (filter (is_alive changes.now.moment) (rows_in self.now))) changes.now.rows }
+        ensures exact { IsTrue result ↔ PutsInOrder (rows_in self.now) changes.now.rows }
     {
         let mut time = 0;
         for change in changes.rows.as_slice() {

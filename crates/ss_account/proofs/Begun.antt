@@ -11,7 +11,8 @@ use Rattle.ss_bso.specs.declared.account.Plain.{Plain}
 use Rattle.ss_bso.specs.declared.account.Staged.{Staged}
 use Rattle.ss_bso.specs.Batches.{batches_without, grown}
 use Rattle.ss_bso.specs.Validity.{IsValid, IsValidBatch}
-use Rattle.ss_batch.specs.Stage.{append_fault, stage_after_append, begun, has_number, more, live_batch, reach}
+use Rattle.ss_batch.specs.Stage.{append_fault, stage_after_append, stage_after_begin, has_number, more, live_batch}
+use Rattle.ss_batch.specs.Stage.{reach}
 use Rattle.ss_batch.specs.Stage.{stage_after_cut}
 use Rattle.ss_account.specs.Steps.{stage_of, with_stage}
 use Rattle.ss_bso.proofs.Lists.{Each-imp, Each-from_All}
@@ -28,7 +29,7 @@ find-last {X} p (x ∷ xs) y e = elim (p x) as (λ v. is_some (cond v (Some x) (
 
 -- an account with a batch begun
 abbrev pub with_begun : Plain → List ℕ → List Part → Plain
-with_begun account collection parts = with_stage account (begun (stage_of account) account.moment collection parts)
+with_begun account collection parts = with_stage account (stage_after_begin (stage_of account) account.moment collection parts)
 
 pub begun-live : (account left : Plain) (collection : List ℕ) (parts : List Part) → left ≡ with_begun account collection parts → IsSome (live_batch left.counter left.batches)
 begun-live account left collection parts e =

@@ -6,7 +6,7 @@ use Rattle.std.proofs.Common.{sym, ap, subst, ◌∙◌, arith}
 use Rattle.std.proofs.lemmas.Bool.Decides.{nat_tests}
 use Rattle.std.proofs.lemmas.List.{append-nil}
 use Rattle.std.proofs.lemmas.List.Elements.{filter_agree}
-use Rattle.ss_text.specs.Texts.{Reordered}
+use Rattle.ss_text.specs.Texts.{IsReordering}
 use Rattle.ss_bso.specs.declared.account.Staged.{Staged}
 use Rattle.ss_bso.specs.declared.changes.BatchChange.{BatchChange}
 use Rattle.ss_bso.specs.declared.changes.BatchChange.TheVariants.{End as EndBatch}
@@ -139,7 +139,7 @@ length-parted {X} p (x ∷ xs) =
 
 -- the batches that are kept, once those that are over at a later moment are noted
 pub record Noted (ended : List ℕ) (kept batches : List Staged) (moment : ℕ) : Type 0 where
-  pub left : Reordered batches (filter (λ batch. not (has_ended ended batch)) kept)
+  pub left : IsReordering batches (filter (λ batch. not (has_ended ended batch)) kept)
   pub over : All (λ batch. has_ended ended batch ≡ true → is_open moment batch ≡ false) kept
 
 pub noted-later : (ended : List ℕ) (kept batches : List Staged) (moment later : ℕ) → moment ≤ later → Pairs OtherNumber batches → Noted ended kept batches moment
@@ -154,8 +154,8 @@ noted-later ended kept batches moment later le distinct n =
     filter-each Named (λ batch. not (has_ended ended batch)) kept (Each-reordered Named n.left (each-named gone batches distinct)) in
     let over : Each (λ (batch : Staged). has_ended ended batch ≡ true → is_open moment batch ≡ false) kept = Each-from_All (λ (batch : Staged). has_ended ended batch ≡ true → is_open moment batch ≡ false) kept n.over in
     record {
-      left = subst (λ (bs : List Staged). Reordered bs (filter (λ batch. not (has_ended (ended ++ more) batch)) kept)) mine
-          (subst (λ (bs : List Staged). Reordered (filter (λ batch. not (has_ended more batch)) batches) bs) (filter-ended ended more kept) (reordered-filter (λ batch. not (has_ended more batch)) n.left));
+      left = subst (λ (bs : List Staged). IsReordering bs (filter (λ batch. not (has_ended (ended ++ more) batch)) kept)) mine
+          (subst (λ (bs : List Staged). IsReordering (filter (λ batch. not (has_ended more batch)) batches) bs) (filter-ended ended more kept) (reordered-filter (λ batch. not (has_ended more batch)) n.left));
       over = All-from_Each (λ (batch : Staged). has_ended (ended ++ more) batch ≡ true → is_open later batch ≡ false) kept
           (Each-imp (λ (batch : Staged). (not (has_ended ended batch) ≡ true → Named batch) × (has_ended ended batch ≡ true → is_open moment batch ≡ false)) (λ (batch : Staged). has_ended (ended ++ more) batch ≡ true → is_open later batch ≡ false)
           (λ batch h e. by batch (has_ended ended batch) refl h (sym (ended-append ended more batch) ∙ e)) kept
@@ -171,9 +171,9 @@ noted-later ended kept batches moment later le distinct n =
         not-true (is_open later batch) (sym (h.0 (ap not is)) ∙ now)
 
 -- the open ones are the same from the moment on
-pub noted-open : (ended : List ℕ) (kept batches : List Staged) (moment later : ℕ) → moment ≤ later → Noted ended kept batches moment → Reordered (filter (is_open later) batches) (filter (is_open later) kept)
+pub noted-open : (ended : List ℕ) (kept batches : List Staged) (moment later : ℕ) → moment ≤ later → Noted ended kept batches moment → IsReordering (filter (is_open later) batches) (filter (is_open later) kept)
 noted-open ended kept batches moment later le n =
-    subst (λ (bs : List Staged). Reordered (filter (is_open later) batches) bs) same (reordered-filter (is_open later) n.left)
+    subst (λ (bs : List Staged). IsReordering (filter (is_open later) batches) bs) same (reordered-filter (is_open later) n.left)
   where
     by : (batch : Staged) (was : Bool) → has_ended ended batch ≡ was → (has_ended ended batch ≡ true → is_open moment batch ≡ false) → (not was && is_open later batch) ≡ is_open later batch
     by batch true is h = sym (over-later moment later batch le (h is))
@@ -187,8 +187,8 @@ noted-open ended kept batches moment later le n =
         (λ batch h. by batch (has_ended ended batch) refl h) kept (Each-from_All (λ (batch : Staged). has_ended ended batch ≡ true → is_open moment batch ≡ false) kept n.over))
 
 -- where none has ended, all are left
-pub noted-none : (kept batches : List Staged) (moment : ℕ) → Reordered batches kept → Noted [] kept batches moment
+pub noted-none : (kept batches : List Staged) (moment : ℕ) → IsReordering batches kept → Noted [] kept batches moment
 noted-none kept batches moment r = record {
-  left = subst (λ (bs : List Staged). Reordered batches bs) (sym (filter-true kept)) r;
+  left = subst (λ (bs : List Staged). IsReordering batches bs) (sym (filter-true kept)) r;
   over = All-from_Each (λ (batch : Staged). has_ended [] batch ≡ true → is_open moment batch ≡ false) kept (each-all (λ (batch : Staged). has_ended [] batch ≡ true → is_open moment batch ≡ false) (λ batch no. cc) kept);
 }

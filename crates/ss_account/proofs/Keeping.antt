@@ -7,7 +7,7 @@ use Rattle.std.proofs.Common.{subst, sym, ap, ◌∙◌, arith}
 use Rattle.std.proofs.lemmas.Bool.Decides.{nat_tests}
 use Rattle.std.proofs.lemmas.List.{append-nil, map-append}
 use Rattle.std.proofs.lemmas.List.Elements.{filter_agree}
-use Rattle.ss_text.specs.Texts.{Reordered, chain}
+use Rattle.ss_text.specs.Texts.{IsReordering, chain}
 use Rattle.ss_text.specs.Time.{after}
 use Rattle.ss_bso.specs.declared.rows.Row.{Row}
 use Rattle.ss_bso.specs.declared.account.Plain.{Plain}
@@ -22,10 +22,10 @@ use Rattle.ss_bso.specs.declared.changes.RowChange.TheVariants.{Put as PutRow}
 use Rattle.ss_bso.specs.declared.changes.CollectionChange.TheVariants.{Drop as DropName}
 use Rattle.ss_bso.specs.Account.{is_alive, is_open, tick, time_of}
 use Rattle.ss_bso.specs.Batches.{batches_without, grown}
-use Rattle.ss_bso.specs.Changes.{batches_changed, changed, drops, kept_of, row_changed}
+use Rattle.ss_bso.specs.Changes.{batches_changed, kept_after_changes, drops, kept_of, row_changed}
 use Rattle.ss_bso.specs.Validity.{IsValid, SameAccount}
 use Rattle.ss_bso.specs.Write.{is_among, rows_without}
-use Rattle.ss_batch.specs.Stage.{stage_after_append, begun}
+use Rattle.ss_batch.specs.Stage.{stage_after_append, stage_after_begin}
 use Rattle.ss_keeper.specs.Keeping.{changed_by}
 use Rattle.ss_account.specs.Keeping.{IsHeldBy, IsKeptAccount, IsKeptBeside, IsKeptBesideBy, IsKeptBy, IsSwept, IsWhole}
 use Rattle.ss_account.specs.Keeping.{has_ended}
@@ -64,7 +64,7 @@ beside-tick ended kept account now valid h =
     let left = noted-later ended kept.batches account.batches account.moment (after account.moment now) (omega arith) (Pairs-from_AllPairs OtherNumber account.batches valid.numbers) (noted h) in
     record {
       rows = λ moment le.
-          subst (λ rows. Reordered rows (filter (is_alive moment) kept.rows)) (sym (alive-again (after account.moment now) moment account.rows le))
+          subst (λ rows. IsReordering rows (filter (is_alive moment) kept.rows)) (sym (alive-again (after account.moment now) moment account.rows le))
           (h.rows moment (omega arith));
       batches = left.left;
       over = left.over;
@@ -140,9 +140,9 @@ each-dropped (entry ∷ times) = (
 )
 
 -- the rows that are kept and alive at the account's moment are the account's
-rows-swept : (ended : List ℕ) (kept : Kept) (account : Plain) → IsSwept account → IsKeptBeside ended kept account → Reordered account.rows (filter (is_alive account.moment) kept.rows)
+rows-swept : (ended : List ℕ) (kept : Kept) (account : Plain) → IsSwept account → IsKeptBeside ended kept account → IsReordering account.rows (filter (is_alive account.moment) kept.rows)
 rows-swept ended kept account swept h =
-    subst (λ (rows : List Row). Reordered rows (filter (is_alive account.moment) kept.rows)) swept (h.rows account.moment (omega arith))
+    subst (λ (rows : List Row). IsReordering rows (filter (is_alive account.moment) kept.rows)) swept (h.rows account.moment (omega arith))
 
 -- the batches that a write leaves are those of the account that it doesn't end
 left-applied : (account : Plain) (pending : Pending) → IsValid account → filter (λ batch. not (has_ended (ended_by pending account.batches) batch)) account.batches ≡ batches_left pending account.batches
@@ -158,26 +158,26 @@ left-applied account DropAll valid =
     ∙ filter-all_gone account.batches
 
 batches-applied : (ended : List ℕ) (kept : Kept) (account : Plain) (pending : Pending) → IsValid account → IsKeptBeside ended kept account
-    → Reordered (batches_left pending account.batches) (batches_changed kept.batches (map EndBatch (ended ++ ended_by pending account.batches)))
+    → IsReordering (batches_left pending account.batches) (batches_changed kept.batches (map EndBatch (ended ++ ended_by pending account.batches)))
 batches-applied ended kept account pending valid h =
     let more : List ℕ = ended_by pending account.batches in
-    subst (λ (bs : List Staged). Reordered (batches_left pending account.batches) bs) (filter-ended ended more kept.batches ∙ sym (batches-ended kept.batches (ended ++ more)))
-    (subst (λ (bs : List Staged). Reordered bs (filter (λ batch. not (has_ended more batch)) (filter (λ batch. not (has_ended ended batch)) kept.batches))) (left-applied account pending valid)
+    subst (λ (bs : List Staged). IsReordering (batches_left pending account.batches) bs) (filter-ended ended more kept.batches ∙ sym (batches-ended kept.batches (ended ++ more)))
+    (subst (λ (bs : List Staged). IsReordering bs (filter (λ batch. not (has_ended more batch)) (filter (λ batch. not (has_ended ended batch)) kept.batches))) (left-applied account pending valid)
     (reordered-filter (λ batch. not (has_ended more batch)) h.batches))
 
 -- after a write
 pub whole-applied : (ended : List ℕ) (kept : Kept) (account : Plain) (time : ℕ) (pending : Pending) → IsValid account → IsReady account time pending → IsSwept account → IsKeptBeside ended kept account
-    → IsWhole (changed kept (changes_to account ended time pending)) (account_after_pending account time pending)
+    → IsWhole (kept_after_changes kept (changes_to account ended time pending)) (account_after_pending account time pending)
 whole-applied ended kept account time (Put collection targets made batch) valid ready swept h =
     let alive : List Row = filter (is_alive account.moment) kept.rows in
     let keep : Row → Bool = λ row. not (bytes_eq row.collection collection && is_among targets row.id) in
     let made_is = changed-put kept account time collection targets made.items batch ready (filter (λ row. true) alive)
     ∙ ap (λ (rows : List Row). filter keep rows ++ made.items) (filter-true alive) in
     record {
-      rows = subst (λ (rows : List Row). Reordered (filter keep account.rows ++ made.items) rows) (sym made_is)
+      rows = subst (λ (rows : List Row). IsReordering (filter keep account.rows ++ made.items) rows) (sym made_is)
           (reordered-append_right made.items (reordered-filter keep (rows-swept ended kept account swept h)));
       collections = reordered-append_right ((collection, time) ∷ []) (reordered-filter (λ (entry : List ℕ × ℕ). not (bytes_eq entry.0 collection))
-          (subst (λ (times : List (List ℕ × ℕ)). Reordered account.collections times) (sym (filter-true kept.collections)) h.collections));
+          (subst (λ (times : List (List ℕ × ℕ)). IsReordering account.collections times) (sym (filter-true kept.collections)) h.collections));
       batches = batches-applied ended kept account (Put collection targets made batch) valid h;
       store = refl;
       last_delete = refl;
@@ -188,9 +188,9 @@ whole-applied ended kept account time (Cut collection targets) valid ready swept
     let keep : Row → Bool = λ row. not (bytes_eq row.collection collection && is_among targets row.id) in
     let left_is = drops_are collection targets (filter (λ row. true) alive) ∙ ap (λ (rows : List Row). filter keep rows) (filter-true alive) in
     record {
-      rows = subst (λ (rows : List Row). Reordered (filter keep account.rows) rows) (sym left_is) (reordered-filter keep (rows-swept ended kept account swept h));
+      rows = subst (λ (rows : List Row). IsReordering (filter keep account.rows) rows) (sym left_is) (reordered-filter keep (rows-swept ended kept account swept h));
       collections = reordered-append_right ((collection, time) ∷ []) (reordered-filter (λ (entry : List ℕ × ℕ). not (bytes_eq entry.0 collection))
-          (subst (λ (times : List (List ℕ × ℕ)). Reordered account.collections times) (sym (filter-true kept.collections)) h.collections));
+          (subst (λ (times : List (List ℕ × ℕ)). IsReordering account.collections times) (sym (filter-true kept.collections)) h.collections));
       batches = batches-applied ended kept account (Cut collection targets) valid h;
       store = refl;
       last_delete = refl;
@@ -205,8 +205,8 @@ whole-applied ended kept account time (DropCollection collection) valid ready sw
     let names_are : filter (λ (entry : List ℕ × ℕ). not (list_any (drops entry.0) (DropName collection ∷ []))) kept.collections ≡ filter names kept.collections =
     filter_agree (λ (entry : List ℕ × ℕ). not (list_any (drops entry.0) (DropName collection ∷ []))) names (λ entry. ap not (or_false (bytes_eq collection entry.0) ∙ bytes_eq-sym collection entry.0)) kept.collections in
     record {
-      rows = subst (λ (rows : List Row). Reordered (filter keep account.rows) rows) (sym left_is) (reordered-filter keep (rows-swept ended kept account swept h));
-      collections = subst (λ (times : List (List ℕ × ℕ)). Reordered (filter names account.collections) times) (sym names_are) (reordered-filter names h.collections);
+      rows = subst (λ (rows : List Row). IsReordering (filter keep account.rows) rows) (sym left_is) (reordered-filter keep (rows-swept ended kept account swept h));
+      collections = subst (λ (times : List (List ℕ × ℕ)). IsReordering (filter names account.collections) times) (sym names_are) (reordered-filter names h.collections);
       batches = batches-applied ended kept account (DropCollection collection) valid h;
       store = refl;
       last_delete = refl;
@@ -223,9 +223,9 @@ whole-applied ended kept account time DropAll valid ready swept h =
     let no_names : filter names account.collections ≡ [] =
     filter-none names account.collections (Each-imp (λ (entry : List ℕ × ℕ). dropped entry.0 ≡ true) (λ (entry : List ℕ × ℕ). names entry ≡ false) (λ entry e. ap not e) account.collections (each-dropped account.collections)) in
     record {
-      rows = subst (λ (rows : List Row). Reordered rows (filter keep (filter (is_alive account.moment) kept.rows))) no_rows (reordered-filter keep (rows-swept ended kept account swept h));
-      collections = subst (λ (times : List (List ℕ × ℕ)). Reordered [] times) (sym (no_times account.collections (filter names kept.collections)))
-          (subst (λ (times : List (List ℕ × ℕ)). Reordered times (filter names kept.collections)) no_names (reordered-filter names h.collections));
+      rows = subst (λ (rows : List Row). IsReordering rows (filter keep (filter (is_alive account.moment) kept.rows))) no_rows (reordered-filter keep (rows-swept ended kept account swept h));
+      collections = subst (λ (times : List (List ℕ × ℕ)). IsReordering [] times) (sym (no_times account.collections (filter names kept.collections)))
+          (subst (λ (times : List (List ℕ × ℕ)). IsReordering times (filter names kept.collections)) no_names (reordered-filter names h.collections));
       batches = batches-applied ended kept account DropAll valid h;
       store = refl;
       last_delete = refl;
@@ -259,10 +259,10 @@ whole-own account = record {
 }
 
 -- what is told after changes that make it the account
-held-after : (told now : Option Kept) (changes with : Changes) (left : Plain) → ((kept : Kept) → told ≡ Some kept → IsWhole (changed kept with) left) → changes ≡ with → now ≡ changed_by changes told → IsHeldBy now left
+held-after : (told now : Option Kept) (changes with : Changes) (left : Plain) → ((kept : Kept) → told ≡ Some kept → IsWhole (kept_after_changes kept with) left) → changes ≡ with → now ≡ changed_by changes told → IsHeldBy now left
 held-after None now changes with left whole c e = subst (λ (t : Option Kept). IsHeldBy t left) (sym e) tt
 held-after (Some kept) now changes with left whole c e =
-    subst (λ (t : Option Kept). IsHeldBy t left) (sym (e ∙ ap (λ (these : Changes). Some (changed kept these)) c)) (whole kept refl)
+    subst (λ (t : Option Kept). IsHeldBy t left) (sym (e ∙ ap (λ (these : Changes). Some (kept_after_changes kept these)) c)) (whole kept refl)
 
 beside-told : (ended : List ℕ) (told : Option Kept) (account : Plain) (kept : Kept) → IsKeptBesideBy ended told account → told ≡ Some kept → IsKeptBeside ended kept account
 beside-told ended None account kept h e = cc
@@ -277,11 +277,11 @@ held_by-applied ended told now account left time pending changes valid ready swe
 
 -- after a begin, an append and the end of a batch, which leave the rest as it is
 whole-batch : (ended : List ℕ) (kept : Kept) (account : Plain) (counter : ℕ) (change : BatchChange) (left : List Staged) → IsSwept account → IsKeptBeside ended kept account
-    → Reordered left (batches_changed kept.batches (map EndBatch ended ++ change ∷ []))
-    → IsWhole (changed kept (batch_changes account ended counter change)) (record account { counter = counter; batches = left })
+    → IsReordering left (batches_changed kept.batches (map EndBatch ended ++ change ∷ []))
+    → IsWhole (kept_after_changes kept (batch_changes account ended counter change)) (record account { counter = counter; batches = left })
 whole-batch ended kept account counter change left swept h batches = record {
-  rows = subst (λ (rows : List Row). Reordered account.rows rows) (sym (filter-true (filter (is_alive account.moment) kept.rows))) (rows-swept ended kept account swept h);
-  collections = subst (λ (times : List (List ℕ × ℕ)). Reordered account.collections times) (sym (filter-true kept.collections)) h.collections;
+  rows = subst (λ (rows : List Row). IsReordering account.rows rows) (sym (filter-true (filter (is_alive account.moment) kept.rows))) (rows-swept ended kept account swept h);
+  collections = subst (λ (times : List (List ℕ × ℕ)). IsReordering account.collections times) (sym (filter-true kept.collections)) h.collections;
   batches = batches;
   store = refl;
   last_delete = refl;
@@ -292,32 +292,32 @@ not_other : (ended : List ℕ) (batches : List Staged) → filter (λ (batch : S
 not_other ended batches = filter_agree (λ (batch : Staged). not (has_ended ended batch || false)) (λ batch. not (has_ended ended batch)) (λ batch. ap not (or_false (has_ended ended batch))) batches
 
 batches-begun : (ended : List ℕ) (kept : Kept) (account : Plain) (new : Staged) → IsKeptBeside ended kept account
-    → Reordered (account.batches ++ new ∷ []) (batches_changed kept.batches (map EndBatch ended ++ BeginBatch new ∷ []))
+    → IsReordering (account.batches ++ new ∷ []) (batches_changed kept.batches (map EndBatch ended ++ BeginBatch new ∷ []))
 batches-begun ended kept account new h =
-    subst (λ (bs : List Staged). Reordered (account.batches ++ new ∷ []) bs) (sym (batches-one kept.batches ended (BeginBatch new) ∙ ap (λ (bs : List Staged). bs ++ new ∷ []) (not_other ended kept.batches)))
+    subst (λ (bs : List Staged). IsReordering (account.batches ++ new ∷ []) bs) (sym (batches-one kept.batches ended (BeginBatch new) ∙ ap (λ (bs : List Staged). bs ++ new ∷ []) (not_other ended kept.batches)))
     (reordered-append_right (new ∷ []) h.batches)
 
 batches-appended : (ended : List ℕ) (kept : Kept) (account : Plain) (number : ℕ) (parts : List Part) → IsKeptBeside ended kept account
-    → Reordered (map (grown number parts) account.batches) (batches_changed kept.batches (map EndBatch ended ++ AppendParts number parts ∷ []))
+    → IsReordering (map (grown number parts) account.batches) (batches_changed kept.batches (map EndBatch ended ++ AppendParts number parts ∷ []))
 batches-appended ended kept account number parts h =
-    subst (λ (bs : List Staged). Reordered (map (grown number parts) account.batches) bs)
+    subst (λ (bs : List Staged). IsReordering (map (grown number parts) account.batches) bs)
     (sym (batches-one kept.batches ended (AppendParts number parts) ∙ ap (map (grown number parts)) (append-nil (filter (λ (batch : Staged). not (has_ended ended batch || false)) kept.batches) ∙ not_other ended kept.batches)))
     (reordered-map (grown number parts) h.batches)
 
 batches-finished : (ended : List ℕ) (kept : Kept) (account : Plain) (number : ℕ) → IsKeptBeside ended kept account
-    → Reordered (batches_without number account.batches) (batches_changed kept.batches (map EndBatch ended ++ EndBatch number ∷ []))
+    → IsReordering (batches_without number account.batches) (batches_changed kept.batches (map EndBatch ended ++ EndBatch number ∷ []))
 batches-finished ended kept account number h =
     let one : map EndBatch ended ++ EndBatch number ∷ [] ≡ map EndBatch (ended ++ number ∷ []) = sym (map-append EndBatch ended (number ∷ [])) in
     let mine : filter (λ (batch : Staged). not ((number == batch.number) || false)) account.batches ≡ batches_without number account.batches =
     filter_agree (λ (batch : Staged). not ((number == batch.number) || false)) (λ (batch : Staged). not (batch.number == number)) (λ batch. ap not (or_false (number == batch.number) ∙ number_turned number batch.number)) account.batches in
-    subst (λ (bs : List Staged). Reordered (batches_without number account.batches) bs)
+    subst (λ (bs : List Staged). IsReordering (batches_without number account.batches) bs)
     (filter-ended ended (number ∷ []) kept.batches ∙ sym (ap (batches_changed kept.batches) one ∙ batches-ended kept.batches (ended ++ number ∷ [])))
-    (subst (λ (bs : List Staged). Reordered bs (filter (λ (batch : Staged). not ((number == batch.number) || false)) (filter (λ batch. not (has_ended ended batch)) kept.batches))) mine
+    (subst (λ (bs : List Staged). IsReordering bs (filter (λ (batch : Staged). not ((number == batch.number) || false)) (filter (λ batch. not (has_ended ended batch)) kept.batches))) mine
     (reordered-filter (λ (batch : Staged). not ((number == batch.number) || false)) h.batches))
 
 pub held_by-begin : (ended : List ℕ) (told now : Option Kept) (account left : Plain) (collection : List ℕ) (parts : List Part) (changes : Changes) → IsSwept account
     → changes ≡ begin_changes account ended collection parts → now ≡ changed_by changes told
-    → left ≡ with_stage account (begun (stage_of account) account.moment collection parts) → IsKeptBesideBy ended told account → IsHeldBy now left
+    → left ≡ with_stage account (stage_after_begin (stage_of account) account.moment collection parts) → IsKeptBesideBy ended told account → IsHeldBy now left
 held_by-begin ended told now account left collection parts changes swept c e l h =
     let new : Staged = record { number = account.counter + 1; collection = collection; begun = account.moment; parts = parts } in
     subst (λ (a : Plain). IsHeldBy now a) (sym l)

@@ -15,7 +15,7 @@ use Rattle.ss_bso.specs.declared.changes.Kept.{Kept}
 use Rattle.ss_bso.specs.Account.{is_alive, is_at, is_open, time_of}
 use Rattle.ss_bso.specs.declared.account.Staged.{Staged}
 use Rattle.ss_bso.specs.Batches.{fit}
-use Rattle.ss_bso.specs.Changes.{kept_of, latest, opened, plain_of}
+use Rattle.ss_bso.specs.Changes.{kept_of, latest, account_at_opening, plain_of}
 use Rattle.ss_bso.proofs.Full.{within-both, within-bytes, within-number}
 use Rattle.ss_bso.specs.Limits.{is_too_much, most_batch_bytes, most_batch_records, most_live_batches}
 use Rattle.ss_bso.specs.Limits.{most_account_payload_bytes, most_rows_and_collections, part_bytes, row_bytes}
@@ -144,7 +144,7 @@ latest-kept p moment time (batch ∷ batches) keep e =
         lower t = let lt : b < a = grind (arith, nat_tests) in omega (arith, lt, e)
 
 -- an account that was opened is opened as it is
-pub opened-again : (kept : Kept) → opened (kept_of (opened kept)) ≡ opened kept
+pub opened-again : (kept : Kept) → account_at_opening (kept_of (account_at_opening kept)) ≡ account_at_opening kept
 opened-again kept =
     let moment : ℕ = after (latest kept.store kept.batches) 0 in
     let same : moment ≡ latest kept.store kept.batches = omega arith in

@@ -8,9 +8,9 @@ use Rattle.ss_bso.specs.declared.rows.Row.{Row}
 use Rattle.ss_bso.specs.declared.parts.Part.{Part}
 use Rattle.ss_bso.specs.declared.account.Plain.{Plain}
 use Rattle.ss_bso.specs.Account.{row_at}
-use Rattle.ss_bso.specs.Put.{put}
+use Rattle.ss_bso.specs.Put.{row_after_put}
 use Rattle.ss_bso.specs.Limits.{most_rows_and_collections}
-use Rattle.ss_bso.specs.Write.{ids_of, is_among, parts_of, put_all, rows_without, rows_written, stamped}
+use Rattle.ss_bso.specs.Write.{ids_of, is_among, parts_of, put_all, rows_without, rows_written, account_after_write}
 use Rattle.ss_batch.specs.Stage.{live_batch}
 use Rattle.ss_query.specs.Effect.{is_over}
 use Rattle.ss_writes.specs.Pending.{IsPutReady}
@@ -28,14 +28,14 @@ AtTime time row = row.modified ≡ time
 
 put_all-some : (collection : List ℕ) (parts : List Part) (time : ℕ) (row : Row) → row.modified ≡ time → IsSomeAnd (put_all collection parts time (Some row)) (AtTime time)
 put_all-some collection [] time row at = at
-put_all-some collection (part ∷ parts) time row at = put_all-some collection parts time (put (Some row) collection part time) refl
+put_all-some collection (part ∷ parts) time row at = put_all-some collection parts time (row_after_put (Some row) collection part time) refl
 
 -- an id that a part names has a row of the write's time after it
 put_all-named : (collection id : List ℕ) (parts : List Part) (time : ℕ) (old : Option Row) → is_among (map (λ (part : Part). part.id) parts) id ≡ true → IsSomeAnd (put_all collection (parts_of id parts) time old) (AtTime time)
 put_all-named collection id [] time old e = cc
 put_all-named collection id (part ∷ parts) time old e =
     elim (bytes_eq part.id id) as (λ v. (v || is_among (map (λ (p : Part). p.id) parts) id) ≡ true → IsSomeAnd (put_all collection (cond v (part ∷ parts_of id parts) (parts_of id parts)) time old) (AtTime time)) [
-      | true ↦ (λ _. put_all-some collection (parts_of id parts) time (put old collection part time) refl)
+      | true ↦ (λ _. put_all-some collection (parts_of id parts) time (row_after_put old collection part time) refl)
       | false ↦ (λ h. put_all-named collection id parts time old h)
     ] e
 
@@ -95,10 +95,10 @@ put_ready account collection parts time batch live few =
     }
 
 -- rows that an account has room for are not too many
-pub few-written : (account : Plain) (collection : List ℕ) (parts : List Part) (time : ℕ) → is_over (stamped account collection time (rows_written collection parts time account.rows)) ≡ false
+pub few-written : (account : Plain) (collection : List ℕ) (parts : List Part) (time : ℕ) → is_over (account_after_write account collection time (rows_written collection parts time account.rows)) ≡ false
     → length (filter_map (made collection parts time account.rows) (ids_of parts)) ≤ most_rows_and_collections
 few-written account collection parts time fits =
-    let after : Plain = stamped account collection time (rows_written collection parts time account.rows) in
+    let after : Plain = account_after_write account collection time (rows_written collection parts time account.rows) in
     let all : length after.rows + length after.collections ≤ most_rows_and_collections = within-number after.rows (length after.collections) fits in
     let rows : length after.rows ≡ length (rows_without collection (ids_of parts) account.rows) + length (filter_map (made collection parts time account.rows) (ids_of parts)) =
     length-append (rows_without collection (ids_of parts) account.rows) (filter_map (made collection parts time account.rows) (ids_of parts)) in

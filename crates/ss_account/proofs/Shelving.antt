@@ -3,7 +3,7 @@ use Rattle.std.specs.Prelude.{◌≡◌, ℕ, ◌+◌, ◌≤◌, ◌<◌, ◌^�
 use Rattle.std.specs.Prelude.{IsSomeAnd}
 use Rattle.std.proofs.Common.{sym, ap, subst, ◌∙◌, arith}
 use Rattle.std.proofs.lemmas.List.{length-map}
-use Rattle.ss_text.specs.Texts.{Reordered, chain}
+use Rattle.ss_text.specs.Texts.{IsReordering, chain}
 use Rattle.ss_bso.specs.declared.rows.Row.{Row}
 use Rattle.ss_bso.specs.declared.account.Plain.{Plain}
 use Rattle.ss_bso.specs.declared.account.Staged.{Staged}
@@ -11,7 +11,7 @@ use Rattle.ss_bso.specs.declared.changes.Changes.{Changes}
 use Rattle.ss_bso.specs.declared.changes.RowChange.{RowChange}
 use Rattle.ss_bso.specs.declared.changes.RowChange.TheVariants.{Put as PutRow, Drop as DropRow}
 use Rattle.ss_bso.specs.Account.{is_alive, is_at, time_of}
-use Rattle.ss_bso.specs.Changes.{changed, kept_of, row_changed}
+use Rattle.ss_bso.specs.Changes.{kept_after_changes, kept_of, row_changed}
 use Rattle.ss_bso.specs.Limits.{most_rows_and_collections}
 use Rattle.ss_bso.specs.Lists.{Each}
 use Rattle.ss_bso.specs.Validity.{IsValid, SameAccount}
@@ -104,19 +104,19 @@ shelf-times account ended time pending changes valid ready later e =
 
 -- and then has the rows after the write
 pub shelf-applied : (account : Plain) (ended : List ℕ) (time : ℕ) (pending : Pending) (changes : Changes) (rows : List Row) → IsValid account → IsReady account time pending → IsSwept account → changes ≡ changes_to account ended time pending
-    → Reordered rows (changed (kept_of account) changes).rows → Reordered (account_after_pending account time pending).rows rows
+    → IsReordering rows (kept_after_changes (kept_of account) changes).rows → IsReordering (account_after_pending account time pending).rows rows
 shelf-applied account ended time pending changes rows valid ready swept e h =
     let whole = whole-applied [] (kept_of account) account time pending valid ready swept (beside-whole (kept_of account) account (whole-own account)) in
-    chain whole.rows (reordered-sym (subst (λ (c : Changes). Reordered rows (changed (kept_of account) c).rows) e h))
+    chain whole.rows (reordered-sym (subst (λ (c : Changes). IsReordering rows (kept_after_changes (kept_of account) c).rows) e h))
 
 -- and the account is the one after the write
 pub kept-applied : (account : Plain) (ended : List ℕ) (time : ℕ) (pending : Pending) (changes : Changes) (left : Plain) → IsValid account → IsReady account time pending → IsSwept account → changes ≡ changes_to account ended time pending
-    → Reordered left.rows (changed (kept_of account) changes).rows → left.collections ≡ times_left time pending account.collections → left.batches ≡ batches_left pending account.batches
+    → IsReordering left.rows (kept_after_changes (kept_of account) changes).rows → left.collections ≡ times_left time pending account.collections → left.batches ≡ batches_left pending account.batches
     → left.store ≡ time → left.last_delete ≡ changes.last_delete → left.moment ≡ time → left.counter ≡ account.counter → SameAccount (account_after_pending account time pending) left
 kept-applied account ended time pending changes left valid ready swept e rows collections batches store last_delete moment counter = record {
   rows = shelf-applied account ended time pending changes left.rows valid ready swept e rows;
-  collections = subst (λ (times : List (List ℕ × ℕ)). Reordered (times_left time pending account.collections) times) (sym collections) (reordered-refl (times_left time pending account.collections));
-  batches = subst (λ (staged : List Staged). Reordered (batches_left pending account.batches) staged) (sym batches) (reordered-refl (batches_left pending account.batches));
+  collections = subst (λ (times : List (List ℕ × ℕ)). IsReordering (times_left time pending account.collections) times) (sym collections) (reordered-refl (times_left time pending account.collections));
+  batches = subst (λ (staged : List Staged). IsReordering (batches_left pending account.batches) staged) (sym batches) (reordered-refl (batches_left pending account.batches));
   store = sym store;
   last_delete = sym (last_delete ∙ ap (λ (c : Changes). c.last_delete) e);
   moment = sym moment;

@@ -8,7 +8,7 @@ use Rattle.ss_bso.specs.declared.account.Plain.{Plain}
 use Rattle.ss_bso.specs.declared.account.Staged.{Staged}
 use Rattle.ss_bso.specs.declared.changes.Kept.{Kept}
 use Rattle.ss_bso.specs.Account.{is_open, tick}
-use Rattle.ss_bso.specs.Changes.{kept_of, opened, plain_of}
+use Rattle.ss_bso.specs.Changes.{kept_of, account_at_opening, plain_of}
 use Rattle.ss_bso.specs.Limits.{most_live_batches}
 use Rattle.ss_bso.specs.Validity.{IsValid, SameAccount}
 use Rattle.ss_bso.proofs.Reordering.{reordered-sym}
@@ -93,6 +93,6 @@ opened-sound told kept account left ended more is good last a own e l m =
     record {
       sound = sound;
       kept = kept_by-beside more told left sound.kept;
-      stands = told-as told kept (λ (k : Kept). SameAccount (opened k) left) is (subst (λ (p : Plain). SameAccount (opened kept) p) (sym l) (tick-same (plain_of kept) account 0 a));
-      begins = l ∙ ap (λ (p : Plain). tick p 0) own ∙ sym (opened-again (kept_of account)) ∙ ap (λ (p : Plain). opened (kept_of p)) (sym (l ∙ ap (λ (p : Plain). tick p 0) own));
+      stands = told-as told kept (λ (k : Kept). SameAccount (account_at_opening k) left) is (subst (λ (p : Plain). SameAccount (account_at_opening kept) p) (sym l) (tick-same (plain_of kept) account 0 a));
+      begins = l ∙ ap (λ (p : Plain). tick p 0) own ∙ sym (opened-again (kept_of account)) ∙ ap (λ (p : Plain). account_at_opening (kept_of p)) (sym (l ∙ ap (λ (p : Plain). tick p 0) own));
     }

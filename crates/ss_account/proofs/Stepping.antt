@@ -27,7 +27,7 @@ use Rattle.ss_account.specs.declared.infos.Measure.{Measure}
 use Rattle.ss_account.specs.declared.infos.Measure.TheVariants.{Records, Bytes}
 use Rattle.ss_writes.specs.declared.pending.Pending.{Pending}
 use Rattle.ss_writes.specs.Pending.{Settles, Tells, account_after_pending}
-use Rattle.ss_index.specs.Numbers.{capped}
+use Rattle.ss_index.specs.Numbers.{capped_number}
 use Rattle.ss_account.specs.Steps.{counted_rows, late_refusal, number_of, plain_reply}
 use Rattle.ss_bso.proofs.Lists.{sum_by-filter_le}
 use Rattle.ss_laws.proofs.CommitLaw.{over_test}
@@ -130,7 +130,7 @@ pub numbers-exact : (measure : Measure) (account : Plain) → IsWithinLimits acc
     → map (λ (entry : List ℕ × ℕ). (entry.0, counted_rows measure (rows_of entry.0 account.rows))) (by_name account.collections) ≡ per_collection (number_of measure) account
 numbers-exact measure account within = λ i. map (λ (entry : List ℕ × ℕ). (entry.0, counted-exact measure account entry.0 within i)) (by_name account.collections)
 
-pub used-exact : (account : Plain) (total : ℕ) → IsWithinLimits account → total ≡ capped (row_bytes account.rows) → total ≡ row_bytes account.rows
+pub used-exact : (account : Plain) (total : ℕ) → IsWithinLimits account → total ≡ capped_number (row_bytes account.rows) → total ≡ row_bytes account.rows
 used-exact account total within bytes =
     let all : row_bytes account.rows ≤ most_account_payload_bytes = within-bytes account.rows (length account.collections) within.within in
     omega (arith, bytes, all)

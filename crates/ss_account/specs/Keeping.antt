@@ -2,12 +2,12 @@
 use Rattle.std.specs.Prelude.{◌≡◌, ◌≢◌, ℕ, ◌+◌, ◌≤◌, Bool, true, false, not, ◌&&◌, ◌||◌, ◌==◌, List, length, filter}
 use Rattle.std.specs.Prelude.{Option, IfSome, is_none, All}
 use Rattle.std.specs.List.{list_any}
-use Rattle.ss_text.specs.Texts.{Reordered}
+use Rattle.ss_text.specs.Texts.{IsReordering}
 use Rattle.ss_bso.specs.declared.account.Plain.{Plain}
 use Rattle.ss_bso.specs.declared.account.Staged.{Staged}
 use Rattle.ss_bso.specs.declared.changes.Kept.{Kept}
 use Rattle.ss_bso.specs.Account.{is_alive, is_open}
-use Rattle.ss_bso.specs.Changes.{kept_of, opened}
+use Rattle.ss_bso.specs.Changes.{kept_of, account_at_opening}
 use Rattle.ss_bso.specs.Limits.{most_live_batches}
 use Rattle.ss_bso.specs.Validity.{IsValid, SameAccount}
 use Rattle.ss_keeper.specs.declared.calls.KeeperCalls.{KeeperCalls}
@@ -23,9 +23,9 @@ use Rattle.ss_account.specs.Opening.{IsGood}
 -- an account's collections, times and counter are the kept ones, and so are its rows and its batches at each moment from its
 -- own on: what has ended by then may still be kept
 pub record IsKeptAccount (kept : Kept) (account : Plain) : Type 0 where
-  pub rows : (moment : ℕ) → account.moment ≤ moment → Reordered (filter (is_alive moment) account.rows) (filter (is_alive moment) kept.rows)
-  pub batches : (moment : ℕ) → account.moment ≤ moment → Reordered (filter (is_open moment) account.batches) (filter (is_open moment) kept.batches)
-  pub collections : Reordered account.collections kept.collections
+  pub rows : (moment : ℕ) → account.moment ≤ moment → IsReordering (filter (is_alive moment) account.rows) (filter (is_alive moment) kept.rows)
+  pub batches : (moment : ℕ) → account.moment ≤ moment → IsReordering (filter (is_open moment) account.batches) (filter (is_open moment) kept.batches)
+  pub collections : IsReordering account.collections kept.collections
   pub store : account.store ≡ kept.store
   pub last_delete : account.last_delete ≡ kept.last_delete
   pub counter : account.counter ≡ kept.counter
@@ -36,9 +36,9 @@ IsKeptBy told account = IfSome told (λ kept. IsKeptAccount kept account)
 
 -- what is kept is the account and nothing else, whatever the order of rows, collections and batches
 pub record IsWhole (kept : Kept) (account : Plain) : Type 0 where
-  pub rows : Reordered account.rows kept.rows
-  pub collections : Reordered account.collections kept.collections
-  pub batches : Reordered account.batches kept.batches
+  pub rows : IsReordering account.rows kept.rows
+  pub collections : IsReordering account.collections kept.collections
+  pub batches : IsReordering account.batches kept.batches
   pub store : account.store ≡ kept.store
   pub last_delete : account.last_delete ≡ kept.last_delete
   pub counter : account.counter ≡ kept.counter
@@ -53,10 +53,10 @@ has_ended ended batch = list_any (λ number. number == batch.number) ended
 
 -- what is kept is the account beside rows and batches that have ended, and these batches are noted
 pub record IsKeptBeside (ended : List ℕ) (kept : Kept) (account : Plain) : Type 0 where
-  pub rows : (moment : ℕ) → account.moment ≤ moment → Reordered (filter (is_alive moment) account.rows) (filter (is_alive moment) kept.rows)
-  pub batches : Reordered account.batches (filter (λ batch. not (has_ended ended batch)) kept.batches)
+  pub rows : (moment : ℕ) → account.moment ≤ moment → IsReordering (filter (is_alive moment) account.rows) (filter (is_alive moment) kept.rows)
+  pub batches : IsReordering account.batches (filter (λ batch. not (has_ended ended batch)) kept.batches)
   pub over : All (λ batch. has_ended ended batch ≡ true → is_open account.moment batch ≡ false) kept.batches
-  pub collections : Reordered account.collections kept.collections
+  pub collections : IsReordering account.collections kept.collections
   pub store : account.store ≡ kept.store
   pub last_delete : account.last_delete ≡ kept.last_delete
   pub counter : account.counter ≡ kept.counter
@@ -81,8 +81,8 @@ pub record IsSound (told : Option Kept) (account : Plain) (ended : List ℕ) : T
 pub record IsOpenedAccount (told : Option Kept) (account : Plain) (ended : List ℕ) : Type 0 where
   pub sound : IsSound told account ended
   pub kept : IsKeptBy told account
-  pub stands : IfSome told (λ kept. SameAccount (opened kept) account)
-  pub begins : account ≡ opened (kept_of account)
+  pub stands : IfSome told (λ kept. SameAccount (account_at_opening kept) account)
+  pub begins : account ≡ account_at_opening (kept_of account)
 
 -- whether a step asks the keeper: for a write, a begin, an append and a commit, where no rule refuses it
 abbrev pub is_for_keeper : Plain → Request → Bool

@@ -4,7 +4,7 @@
 ghost use Rattle.std.specs.Prelude.{◌≡◌, ◌≤◌, false, true, IfOk, IfErr, IfSome};
 ghost use Rattle.ss_outside.specs.Causes.{Rose};
 ghost use Rattle.ss_bso.specs.Account.{tick};
-ghost use Rattle.ss_bso.specs.Changes.{kept_of, opened};
+ghost use Rattle.ss_bso.specs.Changes.{kept_of, account_at_opening};
 ghost use Rattle.ss_bso.specs.Validity.{IsValid, SameAccount};
 ghost use Rattle.ss_query.specs.declared.replies.Mark.TheVariants.{Done, Keeper as KeeperMark};
 ghost use Rattle.ss_query.specs.Marks.{mark_of};
@@ -34,9 +34,9 @@ pub struct Account<K: Keeper> {
 }
 
 impl<K: Keeper> Model for Account<K> {
-    ghost use Rattle.ss_account.specs.Held.{Held};
+    ghost use Rattle.ss_account.specs.Held.{AccountWithKeeper};
 
-    ghost Value = { Held K };
+    ghost Value = { AccountWithKeeper K };
 
     ghost use Rattle.ss_account.specs.Keeping.{IsSound};
 
@@ -52,9 +52,9 @@ impl<K: Keeper> Account<K> {
     /// wanting. What the keeper holds is left.
     pub fn open(alloc: Global, keeper: K) -> Result<Account<K>, (K, OpenFault)>
         ensures opened { IfOk result (λ account. IfSome (K.told keeper)
-            (λ kept. SameAccount (opened kept) account.plain)) }
+            (λ kept. SameAccount (account_at_opening kept) account.plain)) }
         ensures good { IfOk result (λ account. IfSome (K.told keeper) IsGood) }
-        ensures begins { IfOk result (λ account. account.plain ≡ opened (kept_of account.plain)) }
+        ensures begins { IfOk result (λ account. account.plain ≡ account_at_opening (kept_of account.plain)) }
         ensures valid { IfOk result (λ account. IsValid account.plain) }
         ensures kept { IfOk result (λ account. IsKeptBy (K.told account.keeper) account.plain) }
         ensures bad { IfErr result (λ refusal. IfSome (K.told keeper) (λ kept. IsFaultOf kept refusal.1)) }

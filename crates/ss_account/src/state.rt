@@ -10,8 +10,8 @@ ghost use Rattle.ss_bso.specs.Changes.{kept_of, plain_of};
 ghost use Rattle.ss_bso.specs.Limits.{most_live_batches, most_rows_and_collections, row_bytes};
 ghost use Rattle.ss_bso.specs.Lists.{Pairs};
 ghost use Rattle.ss_bso.specs.Validity.{IsValid, IsWithinLimits, SameAccount};
-ghost use Rattle.ss_bso.specs.Write.{ids_of, rows_without, rows_written, stamped, write};
-ghost use Rattle.ss_batch.specs.Stage.{append_fault, stage_after_append, begin_fault, begun, live_batch};
+ghost use Rattle.ss_bso.specs.Write.{ids_of, rows_without, rows_written, account_after_write, write};
+ghost use Rattle.ss_batch.specs.Stage.{append_fault, stage_after_append, begin_fault, stage_after_begin, live_batch};
 ghost use Rattle.ss_batch.specs.Stage.{stage_after_cut};
 ghost use Rattle.ss_keeper.specs.Calls.{with_load};
 ghost use Rattle.ss_keeper.specs.Keeping.{HasCause};
@@ -493,7 +493,7 @@ impl State {
     ) -> Result<Option<Pending>, AllocError>
         requires valid { IsValid self.now }
         requires few { length ids.now ≤ most_rows_and_collections }
-        ensures { IfOk result (λ found. Settles self.now stamp (stamped self.now collection.now stamp
+        ensures { IfOk result (λ found. Settles self.now stamp (account_after_write self.now collection.now stamp
             (rows_without collection.now ids.now self.now.rows)) found) }
     {
         let targets = Targets::of_ids(alloc, ids)?;
@@ -598,7 +598,7 @@ impl State {
     fn would_be_over(&self, collection: &Name, targets: &Targets, made: &[Row]) -> bool
         requires valid { IsValid self.now }
         requires apart { Pairs OtherText targets.now }
-        ensures { (time : ℕ) → result ≡ is_over (stamped self.now collection.now time
+        ensures { (time : ℕ) → result ≡ is_over (account_after_write self.now collection.now time
             (rows_without collection.now targets.now self.now.rows ++ made.now)) }
     {
         let collections = count_others(self.collections.as_slice(), collection) + 1;
@@ -799,7 +799,7 @@ impl State {
         requires told { IsKeptBesideBy ledger.old.ended (K.told ledger.old.keeper) self.old }
         ensures reply { IfOk result (λ reply. reply ≡ staged_reply self.old.moment time (self.old.counter + 1)
             records.now) }
-        ensures account { OnOk result (self.new ≡ with_stage self.old (begun (stage_of self.old) self.old.moment
+        ensures account { OnOk result (self.new ≡ with_stage self.old (stage_after_begin (stage_of self.old) self.old.moment
             collection.now records.now.parts)) }
         ensures err { OnErr result (self.new ≡ self.old) }
         ensures held { OnOk result (IsHeldBy (K.told ledger.new.keeper) self.new) }
@@ -831,7 +831,7 @@ impl State {
     ) -> Result<u64, AllocError>
         requires { begin_fault (stage_of self.old) parts.items ≡ None }
         ensures number { IfOk result (λ number. number ≡ self.old.counter + 1) }
-        ensures ok { OnOk result (self.new ≡ with_stage self.old (begun (stage_of self.old) self.old.moment
+        ensures ok { OnOk result (self.new ≡ with_stage self.old (stage_after_begin (stage_of self.old) self.old.moment
             collection.now parts.items)) }
         ensures err { OnErr result (self.new ≡ self.old) }
     {

@@ -6,7 +6,7 @@ use Rattle.std.specs.declared.cmp.Ordering.TheVariants.{Less, Equal, Greater}
 use Rattle.std.specs.Cmp.{IsTotalOrder, unsigned_ties}
 use Rattle.std.proofs.lemmas.Bool.{eqb-true}
 use Rattle.std.specs.Ordering.{is_eq, ordering_then}
-use Rattle.ss_text.specs.Texts.{Reordered, chain, sorted, text_cmp}
+use Rattle.ss_text.specs.Texts.{IsReordering, chain, sorted, text_cmp}
 use Rattle.ss_text.specs.Time.{after}
 use Rattle.ss_text.proofs.Basics.{bytes_eq-flip}
 use Rattle.ss_bso.specs.declared.rows.Row.{Row}
@@ -30,9 +30,9 @@ use Rattle.ss_audit.proofs.Valid.{names_valid, places_valid}
 
 -- lists of which one's elements are told apart by an order: they have the same elements exactly where they are equal in order
 pub same_in_order : {X : Type 0} (cmp : X → X → Ordering) → IsTotalOrder cmp → (xs ys : List X) → Pairs (λ (x y : X). cmp x y ≡ Equal → ⊥) xs
-    → (sorted (comes_before cmp) xs ≡ sorted (comes_before cmp) ys) ↔ Reordered xs ys
+    → (sorted (comes_before cmp) xs ≡ sorted (comes_before cmp) ys) ↔ IsReordering xs ys
 same_in_order cmp total xs ys apart = (
-  λ e. chain (reordered-sorted (comes_before cmp) xs) (subst (λ zs. Reordered zs ys) (sym e) (reordered-sym (reordered-sorted (comes_before cmp) ys))),
+  λ e. chain (reordered-sorted (comes_before cmp) xs) (subst (λ zs. IsReordering zs ys) (sym e) (reordered-sym (reordered-sorted (comes_before cmp) ys))),
   λ r. sorted_same cmp total xs ys r apart,
 )
 
@@ -63,14 +63,14 @@ numbers_untied batch other differ h = differ (eqb-true batch.number other.number
 imp : {X : Type 0} (R S : X → X → Type 0) → ((x y : X) → R x y → S x y) → (xs : List X) → Pairs R xs → Pairs S xs
 imp {X} R S h xs p = Pairs-imp R S (λ (x : X). Unit {0}) (λ x y _ _ r. h x y r) xs (Each-any xs) p
 
-pub same_names : (account other : Plain) → IsValid account → (sorted (comes_before name_cmp) account.collections ≡ sorted (comes_before name_cmp) other.collections) ↔ Reordered account.collections other.collections
+pub same_names : (account other : Plain) → IsValid account → (sorted (comes_before name_cmp) account.collections ≡ sorted (comes_before name_cmp) other.collections) ↔ IsReordering account.collections other.collections
 same_names account other valid =
     same_in_order name_cmp name_total account.collections other.collections
     (imp NamedApart (λ (x y : List ℕ × ℕ). name_cmp x y ≡ Equal → ⊥) names_untied account.collections (names_valid account valid))
 
 pub same_places : (account other : Plain) (moment : ℕ) → IsValid account
     → (sorted (comes_before place_cmp) (filter (is_alive moment) account.rows) ≡ sorted (comes_before place_cmp) (filter (is_alive moment) other.rows))
-    ↔ Reordered (filter (is_alive moment) account.rows) (filter (is_alive moment) other.rows)
+    ↔ IsReordering (filter (is_alive moment) account.rows) (filter (is_alive moment) other.rows)
 same_places account other moment valid =
     same_in_order place_cmp place_total (filter (is_alive moment) account.rows) (filter (is_alive moment) other.rows)
     (imp Apart (λ (x y : Row). place_cmp x y ≡ Equal → ⊥) rows_untied (filter (is_alive moment) account.rows)
@@ -78,7 +78,7 @@ same_places account other moment valid =
 
 pub same_numbers : (account other : Plain) (moment : ℕ) → IsValid account
     → (sorted (comes_before number_cmp) (filter (is_open moment) account.batches) ≡ sorted (comes_before number_cmp) (filter (is_open moment) other.batches))
-    ↔ Reordered (filter (is_open moment) account.batches) (filter (is_open moment) other.batches)
+    ↔ IsReordering (filter (is_open moment) account.batches) (filter (is_open moment) other.batches)
 same_numbers account other moment valid =
     same_in_order number_cmp number_total (filter (is_open moment) account.batches) (filter (is_open moment) other.batches)
     (imp NumberedApart (λ (x y : Staged). number_cmp x y ≡ Equal → ⊥) numbers_untied (filter (is_open moment) account.batches)
@@ -98,10 +98,10 @@ same_goes_on closing opening s =
     record {
       moment = omega (arith, s.moment);
       same = record {
-        rows = subst (λ m. Reordered (filter (is_alive (after closing.moment 0)) closing.rows) (filter (is_alive m) opening.rows)) (own ∙ sym there)
+        rows = subst (λ m. IsReordering (filter (is_alive (after closing.moment 0)) closing.rows) (filter (is_alive m) opening.rows)) (own ∙ sym there)
             (reordered-filter (is_alive (after closing.moment 0)) s.rows);
         collections = s.collections;
-        batches = subst (λ m. Reordered (filter (is_open (after closing.moment 0)) closing.batches) (filter (is_open m) opening.batches)) (own ∙ sym there)
+        batches = subst (λ m. IsReordering (filter (is_open (after closing.moment 0)) closing.batches) (filter (is_open m) opening.batches)) (own ∙ sym there)
             (reordered-filter (is_open (after closing.moment 0)) s.batches);
         store = s.store;
         last_delete = s.last_delete;

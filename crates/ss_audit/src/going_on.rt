@@ -3,7 +3,7 @@
 ghost use Rattle.std.specs.Prelude.{◌≡◌, ◌≤◌, ◌↔◌, IfOk, IfSome, IsTrue, filter, map};
 ghost use Rattle.ss_bso.specs.Account.{is_alive, is_open};
 ghost use Rattle.ss_bso.specs.Validity.{IsValid};
-ghost use Rattle.ss_text.specs.Texts.{Reordered, sorted};
+ghost use Rattle.ss_text.specs.Texts.{IsReordering, sorted};
 ghost use Rattle.ss_dump.specs.Dumps.{comes_before, name_cmp, number_cmp, place_cmp};
 ghost use Rattle.ss_audit.specs.Sound.{GoesOn};
 ghost use Rattle.ss_audit.specs.Verdicts.{GoesOnFrom};
@@ -91,7 +91,7 @@ fn by_number(alloc: Global, batches: &[Staged], moment: Stamp) -> Result<Vec<&St
 /// Whether two accounts have the same collections, whatever their order.
 fn same_collections(alloc: Global, account: &Plain, other: &Plain) -> Result<bool, AllocError>
     requires { IsValid account.now }
-    ensures { IfOk result (λ same. IsTrue same ↔ Reordered account.now.collections other.now.collections) }
+    ensures { IfOk result (λ same. IsTrue same ↔ IsReordering account.now.collections other.now.collections) }
 {
     let one = by_name(alloc, account.collections.as_slice())?;
     let two = by_name(alloc, other.collections.as_slice())?;
@@ -106,7 +106,7 @@ fn same_rows(
     moment: Stamp,
 ) -> Result<bool, AllocError>
     requires { IsValid account.now }
-    ensures { IfOk result (λ same. IsTrue same ↔ Reordered (filter (is_alive moment) account.now.rows)
+    ensures { IfOk result (λ same. IsTrue same ↔ IsReordering (filter (is_alive moment) account.now.rows)
         (filter (is_alive moment) other.now.rows)) }
 {
     let one = by_place(alloc, account.rows.as_slice(), moment)?;
@@ -122,7 +122,7 @@ fn same_batches(
     moment: Stamp,
 ) -> Result<bool, AllocError>
     requires { IsValid account.now }
-    ensures { IfOk result (λ same. IsTrue same ↔ Reordered (filter (is_open moment) account.now.batches)
+    ensures { IfOk result (λ same. IsTrue same ↔ IsReordering (filter (is_open moment) account.now.batches)
         (filter (is_open moment) other.now.batches)) }
 {
     let one = by_number(alloc, account.batches.as_slice(), moment)?;

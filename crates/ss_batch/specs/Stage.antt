@@ -39,8 +39,8 @@ abbrev pub live_batch : ℕ → List Staged → Option Staged
 live_batch number batches = find (has_number number) batches
 
 -- a stage with one more batch, whose number is the next
-abbrev pub begun : StageView → ℕ → List ℕ → List Part → StageView
-begun stage now collection parts = record {
+abbrev pub stage_after_begin : StageView → ℕ → List ℕ → List Part → StageView
+stage_after_begin stage now collection parts = record {
   counter = stage.counter + 1;
   batches = stage.batches ++ record { number = stage.counter + 1; collection = collection; begun = now; parts = parts } ∷ [];
 }

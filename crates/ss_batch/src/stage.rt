@@ -7,7 +7,7 @@ ghost use Rattle.ss_bso.specs.Account.{is_open};
 ghost use Rattle.ss_bso.specs.Batches.{batches_elsewhere, batches_without};
 ghost use Rattle.ss_bso.specs.Limits.{part_bytes, payload_size};
 ghost use Rattle.ss_batch.specs.Stage.{FaultIs, HasGivenNumber, IsOther, append_fault, stage_after_append, begin_fault};
-ghost use Rattle.ss_batch.specs.Stage.{begun, has_number, has_room, most_counted, live_batch, live_parts};
+ghost use Rattle.ss_batch.specs.Stage.{stage_after_begin, has_number, has_room, most_counted, live_batch, live_parts};
 ghost use Rattle.ss_batch.specs.Stage.{stage_after_cut, size_fault};
 
 use crate::faults::StageFault;
@@ -201,7 +201,7 @@ impl Stage {
         parts: Vec<Part>,
     ) -> Result<u64, StageFault>
         ensures number { IfOk result (λ number. number ≡ self.new.counter) }
-        ensures ok { OnOk result (self.new ≡ begun self.old now collection.now parts.items) }
+        ensures ok { OnOk result (self.new ≡ stage_after_begin self.old now collection.now parts.items) }
         ensures err { OnErr result (self.new ≡ self.old) }
         ensures cause { FaultIs (begin_fault self.old parts.items) result }
     {

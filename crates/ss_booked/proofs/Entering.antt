@@ -21,7 +21,8 @@ use Rattle.ss_query.specs.declared.requests.Request.{Request}
 use Rattle.ss_query.specs.Fit.{IsFitRequest}
 use Rattle.ss_laws.specs.declared.journal.Entry.{Entry}
 use Rattle.ss_laws.specs.Journal.{Journal}
-use Rattle.ss_laws.specs.Journals.{marked_outcome, entry_outcome, account_after, begun, with_entry, reply_at, IsLegal}
+use Rattle.ss_laws.specs.Journals.{marked_outcome, entry_outcome, account_after, empty_journal, with_entry, reply_at}
+use Rattle.ss_laws.specs.Journals.{IsLegal}
 use Rattle.ss_laws.proofs.Journals.{valid-account_after}
 use Rattle.ss_laws.proofs.JournalOrder.{marked-same}
 use Rattle.ss_laws.proofs.SameValid.{valid-same}
@@ -159,7 +160,7 @@ sound-entered told told_after journal entry account after reply bytes more befor
   rose = rose-entered journal.entries entry before now later sound.rose stepped.faults stepped.cause;
 }
 
-pub legal-begun : (account opening : Plain) (journal : Journal) (most : ℕ) → journal ≡ begun opening most → IsValid account → SameAccount account opening → IsLegal journal
+pub legal-begun : (account opening : Plain) (journal : Journal) (most : ℕ) → journal ≡ empty_journal opening most → IsValid account → SameAccount account opening → IsLegal journal
 legal-begun account opening journal most is valid same = subst (λ (j : Journal). IsLegal j) (sym is) record {
   opening = valid-same account opening valid same;
   requests = λ k d lt. absurd (omega arith);
@@ -167,14 +168,14 @@ legal-begun account opening journal most is valid same = subst (λ (j : Journal)
   within = omega arith;
 }
 
-pub room-begun : (opening : Plain) (journal : Journal) (most : ℕ) → journal ≡ begun opening most → HadRoom journal
+pub room-begun : (opening : Plain) (journal : Journal) (most : ℕ) → journal ≡ empty_journal opening most → HadRoom journal
 room-begun opening journal most is = subst (λ (j : Journal). HadRoom j) (sym is) (λ k lt. absurd (omega arith))
 
-pub sound-begun : (told : Option Kept) (account opening : Plain) (journal : Journal) (most before faults : ℕ) → journal ≡ begun opening most → before ≡ faults → SameAccount account opening → IsValid account → IsKeptBy told account → IfSome told IsGood
+pub sound-begun : (told : Option Kept) (account opening : Plain) (journal : Journal) (most before faults : ℕ) → journal ≡ empty_journal opening most → before ≡ faults → SameAccount account opening → IsValid account → IsKeptBy told account → IfSome told IsGood
     → IsSound told account journal 0 before faults
 sound-begun told account opening journal most before faults is stands same valid kept again = subst (λ (j : Journal). IsSound told account j 0 before faults) (sym is) record {
-  legal = legal-begun account opening (begun opening most) most refl valid same;
-  had_room = room-begun opening (begun opening most) most refl;
+  legal = legal-begun account opening (empty_journal opening most) most refl valid same;
+  had_room = room-begun opening (empty_journal opening most) most refl;
   leaves = same-back account opening same;
   valid = valid;
   kept = kept;

@@ -1,7 +1,7 @@
 -- What callers see of an account with its journal.
 use Rattle.std.specs.Prelude.{ℕ}
 use Rattle.ss_keeper.specs.declared.keeper.Keeper.{Ghosts}
-use Rattle.ss_account.specs.Held.{Held}
+use Rattle.ss_account.specs.Held.{AccountWithKeeper}
 use Rattle.ss_laws.specs.Journal.{Journal}
 use Rattle.ss_booked.specs.declared.booked.Booked.{Booked}
 use Rattle.ss_booked.specs.declared.booked.Terms.{Terms}
@@ -12,7 +12,7 @@ module _ {K : Type 0} {G : Ghosts K} where
   uid_of b = b.bound.uid
 
   -- the account, with its keeper
-  abbrev pub account_of : Booked K G → Held K
+  abbrev pub account_of : Booked K G → AccountWithKeeper K
   account_of b = b.bound.account
 
   -- its journal

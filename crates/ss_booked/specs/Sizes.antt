@@ -22,11 +22,11 @@ abbrev pub entry_bytes : ℕ
 entry_bytes = 256
 
 -- the parts, the failed records and the listed ids of a request
-abbrev pub listed : Request → ℕ
-listed (Post collection records mode cond) = length records.parts + length records.failed
-listed (ListOf collection query cond) = option_map_or (λ ids. length ids) query.ids 0
-listed (DeleteIds collection ids cond) = length ids
-listed _ = 0
+abbrev pub count_of_items : Request → ℕ
+count_of_items (Post collection records mode cond) = length records.parts + length records.failed
+count_of_items (ListOf collection query cond) = option_map_or (λ ids. length ids) query.ids 0
+count_of_items (DeleteIds collection ids cond) = length ids
+count_of_items _ = 0
 
 -- the payload bytes of a request's parts or fields
 abbrev pub payload_of : Request → ℕ
@@ -36,7 +36,7 @@ payload_of _ = 0
 
 -- the bytes that a journal counts for a request: 256, 256 more for each part, failed record and listed id, and the payload bytes
 abbrev pub request_bytes : Request → ℕ
-request_bytes request = entry_bytes + entry_bytes * listed request + payload_of request
+request_bytes request = entry_bytes + entry_bytes * count_of_items request + payload_of request
 
 -- the bytes that a journal counts for its entries
 abbrev pub journal_bytes : List Entry → ℕ

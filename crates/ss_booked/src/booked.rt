@@ -7,7 +7,7 @@ ghost use Rattle.ss_bso.specs.Validity.{IsValid, SameAccount};
 ghost use Rattle.ss_query.specs.declared.replies.Mark.TheVariants.{Keeper as KeeperMark};
 ghost use Rattle.ss_query.specs.Fit.{IsFitRequest};
 ghost use Rattle.ss_query.specs.Marks.{mark_of};
-ghost use Rattle.ss_laws.specs.Journals.{account_after, begun, with_entry, reply_at, IsLegal};
+ghost use Rattle.ss_laws.specs.Journals.{account_after, empty_journal, with_entry, reply_at, IsLegal};
 ghost use Rattle.ss_account.specs.Keeping.{AsksOnce, IsKeptBy};
 ghost use Rattle.ss_account.specs.Opening.{IsGood};
 ghost use Rattle.ss_booked.specs.Sizes.{full_of, most_entries, HadRoom};
@@ -71,7 +71,7 @@ impl<K: Keeper> Booked<K> {
         ensures uid { IfOk result (λ b. uid_of b ≡ uid) }
         ensures account { IfOk result (λ b. account_of b ≡ account) }
         ensures opening { IfOk result (λ b. SameAccount account.plain (journal_of b).opening) }
-        ensures begun { IfOk result (λ b. journal_of b ≡ begun (journal_of b).opening most) }
+        ensures begun { IfOk result (λ b. journal_of b ≡ empty_journal (journal_of b).opening most) }
         ensures before { IfOk result (λ b. keeper_before b ≡ account.keeper) }
         ensures returned { IfErr result (λ refused. refused.0 ≡ account) }
     {
@@ -133,7 +133,7 @@ impl<K: Keeper> Booked<K> {
         ensures opening { OnOk result (SameAccount (account_of self.old).plain (journal_of self.new).opening) }
         ensures follows { OnOk result (SameAccount (account_after (journal_of self.old).opening
             (journal_of self.old).entries) (journal_of self.new).opening) }
-        ensures begun { OnOk result (journal_of self.new ≡ begun (journal_of self.new).opening
+        ensures begun { OnOk result (journal_of self.new ≡ empty_journal (journal_of self.new).opening
             (journal_of self.old).most) }
         ensures before { OnOk result (keeper_before self.new ≡ (account_of self.old).keeper) }
         ensures unfolded { OnErr result (journal_of self.new ≡ journal_of self.old) }

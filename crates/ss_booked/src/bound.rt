@@ -7,7 +7,7 @@ ghost use Rattle.ss_bso.specs.Validity.{IsValid, SameAccount};
 ghost use Rattle.ss_query.specs.declared.replies.Mark.TheVariants.{Keeper as KeeperMark};
 ghost use Rattle.ss_query.specs.Fit.{IsFitRequest};
 ghost use Rattle.ss_query.specs.Marks.{mark_of};
-ghost use Rattle.ss_laws.specs.Journals.{account_after, begun, with_entry, reply_at, IsLegal};
+ghost use Rattle.ss_laws.specs.Journals.{account_after, empty_journal, with_entry, reply_at, IsLegal};
 ghost use Rattle.ss_account.specs.Keeping.{AsksOnce, IsKeptBy};
 ghost use Rattle.ss_account.specs.Opening.{IsGood};
 ghost use Rattle.ss_booked.specs.Sizes.{full_of, is_half_full, most_entries, HadRoom};
@@ -63,7 +63,7 @@ impl<K: Keeper> Bound<K> {
         ensures uid { IfOk result (λ b. b.uid ≡ uid) }
         ensures account { IfOk result (λ b. b.account ≡ account) }
         ensures opening { IfOk result (λ b. SameAccount account.plain b.journal.opening) }
-        ensures begun { IfOk result (λ b. b.journal ≡ begun b.journal.opening most) }
+        ensures begun { IfOk result (λ b. b.journal ≡ empty_journal b.journal.opening most) }
         ensures before { IfOk result (λ b. b.before ≡ account.keeper) }
         ensures legal { IfOk result (λ b. IsLegal b.journal) }
         ensures roomy { IfOk result (λ b. HadRoom b.journal) }
@@ -177,7 +177,7 @@ impl<K: Keeper> Bound<K> {
         ensures opening { OnOk result (SameAccount self.old.account.plain self.new.journal.opening) }
         ensures follows { OnOk result (SameAccount (account_after self.old.journal.opening self.old.journal.entries)
             self.new.journal.opening) }
-        ensures begun { OnOk result (self.new.journal ≡ begun self.new.journal.opening self.old.journal.most) }
+        ensures begun { OnOk result (self.new.journal ≡ empty_journal self.new.journal.opening self.old.journal.most) }
         ensures before { OnOk result (self.new.before ≡ self.old.account.keeper) }
         ensures unchanged { OnErr result (self.new ≡ self.old) }
         ensures legal { IsLegal self.new.journal }

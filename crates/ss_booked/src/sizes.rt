@@ -4,7 +4,7 @@ ghost use Rattle.std.specs.Prelude.{◌^◌, ◌≡◌, ◌+◌, ◌<◌, ◌≤
 ghost use Rattle.std.specs.Option.{option_map_or};
 ghost use Rattle.ss_bso.specs.Limits.{part_bytes, payload_size};
 ghost use Rattle.ss_query.specs.Fit.{IsFitRequest};
-ghost use Rattle.ss_booked.specs.Sizes.{listed, payload_of, request_bytes};
+ghost use Rattle.ss_booked.specs.Sizes.{count_of_items, payload_of, request_bytes};
 
 use crate::limits::ENTRY_BYTES;
 use ss_bso::{Field, Fields, Part};
@@ -46,7 +46,7 @@ fn ids_of_query(query: &Query) -> u64
 /// The parts, the failed records and the listed ids of a request.
 fn count_listed(request: &Request) -> u64
     requires fits { IsFitRequest request.now }
-    ensures listed { result ≡ listed request.now }
+    ensures listed { result ≡ count_of_items request.now }
     ensures few { result ≤ 100 }
 {
     match request {

@@ -4,7 +4,7 @@ use Rattle.std.proofs.lemmas.Str.{IsUtf8-from_is_utf8, is_utf8-from_IsUtf8}
 use Rattle.std.specs.Str.{IsUtf8, is_utf8}
 use Rattle.serde_json.specs.Data.{Data}
 use Rattle.serde_json.specs.Read.{read}
-use Rattle.ss_text.specs.Decimals.{wrapped}
+use Rattle.ss_text.specs.Decimals.{wrapped_text}
 use Rattle.ss_bso.specs.Members.{json_of, parsed_body}
 
 pub json_yes : (bytes : List ℕ) (d : Data) → IsUtf8 bytes → read bytes ≡ Some d → Some d ≡ json_of bytes
@@ -17,6 +17,6 @@ either false o h = refl
 pub json_no : (bytes : List ℕ) → (IsUtf8 bytes → read bytes ≡ None) → None ≡ json_of bytes
 json_no bytes none = either (is_utf8 bytes) (read bytes) (λ t. none (IsUtf8-from_is_utf8 bytes t))
 
-pub parsed_is : (text bytes : List ℕ) → bytes ≡ wrapped text → json_of bytes ≡ parsed_body text
+pub parsed_is : (text bytes : List ℕ) → bytes ≡ wrapped_text text → json_of bytes ≡ parsed_body text
 unfolding parsed_body
 parsed_is text bytes e = ap json_of e

@@ -3,72 +3,72 @@ use Rattle.std.specs.Prelude.{◌≡◌, ℕ, ◌+◌, Bool, true, false, not, �
 use Rattle.std.specs.Prelude.{Option, Some, find, filter, map, refl}
 use Rattle.std.proofs.Common.{sym, ap, ◌∙◌, arith}
 use Rattle.std.proofs.lemmas.List.Sums.{sum_by-cons}
-use Rattle.ss_text.specs.Texts.{Reordered, nothing, head, swapped, chain, list_with, sorted}
+use Rattle.ss_text.specs.Texts.{IsReordering, nothing, head, swapped, chain, list_with, sorted}
 use Rattle.ss_bso.specs.declared.account.Plain.{Plain}
 use Rattle.ss_bso.specs.Validity.{SameAccount}
 use Rattle.ss_bso.proofs.Lists.{Each, Pairs}
 
-pub reordered-refl : {X : Type 0} (xs : List X) → Reordered xs xs
+pub reordered-refl : {X : Type 0} (xs : List X) → IsReordering xs xs
 reordered-refl [] = nothing
 reordered-refl (x ∷ xs) = head x (reordered-refl xs)
 
-pub reordered-sym : {X : Type 0} {xs ys : List X} → Reordered xs ys → Reordered ys xs
+pub reordered-sym : {X : Type 0} {xs ys : List X} → IsReordering xs ys → IsReordering ys xs
 reordered-sym nothing = nothing
 reordered-sym (head x r) = head x (reordered-sym r)
 reordered-sym (swapped x y xs) = swapped y x xs
 reordered-sym (chain r s) = chain (reordered-sym s) (reordered-sym r)
 
-pub reordered-append_left : {X : Type 0} (us : List X) {xs ys : List X} → Reordered xs ys → Reordered (us ++ xs) (us ++ ys)
+pub reordered-append_left : {X : Type 0} (us : List X) {xs ys : List X} → IsReordering xs ys → IsReordering (us ++ xs) (us ++ ys)
 reordered-append_left [] r = r
 reordered-append_left (u ∷ us) r = head u (reordered-append_left us r)
 
-pub reordered-append_right : {X : Type 0} (us : List X) {xs ys : List X} → Reordered xs ys → Reordered (xs ++ us) (ys ++ us)
+pub reordered-append_right : {X : Type 0} (us : List X) {xs ys : List X} → IsReordering xs ys → IsReordering (xs ++ us) (ys ++ us)
 reordered-append_right us nothing = reordered-refl us
 reordered-append_right us (head x r) = head x (reordered-append_right us r)
 reordered-append_right us (swapped x y xs) = swapped x y (xs ++ us)
 reordered-append_right us (chain r s) = chain (reordered-append_right us r) (reordered-append_right us s)
 
-pub reordered-map : {X Y : Type 0} (f : X → Y) {xs ys : List X} → Reordered xs ys → Reordered (map f xs) (map f ys)
+pub reordered-map : {X Y : Type 0} (f : X → Y) {xs ys : List X} → IsReordering xs ys → IsReordering (map f xs) (map f ys)
 reordered-map f nothing = nothing
 reordered-map f (head x r) = head (f x) (reordered-map f r)
 reordered-map f (swapped x y xs) = swapped (f x) (f y) (map f xs)
 reordered-map f (chain r s) = chain (reordered-map f r) (reordered-map f s)
 
-filter-head : {X : Type 0} (b : Bool) (x : X) {xs ys : List X} → Reordered xs ys → Reordered (cond b (x ∷ xs) xs) (cond b (x ∷ ys) ys)
+filter-head : {X : Type 0} (b : Bool) (x : X) {xs ys : List X} → IsReordering xs ys → IsReordering (cond b (x ∷ xs) xs) (cond b (x ∷ ys) ys)
 filter-head true x r = head x r
 filter-head false x r = r
 
-filter-swapped : {X : Type 0} (a b : Bool) (x y : X) (xs : List X) → Reordered (cond a (x ∷ cond b (y ∷ xs) xs) (cond b (y ∷ xs) xs)) (cond b (y ∷ cond a (x ∷ xs) xs) (cond a (x ∷ xs) xs))
+filter-swapped : {X : Type 0} (a b : Bool) (x y : X) (xs : List X) → IsReordering (cond a (x ∷ cond b (y ∷ xs) xs) (cond b (y ∷ xs) xs)) (cond b (y ∷ cond a (x ∷ xs) xs) (cond a (x ∷ xs) xs))
 filter-swapped true true x y xs = swapped x y xs
 filter-swapped true false x y xs = reordered-refl (x ∷ xs)
 filter-swapped false true x y xs = reordered-refl (y ∷ xs)
 filter-swapped false false x y xs = reordered-refl xs
 
-pub reordered-filter : {X : Type 0} (p : X → Bool) {xs ys : List X} → Reordered xs ys → Reordered (filter p xs) (filter p ys)
+pub reordered-filter : {X : Type 0} (p : X → Bool) {xs ys : List X} → IsReordering xs ys → IsReordering (filter p xs) (filter p ys)
 reordered-filter p nothing = nothing
 reordered-filter p (head x r) = filter-head (p x) x (reordered-filter p r)
 reordered-filter p (swapped x y xs) = filter-swapped (p x) (p y) x y (filter p xs)
 reordered-filter p (chain r s) = chain (reordered-filter p r) (reordered-filter p s)
 
-pub length-reordered : {X : Type 0} {xs ys : List X} → Reordered xs ys → length xs ≡ length ys
+pub length-reordered : {X : Type 0} {xs ys : List X} → IsReordering xs ys → length xs ≡ length ys
 length-reordered nothing = refl
 length-reordered (head x r) = omega (arith, length-reordered r)
 length-reordered (swapped x y xs) = refl
 length-reordered (chain r s) = length-reordered r ∙ length-reordered s
 
-pub sum_by-reordered : {X : Type 0} (f : X → ℕ) {xs ys : List X} → Reordered xs ys → sum_by f xs ≡ sum_by f ys
+pub sum_by-reordered : {X : Type 0} (f : X → ℕ) {xs ys : List X} → IsReordering xs ys → sum_by f xs ≡ sum_by f ys
 sum_by-reordered f nothing = refl
 sum_by-reordered f (head x {xs} {ys} r) = sum_by-cons f x xs ∙ ap (λ n. f x + n) (sum_by-reordered f r) ∙ sym (sum_by-cons f x ys)
 sum_by-reordered f (swapped x y xs) = omega (arith, sum_by-cons f x (y ∷ xs), sum_by-cons f y xs, sum_by-cons f y (x ∷ xs), sum_by-cons f x xs)
 sum_by-reordered f (chain r s) = sum_by-reordered f r ∙ sum_by-reordered f s
 
-pub Each-reordered : {X : Type 0} (P : X → Type 0) {xs ys : List X} → Reordered xs ys → Each P xs → Each P ys
+pub Each-reordered : {X : Type 0} (P : X → Type 0) {xs ys : List X} → IsReordering xs ys → Each P xs → Each P ys
 Each-reordered P nothing e = tt
 Each-reordered P (head x r) e = (e.0, Each-reordered P r e.1)
 Each-reordered P (swapped x y xs) e = (e.1.0, (e.0, e.1.1))
 Each-reordered P (chain r s) e = Each-reordered P s (Each-reordered P r e)
 
-pub Pairs-reordered : {X : Type 0} (R : X → X → Type 0) → ((x y : X) → R x y → R y x) → {xs ys : List X} → Reordered xs ys → Pairs R xs → Pairs R ys
+pub Pairs-reordered : {X : Type 0} (R : X → X → Type 0) → ((x y : X) → R x y → R y x) → {xs ys : List X} → IsReordering xs ys → Pairs R xs → Pairs R ys
 Pairs-reordered R flip nothing e = tt
 Pairs-reordered R flip (head x r) e = (Each-reordered (R x) r e.0, Pairs-reordered R flip r e.1)
 Pairs-reordered R flip (swapped x y xs) e = ((flip x y e.0.0, e.1.0), (e.0.1, e.1.1))
@@ -90,7 +90,7 @@ find-swapped true false x y rest e = refl
 find-swapped false true x y rest e = refl
 find-swapped false false x y rest e = refl
 
-pub find-reordered : {X : Type 0} (p : X → Bool) {xs ys : List X} → Reordered xs ys → Pairs (NotBoth p) xs → find p xs ≡ find p ys
+pub find-reordered : {X : Type 0} (p : X → Bool) {xs ys : List X} → IsReordering xs ys → Pairs (NotBoth p) xs → find p xs ≡ find p ys
 find-reordered p nothing e = refl
 find-reordered p (head x r) e = ap (λ rest. cond (p x) (Some x) rest) (find-reordered p r e.1)
 find-reordered p (swapped x y xs) e = find-swapped (p x) (p y) x y (find p xs) e.0.0
@@ -137,7 +137,7 @@ module _ {X : Type 0} (before : X → X → Bool) (through : (x y z : X) → bef
       not_before true h = h refl
       not_before false h = refl
 
-  pub sorted-reordered : {xs ys : List X} → Reordered xs ys → Pairs (Ranked before) xs → sorted before xs ≡ sorted before ys
+  pub sorted-reordered : {xs ys : List X} → IsReordering xs ys → Pairs (Ranked before) xs → sorted before xs ≡ sorted before ys
   sorted-reordered nothing e = refl
   sorted-reordered (head x r) e = ap (λ rest. list_with before x rest) (sorted-reordered r e.1)
   sorted-reordered (swapped x y xs) e = placed-swapped x y (sorted before xs) e.0.0

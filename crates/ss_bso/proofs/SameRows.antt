@@ -2,7 +2,7 @@
 use Rattle.std.specs.Prelude.{◌≡◌, ℕ, Bool, true, false, not, ◌&&◌, cond, List, [], ◌∷◌, Some, None, find, filter}
 use Rattle.std.specs.Prelude.{bytes_eq, refl}
 use Rattle.std.proofs.Common.{subst, sym, ap, ◌∙◌}
-use Rattle.ss_text.specs.Texts.{Reordered, nothing, head, chain, swapped}
+use Rattle.ss_text.specs.Texts.{IsReordering, nothing, head, chain, swapped}
 use Rattle.ss_bso.specs.declared.rows.Row.{Row}
 use Rattle.ss_bso.specs.Account.{is_at, row_at}
 use Rattle.ss_bso.specs.Lists.{Apart}
@@ -20,16 +20,16 @@ filter-all p [] e = refl
 filter-all p (x ∷ xs) e = ap (λ v. cond (not v) (x ∷ filter (λ y. not (p y)) xs) (filter (λ y. not (p y)) xs)) e.0 ∙ ap (λ rest. x ∷ rest) (filter-all p xs e.1)
 
 -- the row that a place has can be taken to the front
-to_front : (row : Row) (rows : List Row) → Pairs Apart rows → row_at row.collection row.id rows ≡ Some row → Reordered rows (row ∷ filter (λ other. not (is_at row.collection row.id other)) rows)
+to_front : (row : Row) (rows : List Row) → Pairs Apart rows → row_at row.collection row.id rows ≡ Some row → IsReordering rows (row ∷ filter (λ other. not (is_at row.collection row.id other)) rows)
 to_front row [] places e = cc
 to_front row (first ∷ rows) places e =
     let p : Row → Bool = is_at row.collection row.id in
-    elim (p first) as (λ v. p first ≡ v → cond v (Some first) (find p rows) ≡ Some row → Reordered (first ∷ rows) (row ∷ cond (not v) (first ∷ filter (λ other. not (p other)) rows) (filter (λ other. not (p other)) rows))) [
+    elim (p first) as (λ v. p first ≡ v → cond v (Some first) (find p rows) ≡ Some row → IsReordering (first ∷ rows) (row ∷ cond (not v) (first ∷ filter (λ other. not (p other)) rows) (filter (λ other. not (p other)) rows))) [
       | true ↦ (λ t h.
           let same : first ≡ row = cc in
           let apart : Each (λ (other : Row). p other ≡ false) rows = subst (λ (one : Row). Each (λ (other : Row). is_at one.collection one.id other ≡ false) rows) same places.0 in
-          subst (λ (one : Row). Reordered (first ∷ rows) (one ∷ filter (λ other. not (p other)) rows)) same
-          (subst (λ rest. Reordered (first ∷ rows) (first ∷ rest)) (sym (filter-all p rows apart)) (reordered-refl (first ∷ rows))))
+          subst (λ (one : Row). IsReordering (first ∷ rows) (one ∷ filter (λ other. not (p other)) rows)) same
+          (subst (λ rest. IsReordering (first ∷ rows) (first ∷ rest)) (sym (filter-all p rows apart)) (reordered-refl (first ∷ rows))))
       | false ↦ (λ t h. chain (head first (to_front row rows places.1 h)) (swapped first row (filter (λ other. not (p other)) rows)))
     ] refl e
 
@@ -68,7 +68,7 @@ at_other collection id row other e f =
         (bytes_eq-same row.id other.id (sym (same_text other.id row.id (both_right (bytes_eq other.collection row.collection) (bytes_eq other.id row.id) t))))
 
 -- rows that are told apart by their places are the same where each place has the same row
-pub same_rows : (rows others : List Row) → Pairs Apart rows → Pairs Apart others → ((collection id : List ℕ) → row_at collection id rows ≡ row_at collection id others) → Reordered rows others
+pub same_rows : (rows others : List Row) → Pairs Apart rows → Pairs Apart others → ((collection id : List ℕ) → row_at collection id rows ≡ row_at collection id others) → IsReordering rows others
 same_rows [] [] p q h = nothing
 same_rows [] (other ∷ others) p q h =
     let e : None ≡ Some other = h other.collection other.id ∙ ap (λ v. cond v (Some other) (row_at other.collection other.id others)) (at_itself other) in cc
@@ -104,7 +104,7 @@ pub clash : (b : Bool) → b ≡ true → b ≡ false → ⊥
 clash b e f = let g : true ≡ false = sym e ∙ f in cc
 
 -- look-ups give the same
-pub row-same : (collection id : List ℕ) (rows others : List Row) → Reordered rows others → Pairs Apart rows → row_at collection id rows ≡ row_at collection id others
+pub row-same : (collection id : List ℕ) (rows others : List Row) → IsReordering rows others → Pairs Apart rows → row_at collection id rows ≡ row_at collection id others
 row-same collection id rows others r places =
     find-reordered (is_at collection id) r (pairs_not_both Apart (is_at collection id)
     (λ row other apart e f.

@@ -49,8 +49,8 @@ plain_of kept = record {
 }
 
 -- the account that is opened from what is kept: the one that it stands for, when the clock reads 0
-abbrev pub opened : Kept → Plain
-opened kept = tick (plain_of kept) 0
+abbrev pub account_at_opening : Kept → Plain
+account_at_opening kept = tick (plain_of kept) 0
 
 -- the rows without the one of a collection and id
 abbrev pub rows_but : List ℕ → List ℕ → List Row → List Row
@@ -96,8 +96,8 @@ batches_changed batches changes =
 
 -- what is kept after changes: first the rows that have ended go, then the collections that are dropped, with their rows;
 -- then rows are changed, then collections get their times, and then batches are changed
-abbrev pub changed : Kept → Changes → Kept
-changed kept changes = record {
+abbrev pub kept_after_changes : Kept → Changes → Kept
+kept_after_changes kept changes = record {
   rows = fold row_changed (filter (λ row. not (list_any (drops row.collection) changes.collections)) (filter (is_alive changes.moment) kept.rows)) changes.rows;
   collections = fold time_changed (filter (λ entry. not (list_any (drops entry.0) changes.collections)) kept.collections) changes.collections;
   store = changes.store;

@@ -6,7 +6,7 @@ use Rattle.std.specs.Int.Signed.{le_z}
 use Rattle.serde_json.specs.Data.{Data}
 use Rattle.serde_json.specs.Read.{read}
 use Rattle.serde_json.specs.Find.{get, as_null, as_str, as_number, as_i64, as_u64, as_object}
-use Rattle.ss_text.specs.Decimals.{wrapped}
+use Rattle.ss_text.specs.Decimals.{wrapped_text}
 use Rattle.ss_bso.specs.Limits.{most_record_payload_bytes, least_sortindex, most_sortindex, most_ttl}
 use Rattle.ss_bso.specs.declared.parts.Field.{Field}
 use Rattle.ss_bso.specs.declared.parts.Field.TheVariants.{Keep, Clear, Set}
@@ -22,7 +22,7 @@ json_of bytes = if is_utf8 bytes then read bytes else None
 
 -- the JSON value of a text once its decimals are wrapped
 unfoldable pub parsed_body : List ℕ → Option Data
-parsed_body text = json_of (wrapped text)
+parsed_body text = json_of (wrapped_text text)
 
 -- an absent member keeps the field, null clears it, and another value is read
 abbrev pub member_field : {A : Type 0} → (Data → Result (Field A) Reason) → Option Data → Result (Field A) Reason

@@ -14,8 +14,8 @@ field_value (Set value) kept default made = made value
 
 -- put: the row that a part makes of the old one, if there is one, at this time;
 -- the defaults are the empty text, no sortindex and no expiry, and a ttl in seconds counts from this time
-abbrev pub put : Option Row → List ℕ → Part → ℕ → Row
-put old collection part time = record {
+abbrev pub row_after_put : Option Row → List ℕ → Part → ℕ → Row
+row_after_put old collection part time = record {
   collection = collection;
   id = part.id;
   modified = time;

@@ -1,6 +1,6 @@
 -- When an account is valid, and when two accounts are the same.
 use Rattle.std.specs.Prelude.{◌≡◌, ◌≢◌, ◌≤◌, length, bytes_eq, IsSomeAnd, IsFalse, All, AllPairs}
-use Rattle.ss_text.specs.Texts.{Reordered}
+use Rattle.ss_text.specs.Texts.{IsReordering}
 use Rattle.ss_text.specs.Time.{last_stamp}
 use Rattle.ss_bso.specs.declared.account.Plain.{Plain}
 use Rattle.ss_bso.specs.declared.account.Staged.{Staged}
@@ -35,9 +35,9 @@ pub record IsValid (account : Plain) : Type 0 where
 
 -- the same account, whatever the order of its rows, collections and batches
 pub record SameAccount (account other : Plain) : Type 0 where
-  pub rows : Reordered account.rows other.rows
-  pub collections : Reordered account.collections other.collections
-  pub batches : Reordered account.batches other.batches
+  pub rows : IsReordering account.rows other.rows
+  pub collections : IsReordering account.collections other.collections
+  pub batches : IsReordering account.batches other.batches
   pub store : account.store ≡ other.store
   pub last_delete : account.last_delete ≡ other.last_delete
   pub moment : account.moment ≡ other.moment

@@ -7,7 +7,7 @@ use Rattle.ss_bso.specs.declared.rows.Row.{Row}
 use Rattle.ss_bso.specs.declared.parts.Part.{Part}
 use Rattle.ss_bso.specs.declared.account.Plain.{Plain}
 use Rattle.ss_bso.specs.Account.{row_at}
-use Rattle.ss_bso.specs.Put.{put}
+use Rattle.ss_bso.specs.Put.{row_after_put}
 
 -- the ids that the parts name, each once, in the order of first appearance
 abbrev pub ids_of : List Part → List (List ℕ)
@@ -23,7 +23,7 @@ is_among ids id = list_any (λ other. bytes_eq other id) ids
 
 -- put, of one part after the other
 abbrev pub put_all : List ℕ → List Part → ℕ → Option Row → Option Row
-put_all collection parts time old = fold (λ row part. Some (put row collection part time)) old parts
+put_all collection parts time old = fold (λ row part. Some (row_after_put row collection part time)) old parts
 
 -- the rows without those of these ids in the collection
 abbrev pub rows_without : List ℕ → List (List ℕ) → List Row → List Row
@@ -43,10 +43,10 @@ abbrev pub times_with : List ℕ → ℕ → List (List ℕ × ℕ) → List (Li
 times_with collection time times = times_without collection times ++ (collection, time) ∷ []
 
 -- the account after a write that leaves these rows of a collection: the collection, the store and the moment have the write's time
-abbrev pub stamped : Plain → List ℕ → ℕ → List Row → Plain
-stamped account collection time rows =
+abbrev pub account_after_write : Plain → List ℕ → ℕ → List Row → Plain
+account_after_write account collection time rows =
     record account { rows = rows; collections = times_with collection time account.collections; store = time; moment = time }
 
 -- write of a list of parts
 abbrev pub write : Plain → List ℕ → List Part → ℕ → Plain
-write account collection parts time = stamped account collection time (rows_written collection parts time account.rows)
+write account collection parts time = account_after_write account collection time (rows_written collection parts time account.rows)

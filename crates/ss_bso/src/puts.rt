@@ -2,7 +2,7 @@
 
 ghost use Rattle.std.specs.Prelude.{◌≡◌, IfOk, option_copied, []};
 ghost use Rattle.std.specs.Option.{option_map_or};
-ghost use Rattle.ss_bso.specs.Put.{put, field_value};
+ghost use Rattle.ss_bso.specs.Put.{row_after_put, field_value};
 
 use crate::parts::{Field, Part};
 use crate::rows::Row;
@@ -29,7 +29,7 @@ pub fn put(
     part: &Part,
     stamp: Stamp,
 ) -> Result<Row, AllocError>
-    ensures { IfOk result (λ row. row ≡ put (option_copied old.entry) collection.now part.now stamp) }
+    ensures { IfOk result (λ row. row ≡ row_after_put (option_copied old.entry) collection.now part.now stamp) }
 {
     let sortindex = match &part.fields.sortindex {
         Field::Keep => old.and_then(|row| row.sortindex),

@@ -13,7 +13,7 @@ use Rattle.ss_record.proofs.IdLists.{bytes_eq-apart, Apart-head, Apart-tail}
 use Rattle.ss_build.specs.declared.claims.Claim.{Claim}
 use Rattle.ss_build.specs.Built.{beats, best, claim, empty_root, ids, kept_if, lists, named, or_else, proposal}
 use Rattle.ss_build.specs.Built.{proposed_parents}
-use Rattle.ss_build.specs.Places.{AreItems, at, chosen, kept_at, next_of, place, seat}
+use Rattle.ss_build.specs.Places.{AreItems, at, chosen_place, kept_at, next_of, place, seat}
 use Rattle.ss_build.proofs.Items.{In, find_in, In_has, In-filter, claim_in}
 use Rattle.ss_build.proofs.Valid.{length-ids, proposed_claim, proposed_root}
 use Rattle.ss_build.proofs.Seats.{place_lt, place_at, place_none, at_place, has_from_place, any_place, id_at, at_in}
@@ -245,7 +245,7 @@ leaf_marks es folder i old named f m p k =
 
 first_there : (es : List Claim) (p : Claim → Bool) (N B : Option Claim) → ((f : Claim) → N ≡ Some f → In f es) → ((f : Claim) → B ≡ Some f → In f es)
     → place (unwrap_or (option_map (λ f. f.item.id) (or_else (kept_if p N) (or_else B N))) unfiled) (ids es)
-    ≡ chosen false (unwrap_or (option_map p N) false) (seat es N) (seat es B) (place unfiled (ids es)) (length es)
+    ≡ chosen_place false (unwrap_or (option_map p N) false) (seat es N) (seat es B) (place unfiled (ids es)) (length es)
 unfolding or_else kept_if seat
 first_there es p None None n b =
     sym (ap₂ (λ x y. cond x (length es) (cond y (length es) (place unfiled (ids es)))) (le-ltb (length es) (length es) (omega arith)) (le-ltb (length es) (length es) (omega arith)))
@@ -268,7 +268,7 @@ best_in es x f q = (In-filter (λ f. lists f x) es f (find_in (λ f. list_all (�
 
 next_at : (es : List Claim) (i : ℕ) → AreItems es → i < length es
     → place (proposed_parents es (at es i).item.id) (ids es)
-    ≡ chosen (has (at es i).item.id roots) (kept_at es (at es i)) (seat es (named es (at es i))) (seat es (best (filter (λ f. lists f (at es i).item.id) es))) (place unfiled (ids es)) (length es)
+    ≡ chosen_place (has (at es i).item.id roots) (kept_at es (at es i)) (seat es (named es (at es i))) (seat es (best (filter (λ f. lists f (at es i).item.id) es))) (place unfiled (ids es)) (length es)
 unfolding proposal kept_at
 next_at es i a l = go (has (at es i).item.id roots) refl
   where
@@ -276,7 +276,7 @@ next_at es i a l = go (has (at es i).item.id roots) refl
     here = claim_in es (at es i) a.apart (at_in es i l)
 
     go : (b : Bool) → has (at es i).item.id roots ≡ b → place (proposed_parents es (at es i).item.id) (ids es)
-        ≡ chosen b (unwrap_or (option_map (λ f. lists f (at es i).item.id) (named es (at es i))) false) (seat es (named es (at es i))) (seat es (best (filter (λ f. lists f (at es i).item.id) es))) (place unfiled (ids es)) (length es)
+        ≡ chosen_place b (unwrap_or (option_map (λ f. lists f (at es i).item.id) (named es (at es i))) false) (seat es (named es (at es i))) (seat es (best (filter (λ f. lists f (at es i).item.id) es))) (place unfiled (ids es)) (length es)
     go true h = ap (λ x. place x (ids es)) (proposed_root es (at es i).item.id h) ∙ (place_none places (ids es) a.no_places ∙ length-ids es)
     go false h =
         ap (λ x. place x (ids es)) (proposed_claim es (at es i).item.id (at es i) h here)
@@ -288,7 +288,7 @@ element f es xs i x l e r = r ∙ (ap (λ w. get_or w i x) e ∙ get_or-map f es
 pub next_more : (es : List Claim) (next : List ℕ) (listed : List Bool) (claimed listers : List ℕ) (fallback i v : ℕ) (root li : Bool) (ci bi : ℕ) (e : Claim) → AreItems es → i < length es
     → listed ≡ map (kept_at es) es → claimed ≡ map (λ e. seat es (named es e)) es → listers ≡ map (λ e. seat es (best (filter (λ f. lists f e.item.id) es))) es → fallback ≡ place unfiled (ids es)
     → e ≡ get_or es i e → root ≡ has e.item.id roots → li ≡ get_or listed i li → ci ≡ get_or claimed i ci → bi ≡ get_or listers i bi → next ≡ take i (next_of es)
-    → v ≡ chosen root li ci bi fallback (length es)
+    → v ≡ chosen_place root li ci bi fallback (length es)
     → next ++ v ∷ [] ≡ take (i + 1) (next_of es)
 unfolding next_of
 next_more es next listed claimed listers fallback i v root li ci bi e a l k c b f at_e r lr cr br n w =
@@ -298,12 +298,12 @@ next_more es next listed claimed listers fallback i v root li ci bi e a l k c b 
     rooted : root ≡ has (at es i).item.id roots
     rooted = r ∙ ap (λ z. has z.item.id roots) (get_or_read es i e l at_e (empty_root places))
 
-    same : chosen root li ci bi fallback (length es)
-        ≡ chosen (has (at es i).item.id roots) (kept_at es (at es i)) (seat es (named es (at es i))) (seat es (best (filter (λ f. lists f (at es i).item.id) es))) (place unfiled (ids es)) (length es)
+    same : chosen_place root li ci bi fallback (length es)
+        ≡ chosen_place (has (at es i).item.id roots) (kept_at es (at es i)) (seat es (named es (at es i))) (seat es (best (filter (λ f. lists f (at es i).item.id) es))) (place unfiled (ids es)) (length es)
     same =
-        ap₂ (λ x y. chosen x y ci bi fallback (length es)) rooted (element (kept_at es) es listed i li l k lr)
-        ∙ (ap₂ (λ x y. chosen (has (at es i).item.id roots) (kept_at es (at es i)) x y fallback (length es)) (element (λ e. seat es (named es e)) es claimed i ci l c cr) (element (λ e. seat es (best (filter (λ f. lists f e.item.id) es))) es listers i bi l b br)
-        ∙ ap (λ x. chosen (has (at es i).item.id roots) (kept_at es (at es i)) (seat es (named es (at es i))) (seat es (best (filter (λ f. lists f (at es i).item.id) es))) x (length es)) f)
+        ap₂ (λ x y. chosen_place x y ci bi fallback (length es)) rooted (element (kept_at es) es listed i li l k lr)
+        ∙ (ap₂ (λ x y. chosen_place (has (at es i).item.id roots) (kept_at es (at es i)) x y fallback (length es)) (element (λ e. seat es (named es e)) es claimed i ci l c cr) (element (λ e. seat es (best (filter (λ f. lists f e.item.id) es))) es listers i bi l b br)
+        ∙ ap (λ x. chosen_place (has (at es i).item.id roots) (kept_at es (at es i)) (seat es (named es (at es i))) (seat es (best (filter (λ f. lists f (at es i).item.id) es))) x (length es)) f)
 
 pub next_all : (es : List Claim) (next : List ℕ) (i : ℕ) → length es ≤ i → next ≡ take i (next_of es) → next ≡ next_of es
 unfolding next_of

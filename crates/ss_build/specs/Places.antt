@@ -36,8 +36,8 @@ unfoldable pub better : List Claim → ℕ → ℕ → ℕ
 better es old folder = if nat_lt old (length es) && not (beats (at es folder) (at es old)) then old else folder
 
 -- the first of some places that there is, where the end stands for none; of a root none is
-abbrev pub chosen : Bool → Bool → ℕ → ℕ → ℕ → ℕ → ℕ
-chosen root claimed_children claimed lister fallback end =
+abbrev pub chosen_place : Bool → Bool → ℕ → ℕ → ℕ → ℕ → ℕ
+chosen_place root claimed_children claimed lister fallback end =
     if root then end else (if claimed_children then claimed else (if nat_lt lister end then lister else (if nat_lt claimed end then claimed else fallback)))
 
 -- the places of the proposed parents, and of the parents; the number of items stands for `places`

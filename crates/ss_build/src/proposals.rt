@@ -5,7 +5,7 @@ ghost use Rattle.std.specs.Prelude.{length, filter, get_or, slice_set, if◌then
 ghost use Rattle.std.specs.List.{list_any};
 ghost use Rattle.ss_record.specs.Ids.{Apart, unfiled};
 ghost use Rattle.ss_build.specs.Built.{beats, best, ids, lists, named};
-ghost use Rattle.ss_build.specs.Places.{AreItems, at, better, chosen, kept_at, next_of, place, seat};
+ghost use Rattle.ss_build.specs.Places.{AreItems, at, better, chosen_place, kept_at, next_of, place, seat};
 
 use crate::claims::Claim;
 use crate::places::{Places, place, places_of};
@@ -203,7 +203,7 @@ fn choose(
     fallback: usize,
     end: usize,
 ) -> usize
-    ensures { result ≡ chosen root listed claimed lister fallback end }
+    ensures { result ≡ chosen_place root listed claimed lister fallback end }
 {
     if root {
         end

@@ -30,7 +30,7 @@ use Rattle.ss_client.specs.Machine.{Next, Stop, onward, posting, fetching, unrea
 use Rattle.ss_client.specs.Machine.{Begins, Finishes, Holds, Writes, LastPage, PageIn, PageOn, OpensWith, ListsAll}
 use Rattle.ss_client.specs.Machine.{limits_at, page_at, ids_at, held_at, written_at, Follows}
 use Rattle.ss_client.specs.Sound.{TellsOurs}
-use Rattle.ss_client.specs.Bounds.{once, within_fetch, to_follow, IsBounded, IsNearer}
+use Rattle.ss_client.specs.Bounds.{once, within_fetch, to_follow, IsBoundedRun, IsNearer}
 use Rattle.ss_client.proofs.Posting.{rest-is}
 use Rattle.ss_text.proofs.Basics.{both_left}
 
@@ -164,21 +164,21 @@ limits_near run (Pages p) limits next few e = unread_near run (Pages p) next e
 limits_near run (Lists l) limits next few e = unread_near run (Lists l) next e
 limits_near run (Uploads u) limits next few e = unread_near run (Uploads u) next e
 
-paged_near : (d : DeviceView) (run : Run) (stage : Stage) (rows : List Sheet) (offset : Option ℕ) (time : ℕ) (next : Next) → IsBounded run stage → page_at d run stage rows offset time next → IsNearer run stage next
+paged_near : (d : DeviceView) (run : Run) (stage : Stage) (rows : List Sheet) (offset : Option ℕ) (time : ℕ) (next : Next) → IsBoundedRun run stage → page_at d run stage rows offset time next → IsNearer run stage next
 paged_near d run Asks rows offset time next b e = unread_near run Asks next e
 paged_near d run Opens rows offset time next b o = open_near d run time rows offset next b.0 o
 paged_near d run (Pages p) rows offset time next b q = page_near d run (Pages p) p.time (p.pages + 1) p.rows rows offset next b.0 (omega (arith, b.1)) (λ h. omega (arith, b.1)) q
 paged_near d run (Lists l) rows offset time next b e = unread_near run (Lists l) next e
 paged_near d run (Uploads u) rows offset time next b e = unread_near run (Uploads u) next e
 
-listed_near : (d : DeviceView) (run : Run) (stage : Stage) (ids : List (List ℕ)) (next : Next) → IsBounded run stage → ids_at d run stage ids next → IsNearer run stage next
+listed_near : (d : DeviceView) (run : Run) (stage : Stage) (ids : List (List ℕ)) (next : Next) → IsBoundedRun run stage → ids_at d run stage ids next → IsNearer run stage next
 listed_near d run Asks ids next b e = unread_near run Asks next e
 listed_near d run Opens ids next b e = unread_near run Opens next e
 listed_near d run (Pages p) ids next b e = unread_near run (Pages p) next e
 listed_near d run (Lists l) ids next b a = list_near d run (Lists l) l.time l.rows ids next b.0 b.1 (omega arith) a
 listed_near d run (Uploads u) ids next b e = unread_near run (Uploads u) next e
 
-held_near : (run : Run) (stage : Stage) (batch : ℕ) (next : Next) → IsBounded run stage → held_at run stage batch next → IsNearer run stage next
+held_near : (run : Run) (stage : Stage) (batch : ℕ) (next : Next) → IsBoundedRun run stage → held_at run stage batch next → IsNearer run stage next
 held_near run Asks batch next b e = unread_near run Asks next e
 held_near run Opens batch next b e = unread_near run Opens next e
 held_near run (Pages p) batch next b e = unread_near run (Pages p) next e
@@ -192,7 +192,7 @@ written_near run (Pages p) stamp next e = unread_near run (Pages p) next e
 written_near run (Lists l) stamp next e = unread_near run (Lists l) next e
 written_near run (Uploads u) stamp next w = writes_near run (Uploads u) u stamp (rest_of u) next w
 
-pub follows_near : (d : DeviceView) (run : Run) (stage : Stage) (answer : Answer) (next : Next) → IsBounded run stage → TellsOurs answer → Follows d run stage answer next → IsNearer run stage next
+pub follows_near : (d : DeviceView) (run : Run) (stage : Stage) (answer : Answer) (next : Next) → IsBoundedRun run stage → TellsOurs answer → Follows d run stage answer next → IsNearer run stage next
 unfolding Follows
 follows_near d run stage (Configured limits) next b t f = limits_near run stage limits next t.total f
 follows_near d run stage (Paged rows offset time) next b t f = paged_near d run stage rows offset time next b f

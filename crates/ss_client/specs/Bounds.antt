@@ -38,11 +38,11 @@ IsWithin run (Lists l) = run.newer ≡ true
 IsWithin run (Uploads u) = length u.parts ≤ most_batch_records
 
 -- what holds of a run at a stage, so that it ends
-abbrev pub IsBounded : Run → Stage → Type 0
-IsBounded run stage = (run.limits.max_total_records ≤ most_batch_records) × IsWithin run stage
+abbrev pub IsBoundedRun : Run → Stage → Type 0
+IsBoundedRun run stage = (run.limits.max_total_records ≤ most_batch_records) × IsWithin run stage
 
 -- where a request comes next, the run is nearer to its end than it was
 abbrev pub IsNearer : Run → Stage → Next → Type 0
-IsNearer run stage (Send run' stage') = IsBounded run' stage' × (to_follow run' stage' < to_follow run stage)
+IsNearer run stage (Send run' stage') = IsBoundedRun run' stage' × (to_follow run' stage' < to_follow run stage)
 IsNearer run stage (Done device summary) = ⊤
 IsNearer run stage (Stop fault) = ⊤

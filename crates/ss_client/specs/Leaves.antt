@@ -7,12 +7,12 @@ use Rattle.ss_build.specs.Rows.{rows_of}
 use Rattle.ss_build.specs.Stand.{HasItsRows}
 use Rattle.ss_bso.specs.declared.parts.Part.{Part}
 use Rattle.ss_plan.specs.Written.{AreRowsAfter}
-use Rattle.ss_device.specs.Device.{IsKnown}
+use Rattle.ss_device.specs.Device.{KnowsMirrorItems}
 use Rattle.ss_sync.specs.Rows.{AreById}
 
 -- each item of the tree that is built from the rows after these parts is in the merged tree
 abbrev pub LeavesKnown : List Sheet → List Part → List Entry → Type 0
-LeavesKnown rows parts merged = (after : List Sheet) (stamp : ℕ) → AreRowsAfter rows parts stamp after → IsKnown after merged []
+LeavesKnown rows parts merged = (after : List Sheet) (stamp : ℕ) → AreRowsAfter rows parts stamp after → KnowsMirrorItems after merged []
 
 -- the rows after these parts stand for the merged tree
 abbrev pub LeavesStanding : List Sheet → List Part → List Entry → Type 0
@@ -27,7 +27,7 @@ pub record SyncedView : Type 0 where
 -- a device can have it: its rows are by id, and each of their items is in the tree
 pub record IsReady (s : SyncedView) : Type 0 where
   pub by_id : AreById s.mirror
-  pub known : IsKnown s.mirror s.tree []
+  pub known : KnowsMirrorItems s.mirror s.tree []
 
 -- a plan that is sent: the collection's time at the fetch, the rows that were fetched, the merged tree, the parts, the batch
 -- once it was begun, how many parts are in it, and how many the POST under way has

@@ -36,20 +36,20 @@ pub data Next : Type 0 where
   Stop : SyncFault → Next
 
 -- one more; a count stands still at its type's end
-abbrev pub counted : ℕ → ℕ
-counted n = min (n + 1) 18446744073709551615
+abbrev pub count_after_one : ℕ → ℕ
+count_after_one n = min (n + 1) 18446744073709551615
 
 -- a further request
 abbrev pub onward : Run → Stage → Next
-onward run stage = Send (record { newer = run.newer; changes = run.changes; limits = run.limits; number = counted run.number; posts = run.posts; fetches = run.fetches }) stage
+onward run stage = Send (record { newer = run.newer; changes = run.changes; limits = run.limits; number = count_after_one run.number; posts = run.posts; fetches = run.fetches }) stage
 
 -- a POST
 abbrev pub posting : Run → UploadView → Next
-posting run u = Send (record { newer = run.newer; changes = run.changes; limits = run.limits; number = counted run.number; posts = counted run.posts; fetches = run.fetches }) (Uploads u)
+posting run u = Send (record { newer = run.newer; changes = run.changes; limits = run.limits; number = count_after_one run.number; posts = count_after_one run.posts; fetches = run.fetches }) (Uploads u)
 
 -- a fetch begins
 abbrev pub fetching : Run → Bool → List ℕ → Limits → Next
-fetching run newer changes limits = Send (record { newer = newer; changes = changes; limits = limits; number = counted run.number; posts = run.posts; fetches = counted run.fetches }) Opens
+fetching run newer changes limits = Send (record { newer = newer; changes = changes; limits = limits; number = count_after_one run.number; posts = run.posts; fetches = count_after_one run.fetches }) Opens
 
 -- the reply isn't in form
 abbrev pub unread : Run → Next

@@ -1,7 +1,7 @@
 -- What a step of a machine and its last call say.
 use Rattle.std.specs.Prelude.{◌≡◌, ◌⊎◌, ℕ, ◌<◌, nat_lt, Bool, true, false, [], length, ⊤}
 use Rattle.ss_query.specs.Fit.{IsFitRequest}
-use Rattle.ss_route.specs.Sending.{IsSent}
+use Rattle.ss_route.specs.Sending.{IsSentRequest}
 use Rattle.ss_query.specs.declared.requests.Request.{Request}
 use Rattle.ss_device.specs.Device.{DeviceView}
 use Rattle.ss_hearing.specs.Hearing.{status_of}
@@ -36,7 +36,7 @@ Says d P (answer.Stop device fault) = (device ≡ d) × ((fault ≡ Memory) ⊎ 
 
 -- a request that a client writes, and that a server takes
 abbrev pub CanSend : Request → Type 0
-CanSend request = IsSent request × IsFitRequest request
+CanSend request = IsSentRequest request × IsFitRequest request
 
 -- this holds of the request, where one follows
 abbrev pub OnSend : Do → (Request → Type 0) → Type 0

@@ -3,7 +3,7 @@
 ghost use Rattle.std.specs.Prelude.{◌≡◌, Bool};
 ghost use Rattle.ss_http.specs.declared.heard.Heard.{Heard};
 ghost use Rattle.ss_query.specs.Fit.{IsFitRequest};
-ghost use Rattle.ss_route.specs.Sending.{IsSent};
+ghost use Rattle.ss_route.specs.Sending.{IsSentRequest};
 ghost use Rattle.ss_hearing.specs.declared.answer.Awaited.{Awaited};
 ghost use Rattle.ss_hearing.specs.declared.answer.Answer.{Answer};
 ghost use Rattle.ss_hearing.specs.Hearing.{answer_of};
@@ -24,6 +24,6 @@ pub fn requests_can_be_sent()
     ensures heard { (awaited : Awaited) (heard : Heard) → TellsOurs (answer_of awaited heard) }
     ensures kept { (device : DeviceView) (run : Run) (stage : Stage) (answer : Answer) (next : Next) → IsSound run stage
         → TellsOurs answer → Follows device run stage answer next → IsSoundNext next }
-    ensures sent { (machine : MachineView) → IsSound machine.run machine.stage → IsSent (ask machine)
+    ensures sent { (machine : MachineView) → IsSound machine.run machine.stage → IsSentRequest (ask machine)
         × IsFitRequest (ask machine) }
 {}

@@ -1,7 +1,7 @@
 //! What comes next in a run.
 
 ghost use Rattle.std.specs.Prelude.{◌≡◌, true, length, nat_lt, IfOk, OnErr};
-ghost use Rattle.ss_client.specs.Machine.{counted, onward, posting, fetching, unread, again, falls_back};
+ghost use Rattle.ss_client.specs.Machine.{count_after_one, onward, posting, fetching, unread, again, falls_back};
 ghost use Rattle.ss_client.specs.Told.{next_of_step};
 
 use crate::runs::{Run, Stage, Upload};
@@ -21,7 +21,7 @@ pub(crate) enum Step {
 
 /// One more; a count stands still at its type's end.
 fn counted(count: u64) -> u64
-    ensures { result ≡ counted count }
+    ensures { result ≡ count_after_one count }
 {
     count.saturating_add(1)
 }

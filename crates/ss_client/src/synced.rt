@@ -28,11 +28,11 @@ impl Model for Synced {
 impl Synced {
     ghost use Rattle.std.specs.Prelude.{◌≡◌, []};
     ghost use Rattle.ss_sync.specs.Rows.{AreById};
-    ghost use Rattle.ss_device.specs.Device.{IsKnown};
+    ghost use Rattle.ss_device.specs.Device.{KnowsMirrorItems};
 
     pub(crate) fn new(tree: Tree, mirror: Vec<Sheet>, stamp: Stamp) -> Synced
         requires by_id { AreById mirror.items }
-        requires known { IsKnown mirror.items tree [] }
+        requires known { KnowsMirrorItems mirror.items tree [] }
         ensures { result ≡ record { tree = tree; mirror = mirror.items; stamp = stamp } }
     {
         Synced {

@@ -9,13 +9,13 @@ use Rattle.ss_text.proofs.Basics.{and_then_some, none_some, some_same}
 use Rattle.ss_bso.specs.declared.changes.Changes.{Changes}
 use Rattle.ss_commits.specs.declared.cutting.Front.{Front}
 use Rattle.ss_commits.specs.declared.notes.Note.{Note}
-use Rattle.ss_commits.specs.Commits.{AreFormed, IsNote, changes_notes, changes_text, note_text, text_of}
+use Rattle.ss_commits.specs.Commits.{HasFormedValues, IsNote, changes_notes, changes_text, note_text, text_of}
 use Rattle.ss_commits.specs.Telling.{Tells, nothing, told_by, told_from}
 use Rattle.ss_commits.proofs.Fronts.{some_note}
 use Rattle.ss_commits.proofs.Told.{told_changes}
 
 -- the text of a commit tells its changes
-pub tells : (text : List ℕ) (c : Changes) → AreFormed c → changes_text c ≡ text → Tells text nothing c
+pub tells : (text : List ℕ) (c : Changes) → HasFormedValues c → changes_text c ≡ text → Tells text nothing c
 unfolding changes_text
 tells text c are is = record { notes = changes_notes c; are = are; text_is = is; tell = told_changes c }
 

@@ -88,5 +88,5 @@ unfoldable pub changes_text : Changes → List ℕ
 changes_text c = text_of (changes_notes c)
 
 -- each value of the changes has the form of its type
-abbrev pub AreFormed : Changes → Type 0
-AreFormed c = AllByRecursion IsNote (changes_notes c)
+abbrev pub HasFormedValues : Changes → Type 0
+HasFormedValues c = AllByRecursion IsNote (changes_notes c)

@@ -2,7 +2,7 @@
 
 ghost use Rattle.std.specs.Prelude.{◌≡◌, IfOk, IfSome, Some, bytes_eq};
 ghost use Rattle.ss_bso.specs.declared.changes.Changes.{Changes as ChangesView};
-ghost use Rattle.ss_commits.specs.Commits.{AreFormed, changes_text};
+ghost use Rattle.ss_commits.specs.Commits.{HasFormedValues, changes_text};
 
 use crate::cutting::next_note;
 use crate::telling::{Draft, told_by};
@@ -12,7 +12,7 @@ use std::alloc::{AllocError, Global};
 
 /// What a text tells line by line; perhaps it isn't written so.
 fn guess(alloc: Global, text: &[u8]) -> Result<Option<Changes>, AllocError>
-    ensures { IfOk result (λ o. (c : ChangesView) → AreFormed c → changes_text c ≡ text.now → o ≡ Some c) }
+    ensures { IfOk result (λ o. (c : ChangesView) → HasFormedValues c → changes_text c ≡ text.now → o ≡ Some c) }
 {
     let mut draft = Draft::new(alloc);
     let mut used = 0;
@@ -41,7 +41,7 @@ fn is_text_of(alloc: Global, text: &[u8], changes: &Changes) -> Result<bool, All
 /// for what it says.
 pub fn read_changes(alloc: Global, text: &[u8]) -> Result<Option<Changes>, AllocError>
     ensures is { IfOk result (λ o. IfSome o (λ changes. changes_text changes ≡ text.now)) }
-    ensures all { IfOk result (λ o. (c : ChangesView) → AreFormed c → changes_text c ≡ text.now → o ≡ Some c) }
+    ensures all { IfOk result (λ o. (c : ChangesView) → HasFormedValues c → changes_text c ≡ text.now → o ≡ Some c) }
 {
     let Some(found) = guess(alloc, text)? else {
         return Ok(None);

@@ -16,10 +16,10 @@ use Rattle.ss_http.specs.declared.message.Message.{Message}
 use Rattle.ss_http.specs.Messages.{Reads, ReadsMessage}
 use Rattle.ss_http.proofs.MessageLemmas.{reads_append, reads_further}
 use Rattle.ss_route.specs.declared.manner.Manner.{Manner}
-use Rattle.ss_connection.specs.Known.{Known}
-use Rattle.ss_connection.specs.Turns.{AreGated, Exchange, SaysEach, SaysTurn, closes}
+use Rattle.ss_connection.specs.Known.{KnownAccount}
+use Rattle.ss_connection.specs.Turns.{AreGatedTurns, Exchange, SaysEach, SaysTurn, closes}
 use Rattle.ss_connection.specs.Calls.{turns_added}
-use Rattle.ss_connection.specs.Ends.{AreRead, AreReadings, GoesOn}
+use Rattle.ss_connection.specs.Ends.{ReadsExchanges, AreReadings, GoesOn}
 use Rattle.ss_connection.specs.declared.notes.TurnNote.{TurnNote}
 
 abbrev pub message_in : Exchange → Message
@@ -37,7 +37,7 @@ response_in x = x.response
 abbrev pub got_in : Exchange → List ℕ
 got_in x = x.got
 
-pub says_push : (manner : Manner) (uids : List ℕ) (known : ℕ → Known) (xs : List Exchange) (x : Exchange) → SaysEach manner uids known xs
+pub says_push : (manner : Manner) (uids : List ℕ) (known : ℕ → KnownAccount) (xs : List Exchange) (x : Exchange) → SaysEach manner uids known xs
     → SaysTurn manner uids known x.message x.note.now (closes (length xs) x.message x.note.closed_by_gate) x.note.turn x.response → SaysEach manner uids known (xs ++ x ∷ [])
 says_push manner uids known xs x each one k y at = elim (at_end xs x y k at) [
   | inl old ↦ each k y old
@@ -46,7 +46,7 @@ says_push manner uids known xs x each one k y at = elim (at_end xs x y k at) [
       subst (λ n. S n y) (sym new.0) (subst (λ z. S (length xs) z) new.1 one)
 ]
 
-pub gated_push : (says : ℕ → Bool → Type 0) (notes : List TurnNote) (note : TurnNote) → AreGated says notes → says (length notes) note.closed_by_gate → AreGated says (notes ++ note ∷ [])
+pub gated_push : (says : ℕ → Bool → Type 0) (notes : List TurnNote) (note : TurnNote) → AreGatedTurns says notes → says (length notes) note.closed_by_gate → AreGatedTurns says (notes ++ note ∷ [])
 gated_push says notes note each one k y at = elim (at_end notes note y k at) [
   | inl old ↦ each k y old
   | inr new ↦ subst (λ n. says n y.closed_by_gate) (sym new.0) (subst (λ (z : TurnNote). says (length notes) z.closed_by_gate) new.1 one)
@@ -85,8 +85,8 @@ pub gets_push : (taken : List ℕ) (xs : List Exchange) (x : Exchange) → taken
 gets_push taken xs x is =
     ap (λ l. l ++ x.got) is ∙ (ap (λ l. flat_map got_in xs ++ l) (sym (append-nil x.got)) ∙ sym (flat_map-append got_in xs (x ∷ [])))
 
-pub read_push : (kept : List ℕ) (xs : List Exchange) (x : Exchange) (mid kept' : List ℕ) → AreRead kept xs mid → ReadsMessage (mid ++ x.got) x.message kept'
-    → ((m : Message) (rest : List ℕ) → ReadsMessage mid m rest → x.got ≡ []) → AreRead kept (xs ++ x ∷ []) kept'
+pub read_push : (kept : List ℕ) (xs : List Exchange) (x : Exchange) (mid kept' : List ℕ) → ReadsExchanges kept xs mid → ReadsMessage (mid ++ x.got) x.message kept'
+    → ((m : Message) (rest : List ℕ) → ReadsMessage mid m rest → x.got ≡ []) → ReadsExchanges kept (xs ++ x ∷ []) kept'
 read_push kept [] x mid kept' are reads spare =
     let R : List ℕ → Type 0 = λ k. ReadsMessage (k ++ x.got) x.message kept' in
     let S : List ℕ → Type 0 = λ k. (m : Message) (rest : List ℕ) → ReadsMessage k m rest → x.got ≡ [] in

@@ -13,18 +13,18 @@ use Rattle.ss_booked.specs.declared.booked.Asked.{Asked}
 use Rattle.ss_booked.specs.Turns.{journal_on}
 use Rattle.ss_http.specs.declared.message.Message.{Message}
 use Rattle.ss_route.specs.declared.manner.Manner.{Manner}
-use Rattle.ss_connection.specs.Known.{Known, KnowsMore}
-use Rattle.ss_connection.specs.Turns.{Called, WasFull, SaysTurn, SaysEach, Exchange}
-use Rattle.ss_connection.specs.Ends.{Served}
+use Rattle.ss_connection.specs.Known.{KnownAccount, KnowsMore}
+use Rattle.ss_connection.specs.Turns.{IsCallInJournal, WasFull, SaysTurn, SaysEach, Exchange}
+use Rattle.ss_connection.specs.Ends.{IsServedConnection}
 use Rattle.ss_connection.specs.declared.notes.End.{End}
 use Rattle.ss_connection.specs.declared.notes.Turn.{Turn}
 use Rattle.ss_connection.specs.declared.notes.Turn.TheVariants as turns
 use Rattle.ss_connection.specs.declared.notes.TurnNote.{TurnNote}
 
-pub knows_itself : (known : ℕ → Known) → KnowsMore known known
+pub knows_itself : (known : ℕ → KnownAccount) → KnowsMore known known
 knows_itself known = record { number = λ i. refl; fixed = λ i. refl; journal = λ i. begins_itself (known i).journal }
 
-pub knows_then : (known known' known2 : ℕ → Known) → KnowsMore known known' → KnowsMore known' known2 → KnowsMore known known2
+pub knows_then : (known known' known2 : ℕ → KnownAccount) → KnowsMore known known' → KnowsMore known' known2 → KnowsMore known known2
 knows_then known known' known2 first next = record {
   number = λ i. next.number i ∙ first.number i;
   fixed = λ i. next.fixed i ∙ first.fixed i;
@@ -38,8 +38,8 @@ front_stays before after more entry =
     let within : length before + 1 ≤ length (before ++ entry ∷ after) = omega (arith, length-append before (entry ∷ after)) in
     sym (take-append-le (length before + 1) (before ++ entry ∷ after) more within)
 
-pub called_later : (known known' : Known) (ticket : ℕ) (asked : Asked) (reply : Reply) → known'.number ≡ known.number → known'.fixed ≡ known.fixed
-    → Begins known.journal known'.journal → Called known ticket asked reply → Called known' ticket asked reply
+pub called_later : (known known' : KnownAccount) (ticket : ℕ) (asked : Asked) (reply : Reply) → known'.number ≡ known.number → known'.fixed ≡ known.fixed
+    → Begins known.journal known'.journal → IsCallInJournal known ticket asked reply → IsCallInJournal known' ticket asked reply
 called_later known known' ticket asked reply number fixed begins h = record {
   terms = h.terms;
   fixed = fixed ∙ h.fixed;
@@ -57,7 +57,7 @@ called_later known known' ticket asked reply number fixed begins h = record {
       reply_at-alone (journal_on h.terms known'.journal) (journal_on h.terms known.journal) (length h.before) refl front ∙ h.answered;
 }
 
-pub was_full_later : (known known' : Known) (full : Full) → known'.fixed ≡ known.fixed → Begins known.journal known'.journal → WasFull known full → WasFull known' full
+pub was_full_later : (known known' : KnownAccount) (full : Full) → known'.fixed ≡ known.fixed → Begins known.journal known'.journal → WasFull known full → WasFull known' full
 was_full_later known known' full fixed begins h = record {
   terms = h.terms;
   fixed = fixed ∙ h.fixed;
@@ -66,7 +66,7 @@ was_full_later known known' full fixed begins h = record {
   is_full = h.is_full;
 }
 
-module _ (manner : Manner) (uids : List ℕ) (known known' : ℕ → Known) (more : KnowsMore known known') where
+module _ (manner : Manner) (uids : List ℕ) (known known' : ℕ → KnownAccount) (more : KnowsMore known known') where
   pub turn_later : (message : Message) (now : ℕ) (last : Bool) (turn : Turn) (bytes : List ℕ)
       → SaysTurn manner uids known message now last turn bytes → SaysTurn manner uids known' message now last turn bytes
   turn_later message now last turns.Local bytes h = h
@@ -87,7 +87,7 @@ module _ (manner : Manner) (uids : List ℕ) (known known' : ℕ → Known) (mor
   each_later exchanges says = λ k x at. turn_later x.message x.note.now _ x.note.turn x.response (says k x at)
 
   pub served_later : (end : End) (link link' : Meanings) (coming coming' : Option (List ℕ)) (notes : List TurnNote)
-      → Served manner uids known end link link' coming coming' notes → Served manner uids known' end link link' coming coming' notes
+      → IsServedConnection manner uids known end link link' coming coming' notes → IsServedConnection manner uids known' end link link' coming coming' notes
   served_later end link link' coming coming' notes h = record {
     exchanges = h.exchanges;
     refusal = h.refusal;

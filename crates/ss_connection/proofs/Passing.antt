@@ -14,7 +14,7 @@ use Rattle.ss_desk.specs.declared.journaled.Full.{Full}
 use Rattle.ss_desk.specs.declared.pass.RawPass.{RawPass}
 use Rattle.ss_desk.specs.declared.view.View.{View}
 use Rattle.ss_desk.specs.Journal.{entries_of, Begins}
-use Rattle.ss_desk.specs.Calls.{Entered, Denied}
+use Rattle.ss_desk.specs.Calls.{EntersCall, DeniesCall}
 use Rattle.ss_desk.specs.Passes.{view_at, SameOthers}
 use Rattle.ss_desk.proofs.Served.{begins_itself, begins_then, entered_own, entered_begins, denied_own, denied_begins}
 use Rattle.ss_town.specs.Places.{At}
@@ -26,7 +26,7 @@ use Rattle.ss_booked.specs.declared.booked.Asked.{Asked}
 use Rattle.ss_booked.specs.declared.booked.Terms.{Terms}
 use Rattle.ss_booked.specs.Turns.{ask_of, full_on, journal_on, IsLegalOn, RepliesLast}
 use Rattle.ss_connection.specs.Known.{KnowsMore, known_by, SeeMore}
-use Rattle.ss_connection.specs.Turns.{Called, WasFull}
+use Rattle.ss_connection.specs.Turns.{IsCallInJournal, WasFull}
 use Rattle.ss_connection.specs.Calls.{turns_added, call_to, calls_to, own_tickets, Enters}
 use Rattle.ss_connection.specs.declared.notes.Turn.TheVariants as turns
 use Rattle.ss_connection.specs.declared.notes.TurnNote.{TurnNote}
@@ -34,10 +34,10 @@ use Rattle.ss_connection.proofs.Exchanges.{added_push, added_nothing}
 
 -- a call of an account that was entered, and one that found its journal full
 abbrev pub IsEntered : View Terms Entry → View Terms Entry → ℕ → Asked → Answered → Type 0
-IsEntered v w ticket asked answered = Entered (λ entry. entry.ticket) (λ entry. entry.pass) ask_of IsLegalOn RepliesLast full_on v w ticket asked answered
+IsEntered v w ticket asked answered = EntersCall (λ entry. entry.ticket) (λ entry. entry.pass) ask_of IsLegalOn RepliesLast full_on v w ticket asked answered
 
 abbrev pub IsDenied : View Terms Entry → View Terms Entry → Full → Type 0
-IsDenied v w full = Denied (λ entry. entry.ticket) (λ entry. entry.pass) IsLegalOn full_on v w full
+IsDenied v w full = DeniesCall (λ entry. entry.ticket) (λ entry. entry.pass) IsLegalOn full_on v w full
 
 module _ {T : Type 0} where
   pub see_itself : (ps : List (RawPass T Terms Entry)) → SeeMore ps ps
@@ -111,7 +111,7 @@ module _ {T : Type 0} where
 
   -- the place that a call was entered at
   pub called_by : (ps qs : List (RawPass T Terms Entry)) (i ticket : ℕ) (asked : Asked) (answered : Answered)
-      → IsEntered (view_at ps i) (view_at qs i) ticket asked answered → Called (known_by qs i) ticket asked answered.reply
+      → IsEntered (view_at ps i) (view_at qs i) ticket asked answered → IsCallInJournal (known_by qs i) ticket asked answered.reply
   called_by ps qs i ticket asked answered e =
       let v = view_at ps i in let w = view_at qs i in
       let seen : w.seen ≡ (v.seen ++ e.between) ++ e.entry ∷ [] = ap (λ (u : View Terms Entry). u.seen) e.view in

@@ -17,17 +17,18 @@ use Rattle.ss_http.specs.declared.fault.MsgFault.{MsgFault}
 use Rattle.ss_http.specs.declared.fault.MsgFault.TheVariants as faults
 use Rattle.ss_http.specs.Messages.{Reads, ReadsMessage}
 use Rattle.ss_http.specs.Faults.{IsMessageFault}
-use Rattle.ss_http.specs.Buffers.{Kept}
+use Rattle.ss_http.specs.Buffers.{KeptBytes}
 use Rattle.ss_http.specs.Reading.{EndsWith, RisesWith}
 use Rattle.ss_http.proofs.MessageLemmas.{reads_append}
 use Rattle.ss_route.specs.Wire.{refusal_of}
 use Rattle.ss_route.specs.declared.manner.Manner.{Manner}
-use Rattle.ss_connection.specs.Known.{Known, KnowsMore}
+use Rattle.ss_connection.specs.Known.{KnownAccount, KnowsMore}
 use Rattle.ss_connection.specs.Sending.{WasSent, WasCut}
-use Rattle.ss_connection.specs.Turns.{AreGated, Exchange, SaysEach, SaysTurn, closes, most_messages}
+use Rattle.ss_connection.specs.Turns.{AreGatedTurns, Exchange, SaysEach, SaysTurn, closes, most_messages}
 use Rattle.ss_connection.specs.Calls.{turns_added}
-use Rattle.ss_connection.specs.Ends.{AreRead, AreReadings, Cause, IsFewer, IsSparing, RefusesRest, Sends, TakesNoMore}
-use Rattle.ss_connection.specs.Ends.{RaisesOnlyEnd, responses, readings, Served}
+use Rattle.ss_connection.specs.Ends.{ReadsExchanges, AreReadings, Cause, IsFewer, IsSparing, RefusesRest, Sends}
+use Rattle.ss_connection.specs.Ends.{TakesNoMore}
+use Rattle.ss_connection.specs.Ends.{RaisesOnlyEnd, responses, readings, IsServedConnection}
 use Rattle.ss_connection.specs.Progress.{Progress, Refuses, Stops, end_of}
 use Rattle.ss_connection.specs.declared.notes.End.{End}
 use Rattle.ss_connection.specs.declared.notes.End.TheVariants as ends
@@ -43,7 +44,7 @@ no_exchange : (x : Exchange) (k : ℕ) → get_elem? {A = Exchange} [] k ≡ som
 no_exchange x k e = maybe.some-ne-none x (sym e)
 
 -- the beginning
-pub begun : (manner : Manner) (uids : List ℕ) (known : ℕ → Known) (link : Meanings) (coming : Option (List ℕ)) (turns : List TurnNote)
+pub begun : (manner : Manner) (uids : List ℕ) (known : ℕ → KnownAccount) (link : Meanings) (coming : Option (List ℕ)) (turns : List TurnNote)
     → Progress manner uids known link link coming coming (record { bytes = []; stop = None }) turns turns 0
 begun manner uids known link coming turns = record {
   exchanges = [];
@@ -66,7 +67,7 @@ begun manner uids known link coming turns = record {
 }
 
 -- one message more: what was read, and what its turn says
-pub record Answers (manner : Manner) (uids : List ℕ) (known : ℕ → Known) (link link' : Meanings) (coming coming' : Option (List ℕ)) (kept kept' : Kept) (count : ℕ) (message : Message) (note : TurnNote) (bytes : List ℕ) : Type 0 where
+pub record Answers (manner : Manner) (uids : List ℕ) (known : ℕ → KnownAccount) (link link' : Meanings) (coming coming' : Option (List ℕ)) (kept kept' : KeptBytes) (count : ℕ) (message : Message) (note : TurnNote) (bytes : List ℕ) : Type 0 where
   pub few : count < most_messages
   pub got : List ℕ
   pub read : HasRead got link link'
@@ -80,7 +81,7 @@ pub record Answers (manner : Manner) (uids : List ℕ) (known : ℕ → Known) (
 abbrev pub exchange : List ℕ → Message → TurnNote → List ℕ → Exchange
 exchange got message note bytes = record { got = got; message = message; note = note; response = bytes }
 
-module _ (manner : Manner) (uids : List ℕ) (known known' : ℕ → Known) (more : KnowsMore known known') (link link' link2 link3 : Meanings) (coming coming' coming2 : Option (List ℕ)) (kept kept' : Kept) (turns turns' : List TurnNote)
+module _ (manner : Manner) (uids : List ℕ) (known known' : ℕ → KnownAccount) (more : KnowsMore known known') (link link' link2 link3 : Meanings) (coming coming' coming2 : Option (List ℕ)) (kept kept' : KeptBytes) (turns turns' : List TurnNote)
     (count : ℕ) (message : Message) (note : TurnNote) (bytes : List ℕ) (p : Progress manner uids known link link' coming coming' kept turns turns' count)
     (a : Answers manner uids known' link' link2 coming' coming2 kept kept' count message note bytes) where
   says_one : SaysEach manner uids known' (p.exchanges ++ exchange a.got message note bytes ∷ [])
@@ -94,7 +95,7 @@ module _ (manner : Manner) (uids : List ℕ) (known known' : ℕ → Known) (mor
   few_one : length (p.exchanges ++ exchange a.got message note bytes ∷ []) ≤ most_messages
   few_one = let few = a.few in let e = long_one in omega arith
 
-  read_one : (told : List ℕ) → link.taken ≡ Some told → AreRead [] (p.exchanges ++ exchange a.got message note bytes ∷ []) kept'.bytes
+  read_one : (told : List ℕ) → link.taken ≡ Some told → ReadsExchanges [] (p.exchanges ++ exchange a.got message note bytes ∷ []) kept'.bytes
   read_one told is = read_push [] p.exchanges (exchange a.got message note bytes) kept.bytes kept'.bytes (p.sparing told is) a.reads
       (λ m rest whole. took_nothing a.got (told ++ p.taken) link' link2 (still_told p.taken p.sent told link link' p.moves is) (a.spare m rest whole) a.read.taken)
 
@@ -133,7 +134,7 @@ module _ (manner : Manner) (uids : List ℕ) (known known' : ℕ → Known) (mor
   ended_with : (end : End) → Cause end (p.exchanges ++ exchange a.got message note bytes ∷ []) None kept'.bytes link link3 → TakesNoMore end None [] → RaisesOnlyEnd end link link3
       → IsFewer end (length (p.exchanges ++ exchange a.got message note bytes ∷ []))
       → Sends end (p.sent ++ bytes) (responses (p.exchanges ++ exchange a.got message note bytes ∷ []) None)
-      → WasSent bytes link2 link3 → Served manner uids known' end link link3 coming coming2 (turns_added turns (turns' ++ note ∷ []))
+      → WasSent bytes link2 link3 → IsServedConnection manner uids known' end link link3 coming coming2 (turns_added turns (turns' ++ note ∷ []))
   ended_with end cause no_more faults fewer sends sent = record {
     exchanges = p.exchanges ++ exchange a.got message note bytes ∷ [];
     refusal = None;
@@ -163,15 +164,15 @@ module _ (manner : Manner) (uids : List ℕ) (known known' : ℕ → Known) (mor
   sends_one = sends_push p.sent p.exchanges (exchange a.got message note bytes) p.sends ∙ sym (append-nil (flat_map response_in (p.exchanges ++ exchange a.got message note bytes ∷ [])))
 
   -- it had asked to close
-  pub ended_asked : WasSent bytes link2 link3 → message.last ≡ true → Served manner uids known' ends.Asked link link3 coming coming2 (turns_added turns (turns' ++ note ∷ []))
+  pub ended_asked : WasSent bytes link2 link3 → message.last ≡ true → IsServedConnection manner uids known' ends.Asked link link3 coming coming2 (turns_added turns (turns' ++ note ∷ []))
   ended_asked sent closed = ended_with ends.Asked (record { before = p.exchanges; last = exchange a.got message note bytes; all = refl; goes_on = p.goes_on }, closed, refl) refl (faults_one sent) few_one sends_one sent
 
   -- it hadn't, and the gate said that its response closes
-  pub ended_by_gate : WasSent bytes link2 link3 → message.last ≡ false → note.closed_by_gate ≡ true → Served manner uids known' ends.Gate link link3 coming coming2 (turns_added turns (turns' ++ note ∷ []))
+  pub ended_by_gate : WasSent bytes link2 link3 → message.last ≡ false → note.closed_by_gate ≡ true → IsServedConnection manner uids known' ends.Gate link link3 coming coming2 (turns_added turns (turns' ++ note ∷ []))
   ended_by_gate sent stays closed = ended_with ends.Gate (record { before = p.exchanges; last = exchange a.got message note bytes; all = refl; goes_on = p.goes_on }, stays, closed, refl) refl (faults_one sent) few_one sends_one sent
 
   -- of its response a front was written
-  pub ended_cut : WasCut bytes link2 link3 → Served manner uids known' ends.WriteFault link link3 coming coming2 (turns_added turns (turns' ++ note ∷ []))
+  pub ended_cut : WasCut bytes link2 link3 → IsServedConnection manner uids known' ends.WriteFault link link3 coming coming2 (turns_added turns (turns' ++ note ∷ []))
   ended_cut cut =
       let R : ℕ → Type 0 = λ n. Rose n link3.write_faults in
       record {
@@ -205,7 +206,7 @@ module _ (manner : Manner) (uids : List ℕ) (known known' : ℕ → Known) (mor
       }
 
 -- the next bytes have a fault
-pub record Faults (link link' : Meanings) (kept : Kept) (count : ℕ) (fault : MsgFault) : Type 0 where
+pub record Faults (link link' : Meanings) (kept : KeptBytes) (count : ℕ) (fault : MsgFault) : Type 0 where
   pub few : count < most_messages
   pub got : List ℕ
   pub read : HasRead got link link'
@@ -213,7 +214,7 @@ pub record Faults (link link' : Meanings) (kept : Kept) (count : ℕ) (fault : M
   pub ended : EndsWith fault link'
   pub rises : RisesWith fault link.read_faults link'.read_faults
 
-module _ (manner : Manner) (uids : List ℕ) (known : ℕ → Known) (link link' link2 link3 : Meanings) (coming coming' coming2 : Option (List ℕ)) (kept : Kept) (turns turns' : List TurnNote) (count : ℕ) (fault : MsgFault)
+module _ (manner : Manner) (uids : List ℕ) (known : ℕ → KnownAccount) (link link' link2 link3 : Meanings) (coming coming' coming2 : Option (List ℕ)) (kept : KeptBytes) (turns turns' : List TurnNote) (count : ℕ) (fault : MsgFault)
     (p : Progress manner uids known link link' coming coming' kept turns turns' count) where
   added_none : turns_added turns turns' ≡ map note_in p.exchanges
   added_none = ap (drop (length turns)) p.noted ∙ drop-append_seam turns (map note_in p.exchanges)
@@ -251,7 +252,7 @@ module _ (manner : Manner) (uids : List ℕ) (known : ℕ → Known) (link link'
       clock_refused = readings_push (map now_in p.exchanges) now coming coming' coming2 p.clock r.reading
 
       -- the refusal was sent
-      ended_refusing : WasSent bytes link2 link3 → Served manner uids known (ends.BadMessage now) link link3 coming coming2 (turns_added turns turns')
+      ended_refusing : WasSent bytes link2 link3 → IsServedConnection manner uids known (ends.BadMessage now) link link3 coming coming2 (turns_added turns turns')
       ended_refusing sent = record {
         exchanges = p.exchanges;
         refusal = Some (record { fault = fault; now = now; response = bytes });
@@ -277,7 +278,7 @@ module _ (manner : Manner) (uids : List ℕ) (known : ℕ → Known) (link link'
       }
 
       -- a front of it was
-      ended_refusing_in_part : WasCut bytes link2 link3 → Served manner uids known ends.WriteFault link link3 coming coming2 (turns_added turns turns')
+      ended_refusing_in_part : WasCut bytes link2 link3 → IsServedConnection manner uids known ends.WriteFault link link3 coming coming2 (turns_added turns turns')
       ended_refusing_in_part cut =
           let R : ℕ → Type 0 = λ n. Rose n link3.write_faults in
           record {
@@ -308,9 +309,9 @@ module _ (manner : Manner) (uids : List ℕ) (known : ℕ → Known) (link link'
           }
 
 -- the input ended or failed, or no memory was found for the message
-ended_unanswered : (manner : Manner) (uids : List ℕ) (known : ℕ → Known) (link link' link2 : Meanings) (coming coming' : Option (List ℕ)) (kept : Kept) (turns turns' : List TurnNote) (count : ℕ) (fault : MsgFault)
+ended_unanswered : (manner : Manner) (uids : List ℕ) (known : ℕ → KnownAccount) (link link' link2 : Meanings) (coming coming' : Option (List ℕ)) (kept : KeptBytes) (turns turns' : List TurnNote) (count : ℕ) (fault : MsgFault)
     → Progress manner uids known link link' coming coming' kept turns turns' count → Faults link' link2 kept count fault → refusal_of fault ≡ None
-    → Served manner uids known (end_of fault) link link2 coming coming' (turns_added turns turns')
+    → IsServedConnection manner uids known (end_of fault) link link2 coming coming' (turns_added turns turns')
 ended_unanswered manner uids known link link' link2 coming coming' kept turns turns' count faults.End p f none = record {
   exchanges = p.exchanges;
   refusal = None;
@@ -398,21 +399,21 @@ ended_unanswered manner uids known link link' link2 coming coming' kept turns tu
 ended_unanswered manner uids known link link' link2 coming coming' kept turns turns' count (faults.TooLarge n) p f none = cc
 
 -- nothing was written, the clock wasn't read, and the end is the fault's
-unanswered : (manner : Manner) (uids : List ℕ) (known : ℕ → Known) (link link' link2 link3 : Meanings) (coming coming' coming2 : Option (List ℕ)) (kept : Kept) (turns turns' : List TurnNote) (count : ℕ) (fault : MsgFault) (end : End)
+unanswered : (manner : Manner) (uids : List ℕ) (known : ℕ → KnownAccount) (link link' link2 link3 : Meanings) (coming coming' coming2 : Option (List ℕ)) (kept : KeptBytes) (turns turns' : List TurnNote) (count : ℕ) (fault : MsgFault) (end : End)
     → Progress manner uids known link link' coming coming' kept turns turns' count → Faults link' link2 kept count fault
     → (refusal_of fault ≡ None) × (end ≡ end_of fault) × (link3 ≡ link2) × (coming2 ≡ coming')
-    → Served manner uids known end link link3 coming coming2 (turns_added turns turns')
+    → IsServedConnection manner uids known end link link3 coming coming2 (turns_added turns turns')
 unanswered manner uids known link link' link2 link3 coming coming' coming2 kept turns turns' count fault end p f stops =
-    let E : End → Type 0 = λ e. Served manner uids known e link link3 coming coming2 (turns_added turns turns') in
-    let M : Meanings → Type 0 = λ m. Served manner uids known (end_of fault) link m coming coming2 (turns_added turns turns') in
-    let C : Option (List ℕ) → Type 0 = λ c. Served manner uids known (end_of fault) link link2 coming c (turns_added turns turns') in
+    let E : End → Type 0 = λ e. IsServedConnection manner uids known e link link3 coming coming2 (turns_added turns turns') in
+    let M : Meanings → Type 0 = λ m. IsServedConnection manner uids known (end_of fault) link m coming coming2 (turns_added turns turns') in
+    let C : Option (List ℕ) → Type 0 = λ c. IsServedConnection manner uids known (end_of fault) link link2 coming c (turns_added turns turns') in
     subst E (sym stops.1) (subst M (sym stops.2) (subst C (sym stops.3)
     (ended_unanswered manner uids known link link' link2 coming coming' kept turns turns' count fault p f stops.0)))
 
 -- the connection stopped as a message was to be read
-pub stopped : (manner : Manner) (uids : List ℕ) (known : ℕ → Known) (link link' link2 link3 : Meanings) (coming coming' coming2 : Option (List ℕ)) (kept : Kept) (turns turns' : List TurnNote) (count : ℕ) (fault : MsgFault) (end : End)
+pub stopped : (manner : Manner) (uids : List ℕ) (known : ℕ → KnownAccount) (link link' link2 link3 : Meanings) (coming coming' coming2 : Option (List ℕ)) (kept : KeptBytes) (turns turns' : List TurnNote) (count : ℕ) (fault : MsgFault) (end : End)
     → Progress manner uids known link link' coming coming' kept turns turns' count → Faults link' link2 kept count fault
-    → Stops end fault link2 link3 coming' coming2 → Served manner uids known end link link3 coming coming2 (turns_added turns turns')
+    → Stops end fault link2 link3 coming' coming2 → IsServedConnection manner uids known end link link3 coming coming2 (turns_added turns turns')
 stopped manner uids known link link' link2 link3 coming coming' coming2 kept turns turns' count fault (ends.BadMessage now) p f stops =
     ended_refusing manner uids known link link' link2 link3 coming coming' coming2 kept turns turns' count fault p f now stops.0 stops.1 stops.2
 stopped manner uids known link link' link2 link3 coming coming' coming2 kept turns turns' count fault ends.WriteFault p f stops =
@@ -432,10 +433,10 @@ stopped manner uids known link link' link2 link3 coming coming' coming2 kept tur
 stopped manner uids known link link' link2 link3 coming coming' coming2 kept turns turns' count fault ends.Memory p f stops =
     unanswered manner uids known link link' link2 link3 coming coming' coming2 kept turns turns' count fault ends.Memory p f stops
 
-module _ (manner : Manner) (uids : List ℕ) (known : ℕ → Known) (link link' : Meanings) (coming coming' : Option (List ℕ)) (kept : Kept) (turns turns' : List TurnNote) (count : ℕ)
+module _ (manner : Manner) (uids : List ℕ) (known : ℕ → KnownAccount) (link link' : Meanings) (coming coming' : Option (List ℕ)) (kept : KeptBytes) (turns turns' : List TurnNote) (count : ℕ)
     (p : Progress manner uids known link link' coming coming' kept turns turns' count) where
   -- as many messages were answered as may be
-  pub ended_counting : most_messages ≤ count → Served manner uids known ends.Count link link' coming coming' (turns_added turns turns')
+  pub ended_counting : most_messages ≤ count → IsServedConnection manner uids known ends.Count link link' coming coming' (turns_added turns turns')
   ended_counting full =
       let most : count ≤ most_messages = p.within in
       let long : length p.exchanges ≡ most_messages = (let e = p.counted in omega arith) in
@@ -461,7 +462,7 @@ module _ (manner : Manner) (uids : List ℕ) (known : ℕ → Known) (link link'
       }
 
   -- no memory was found for one turn more
-  pub ended_early : count < most_messages → Served manner uids known ends.Memory link link' coming coming' (turns_added turns turns')
+  pub ended_early : count < most_messages → IsServedConnection manner uids known ends.Memory link link' coming coming' (turns_added turns turns')
   ended_early few = record {
     exchanges = p.exchanges;
     refusal = None;
@@ -484,10 +485,10 @@ module _ (manner : Manner) (uids : List ℕ) (known : ℕ → Known) (link link'
   }
 
   -- what the gate was asked of the turns, after one more
-  pub gated_more : (says : ℕ → Bool → Type 0) (note : TurnNote) → AreGated says (turns_added turns turns') → says count note.closed_by_gate → AreGated says (turns_added turns (turns' ++ note ∷ []))
+  pub gated_more : (says : ℕ → Bool → Type 0) (note : TurnNote) → AreGatedTurns says (turns_added turns turns') → says count note.closed_by_gate → AreGatedTurns says (turns_added turns (turns' ++ note ∷ []))
   gated_more says note each one =
       let long : count ≡ length (turns_added turns turns') = p.counted ∙ (sym (length-map p.exchanges note_in) ∙ ap length (sym (added_none manner uids known link link' link' link' coming coming' coming' kept turns turns' count faults.End p))) in
-      subst (AreGated says) (sym (added_push turns turns' note (map note_in p.exchanges, p.noted)))
+      subst (AreGatedTurns says) (sym (added_push turns turns' note (map note_in p.exchanges, p.noted)))
       (gated_push says (turns_added turns turns') note each (subst (λ n. says n note.closed_by_gate) long one))
 
   -- the turns were added to those that were there
@@ -495,5 +496,5 @@ module _ (manner : Manner) (uids : List ℕ) (known : ℕ → Known) (link link'
   begins = (map note_in p.exchanges, p.noted)
 
 -- no memory was found for the connection
-pub unserved : (manner : Manner) (uids : List ℕ) (known : ℕ → Known) (link : Meanings) (coming : Option (List ℕ)) (turns : List TurnNote) → Served manner uids known ends.Memory link link coming coming (turns_added turns turns)
+pub unserved : (manner : Manner) (uids : List ℕ) (known : ℕ → KnownAccount) (link : Meanings) (coming : Option (List ℕ)) (turns : List TurnNote) → IsServedConnection manner uids known ends.Memory link link coming coming (turns_added turns turns)
 unserved manner uids known link coming turns = ended_early manner uids known link link coming coming (record { bytes = []; stop = None }) turns turns 0 (begun manner uids known link coming turns) (omega arith)

@@ -6,7 +6,7 @@ use Rattle.ss_desk.specs.Journal.{entries_of}
 use Rattle.ss_town.specs.Places.{At}
 use Rattle.ss_laws.specs.declared.journal.Entry.{Entry}
 use Rattle.ss_booked.specs.declared.booked.Terms.{Terms}
-use Rattle.ss_connection.specs.Known.{Known, known_by}
+use Rattle.ss_connection.specs.Known.{KnownAccount, known_by}
 use Rattle.ss_connection.specs.declared.notes.Turn.{Turn}
 use Rattle.ss_connection.specs.declared.notes.Turn.TheVariants.{Call}
 use Rattle.ss_connection.specs.declared.notes.TurnNote.{TurnNote}
@@ -25,7 +25,7 @@ abbrev pub calls_to : ℕ → List TurnNote → List ℕ
 calls_to uid notes = flat_map (λ note. call_to uid note.turn) notes
 
 -- the tickets of the entries that bear the pass's number, in order
-abbrev pub own_tickets : Known → List ℕ
+abbrev pub own_tickets : KnownAccount → List ℕ
 own_tickets known = map (λ entry. entry.ticket) (entries_of (λ entry. entry.pass) known.number known.journal)
 
 module _ {T : Type 0} where

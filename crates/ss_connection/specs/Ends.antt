@@ -13,7 +13,7 @@ use Rattle.ss_http.specs.Messages.{Reads, ReadsMessage}
 use Rattle.ss_route.specs.declared.manner.Manner.{Manner}
 use Rattle.ss_route.specs.declared.routed.Local.{Local}
 use Rattle.ss_route.specs.Wire.{local_wire, refusal_of}
-use Rattle.ss_connection.specs.Known.{Known}
+use Rattle.ss_connection.specs.Known.{KnownAccount}
 use Rattle.ss_connection.specs.Sending.{OrMemory}
 use Rattle.ss_text.specs.Time.{clamped_reading}
 use Rattle.ss_connection.specs.Turns.{Exchange, SaysEach, most_messages}
@@ -89,10 +89,10 @@ RaisesOnlyEnd _ link link' = (link'.read_faults ≡ link.read_faults) × (link'.
 
 -- The messages were read one after the other, each from the bytes that were kept and those that were taken for it. Where it was kept
 -- whole, none were
-abbrev pub AreRead : List ℕ → List Exchange → List ℕ → Type 0
-AreRead kept [] kept' = kept ≡ kept'
-AreRead kept (x ∷ exchanges) kept' =
-    (after : List ℕ) × ReadsMessage (kept ++ x.got) x.message after × ((m : Message) (rest : List ℕ) → ReadsMessage kept m rest → x.got ≡ []) × AreRead after exchanges kept'
+abbrev pub ReadsExchanges : List ℕ → List Exchange → List ℕ → Type 0
+ReadsExchanges kept [] kept' = kept ≡ kept'
+ReadsExchanges kept (x ∷ exchanges) kept' =
+    (after : List ℕ) × ReadsMessage (kept ++ x.got) x.message after × ((m : Message) (rest : List ℕ) → ReadsMessage kept m rest → x.got ≡ []) × ReadsExchanges after exchanges kept'
 
 -- the bytes that were taken after the last message that was answered: none, where no further one was looked for
 abbrev pub TakesNoMore : End → Option Refusal → List ℕ → Type 0
@@ -105,7 +105,7 @@ TakesNoMore _ refusal more = ⊤
 -- of a link that tells: it was read no further than for the messages, and for the rest behind them
 pub record IsSparing (exchanges : List Exchange) (rest more : List ℕ) : Type 0 where
   pub kept : List ℕ
-  pub read : AreRead [] exchanges kept
+  pub read : ReadsExchanges [] exchanges kept
   pub behind : rest ≡ kept ++ more
 
 -- how many messages there were: who looked for one more had answered fewer than may be
@@ -117,7 +117,7 @@ IsFewer ends.WriteFault count = count ≤ most_messages
 IsFewer _ count = count < most_messages
 
 -- A connection that had these turns, in a manner of reading conditions, over what is known of the accounts. Whoever knows more of them can say it too (`served_later`)
-pub record Served (manner : Manner) (uids : List ℕ) (known : ℕ → Known) (end : End) (link link' : Meanings) (coming coming' : Option (List ℕ)) (notes : List TurnNote) : Type 0 where
+pub record IsServedConnection (manner : Manner) (uids : List ℕ) (known : ℕ → KnownAccount) (end : End) (link link' : Meanings) (coming coming' : Option (List ℕ)) (notes : List TurnNote) : Type 0 where
   pub exchanges : List Exchange
   pub refusal : Option Refusal
   pub taken : List ℕ

@@ -7,20 +7,20 @@ use Rattle.ss_laws.specs.declared.journal.Entry.{Entry}
 use Rattle.ss_booked.specs.declared.booked.Terms.{Terms}
 
 -- of an account: the number of the pass that calls, what no call changes, and the journal, or as much of it as was seen
-pub record Known : Type 0 where
+pub record KnownAccount : Type 0 where
   pub number : ℕ
   pub fixed : Option Terms
   pub journal : List Entry
 
 -- of each account no less is known: its journal begins with what was known of it
-pub record KnowsMore (known known' : ℕ → Known) : Type 0 where
+pub record KnowsMore (known known' : ℕ → KnownAccount) : Type 0 where
   pub number : (i : ℕ) → (known' i).number ≡ (known i).number
   pub fixed : (i : ℕ) → (known' i).fixed ≡ (known i).fixed
   pub journal : (i : ℕ) → Begins (known i).journal (known' i).journal
 
 module _ {T : Type 0} where
   -- what a caller's passes know of the account at a place
-  abbrev pub known_by : List (RawPass T Terms Entry) → ℕ → Known
+  abbrev pub known_by : List (RawPass T Terms Entry) → ℕ → KnownAccount
   known_by passes i = record { number = (view_at passes i).range.first; fixed = (view_at passes i).fixed; journal = (view_at passes i).seen }
 
   -- The same passes, which have seen more: their numbers, those that they took in and their books are as before

@@ -4,22 +4,22 @@ use Rattle.std.specs.List.{flat_map}
 use Rattle.ss_outside.specs.Told.{Meanings, TakesFirst}
 use Rattle.ss_http.specs.declared.fault.MsgFault.{MsgFault}
 use Rattle.ss_http.specs.declared.fault.MsgFault.TheVariants as faults
-use Rattle.ss_http.specs.Buffers.{Kept}
+use Rattle.ss_http.specs.Buffers.{KeptBytes}
 use Rattle.ss_http.specs.Messages.{Reads}
 use Rattle.ss_route.specs.declared.manner.Manner.{Manner}
 use Rattle.ss_route.specs.declared.routed.Local.{Local}
 use Rattle.ss_route.specs.Wire.{local_wire, refusal_of}
-use Rattle.ss_connection.specs.Known.{Known}
+use Rattle.ss_connection.specs.Known.{KnownAccount}
 use Rattle.ss_connection.specs.Sending.{OrMemory, WasSent, WasCut}
 use Rattle.ss_text.specs.Time.{clamped_reading}
 use Rattle.ss_connection.specs.Turns.{Exchange, SaysEach, most_messages}
-use Rattle.ss_connection.specs.Ends.{AreRead, AreReadings, GoesOn}
+use Rattle.ss_connection.specs.Ends.{ReadsExchanges, AreReadings, GoesOn}
 use Rattle.ss_outside.specs.Told.{Moves}
 use Rattle.ss_connection.specs.declared.notes.End.{End}
 use Rattle.ss_connection.specs.declared.notes.End.TheVariants as ends
 use Rattle.ss_connection.specs.declared.notes.TurnNote.{TurnNote}
 
-pub record Progress (manner : Manner) (uids : List ℕ) (known : ℕ → Known) (link link' : Meanings) (coming coming' : Option (List ℕ)) (kept : Kept) (turns turns' : List TurnNote) (count : ℕ) : Type 0 where
+pub record Progress (manner : Manner) (uids : List ℕ) (known : ℕ → KnownAccount) (link link' : Meanings) (coming coming' : Option (List ℕ)) (kept : KeptBytes) (turns turns' : List TurnNote) (count : ℕ) : Type 0 where
   pub exchanges : List Exchange
   pub taken : List ℕ
   pub sent : List ℕ
@@ -28,7 +28,7 @@ pub record Progress (manner : Manner) (uids : List ℕ) (known : ℕ → Known) 
   pub moves : Moves taken sent link link'
   pub split : Reads taken (map (λ x. x.message) exchanges) kept.bytes
   pub gets : taken ≡ flat_map (λ x. x.got) exchanges
-  pub sparing : (bytes : List ℕ) → link.taken ≡ Some bytes → AreRead [] exchanges kept.bytes
+  pub sparing : (bytes : List ℕ) → link.taken ≡ Some bytes → ReadsExchanges [] exchanges kept.bytes
   pub sends : sent ≡ flat_map (λ x. x.response) exchanges
   pub clock : AreReadings (map (λ x. x.note.now) exchanges) coming coming'
   pub goes_on : GoesOn exchanges

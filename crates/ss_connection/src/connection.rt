@@ -6,8 +6,8 @@ ghost use Rattle.ss_desk.specs.Passes.{AreOf};
 ghost use Rattle.ss_town.specs.Town.{uids_of, desks_of, passes_of};
 ghost use Rattle.ss_connection.specs.Known.{known_by, SeeMore};
 ghost use Rattle.ss_connection.specs.Calls.{turns_added, Enters};
-ghost use Rattle.ss_connection.specs.Turns.{closes, AreGated};
-ghost use Rattle.ss_connection.specs.Ends.{Served};
+ghost use Rattle.ss_connection.specs.Turns.{closes, AreGatedTurns};
+ghost use Rattle.ss_connection.specs.Ends.{IsServedConnection};
 ghost use Rattle.ss_connection.specs.Progress.{end_of, Stops};
 
 use crate::answering::answer;
@@ -85,11 +85,11 @@ pub fn serve_connection<L: Source + Sink, C: Clock, K: Keeper + Drop, G: Gate, R
     // Turns were added, and none was changed.
     ensures noted { Begins turns.old.items turns.new.items }
     // What was taken, what was written, and why it ended, over what the passes have then seen.
-    ensures served { Served manner (uids_of town.now) (known_by (passes_of passes.new)) result (L.Told.told link.old)
+    ensures served { IsServedConnection manner (uids_of town.now) (known_by (passes_of passes.new)) result (L.Told.told link.old)
         (L.Told.told link.new)
         (C.coming clock.old) (C.coming clock.new) (turns_added turns.old.items turns.new.items) }
     // Of each response the gate was asked whether it closes, by the worker's number and the message's.
-    ensures gated { AreGated (G.says gate.now worker) (turns_added turns.old.items turns.new.items) }
+    ensures gated { AreGatedTurns (G.says gate.now worker) (turns_added turns.old.items turns.new.items) }
     // The passes' new entries are those of the calls, in order, account by account.
     ensures enters { Enters (uids_of town.now) (passes_of passes.old) (passes_of passes.new)
         (turns_added turns.old.items turns.new.items) }

@@ -10,9 +10,9 @@ use Rattle.ss_desk.specs.declared.view.Stage.{Stage}
 use Rattle.ss_desk.specs.declared.view.Stage.TheVariants.{Idle, Waits, Holds}
 use Rattle.ss_desk.specs.declared.view.Range.{Range}
 use Rattle.ss_desk.specs.Journal.{AddsCall, entries_of, Below, Rises}
-use Rattle.ss_desk.specs.Views.{range_of, numbers, Live, turned}
-use Rattle.ss_desk.specs.Steps.{Took, Made}
-use Rattle.ss_desk.specs.Calls.{Entered, Denied}
+use Rattle.ss_desk.specs.Views.{range_of, numbers, Live, view_after_step}
+use Rattle.ss_desk.specs.Steps.{Took, IsValueAfterCall}
+use Rattle.ss_desk.specs.Calls.{EntersCall, DeniesCall}
 use Rattle.ss_desk.proofs.Lists.{append_nil, entries_of-append, rises_more, at_get, append_fixed}
 
 module _ {E : Type 0} (ticket_of : E → ℕ) where
@@ -59,15 +59,15 @@ module _ {T F E : Type 0} (ticket_of pass_of : E → ℕ) (fixed : T → F) (ent
       pub stage_is : m.0.stage ≡ Holds t
       stage_is = ap (λ (z : Me (Option T) (View F E)). z.0.stage) k.me
 
-      pub made : (x y : T) (n : ℕ) (ask : A) (a : Result R Full) → x ≡ k.value → fixed y ≡ fixed x → legal (fixed y) (entries y) → m.0.range.first ≡ n → Stepped x y t n ask a → Made ticket_of pass_of fixed entries legal m.0 t y
+      pub made : (x y : T) (n : ℕ) (ask : A) (a : Result R Full) → x ≡ k.value → fixed y ≡ fixed x → legal (fixed y) (entries y) → m.0.range.first ≡ n → Stepped x y t n ask a → IsValueAfterCall ticket_of pass_of fixed entries legal m.0 t y
       made x y n ask a is same lawful number h = record {
         same = fixed_is ∙ ap Some (sym (same ∙ ap fixed is));
         lawful = lawful;
         last = subst (λ (j : ℕ). (entries y ≡ m.0.seen) ⊎ ((e : E) × (entries y ≡ m.0.seen ++ e ∷ []) × (ticket_of e ≡ t) × (pass_of e ≡ j))) (sym number) (last_is x y t n ask m.0.seen a (ap entries is ∙ seen_is) h);
       }
 
-      pub answers : (x y : T) (n : ℕ) (ask : A) (a : Result R Full) (w : View F E) → x ≡ k.value → fixed y ≡ fixed x → legal (fixed y) (entries y) → m.0.range.first ≡ n → Stepped x y t n ask a → w ≡ turned m.0 Idle (entries y)
-          → MatchResult a (λ r. Entered ticket_of pass_of ask_of legal replies full m.0 w t ask r) (λ f. Denied ticket_of pass_of legal full m.0 w f)
+      pub answers : (x y : T) (n : ℕ) (ask : A) (a : Result R Full) (w : View F E) → x ≡ k.value → fixed y ≡ fixed x → legal (fixed y) (entries y) → m.0.range.first ≡ n → Stepped x y t n ask a → w ≡ view_after_step m.0 Idle (entries y)
+          → MatchResult a (λ r. EntersCall ticket_of pass_of ask_of legal replies full m.0 w t ask r) (λ f. DeniesCall ticket_of pass_of legal full m.0 w f)
       answers x y n ask (Ok r) w is same lawful number h now =
           let e : E = h.0.0 in let seen : entries x ≡ m.0.seen ++ [] = ap entries is ∙ (seen_is ∙ sym (append_nil m.0.seen)) in
           let all : entries y ≡ (m.0.seen ++ []) ++ e ∷ [] = h.0.1 ∙ ap (λ (l : List E). l ++ e ∷ []) seen in
@@ -75,7 +75,7 @@ module _ {T F E : Type 0} (ticket_of pass_of : E → ℕ) (fixed : T → F) (ent
           record {
             between = [];
             entry = e;
-            view = now ∙ ap (turned m.0 Idle) all;
+            view = now ∙ ap (view_after_step m.0 Idle) all;
             drawn = h.0.2;
             number = h.0.3 ∙ sym number;
             asked = h.0.4;
@@ -92,7 +92,7 @@ module _ {T F E : Type 0} (ticket_of pass_of : E → ℕ) (fixed : T → F) (ent
           let all : entries y ≡ m.0.seen ++ [] = h.0 ∙ (seen ∙ sym (append_nil m.0.seen)) in let there : w.seen ≡ entries y = ap (λ (z : View F E). z.seen) now in
           record {
             between = [];
-            view = now ∙ ap (turned m.0 Idle) all;
+            view = now ∙ ap (view_after_step m.0 Idle) all;
             others = refl;
             fix = fixed y;
             same = fixed_is ∙ ap Some (sym (same ∙ ap fixed is));
@@ -103,12 +103,12 @@ module _ {T F E : Type 0} (ticket_of pass_of : E → ℕ) (fixed : T → F) (ent
 
 -- what was seen since adds up
 module _ {F E A R : Type 0} (ticket_of pass_of : E → ℕ) (ask_of : E → A) (legal : F → List E → Type 0) (replies : F → List E → R → Type 0) (full : F → List E → Option Full) where
-  pub enters_from : (v u w : View F E) (stage : Stage) (more : List E) (t : ℕ) (ask : A) (r : R) → u ≡ turned v stage (v.seen ++ more) → entries_of pass_of v.range.first more ≡ []
-      → Entered ticket_of pass_of ask_of legal replies full u w t ask r → Entered ticket_of pass_of ask_of legal replies full v w t ask r
-  enters_from v u w stage more t ask r is none = subst (λ (z : View F E). Entered ticket_of pass_of ask_of legal replies full z w t ask r → Entered ticket_of pass_of ask_of legal replies full v w t ask r) (sym is) (λ e. record {
+  pub enters_from : (v u w : View F E) (stage : Stage) (more : List E) (t : ℕ) (ask : A) (r : R) → u ≡ view_after_step v stage (v.seen ++ more) → entries_of pass_of v.range.first more ≡ []
+      → EntersCall ticket_of pass_of ask_of legal replies full u w t ask r → EntersCall ticket_of pass_of ask_of legal replies full v w t ask r
+  enters_from v u w stage more t ask r is none = subst (λ (z : View F E). EntersCall ticket_of pass_of ask_of legal replies full z w t ask r → EntersCall ticket_of pass_of ask_of legal replies full v w t ask r) (sym is) (λ e. record {
     between = more ++ e.between;
     entry = e.entry;
-    view = e.view ∙ ap (λ (l : List E). turned v Idle (l ++ e.entry ∷ [])) (append_assoc v.seen more e.between);
+    view = e.view ∙ ap (λ (l : List E). view_after_step v Idle (l ++ e.entry ∷ [])) (append_assoc v.seen more e.between);
     drawn = e.drawn;
     number = e.number;
     asked = e.asked;
@@ -121,10 +121,10 @@ module _ {F E A R : Type 0} (ticket_of pass_of : E → ℕ) (ask_of : E → A) (
     had_room = subst (λ (l : List E). full e.fix l ≡ None) (append_assoc v.seen more e.between) e.had_room;
   })
 
-  pub denied_from : (v u w : View F E) (stage : Stage) (more : List E) (f : Full) → u ≡ turned v stage (v.seen ++ more) → entries_of pass_of v.range.first more ≡ [] → Denied ticket_of pass_of legal full u w f → Denied ticket_of pass_of legal full v w f
-  denied_from v u w stage more f is none = subst (λ (z : View F E). Denied ticket_of pass_of legal full z w f → Denied ticket_of pass_of legal full v w f) (sym is) (λ e. record {
+  pub denied_from : (v u w : View F E) (stage : Stage) (more : List E) (f : Full) → u ≡ view_after_step v stage (v.seen ++ more) → entries_of pass_of v.range.first more ≡ [] → DeniesCall ticket_of pass_of legal full u w f → DeniesCall ticket_of pass_of legal full v w f
+  denied_from v u w stage more f is none = subst (λ (z : View F E). DeniesCall ticket_of pass_of legal full z w f → DeniesCall ticket_of pass_of legal full v w f) (sym is) (λ e. record {
     between = more ++ e.between;
-    view = e.view ∙ ap (λ (l : List E). turned v Idle l) (append_assoc v.seen more e.between);
+    view = e.view ∙ ap (λ (l : List E). view_after_step v Idle l) (append_assoc v.seen more e.between);
     others = entries_of-append pass_of v.range.first more e.between ∙ (ap (λ (l : List E). l ++ entries_of pass_of v.range.first e.between) none ∙ e.others);
     fix = e.fix;
     same = e.same;
@@ -135,11 +135,11 @@ module _ {F E A R : Type 0} (ticket_of pass_of : E → ℕ) (ask_of : E → A) (
 
 module _ {T F E : Type 0} (ticket_of pass_of : E → ℕ) (fixed : T → F) (entries : T → List E) (legal : F → List E → Type 0) where
   -- what a pass has seen when its ticket is served
-  pub caught_up : (v : View F E) (t : ℕ) (m m' : Me (Option T) (View F E)) → m ≡ (turned v (Waits t) v.seen, []) → Took ticket_of pass_of fixed entries legal m.0 t m'
-      → (more : List E) × (m'.0 ≡ turned v (Holds t) (v.seen ++ more)) × (entries_of pass_of v.range.first more ≡ [])
-  caught_up v t m m' is = subst (λ (z : Me (Option T) (View F E)). Took ticket_of pass_of fixed entries legal z.0 t m' → (more : List E) × (m'.0 ≡ turned v (Holds t) (v.seen ++ more)) × (entries_of pass_of v.range.first more ≡ [])) (sym is) (λ k. (
+  pub caught_up : (v : View F E) (t : ℕ) (m m' : Me (Option T) (View F E)) → m ≡ (view_after_step v (Waits t) v.seen, []) → Took ticket_of pass_of fixed entries legal m.0 t m'
+      → (more : List E) × (m'.0 ≡ view_after_step v (Holds t) (v.seen ++ more)) × (entries_of pass_of v.range.first more ≡ [])
+  caught_up v t m m' is = subst (λ (z : Me (Option T) (View F E)). Took ticket_of pass_of fixed entries legal z.0 t m' → (more : List E) × (m'.0 ≡ view_after_step v (Holds t) (v.seen ++ more)) × (entries_of pass_of v.range.first more ≡ [])) (sym is) (λ k. (
     k.known.0,
-    ap (λ (z : Me (Option T) (View F E)). z.0) k.me ∙ ap (turned v (Holds t)) k.known.1,
+    ap (λ (z : Me (Option T) (View F E)). z.0) k.me ∙ ap (view_after_step v (Holds t)) k.known.1,
     append_fixed (entries_of pass_of v.range.first v.seen) (entries_of pass_of v.range.first k.known.0) (sym (entries_of-append pass_of v.range.first v.seen k.known.0) ∙ (ap (entries_of pass_of v.range.first) (sym k.known.1) ∙ k.own)),
   ))
 

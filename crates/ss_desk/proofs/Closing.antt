@@ -10,7 +10,7 @@ use Rattle.ss_desk.specs.Journal.{entries_of, Begins, Rises}
 use Rattle.ss_desk.specs.Views.{InRange, tickets_at, Covers, Live, Bears}
 use Rattle.ss_desk.specs.Rule.{Agrees, TakesTurns, IsHome}
 use Rattle.ss_desk.specs.Views.{CoversAll}
-use Rattle.ss_desk.specs.Calls.{Finished}
+use Rattle.ss_desk.specs.Calls.{IsValueAtClose}
 use Rattle.ss_desk.proofs.Lists.{one_at}
 
 module _ {T F E : Type 0} (ticket_of pass_of : E → ℕ) (fixed : T → F) (entries : T → List E) (legal : F → List E → Type 0) (fix : F) where
@@ -34,7 +34,7 @@ module _ {T F E : Type 0} (ticket_of pass_of : E → ℕ) (fixed : T → F) (ent
           let odd : tickets_at (Holds r.serving) ≡ tickets_at Idle = ap tickets_at (sym h.3 ∙ (ap (λ (z : View F E). z.stage) same ∙ idle)) in absurd (omega (arith, odd))
     ]
 
-    finished : Live v → (x : T) → entries x ≡ r.journal → fixed x ≡ fix → Finished ticket_of pass_of fixed entries legal v x
+    finished : Live v → (x : T) → entries x ≡ r.journal → fixed x ≡ fix → IsValueAtClose ticket_of pass_of fixed entries legal v x
     finished live x is same = let m = r.each id v at in record {
       same = m.same live ∙ ap Some (sym same);
       lawful = subst (legal (fixed x)) (sym is) (subst (λ (f : F). legal f r.journal) (sym same) r.lawful);
@@ -47,7 +47,7 @@ module _ {T F E : Type 0} (ticket_of pass_of : E → ℕ) (fixed : T → F) (ent
     }
 
   pub closes : (id : ℕ) (v : View F E) (ws : List ℕ) (xs : List (Option T)) (y : Option T) → v.stage ≡ Idle → Live v → CoversAll v → Final (Seen (TakesTurns ticket_of pass_of fixed entries legal fix) id v) ws xs → get_elem? xs 0 ≡ some y
-      → (x : T) × (y ≡ Some x) × Finished ticket_of pass_of fixed entries legal v x
+      → (x : T) × (y ≡ Some x) × IsValueAtClose ticket_of pass_of fixed entries legal v x
   closes id v ws xs y idle live all f got =
       let s = f.0 in let r = f.1.0 in let at = f.1.1 in let h = home s r id v at all idle in
       let there : get_elem? s.homes 0 ≡ some (some (Some h.0)) = ap (λ (l : List (maybe.Option (Option T))). get_elem? l 0) h.1 in

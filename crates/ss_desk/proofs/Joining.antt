@@ -14,7 +14,7 @@ use Rattle.ss_desk.specs.declared.view.Stage.{Stage}
 use Rattle.ss_desk.specs.declared.view.Stage.TheVariants.{Idle, Holds}
 use Rattle.ss_desk.specs.Journal.{entries_of, Begins}
 use Rattle.ss_desk.specs.Views.{Among, HasTicket, tickets_at, numbers, tickets_held, Covers, Live, Bears, page_of}
-use Rattle.ss_desk.specs.Views.{joined, spent}
+use Rattle.ss_desk.specs.Views.{joined_view, spent}
 use Rattle.ss_desk.specs.Rule.{Agrees, InTurn, TakesTurns}
 use Rattle.ss_desk.proofs.Lists.{one_at, set_at, set_apart, total_set, either_part, on_right, shorter, among_append}
 use Rattle.ss_desk.proofs.Lists.{among_left, among_right, own_between}
@@ -25,17 +25,17 @@ module _ {T F E : Type 0} (ticket_of pass_of : E → ℕ) (fixed : T → F) (ent
 
   -- a join
   data Whole (views : List (View F E)) (id other : ℕ) (v w : View F E) (j : ℕ) (x : View F E) : Type 0 where
-    both : j ≡ id → x ≡ joined v w → Whole views id other v w j x
+    both : j ≡ id → x ≡ joined_view v w → Whole views id other v w j x
     gone : j ≡ other → x ≡ spent → Whole views id other v w j x
     kept : j ≢ id → j ≢ other → get_elem? views j ≡ some x → Whole views id other v w j x
 
-  whole : (views : List (View F E)) (id other : ℕ) (v w : View F E) (j : ℕ) (x : View F E) → get_elem? (set (set views id (joined v w)) other spent) j ≡ some x → Whole views id other v w j x
-  whole views id other v w j x e = elim (at_set (set views id (joined v w)) other j spent x e) [
+  whole : (views : List (View F E)) (id other : ℕ) (v w : View F E) (j : ℕ) (x : View F E) → get_elem? (set (set views id (joined_view v w)) other spent) j ≡ some x → Whole views id other v w j x
+  whole views id other v w j x e = elim (at_set (set views id (joined_view v w)) other j spent x e) [
     | inl h ↦ gone h.0 (sym h.1)
-    | inr h ↦ elim (at_set views id j (joined v w) x h.1) [ inl g ↦ both g.0 (sym g.1) | inr g ↦ kept g.0 h.0 g.1 ]
+    | inr h ↦ elim (at_set views id j (joined_view v w) x h.1) [ inl g ↦ both g.0 (sym g.1) | inr g ↦ kept g.0 h.0 g.1 ]
   ]
 
-  in_both : (v w : View F E) (n : ℕ) → Covers (joined v w) n → Covers v n ⊎ Covers w n
+  in_both : (v w : View F E) (n : ℕ) → Covers (joined_view v w) n → Covers v n ⊎ Covers w n
   in_both v w n (inl h) = inl (inl h)
   in_both v w n (inr h) = elim (among_append v.taken (w.range ∷ w.taken) n h) [ inl g ↦ inl (inr g) | inr g ↦ elim g [ inl k ↦ inr (inl k) | inr k ↦ inr (inr k) ] ]
 
@@ -59,7 +59,7 @@ module _ {T F E : Type 0} (ticket_of pass_of : E → ℕ) (fixed : T → F) (ent
     ]
     join_apart i j a b n (kept ne ne' p) (kept me me' q) c d = r.apart i j a b n p q c d
 
-    no_turn : (a : View F E) (t : ℕ) → a ≡ joined v w → HasTicket a.stage t → ⊥
+    no_turn : (a : View F E) (t : ℕ) → a ≡ joined_view v w → HasTicket a.stage t → ⊥
     no_turn a t p c = subst (λ (z : Stage). HasTicket z t) (ap (λ (z : View F E). z.stage) p ∙ idle) c
 
     join_turns : (i j : ℕ) (a b : View F E) (t : ℕ) → Whole s.views id other v w i a → Whole s.views id other v w j b → HasTicket a.stage t → HasTicket b.stage t → i ≡ j
@@ -80,7 +80,7 @@ module _ {T F E : Type 0} (ticket_of pass_of : E → ℕ) (fixed : T → F) (ent
         subst (λ (z : Page E). Among (v.taken ++ w.range ∷ w.taken) z.number × Begins z.seen r.journal × (entries_of pass_of z.number r.journal ≡ entries_of pass_of z.number z.seen)) same (among_right v.taken (w.range ∷ w.taken) w.range.first (inl (le_refl w.range.first, live')), m'.known, m'.own live')
     page_agrees (suc i) p h = let q = (r.each other w at').pages i p h in (among_right v.taken (w.range ∷ w.taken) p.number (inr q.0), q.1, q.2)
 
-    both_agrees : Agrees pass_of fix r.journal (joined v w)
+    both_agrees : Agrees pass_of fix r.journal (joined_view v w)
     both_agrees = let m = r.each id v at in let m' = r.each other w at' in let k = longer_known (ltb (length v.seen) (length w.seen)) refl in record {
       same = m.same;
       known = k.0;
@@ -121,26 +121,26 @@ module _ {T F E : Type 0} (ticket_of pass_of : E → ℕ) (fixed : T → F) (ent
     turn_whole j x (gone e p) = subst (λ (z : View F E). InTurn r.serving r.tickets s.homes r.journal z.seen z.stage) (sym p) tt
     turn_whole j x (kept ne ne' p) = r.turn j x p
 
-    joint : get_elem? (set (set s.views id (joined v w)) other spent) id ≡ some (joined v w)
-    joint = set_apart (set s.views id (joined v w)) other id (joined v w) spent (λ e. two (sym e)) (set_at s.views id v (joined v w) at)
+    joint : get_elem? (set (set s.views id (joined_view v w)) other spent) id ≡ some (joined_view v w)
+    joint = set_apart (set s.views id (joined_view v w)) other id (joined_view v w) spent (λ e. two (sym e)) (set_at s.views id v (joined_view v w) at)
 
-    untouched : (j : ℕ) (u : View F E) → j ≢ id → j ≢ other → get_elem? s.views j ≡ some u → get_elem? (set (set s.views id (joined v w)) other spent) j ≡ some u
-    untouched j u ne ne' was = set_apart (set s.views id (joined v w)) other j u spent ne' (set_apart s.views id j u (joined v w) ne was)
+    untouched : (j : ℕ) (u : View F E) → j ≢ id → j ≢ other → get_elem? s.views j ≡ some u → get_elem? (set (set s.views id (joined_view v w)) other spent) j ≡ some u
+    untouched j u ne ne' was = set_apart (set s.views id (joined_view v w)) other j u spent ne' (set_apart s.views id j u (joined_view v w) ne was)
 
-    bears_left : (n : ℕ) → Bears v n → Bears (joined v w) n
+    bears_left : (n : ℕ) → Bears v n → Bears (joined_view v w) n
     bears_left n (inl h) = inl h
     bears_left n (inr h) = inr (h.0, h.1, at_longer v.book (page_of w ∷ w.book) h.0 h.1 h.2, h.3)
 
-    bears_right : (n : ℕ) → Bears w n → Bears (joined v w) n
+    bears_right : (n : ℕ) → Bears w n → Bears (joined_view v w) n
     bears_right n (inl h) = let q = on_right v.book (page_of w ∷ w.book) zero (page_of w) refl in inr (q.0, page_of w, q.1, h.1)
     bears_right n (inr h) = let q = on_right v.book (page_of w ∷ w.book) (suc h.0) h.1 h.2 in inr (q.0, h.1, q.1, h.3)
 
     -- who bore a number, or the pass that took it in, bears it
-    borne_still : (j n : ℕ) (u : View F E) → get_elem? s.views j ≡ some u → Bears u n → (i : ℕ) × (x : View F E) × (get_elem? (set (set s.views id (joined v w)) other spent) i ≡ some x) × Bears x n
+    borne_still : (j n : ℕ) (u : View F E) → get_elem? s.views j ≡ some u → Bears u n → (i : ℕ) × (x : View F E) × (get_elem? (set (set s.views id (joined_view v w)) other spent) i ≡ some x) × Bears x n
     borne_still j n u was b = dite (ℕ_discrete j id)
-        (λ e. (id, joined v w, joint, bears_left n (subst (λ (z : View F E). Bears z n) (one_at s.views j u v was (subst (λ (k : ℕ). get_elem? s.views k ≡ some v) (sym e) at)) b)))
+        (λ e. (id, joined_view v w, joint, bears_left n (subst (λ (z : View F E). Bears z n) (one_at s.views j u v was (subst (λ (k : ℕ). get_elem? s.views k ≡ some v) (sym e) at)) b)))
         (λ ne. dite (ℕ_discrete j other)
-        (λ e. (id, joined v w, joint, bears_right n (subst (λ (z : View F E). Bears z n) (one_at s.views j u w was (subst (λ (k : ℕ). get_elem? s.views k ≡ some w) (sym e) at')) b)))
+        (λ e. (id, joined_view v w, joint, bears_right n (subst (λ (z : View F E). Bears z n) (one_at s.views j u w was (subst (λ (k : ℕ). get_elem? s.views k ≡ some w) (sym e) at')) b)))
         (λ ne'. (j, u, untouched j u ne ne' was, b)))
 
     -- who has the value is neither
@@ -148,11 +148,11 @@ module _ {T F E : Type 0} (ticket_of pass_of : E → ℕ) (fixed : T → F) (ent
     not_idle i j u x t p rests was h e = let same : u ≡ x = one_at s.views j u x was (subst (λ (k : ℕ). get_elem? s.views k ≡ some x) (sym e) p) in
         let odd : tickets_at (Holds t) ≡ tickets_at Idle = ap tickets_at (sym h ∙ (ap (λ (z : View F E). z.stage) same ∙ rests)) in omega (arith, odd)
 
-  pub joins : (id other : ℕ) (v w : View F E) → v.stage ≡ Idle → w.stage ≡ Idle → Live v → Live w → Joins Rule id v other w (joined v w) spent
+  pub joins : (id other : ℕ) (v w : View F E) → v.stage ≡ Idle → w.stage ≡ Idle → Live v → Live w → Joins Rule id v other w (joined_view v w) spent
   joins id other v w idle idle' live live' s r at two there' =
-      let at' : get_elem? s.views other ≡ some w = sym (set_else s.views id other (joined v w) two) ∙ there' in
-      let a = total_set tickets_held s.views id v (joined v w) at in let b = total_set tickets_held (set s.views id (joined v w)) other w spent there' in
-      let c = total_set numbers s.views id v (joined v w) at in let d = total_set numbers (set s.views id (joined v w)) other w spent there' in
+      let at' : get_elem? s.views other ≡ some w = sym (set_else s.views id other (joined_view v w) two) ∙ there' in
+      let a = total_set tickets_held s.views id v (joined_view v w) at in let b = total_set tickets_held (set s.views id (joined_view v w)) other w spent there' in
+      let c = total_set numbers s.views id v (joined_view v w) at in let d = total_set numbers (set s.views id (joined_view v w)) other w spent there' in
       let z : tickets_at v.stage ≡ 0 = ap tickets_at idle in let z' : tickets_at w.stage ≡ 0 = ap tickets_at idle' in
       record {
         serving = r.serving;

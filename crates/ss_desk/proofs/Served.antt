@@ -7,7 +7,7 @@ use Rattle.ss_desk.specs.declared.view.View.{View}
 use Rattle.ss_desk.specs.declared.journaled.Full.{Full}
 use Rattle.ss_desk.specs.Journal.{entries_of, Begins}
 use Rattle.ss_desk.specs.Views.{opening_view}
-use Rattle.ss_desk.specs.Calls.{Entered, Denied, Finished}
+use Rattle.ss_desk.specs.Calls.{EntersCall, DeniesCall, IsValueAtClose}
 use Rattle.ss_desk.proofs.Lists.{append_nil, entries_of-append, entries_of-one}
 
 module _ {E : Type 0} where
@@ -30,27 +30,27 @@ module _ {E : Type 0} (pass_of : E → ℕ) where
 
 module _ {F E A R : Type 0} (ticket_of pass_of : E → ℕ) (ask_of : E → A) (legal : F → List E → Type 0) (replies : F → List E → R → Type 0) (full : F → List E → Option Full) where
   -- a call that was entered adds its entry to the pass's own
-  pub entered_own : (v w : View F E) (ticket : ℕ) (ask : A) (reply : R) (e : Entered ticket_of pass_of ask_of legal replies full v w ticket ask reply)
+  pub entered_own : (v w : View F E) (ticket : ℕ) (ask : A) (reply : R) (e : EntersCall ticket_of pass_of ask_of legal replies full v w ticket ask reply)
       → entries_of pass_of v.range.first w.seen ≡ entries_of pass_of v.range.first v.seen ++ e.entry ∷ []
   entered_own v w ticket ask reply e = let n = v.range.first in
       ap (λ (u : View F E). entries_of pass_of n u.seen) e.view ∙ (entries_of-append pass_of n (v.seen ++ e.between) (e.entry ∷ [])
       ∙ (ap (λ (l : List E). l ++ entries_of pass_of n (e.entry ∷ [])) (more_others pass_of n v.seen e.between e.others)
       ∙ ap (λ (l : List E). entries_of pass_of n v.seen ++ l) (entries_of-one pass_of n e.entry e.number)))
 
-  pub entered_begins : (v w : View F E) (ticket : ℕ) (ask : A) (reply : R) → Entered ticket_of pass_of ask_of legal replies full v w ticket ask reply → Begins v.seen w.seen
+  pub entered_begins : (v w : View F E) (ticket : ℕ) (ask : A) (reply : R) → EntersCall ticket_of pass_of ask_of legal replies full v w ticket ask reply → Begins v.seen w.seen
   entered_begins v w ticket ask reply e = (e.between ++ e.entry ∷ [], ap (λ (u : View F E). u.seen) e.view ∙ append_assoc v.seen e.between (e.entry ∷ []))
 
 module _ {F E : Type 0} (ticket_of pass_of : E → ℕ) (legal : F → List E → Type 0) (full : F → List E → Option Full) where
   -- one that was answered `Full` adds none
-  pub denied_own : (v w : View F E) (f : Full) → Denied ticket_of pass_of legal full v w f → entries_of pass_of v.range.first w.seen ≡ entries_of pass_of v.range.first v.seen
+  pub denied_own : (v w : View F E) (f : Full) → DeniesCall ticket_of pass_of legal full v w f → entries_of pass_of v.range.first w.seen ≡ entries_of pass_of v.range.first v.seen
   denied_own v w f e = let n = v.range.first in ap (λ (u : View F E). entries_of pass_of n u.seen) e.view ∙ more_others pass_of n v.seen e.between e.others
 
-  pub denied_begins : (v w : View F E) (f : Full) → Denied ticket_of pass_of legal full v w f → Begins v.seen w.seen
+  pub denied_begins : (v w : View F E) (f : Full) → DeniesCall ticket_of pass_of legal full v w f → Begins v.seen w.seen
   denied_begins v w f e = (e.between, ap (λ (u : View F E). u.seen) e.view)
 
 module _ {T F E : Type 0} (ticket_of pass_of : E → ℕ) (fixed : T → F) (entries : T → List E) (legal : F → List E → Type 0) where
   -- a desk that was opened and closed leaves the fixed part of the opening, and no entry
-  pub unserved : (f : F) (x : T) → Finished ticket_of pass_of fixed entries legal (opening_view f) x → (fixed x ≡ f) × (entries x ≡ [])
+  pub unserved : (f : F) (x : T) → IsValueAtClose ticket_of pass_of fixed entries legal (opening_view f) x → (fixed x ≡ f) × (entries x ≡ [])
   unserved f x h = (
     sym (let e : Some f ≡ Some (fixed x) = h.same in cc),
     no_entry pass_of (entries x) h.held (λ k e at. elim (h.no_others k e at) [

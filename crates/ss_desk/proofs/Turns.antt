@@ -13,10 +13,11 @@ use Rattle.ss_desk.specs.declared.view.View.{View}
 use Rattle.ss_desk.specs.declared.view.Stage.{Stage}
 use Rattle.ss_desk.specs.declared.view.Stage.TheVariants.{Idle, Waits, Holds}
 use Rattle.ss_desk.specs.Journal.{entries_of, Begins, Below, Rises}
-use Rattle.ss_desk.specs.Views.{InRange, HasTicket, tickets_at, numbers, tickets_held, Covers, Live, Bears, turned}
+use Rattle.ss_desk.specs.Views.{InRange, HasTicket, tickets_at, numbers, tickets_held, Covers, Live, Bears}
+use Rattle.ss_desk.specs.Views.{view_after_step}
 use Rattle.ss_desk.specs.Rule.{total}
 use Rattle.ss_desk.specs.Rule.{Agrees, InTurn, IsHome, IsOut, TakesTurns}
-use Rattle.ss_desk.specs.Steps.{Looked, Made, held_entries}
+use Rattle.ss_desk.specs.Steps.{LooksAtTicket, IsValueAfterCall, held_entries}
 use Rattle.ss_desk.proofs.Lists.{append_nil, one_at, set_at, set_apart, at_end, after, total_set, total_le}
 use Rattle.ss_desk.proofs.Lists.{entries_of-else, begins_more, rises_more, below_more}
 
@@ -31,32 +32,32 @@ module _ {T F E : Type 0} (ticket_of pass_of : E → ℕ) (fixed : T → F) (ent
 
   -- each new view is an old one with its numbers
   kin : (views : List (View F E)) (id : ℕ) (v : View F E) (stage : Stage) (seen : List E) (j : ℕ) (w : View F E) → get_elem? views id ≡ some v
-      → get_elem? (set views id (turned v stage seen)) j ≡ some w → (u : View F E) × (get_elem? views j ≡ some u) × ((n : ℕ) → Covers w n → Covers u n)
-  kin views id v stage seen j w at new = elim (at_set views id j (turned v stage seen) w new) [
+      → get_elem? (set views id (view_after_step v stage seen)) j ≡ some w → (u : View F E) × (get_elem? views j ≡ some u) × ((n : ℕ) → Covers w n → Covers u n)
+  kin views id v stage seen j w at new = elim (at_set views id j (view_after_step v stage seen) w new) [
     | inl h ↦ (v, subst (λ (k : ℕ). get_elem? views k ≡ some v) (sym h.0) at, λ n. subst (λ (x : View F E). Covers x n → Covers v n) h.1 (λ c. c))
     | inr h ↦ (w, h.1, λ n c. c)
   ]
 
   -- each old view is there, with what it bears
   forth : (views : List (View F E)) (id : ℕ) (v : View F E) (stage : Stage) (seen : List E) (j : ℕ) (u : View F E) → get_elem? views id ≡ some v
-      → get_elem? views j ≡ some u → (w : View F E) × (get_elem? (set views id (turned v stage seen)) j ≡ some w) × ((n : ℕ) → Bears u n → Bears w n)
+      → get_elem? views j ≡ some u → (w : View F E) × (get_elem? (set views id (view_after_step v stage seen)) j ≡ some w) × ((n : ℕ) → Bears u n → Bears w n)
   forth views id v stage seen j u at old = dite (ℕ_discrete j id)
-      (λ e. let w = turned v stage seen in let same : u ≡ v = one_at views j u v old (subst (λ (k : ℕ). get_elem? views k ≡ some v) (sym e) at) in
+      (λ e. let w = view_after_step v stage seen in let same : u ≡ v = one_at views j u v old (subst (λ (k : ℕ). get_elem? views k ≡ some v) (sym e) at) in
       (w, subst (λ (k : ℕ). get_elem? (set views id w) k ≡ some w) (sym e) (set_at views id v w at), λ n. subst (λ (x : View F E). Bears x n → Bears w n) (sym same) (λ b. b)))
-      (λ ne. (u, set_apart views id j u (turned v stage seen) ne old, λ n b. b))
+      (λ ne. (u, set_apart views id j u (view_after_step v stage seen) ne old, λ n b. b))
 
   -- what a call does at its own view, and at the journal
   moves : (s : St) (r : TakesTurns ticket_of pass_of fixed entries legal fix s) (id : ℕ) (v : View F E) (stage : Stage) (seen : List E) → get_elem? s.views id ≡ some v
       → (words : List ℕ) (homes : List (maybe.Option (Option T))) (serving tickets : ℕ) (journal : List E)
       → words ≡ serving ∷ tickets ∷ [] → serving ≤ 2 ^ 63 → (serving + total tickets_held s.views) + tickets_at stage ≡ tickets + tickets_at v.stage
-      → legal fix journal → Rises ticket_of journal → Below ticket_of serving journal → IsHome fixed entries fix journal homes ⊎ IsOut serving homes (set s.views id (turned v stage seen))
-      → Agrees pass_of fix journal (turned v stage seen) → ((j : ℕ) (u : View F E) → j ≢ id → get_elem? s.views j ≡ some u → Agrees pass_of fix journal u)
+      → legal fix journal → Rises ticket_of journal → Below ticket_of serving journal → IsHome fixed entries fix journal homes ⊎ IsOut serving homes (set s.views id (view_after_step v stage seen))
+      → Agrees pass_of fix journal (view_after_step v stage seen) → ((j : ℕ) (u : View F E) → j ≢ id → get_elem? s.views j ≡ some u → Agrees pass_of fix journal u)
       → InTurn serving tickets homes journal seen stage → ((j : ℕ) (u : View F E) → j ≢ id → get_elem? s.views j ≡ some u → InTurn serving tickets homes journal u.seen u.stage)
       → ((j : ℕ) (u : View F E) (t : ℕ) → j ≢ id → get_elem? s.views j ≡ some u → HasTicket u.stage t → HasTicket stage t → ⊥)
       → ((k : ℕ) (e : E) → get_elem? journal k ≡ some e → (get_elem? r.journal k ≡ some e) ⊎ Bears v (pass_of e))
-      → TakesTurns ticket_of pass_of fixed entries legal fix record { words = words; homes = homes; views = set s.views id (turned v stage seen) }
+      → TakesTurns ticket_of pass_of fixed entries legal fix record { words = words; homes = homes; views = set s.views id (view_after_step v stage seen) }
   moves s r id v stage seen at words homes serving tickets journal is low count lawful rises below slot mine others turn turns new born =
-      let w : View F E = turned v stage seen in
+      let w : View F E = view_after_step v stage seen in
       let more = total_set tickets_held s.views id v w at in let same = total_set numbers s.views id v w at in
       record {
         serving = serving;
@@ -103,9 +104,9 @@ module _ {T F E : Type 0} (ticket_of pass_of : E → ℕ) (fixed : T → F) (ent
   small n h = omega arith
 
   pub draws : (slots id : ℕ) (m : Me (Option T) (View F E)) → m.1 ≡ [] → m.0.stage ≡ Idle → Live m.0
-      → Allows (TakesTurns ticket_of pass_of fixed entries legal fix) slots id m 1 (λ n. (n + 1) % 2 ^ 64) (λ n m'. m' ≡ (turned m.0 (Waits n) m.0.seen, []))
+      → Allows (TakesTurns ticket_of pass_of fixed entries legal fix) slots id m 1 (λ n. (n + 1) % 2 ^ 64) (λ n m'. m' ≡ (view_after_step m.0 (Waits n) m.0.seen, []))
   draws slots id m bare idle live s r len at lt =
-      let v : View F E = m.0 in let w : View F E = turned v (Waits r.tickets) v.seen in
+      let v : View F E = m.0 in let w : View F E = view_after_step v (Waits r.tickets) v.seen in
       let found : slice_index s.words 1 ≡ r.tickets = ap (λ (ws : List ℕ). slice_index ws 1) r.words in
       let none_yet : tickets_at v.stage ≡ 0 = ap tickets_at idle in let mine = r.each id v at in (
         w,
@@ -131,7 +132,7 @@ module _ {T F E : Type 0} (ticket_of pass_of : E → ℕ) (fixed : T → F) (ent
             (λ j u ne old. later r.serving r.tickets s.homes r.journal u.seen u.stage (r.turn j u old))
             (λ j u t ne old has is. let h = has_turn r.serving r.tickets s.homes r.journal u.seen u.stage t (r.turn j u old) has in let lt = h.1 in omega arith)
             (λ k e is. inl is),
-        λ k. (turned v (Waits (sym found k)) v.seen, bare k),
+        λ k. (view_after_step v (Waits (sym found k)) v.seen, bare k),
       )
 
   away : (views : List (View F E)) (id j : ℕ) (v u : View F E) (a b : ℕ) → get_elem? views id ≡ some v → get_elem? views j ≡ some u → j ≡ id → v.stage ≡ Waits a → u.stage ≡ Holds b → ⊥
@@ -152,7 +153,7 @@ module _ {T F E : Type 0} (ticket_of pass_of : E → ℕ) (fixed : T → F) (ent
   elsewhere serving tickets homes homes' journal seen (Holds u) clear h = absurd (clear (sym h.0))
 
   takes_it : (s : St) (r : TakesTurns ticket_of pass_of fixed entries legal fix s) (id t : ℕ) (v : View F E) (x : T) → get_elem? s.views id ≡ some v → v.stage ≡ Waits t → r.serving ≡ t → t < 2 ^ 63
-      → s.homes ≡ some (Some x) ∷ [] → entries x ≡ r.journal → TakesTurns ticket_of pass_of fixed entries legal fix record { words = set s.words 0 (slice_index s.words 0); homes = set s.homes 0 none; views = set s.views id (turned v (Holds t) (entries x)) }
+      → s.homes ≡ some (Some x) ∷ [] → entries x ≡ r.journal → TakesTurns ticket_of pass_of fixed entries legal fix record { words = set s.words 0 (slice_index s.words 0); homes = set s.homes 0 none; views = set s.views id (view_after_step v (Holds t) (entries x)) }
   takes_it s r id t v x at wait e low home is =
       let mine = r.each id v at in let turn = subst (InTurn r.serving r.tickets s.homes r.journal v.seen) wait (r.turn id v at) in let one : tickets_at v.stage ≡ 1 = ap tickets_at wait in
       let out : set s.homes 0 none ≡ none ∷ [] = ap (λ (h : List (maybe.Option (Option T))). set h 0 none) home in
@@ -160,7 +161,7 @@ module _ {T F E : Type 0} (ticket_of pass_of : E → ℕ) (fixed : T → F) (ent
       let alone : (j : ℕ) (u : View F E) → j ≢ id → get_elem? s.views j ≡ some u → HasTicket u.stage t → ⊥ = λ j u ne old h. ne (r.turns j id u v t old at h has) in
       moves s r id v (Holds t) (entries x) at (set s.words 0 (slice_index s.words 0)) (set s.homes 0 none) r.serving r.tickets r.journal (ap (λ (ws : List ℕ). set ws 0 (slice_index ws 0)) r.words)
       r.limit (let c = r.counted in omega arith) r.lawful r.rises r.below
-      (inr (id, turned v (Holds t) (entries x), set_at s.views id v (turned v (Holds t) (entries x)) at, ap Holds (sym e), out))
+      (inr (id, view_after_step v (Holds t) (entries x), set_at s.views id v (view_after_step v (Holds t) (entries x)) at, ap Holds (sym e), out))
       record {
         same = mine.same;
         known = ([], sym is ∙ sym (append_nil (entries x)));
@@ -180,17 +181,17 @@ module _ {T F E : Type 0} (ticket_of pass_of : E → ℕ) (fixed : T → F) (ent
       (λ k f h. inl h)
 
   pub looks : (slots id t : ℕ) (m : Me (Option T) (View F E)) → m.1 ≡ [] → m.0.stage ≡ Waits t → Live m.0
-      → Allows (TakesTurns ticket_of pass_of fixed entries legal fix) slots id m 0 (λ n. n) (Looked ticket_of pass_of fixed entries legal m)
+      → Allows (TakesTurns ticket_of pass_of fixed entries legal fix) slots id m 0 (λ n. n) (LooksAtTicket ticket_of pass_of fixed entries legal m)
   looks slots id t m bare wait live s r len at lt =
       let v : View F E = m.0 in let mine = r.each id v at in let turn = subst (InTurn r.serving r.tickets s.homes r.journal v.seen) wait (r.turn id v at) in
       let found : slice_index s.words 0 ≡ r.serving = ap (λ (ws : List ℕ). slice_index ws 0) r.words in
       let same_words : set s.words 0 (slice_index s.words 0) ≡ r.serving ∷ r.tickets ∷ [] = ap (λ (ws : List ℕ). set ws 0 (slice_index ws 0)) r.words in
-      let Goal : Type 0 = (w : View F E) × (a : Act (Option T)) × Valid s.homes m.1 a × TakesTurns ticket_of pass_of fixed entries legal fix (stepped s 0 (slice_index s.words 0) id m.1 w a) × Looked ticket_of pass_of fixed entries legal m (slice_index s.words 0) (w, carried_after m.1 a) in
+      let Goal : Type 0 = (w : View F E) × (a : Act (Option T)) × Valid s.homes m.1 a × TakesTurns ticket_of pass_of fixed entries legal fix (stepped s 0 (slice_index s.words 0) id m.1 w a) × LooksAtTicket ticket_of pass_of fixed entries legal m (slice_index s.words 0) (w, carried_after m.1 a) in
       let stand : ((HasTicket v.stage (slice_index s.words 0)) → slice_index s.words 0 < 2 ^ 63 → ⊥) → Goal = λ no. (v, keeps, tt, stays s r id v at, ((λ has lt. absurd (no has lt)), λ _. refl)) in
       dite (ℕ_discrete r.serving t)
       (λ e. dite (dec_lt t (2 ^ 63))
       (λ low. elim r.slot [
-        | inl h ↦ let x : T = h.0 in let w : View F E = turned v (Holds t) (entries x) in let now : t ≡ slice_index s.words 0 = sym (found ∙ e) in let log_is : r.journal ≡ entries x = sym h.2 in (
+        | inl h ↦ let x : T = h.0 in let w : View F E = view_after_step v (Holds t) (entries x) in let now : t ≡ slice_index s.words 0 = sym (found ∙ e) in let log_is : r.journal ≡ entries x = sym h.2 in (
           w,
           takes 0 (Some x),
           ap (λ (l : List (maybe.Option (Option T))). get_elem? l 0) h.1,
@@ -198,7 +199,7 @@ module _ {T F E : Type 0} (ticket_of pass_of : E → ℕ) (fixed : T → F) (ent
           (
             (λ has lt. record {
               value = x;
-              me = λ k. (turned v (Holds (now k)) (entries x), (0, Some x) ∷ bare k);
+              me = λ k. (view_after_step v (Holds (now k)) (entries x), (0, Some x) ∷ bare k);
               same = mine.same live ∙ ap Some (sym h.3);
               lawful = subst (λ (f : F). legal f (entries x)) (sym h.3) (subst (legal fix) log_is r.lawful);
               rises = subst (Rises ticket_of) log_is r.rises;
@@ -237,7 +238,7 @@ module _ {T F E : Type 0} (ticket_of pass_of : E → ℕ) (fixed : T → F) (ent
   record Grown (s : St) (r : TakesTurns ticket_of pass_of fixed entries legal fix s) (id : ℕ) (v : View F E) (journal : List E) : Type 0 where
     rises : Rises ticket_of journal
     below : Below ticket_of (r.serving + 1) journal
-    mine : Agrees pass_of fix journal (turned v Idle journal)
+    mine : Agrees pass_of fix journal (view_after_step v Idle journal)
     others : (j : ℕ) (u : View F E) → j ≢ id → get_elem? s.views j ≡ some u → Agrees pass_of fix journal u
     born : (k : ℕ) (e : E) → get_elem? journal k ≡ some e → (get_elem? r.journal k ≡ some e) ⊎ Bears v (pass_of e)
 
@@ -271,8 +272,8 @@ module _ {T F E : Type 0} (ticket_of pass_of : E → ℕ) (fixed : T → F) (ent
         born = λ k f h. elim (at_end r.journal e f k h) [ inl old ↦ inl old | inr new ↦ inr (inl (live, sym g.3 ∙ ap (λ (z : E). (pass_of z)) new.1)) ];
       }
 
-  pub does : (slots id t : ℕ) (m : Me (Option T) (View F E)) (x : T) → m.1 ≡ (0, Some x) ∷ [] → m.0.stage ≡ Holds t → Live m.0 → Made ticket_of pass_of fixed entries legal m.0 t x
-      → Allows (TakesTurns ticket_of pass_of fixed entries legal fix) slots id m 0 (λ n. (n + 1) % 2 ^ 64) (λ n m'. m' ≡ (turned m.0 Idle (held_entries entries m.1), []))
+  pub does : (slots id t : ℕ) (m : Me (Option T) (View F E)) (x : T) → m.1 ≡ (0, Some x) ∷ [] → m.0.stage ≡ Holds t → Live m.0 → IsValueAfterCall ticket_of pass_of fixed entries legal m.0 t x
+      → Allows (TakesTurns ticket_of pass_of fixed entries legal fix) slots id m 0 (λ n. (n + 1) % 2 ^ 64) (λ n m'. m' ≡ (view_after_step m.0 Idle (held_entries entries m.1), []))
   does slots id t m x holds hold live made s r len at lt =
       let v : View F E = m.0 in let mine = r.each id v at in let turn = subst (InTurn r.serving r.tickets s.homes r.journal v.seen) hold (r.turn id v at) in
       let journal : List E = entries x in let one : tickets_at v.stage ≡ 1 = ap tickets_at hold in
@@ -287,7 +288,7 @@ module _ {T F E : Type 0} (ticket_of pass_of : E → ℕ) (fixed : T → F) (ent
       let b = back m.1 holds in
       let has : HasTicket v.stage t = subst (λ (z : Stage). HasTicket z t) (sym hold) refl in
       let both : Some (fixed x) ≡ Some fix = sym made.same ∙ mine.same live in let lit : fixed x ≡ fix = cc in (
-        turned v Idle journal,
+        view_after_step v Idle journal,
         gives,
         tt,
         moves s r id v Idle journal at (set s.words 0 ((slice_index s.words 0 + 1) % 2 ^ 64)) (put_back s.homes m.1) (r.serving + 1) r.tickets journal
@@ -300,5 +301,5 @@ module _ {T F E : Type 0} (ticket_of pass_of : E → ℕ) (fixed : T → F) (ent
             (λ j u ne old. passed r.serving r.tickets s.homes (put_back s.homes m.1) r.journal journal u.seen u.stage (λ h. ne (r.turns j id u v t old at (subst (HasTicket u.stage) turn.0 h) has)) (r.turn j u old))
             (λ j u n ne old has' no_has. no_has)
             g.born,
-        λ k. (turned v Idle (sym b.2 k), b.1 k),
+        λ k. (view_after_step v Idle (sym b.2 k), b.1 k),
       )

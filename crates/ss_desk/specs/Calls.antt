@@ -8,7 +8,7 @@ use Rattle.ss_desk.specs.declared.view.View.{View}
 use Rattle.ss_desk.specs.declared.view.Stage.TheVariants.{Idle}
 use Rattle.ss_desk.specs.declared.view.Page.{Page}
 use Rattle.ss_desk.specs.Journal.{entries_of, Begins, Rises}
-use Rattle.ss_desk.specs.Views.{range_of, turned, Bears}
+use Rattle.ss_desk.specs.Views.{range_of, view_after_step, Bears}
 
 -- a pass between two calls holds the numbers from `first` on and below `end`, at least one, and no slot
 abbrev pub Rests : {T F E : Type 0} → ℕ → ℕ → Me (Option T) (View F E) → Type 0
@@ -16,11 +16,11 @@ Rests first end m = (m.1 ≡ []) × (m.0.stage ≡ Idle) × (m.0.range ≡ range
 
 module _ {F E A R : Type 0} (ticket_of pass_of : E → ℕ) (ask_of : E → A) (legal : F → List E → Type 0) (replies : F → List E → R → Type 0) (full : F → List E → Option Full) where
   -- A call that was entered, by a pass that knew v and now knows w: it has seen the journal up to this call
-  pub record Entered (v w : View F E) (ticket : ℕ) (ask : A) (reply : R) : Type 0 where
+  pub record EntersCall (v w : View F E) (ticket : ℕ) (ask : A) (reply : R) : Type 0 where
     -- The journal begins with all that was seen and ends with this call, and the entries in between are others'.
     pub between : List E
     pub entry : E
-    pub view : w ≡ turned v Idle ((v.seen ++ between) ++ entry ∷ [])
+    pub view : w ≡ view_after_step v Idle ((v.seen ++ between) ++ entry ∷ [])
     pub others : entries_of pass_of v.range.first between ≡ []
     pub drawn : ticket_of entry ≡ ticket
     pub number : pass_of entry ≡ v.range.first
@@ -36,10 +36,10 @@ module _ {F E A R : Type 0} (ticket_of pass_of : E → ℕ) (ask_of : E → A) (
 
 module _ {F E : Type 0} (ticket_of pass_of : E → ℕ) (legal : F → List E → Type 0) (full : F → List E → Option Full) where
   -- A call that was answered `Full`, by a pass that knew v and now knows w: it has seen the journal at that moment
-  pub record Denied (v w : View F E) (answer : Full) : Type 0 where
+  pub record DeniesCall (v w : View F E) (answer : Full) : Type 0 where
     -- The journal begins with all that was seen, and has no entry of this call: the new entries are others'.
     pub between : List E
-    pub view : w ≡ turned v Idle (v.seen ++ between)
+    pub view : w ≡ view_after_step v Idle (v.seen ++ between)
     pub others : entries_of pass_of v.range.first between ≡ []
     -- It is legal, for the fixed part of the opening. Its tickets rise.
     pub fix : F
@@ -50,7 +50,7 @@ module _ {F E : Type 0} (ticket_of pass_of : E → ℕ) (legal : F → List E �
     pub refused : full fix w.seen ≡ Some answer
 
 -- The value x that a desk leaves where it was closed by a pass that knew v
-pub record Finished {T F E : Type 0} (ticket_of pass_of : E → ℕ) (fixed : T → F) (entries : T → List E) (legal : F → List E → Type 0) (v : View F E) (x : T) : Type 0 where
+pub record IsValueAtClose {T F E : Type 0} (ticket_of pass_of : E → ℕ) (fixed : T → F) (entries : T → List E) (legal : F → List E → Type 0) (v : View F E) (x : T) : Type 0 where
   -- Its fixed part is the opening's. Its entries are a legal journal, whose tickets rise.
   pub same : v.fixed ≡ Some (fixed x)
   pub lawful : legal (fixed x) (entries x)

@@ -4,7 +4,7 @@ use Rattle.ss_desk.specs.declared.desk.Desk.{Desk}
 use Rattle.ss_desk.specs.declared.pass.RawPass.{RawPass}
 use Rattle.ss_desk.specs.declared.view.View.{View}
 use Rattle.ss_desk.specs.Desks.{view, IsPassOf}
-use Rattle.ss_desk.specs.Views.{spent, joined, lower, upper}
+use Rattle.ss_desk.specs.Views.{spent, joined_view, lower, upper}
 
 module _ {T F E A R : Type 0} where
   -- each pass is of the desk at its place
@@ -28,7 +28,7 @@ module _ {T F E : Type 0} where
 
   -- each of the passes has taken in the one at its place
   abbrev pub Joins : List (RawPass T F E) → List (RawPass T F E) → List (RawPass T F E) → Type 0
-  Joins ps os qs = (length qs ≡ length ps) × ((i : ℕ) → i < length os → view_at qs i ≡ joined (view_at ps i) (view_at os i))
+  Joins ps os qs = (length qs ≡ length ps) × ((i : ℕ) → i < length os → view_at qs i ≡ joined_view (view_at ps i) (view_at os i))
 
   -- each of the passes has given the upper half of its numbers to the new one at its place
   abbrev pub Halves : List (RawPass T F E) → List (RawPass T F E) → List (RawPass T F E) → Type 0

@@ -68,8 +68,8 @@ module _ {F E : Type 0} where
   opening_view f = record { fixed = Some f; stage = Idle; range = range_of 0 (2 ^ 32); taken = []; seen = []; acted = []; book = [] }
 
   -- a pass after a step of its own
-  abbrev pub turned : View F E → Stage → List E → View F E
-  turned v stage seen = record { fixed = v.fixed; stage = stage; range = v.range; taken = v.taken; seen = seen; acted = seen; book = v.book }
+  abbrev pub view_after_step : View F E → Stage → List E → View F E
+  view_after_step v stage seen = record { fixed = v.fixed; stage = stage; range = v.range; taken = v.taken; seen = seen; acted = seen; book = v.book }
 
   abbrev pub middle : View F E → ℕ
   middle v = (v.range.first + v.range.end) / 2
@@ -86,8 +86,8 @@ module _ {F E : Type 0} where
   page_of w = record { number = w.range.first; seen = w.seen }
 
   -- a pass that took another in
-  abbrev pub joined : View F E → View F E → View F E
-  joined v w = record { fixed = v.fixed; stage = v.stage; range = v.range; taken = v.taken ++ w.range ∷ w.taken; seen = longer v.seen w.seen; acted = v.acted; book = v.book ++ page_of w ∷ w.book }
+  abbrev pub joined_view : View F E → View F E → View F E
+  joined_view v w = record { fixed = v.fixed; stage = v.stage; range = v.range; taken = v.taken ++ w.range ∷ w.taken; seen = longer v.seen w.seen; acted = v.acted; book = v.book ++ page_of w ∷ w.book }
 
   -- what is left of a pass that was given back
   abbrev pub spent : View F E

@@ -1,9 +1,9 @@
 // The desk: a value, and the calls that are made at it in turn.
 ghost use Rattle.std.specs.Prelude.{◌≡◌, [], IfOk, IfErr, MatchResult};
 ghost use Rattle.ss_desk.specs.declared.view.Stage.TheVariants.{Idle, Waits};
-ghost use Rattle.ss_desk.specs.Views.{Live, CoversAll, turned, joined, opening_view};
+ghost use Rattle.ss_desk.specs.Views.{Live, CoversAll, view_after_step, joined_view, opening_view};
 ghost use Rattle.ss_desk.specs.Steps.{Took};
-ghost use Rattle.ss_desk.specs.Calls.{Entered, Denied, Finished};
+ghost use Rattle.ss_desk.specs.Calls.{EntersCall, DeniesCall, IsValueAtClose};
 
 use crate::journaled::{Full, Journaled};
 use crate::pass::{Pass, RawPass};
@@ -83,8 +83,8 @@ impl<T: Journaled> Desk<T> {
         requires pass { IsPassOf self.now pass.old }
         requires fits { T.fits ask }
         ensures same { SameDesk pass.old pass.new }
-        ensures entered { IfOk result (λ r. Entered T.ticket_of T.pass_of T.ask_of T.legal T.replies T.full (view pass.old) (view pass.new) r.0 ask r.1) }
-        ensures full { IfErr result (λ f. Denied T.ticket_of T.pass_of T.legal T.full (view pass.old) (view pass.new) f) }
+        ensures entered { IfOk result (λ r. EntersCall T.ticket_of T.pass_of T.ask_of T.legal T.replies T.full (view pass.old) (view pass.new) r.0 ask r.1) }
+        ensures full { IfErr result (λ f. DeniesCall T.ticket_of T.pass_of T.legal T.full (view pass.old) (view pass.new) f) }
     {
         let ticket = self.draw(&mut pass.seat);
         self.await_turn(rt, &mut pass.seat, ticket);
@@ -99,7 +99,7 @@ impl<T: Journaled> Desk<T> {
         requires into { IsPassOf self.now into.old }
         requires other { IsPassOf self.now other }
         ensures same { SameDesk into.old into.new }
-        ensures joined { view into.new ≡ joined (view into.old) (view other) }
+        ensures joined { view into.new ≡ joined_view (view into.old) (view other) }
     {
         let RawPass {
             seat,
@@ -113,7 +113,7 @@ impl<T: Journaled> Desk<T> {
     pub fn close(self, pass: Pass<T>) -> T
         requires pass { IsPassOf self pass }
         requires all { CoversAll (view pass) }
-        ensures finished { Finished T.ticket_of T.pass_of T.fixed T.entries T.legal (view pass) result }
+        ensures finished { IsValueAtClose T.ticket_of T.pass_of T.fixed T.entries T.legal (view pass) result }
     {
         let Desk { table, bells: _ } = self;
         let RawPass {
@@ -134,7 +134,7 @@ impl<T: Journaled> Desk<T> {
         requires idle { seat.old.me.0.stage ≡ Idle }
         requires live { Live seat.old.me.0 }
         ensures same { seat.new.table_id ≡ seat.old.table_id }
-        ensures waits { seat.new.me ≡ (turned seat.old.me.0 (Waits result) seat.old.me.0.seen, []) }
+        ensures waits { seat.new.me ≡ (view_after_step seat.old.me.0 (Waits result) seat.old.me.0.seen, []) }
     {
         self.table.shared.fetch_add::<Draw>(seat, TICKETS, 1)
     }
@@ -174,7 +174,7 @@ impl<T: Journaled> Desk<T> {
         requires took { (v : _) × Took T.ticket_of T.pass_of T.fixed T.entries T.legal v ticket seat.old.me }
         requires fits { T.fits ask }
         ensures same { seat.new.table_id ≡ seat.old.table_id }
-        ensures done { MatchResult result (λ r. Entered T.ticket_of T.pass_of T.ask_of T.legal T.replies T.full seat.old.me.0 seat.new.me.0 ticket ask r) (λ f. Denied T.ticket_of T.pass_of T.legal T.full seat.old.me.0 seat.new.me.0 f) }
+        ensures done { MatchResult result (λ r. EntersCall T.ticket_of T.pass_of T.ask_of T.legal T.replies T.full seat.old.me.0 seat.new.me.0 ticket ask r) (λ f. DeniesCall T.ticket_of T.pass_of T.legal T.full seat.old.me.0 seat.new.me.0 f) }
         ensures rests { seat.new.me.1 ≡ [] }
     {
         let shared = &self.table.shared;

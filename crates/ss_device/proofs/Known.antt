@@ -12,7 +12,7 @@ use Rattle.ss_build.specs.declared.claims.Claim.{Claim}
 use Rattle.ss_build.specs.Rows.{claim_of, rows_of}
 use Rattle.ss_build.specs.Built.{built, claims, ids, node_of, tree_of}
 use Rattle.ss_build.proofs.OfRows.{has-with_roots}
-use Rattle.ss_device.specs.Device.{AreById, Dead, IsDevice, IsKnown, row_ids}
+use Rattle.ss_device.specs.Device.{AreById, Dead, IsDevice, KnowsMirrorItems, row_ids}
 use Rattle.ss_record.proofs.Below.{below_out}
 
 -- ---- by id
@@ -56,7 +56,7 @@ empty_ids : (x : List ℕ) → has x (node_ids empty_tree) ≡ (bytes_eq x place
 unfolding empty_tree node_ids roots places_node
 empty_ids x = has-cons x places roots
 
-new_known : (es : List Entry) → IsSame (tree es) empty_tree → IsKnown [] es []
+new_known : (es : List Entry) → IsSame (tree es) empty_tree → KnowsMirrorItems [] es []
 unfolding ids
 new_known es s x h =
     let both : has x (node_ids (tree es)) ≡ true = same_ids x (tree es) empty_tree s ∙ (empty_ids x ∙ (sym (built_ids x [] ∙ ap (λ b. bytes_eq x places || (b || has x roots)) (has-nil x)) ∙ h)) in
@@ -69,5 +69,5 @@ new_device es dead mirror stamp d m s =
     subst (λ x. IsDevice (record { tree = es; dead = x; mirror = mirror; stamp = stamp })) (sym d)
     (subst (λ x. IsDevice (record { tree = es; dead = []; mirror = x; stamp = stamp })) (sym m) (record { dead_by_id = by_id-nil; mirror_by_id = by_id-nil; known = new_known es s }))
 
-pub synced_device : (es : List Entry) (dead : Dead) (mirror : List Sheet) (stamp : ℕ) → dead ≡ [] → AreById (row_ids mirror) → IsKnown mirror es [] → IsDevice (record { tree = es; dead = dead; mirror = mirror; stamp = stamp })
+pub synced_device : (es : List Entry) (dead : Dead) (mirror : List Sheet) (stamp : ℕ) → dead ≡ [] → AreById (row_ids mirror) → KnowsMirrorItems mirror es [] → IsDevice (record { tree = es; dead = dead; mirror = mirror; stamp = stamp })
 synced_device es dead mirror stamp d m k = subst (λ x. IsDevice (record { tree = es; dead = x; mirror = mirror; stamp = stamp })) (sym d) (record { dead_by_id = by_id-nil; mirror_by_id = m; known = k })

@@ -13,7 +13,8 @@ use Rattle.ss_tree.specs.declared.faults.TreeFault.TheVariants.{NotFolder as NoF
 use Rattle.ss_tree.specs.declared.faults.MoveFault.TheVariants.{Root as Fixed, NotFolder as MoveNoFolder}
 use Rattle.ss_tree.specs.declared.faults.MoveFault.TheVariants.{Under as Below, BadPlace as MoveBadPlace}
 use Rattle.ss_tree.specs.Trees.{PlacedItem, node, node_ids, parent_in, IsUnder, places_node}
-use Rattle.ss_tree.specs.Entries.{above, entry, entry_ids, is_below, is_place, insert_fault, kids, met, move_fault}
+use Rattle.ss_tree.specs.Entries.{above, entry, entry_ids, is_below, is_place, insert_fault, kids, is_met_above}
+use Rattle.ss_tree.specs.Entries.{move_fault}
 use Rattle.ss_tree.specs.Entries.{node_of, placed, stands_under, takes_children, top_entry, tree, IsTree}
 use Rattle.ss_tree.specs.Entries as entries
 use Rattle.ss_tree.proofs.Edits.{entry_has}
@@ -121,20 +122,20 @@ module _ (es : List Entry) (t : IsTree es) (x : List ℕ) (k : ℕ) (at : node_o
   top_misses zero = here 0 top_entry t.top ∙ inner
   top_misses (suc n) = ap₂ (λ a b. a || b) (here 0 top_entry t.top ∙ inner) (ap (is_met (tree es) n x) (step_in 0 top_entry t.top) ∙ top_misses n)
 
-  is_met_as : (n p : ℕ) (f : Entry) → entry p es ≡ Some f → is_met (tree es) n x f.item.id ≡ ((k == p) || met es k n (above es p))
+  is_met_as : (n p : ℕ) (f : Entry) → entry p es ≡ Some f → is_met (tree es) n x f.item.id ≡ ((k == p) || is_met_above es k n (above es p))
   unfolding above
   is_met_as zero p f q = here p f q ∙ sym (or_false (k == p))
   is_met_as (suc n) p f q =
-      ap₂ (λ a b. a || b) (here p f q) (ap (is_met (tree es) n x) (step_in p f q) ∙ (go f.parent refl (λ r g w. is_met_as n r g w) ∙ sym (ap (λ o. met es k (suc n) (option_and_then (λ (e : Entry). e.parent) o)) q)))
+      ap₂ (λ a b. a || b) (here p f q) (ap (is_met (tree es) n x) (step_in p f q) ∙ (go f.parent refl (λ r g w. is_met_as n r g w) ∙ sym (ap (λ o. is_met_above es k (suc n) (option_and_then (λ (e : Entry). e.parent) o)) q)))
     where
-      go : (o : Option ℕ) → f.parent ≡ o → ((r : ℕ) (g : Entry) → entry r es ≡ Some g → is_met (tree es) n x g.item.id ≡ ((k == r) || met es k n (above es r)))
-          → is_met (tree es) n x (unwrap_or (option_and_then (idof es) f.parent) places) ≡ met es k (suc n) f.parent
-      go None h ih = ap (λ o. is_met (tree es) n x (unwrap_or (option_and_then (idof es) o) places)) h ∙ (top_misses n ∙ sym (ap (met es k (suc n)) h))
+      go : (o : Option ℕ) → f.parent ≡ o → ((r : ℕ) (g : Entry) → entry r es ≡ Some g → is_met (tree es) n x g.item.id ≡ ((k == r) || is_met_above es k n (above es r)))
+          → is_met (tree es) n x (unwrap_or (option_and_then (idof es) f.parent) places) ≡ is_met_above es k (suc n) f.parent
+      go None h ih = ap (λ o. is_met (tree es) n x (unwrap_or (option_and_then (idof es) o) places)) h ∙ (top_misses n ∙ sym (ap (is_met_above es k (suc n)) h))
       go (Some r) h ih =
           let g = above_there es t p r f q h in
           ap (λ o. is_met (tree es) n x (unwrap_or (option_and_then (idof es) o) places)) h
           ∙ (ap (λ o. is_met (tree es) n x (unwrap_or (option_map (λ (w : Entry). w.item.id) o) places)) g.1
-          ∙ (ih r g.0 g.1 ∙ sym (ap (met es k (suc n)) h)))
+          ∙ (ih r g.0 g.1 ∙ sym (ap (is_met_above es k (suc n)) h)))
 
   pub within_node : (p : ℕ) (f : Entry) → entry p es ≡ Some f → is_within (tree es) x f.item.id ≡ ((k == p) || is_below es k p)
   unfolding is_within is_below tree

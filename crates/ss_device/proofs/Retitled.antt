@@ -9,7 +9,7 @@ use Rattle.serde_json.specs.Data.{Data, string, object, Members, no_members, mem
 use Rattle.serde_json.specs.Find.{get_member}
 use Rattle.serde_json.specs.Written.{members_have_float}
 use Rattle.serde_json.proofs.Views.{get_member-put_other}
-use Rattle.ss_text.specs.Decimals.{marked}
+use Rattle.ss_text.specs.Decimals.{marked_text}
 use Rattle.ss_record.specs.declared.kinds.Kind.{Kind}
 use Rattle.ss_record.specs.declared.kinds.Kind.TheVariants.{Bookmark, Query, Folder, Livemark, Separator}
 use Rattle.ss_record.specs.Ids.{has, places, roots}
@@ -63,7 +63,7 @@ with_back text title ms h =
     let parts = payload_parts text ms h in
     let shallow : depth (object ms) ≤ 126 = parts.1 in
     let few : members_depth (with title ms) ≤ 125 = depth-put (codes "title") (string (marked_string title)) ms 125 (omega arith) (omega arith) in
-    payload_back (with title ms) (Sorted-put (codes "title") (string (marked_string title)) ms tt (Sorted-read (marked text) (object ms) parts.0)) (with_plain title ms parts.2) (omega arith)
+    payload_back (with title ms) (Sorted-put (codes "title") (string (marked_string title)) ms tt (Sorted-read (marked_text text) (object ms) parts.0)) (with_plain title ms parts.2) (omega arith)
 
 pub titled_is : (text title : List ℕ) (ms : Members) → payload_members text ≡ Some ms → plain_text (object (with title ms)) ≡ titled title text
 unfolding titled

@@ -40,15 +40,15 @@ abbrev pub row_ids : List Sheet → List (List ℕ)
 row_ids sheets = map (λ s. s.id) sheets
 
 -- each item that the rows are built to is in the tree, or was deleted
-abbrev pub IsKnown : List Sheet → List Entry → Dead → Type 0
-IsKnown mirror entries dead =
+abbrev pub KnowsMirrorItems : List Sheet → List Entry → Dead → Type 0
+KnowsMirrorItems mirror entries dead =
     (x : List ℕ) → has x (node_ids (built (rows_of mirror))) ≡ true → (has x (node_ids (tree entries)) || has x (dead_ids dead)) ≡ true
 
 -- what holds of every device
 pub record IsDevice (d : DeviceView) : Type 0 where
   pub dead_by_id : AreById (dead_ids d.dead)
   pub mirror_by_id : AreById (row_ids d.mirror)
-  pub known : IsKnown d.mirror d.tree d.dead
+  pub known : KnowsMirrorItems d.mirror d.tree d.dead
 
 -- the same items in the same places with the same times, the same deleted ids, the same rows and the same stamp
 pub record IsSameDevice (d e : DeviceView) : Type 0 where

@@ -24,7 +24,7 @@ pub record CanGo (es : List Entry) (x : List ℕ) (nodes : List ℕ) : Type 0 wh
   pub all : (k : ℕ) (e : Entry) → entry k es ≡ Some e → among k nodes ≡ is_within (tree es) x e.item.id
 
 -- an item that can be deleted: its nodes; its folder, which is in the tree and stays, and the folder's content
-pub record IsDoomed (es : List Entry) (x : List ℕ) (nodes : List ℕ) (from content : List ℕ) : Type 0 where
+pub record IsDeletableItem (es : List Entry) (x : List ℕ) (nodes : List ℕ) (from content : List ℕ) : Type 0 where
   pub can : CanGo es x nodes
   pub there : is_some (node x (tree es)) ≡ true
   pub loose : is_fixed_id x ≡ false

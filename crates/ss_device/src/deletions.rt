@@ -6,7 +6,7 @@ ghost use Rattle.ss_text.specs.Texts.{text_cmp};
 ghost use Rattle.ss_tree.specs.Trees.{IsSame};
 ghost use Rattle.ss_tree.specs.Entries.{tree as tree_of};
 ghost use Rattle.ss_device.specs.Edits.{change_fault, tree_after_delete, is_within};
-ghost use Rattle.ss_device.specs.Removal.{IsDoomed};
+ghost use Rattle.ss_device.specs.Removal.{IsDeletableItem};
 ghost use Rattle.ss_device.specs.declared.faults.EditFault.TheVariants.{Memory};
 
 use crate::burials::buried;
@@ -32,7 +32,7 @@ pub(crate) fn sentence(alloc: Global, tree: &Tree, id: &Id) -> Result<Doomed, Ed
     ensures refused { MatchResult result (λ _. change_fault (tree_of tree.now) id.now ≡ None) (λ e. (e ≡ Memory)
         ⊎ (change_fault (tree_of tree.now) id.now ≡ Some e)) }
     ensures wanting { IfErr result (λ e. e ≡ Memory → change_fault (tree_of tree.now) id.now ≡ None) }
-    ensures doomed { IfOk result (λ d. IsDoomed tree.now id.now d.nodes.items d.from d.content) }
+    ensures doomed { IfOk result (λ d. IsDeletableItem tree.now id.now d.nodes.items d.from d.content) }
 {
     if let Some(fault) = change_fault(tree, id) {
         return Err(fault);
@@ -56,7 +56,7 @@ pub(crate) fn with_doomed(
     time: Stamp,
     older: &BTreeMap<Id, Stamp>,
 ) -> Result<BTreeMap<Id, Stamp>, AllocError>
-    requires { IsDoomed tree.now id.now doomed.now.nodes.items doomed.now.from doomed.now.content }
+    requires { IsDeletableItem tree.now id.now doomed.now.nodes.items doomed.now.from doomed.now.content }
     ensures told { IfOk result (λ m. (y : List ℕ) → get text_cmp m y ≡
         (if is_within (tree_of tree.now) id.now y then Some time else get text_cmp older.now y)) }
     ensures ordered { IfOk result (λ m. IsOrdered text_cmp m) }
@@ -67,7 +67,7 @@ pub(crate) fn with_doomed(
 
 /// Takes an item with all below it out of the tree; its folder has another time.
 pub(crate) fn take_out(tree: &mut Tree, id: &Id, doomed: Doomed, time: Stamp)
-    requires { IsDoomed tree.old id.now doomed.nodes.items doomed.from doomed.content }
+    requires { IsDeletableItem tree.old id.now doomed.nodes.items doomed.from doomed.content }
     ensures { IsSame (tree_of tree.new) (tree_after_delete time id.now (tree_of tree.old)) }
 {
     let Doomed {

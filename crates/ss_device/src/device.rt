@@ -3,7 +3,7 @@
 ghost use Rattle.std.specs.Prelude.{◌≡◌, ℕ, List, [], map, IfOk, OnOk};
 ghost use Rattle.ss_record.specs.Ids.{Apart};
 ghost use Rattle.ss_tree.specs.Entries.{IsTree};
-ghost use Rattle.ss_device.specs.Device.{AreById, IsDevice, IsKnown, IsNew, dead_ids, row_ids};
+ghost use Rattle.ss_device.specs.Device.{AreById, IsDevice, KnowsMirrorItems, IsNew, dead_ids, row_ids};
 
 use ss_record::Sheet;
 use ss_text::{Id, Ids, Stamp};
@@ -49,7 +49,7 @@ impl Device {
     /// The device as a sync leaves it: this tree, nothing deleted, and these rows at this time.
     pub fn synced(alloc: Global, tree: Tree, mirror: Vec<Sheet>, stamp: Stamp) -> Device
         requires by_id { AreById (row_ids mirror.items) }
-        requires known { IsKnown mirror.items tree [] }
+        requires known { KnowsMirrorItems mirror.items tree [] }
         ensures { result ≡ record { tree = tree; dead = []; mirror = mirror.items; stamp = stamp } }
     {
         Device {
@@ -70,7 +70,7 @@ impl Device {
     ) -> Device
         requires deaths { AreById (dead_ids dead.entries) }
         requires by_id { AreById (row_ids mirror.items) }
-        requires known { IsKnown mirror.items tree dead.entries }
+        requires known { KnowsMirrorItems mirror.items tree dead.entries }
         ensures { result ≡ record { tree = tree; dead = dead.entries; mirror = mirror.items; stamp = stamp } }
     {
         Device {

@@ -10,7 +10,8 @@ use Rattle.ss_device_file.specs.declared.faults.DeviceFault.{DeviceFault}
 use Rattle.ss_device_file.specs.declared.faults.DeviceFault.TheVariants.{BadLine, BadTree, Memory}
 use Rattle.ss_device_file.specs.Lines.{is_ended, text_of}
 use Rattle.ss_device_file.specs.Places.{ArePlaced, IsAstray, IsShort, PlacedAfter, has_place, seats_left}
-use Rattle.ss_device_file.specs.Files.{AreAll, IsBadLine, IsFileOf, IsWhyNoDevice, TellsDevice, IsUnseated, items_in}
+use Rattle.ss_device_file.specs.Files.{AreAll, IsBadLine, IsFileOf, IsWhyNoDevice, TellsDevice, HasUnseatedItem}
+use Rattle.ss_device_file.specs.Files.{items_in}
 use Rattle.ss_device_file.proofs.Unique.{LinesGoOn, each_line, meet, no_further, no_more}
 use Rattle.ss_text.proofs.Basics.{some_same, none_some}
 
@@ -100,7 +101,7 @@ none_short is x none s = some_none (sym none ∙ s.left)
 
 -- ---- why items make no device
 
-one_unseated : (ls : List Line) (x y : List ℕ) → IsUnseated ls x → IsUnseated ls y → x ≡ y
+one_unseated : (ls : List Line) (x y : List ℕ) → HasUnseatedItem ls x → HasUnseatedItem ls y → x ≡ y
 one_unseated ls x y (inl a) (inl b) = one_astray (items_in ls) x y a b
 one_unseated ls x y (inl a) (inr (inl b)) = absurd (none_astray (items_in ls) x b.placed a)
 one_unseated ls x y (inl a) (inr (inr b)) = absurd (none_astray (items_in ls) x b.0.placed a)
@@ -111,7 +112,7 @@ one_unseated ls x y (inr (inr a)) (inl b) = absurd (none_astray (items_in ls) y 
 one_unseated ls x y (inr (inr a)) (inr (inl b)) = absurd (none_short (items_in ls) y a.0.left b)
 one_unseated ls x y (inr (inr a)) (inr (inr b)) = some_same (sym a.1 ∙ b.1)
 
-none_unseated : (ls : List Line) (d : DeviceView) (x : List ℕ) → TellsDevice ls d → IsUnseated ls x → ⊥
+none_unseated : (ls : List Line) (d : DeviceView) (x : List ℕ) → TellsDevice ls d → HasUnseatedItem ls x → ⊥
 none_unseated ls d x t (inl a) = none_astray (items_in ls) x t.whole.placed a
 none_unseated ls d x t (inr (inl a)) = none_short (items_in ls) x t.whole.left a
 none_unseated ls d x t (inr (inr a)) = none_some (sym t.found ∙ a.1)
@@ -120,14 +121,14 @@ none_unseated ls d x t (inr (inr a)) = none_some (sym t.found ∙ a.1)
 
 pub not_refused : (text : List ℕ) (d : DeviceView) (fault : DeviceFault) → IsFileOf text d → IsWhyNoDevice text fault → fault ≡ Memory
 not_refused text d (BadLine n) f r = absurd (none_bad text n f.lines r f.all)
-not_refused text d (BadTree x) f r = absurd (none_unseated f.lines d x f.told (subst (λ ls. IsUnseated ls x) (all_same text r.lines f.lines r.all f.all) r.unseated))
+not_refused text d (BadTree x) f r = absurd (none_unseated f.lines d x f.told (subst (λ ls. HasUnseatedItem ls x) (all_same text r.lines f.lines r.all f.all) r.unseated))
 not_refused text d Memory f r = refl
 
 pub refused_once : (text : List ℕ) (one other : DeviceFault) → IsWhyNoDevice text one → IsWhyNoDevice text other → one ≢ Memory → other ≢ Memory → one ≡ other
 refused_once text (BadLine n) (BadLine m) a b p q = ap BadLine (one_bad text n m a b)
 refused_once text (BadLine n) (BadTree y) a b p q = absurd (none_bad text n b.lines a b.all)
 refused_once text (BadTree x) (BadLine m) a b p q = absurd (none_bad text m a.lines b a.all)
-refused_once text (BadTree x) (BadTree y) a b p q = ap BadTree (one_unseated b.lines x y (subst (λ ls. IsUnseated ls x) (all_same text a.lines b.lines a.all b.all) a.unseated) b.unseated)
+refused_once text (BadTree x) (BadTree y) a b p q = ap BadTree (one_unseated b.lines x y (subst (λ ls. HasUnseatedItem ls x) (all_same text a.lines b.lines a.all b.all) a.unseated) b.unseated)
 refused_once text Memory other a b p q = absurd (p refl)
 refused_once text (BadLine n) Memory a b p q = absurd (q refl)
 refused_once text (BadTree x) Memory a b p q = absurd (q refl)

@@ -20,7 +20,7 @@ use Rattle.std.specs.List.{cons_option}
 use Rattle.ss_build.specs.declared.claims.Claim.{Claim}
 use Rattle.ss_build.specs.Rows.{claim_at, claim_of, row_of, rows_of}
 use Rattle.ss_build.specs.Built.{built, ids}
-use Rattle.ss_device.specs.Device.{Dead, IsKnown, dead_ids, row_ids}
+use Rattle.ss_device.specs.Device.{Dead, KnowsMirrorItems, dead_ids, row_ids}
 use Rattle.ss_device.proofs.Deaths.{as_lookup, has_dead}
 use Rattle.ss_device.proofs.Known.{built_ids, same_ids}
 use Rattle.ss_device_file.specs.Files.{is_lost}
@@ -77,7 +77,7 @@ claims_rows (s ∷ sheets) x h = go (reading s.id s.payload) refl h (claims_rows
     go Tombstone q e ih = has-tail x s.id (row_ids sheets) (ih e)
     go Skipped q e ih = has-tail x s.id (row_ids sheets) (ih e)
 
-pub known_is : (mirror : List Sheet) (es : List Entry) (dead : Dead) → HasRoots (tree es) → lost_of mirror (tree es) dead ≡ None → IsKnown mirror es dead
+pub known_is : (mirror : List Sheet) (es : List Entry) (dead : Dead) → HasRoots (tree es) → lost_of mirror (tree es) dead ≡ None → KnowsMirrorItems mirror es dead
 unfolding lost_of
 known_is mirror es dead roots_in none x h =
     by_kind (bytes_eq x places) (has x (ids (filter_map claim_of (rows_of mirror)))) (has x roots) refl refl refl (sym (built_ids x mirror) ∙ h)

@@ -25,7 +25,7 @@ use Rattle.ss_device_file.specs.declared.faults.DeviceFault.{DeviceFault}
 use Rattle.ss_device_file.specs.declared.faults.DeviceFault.TheVariants.{BadLine, BadTree, Memory}
 use Rattle.ss_device_file.specs.Lines.{AreLines, ComeAfter, version_in}
 use Rattle.ss_device_file.specs.Places.{AreItemLines, ArePlaced, IsWhole, PlacedAfter, item_ids, tree_of}
-use Rattle.ss_device_file.specs.Files.{IsMisplaced, TellsDevice, IsUnseatedBy, deaths_in, is_exact, is_lost, item_in}
+use Rattle.ss_device_file.specs.Files.{IsFaultOfPlace, TellsDevice, IsUnseatedBy, deaths_in, is_exact, is_lost, item_in}
 use Rattle.ss_device_file.specs.Files.{items_in, kept_rows, lost_in, mirror_in, rows_in, stamp_in, synced_in}
 use Rattle.ss_device_file.specs.Joining.{HasRoots, IsLostBy, lost_of, synced_with}
 use Rattle.ss_device_file.proofs.Found.{find_same, same_lost}
@@ -139,7 +139,7 @@ untold (Err (BadLine n)) ls es w s h = h
 untold (Err (BadTree id)) ls es w s h = inr (inr (w, sym (lost_told ls es s) ∙ h))
 untold (Err Memory) ls es w s h = tt
 
-pub misplaced : (ls : List Line) (fault : DeviceFault) → IsMisplaced (items_in ls) fault → IsUnseatedBy ls fault
+pub misplaced : (ls : List Line) (fault : DeviceFault) → IsFaultOfPlace (items_in ls) fault → IsUnseatedBy ls fault
 misplaced ls (BadLine n) h = h
 misplaced ls (BadTree id) (inl a) = inl a
 misplaced ls (BadTree id) (inr s) = inr (inl s)

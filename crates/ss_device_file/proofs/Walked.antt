@@ -7,7 +7,7 @@ use Rattle.std.proofs.Math.Seq.{drop-cons}
 use Rattle.ss_record.specs.Ids.{has}
 use Rattle.ss_device_file.specs.declared.lines.ItemLine.{ItemLine}
 use Rattle.ss_device_file.specs.declared.faults.DeviceFault.TheVariants.{BadTree}
-use Rattle.ss_device_file.specs.Files.{IsMisplaced}
+use Rattle.ss_device_file.specs.Files.{IsFaultOfPlace}
 use Rattle.ss_device_file.specs.Places.{ArePlaced, IsWhole, PlacedAfter, Seat, has_place, is_next, item_ids, last_id}
 use Rattle.ss_device_file.specs.Places.{root_seats, seats_after, seats_behind, seats_left}
 use Rattle.ss_device_file.specs.declared.walk.Waiting.{Waiting}
@@ -61,7 +61,7 @@ walked_on items k seats new met ids i right lt at r t n m h =
     }
 
 pub astray : (items : List ItemLine) (k : ℕ) (seats : List Seat) (met : List (List ℕ)) (i : ItemLine) (right : Bool) (id : List ℕ) → k < length items → i ≡ get_or items k i → right ≡ comes_next seats met i → right ≡ false
-    → IsWalked items k seats met → id ≡ i.item.id → IsMisplaced items (BadTree id)
+    → IsWalked items k seats met → id ≡ i.item.id → IsFaultOfPlace items (BadTree id)
 astray items k seats met i right id lt at r f h is = inl (record {
   front = take k items;
   item = i;
@@ -79,7 +79,7 @@ some_seat : (seats : List Seat) → (0 < length seats) → (s : Seat) × (ss : L
 some_seat [] lt = absurd (omega arith)
 some_seat (s ∷ ss) lt = (s, ss, refl)
 
-pub short : (items : List ItemLine) (k : ℕ) (seats : List Seat) (met : List (List ℕ)) (id : List ℕ) → length items ≤ k → IsWalked items k seats met → 0 < length seats → id ≡ last_id items → IsMisplaced items (BadTree id)
+pub short : (items : List ItemLine) (k : ℕ) (seats : List Seat) (met : List (List ℕ)) (id : List ℕ) → length items ≤ k → IsWalked items k seats met → 0 < length seats → id ≡ last_id items → IsFaultOfPlace items (BadTree id)
 short items k seats met id le h lt is =
     let a = all_walked items k seats met le h in
     let s = some_seat seats lt in

@@ -24,7 +24,8 @@ use Rattle.ss_device_file.specs.declared.lines.Line.{Line}
 use Rattle.ss_device_file.specs.declared.lines.Line.TheVariants.{Head, Synced, Row, Item, Dead, End}
 use Rattle.ss_device_file.specs.Lines.{HasForm, line_text}
 use Rattle.ss_device_file.specs.Values.{parts_of, is_item, line_in, line_from, head_from, synced_from, row_from}
-use Rattle.ss_device_file.specs.Values.{dead_from, row_with, tagged, time_of, version_of, text_at, number_at}
+use Rattle.ss_device_file.specs.Values.{dead_from, row_with, device_line_of_tag, time_of, version_of, text_at}
+use Rattle.ss_device_file.specs.Values.{number_at}
 use Rattle.ss_text.specs.Names.{id_of}
 use Rattle.ss_device_file.specs.Values.{stamp_at, id_at, time_at}
 use Rattle.ss_device_file.proofs.Numbers.{stamp_small}
@@ -94,7 +95,7 @@ dead_form ps l h =
     let i = map_some (λ id. Dead id t.0) (id_at 2 ps) l t.2 in
     subst HasForm i.2 (has_id_form (text_at 2 ps) i.0 i.1, has_time_form (number_at 1 ps) t.0 t.1)
 
-tagged_form : (tag : List ℕ) (ps : Items) (l : Line) → tagged tag ps ≡ Some l → HasForm l
+tagged_form : (tag : List ℕ) (ps : Items) (l : Line) → device_line_of_tag tag ps ≡ Some l → HasForm l
 tagged_form tag ps l = go (bytes_eq tag (codes "device")) (bytes_eq tag (codes "stamp")) (bytes_eq tag (codes "row")) (bytes_eq tag (codes "dead")) (bytes_eq tag (codes "end"))
   where
     go : (a b c d e : Bool) → cond a (head_from ps) (cond b (synced_from ps) (cond c (row_from ps) (cond d (dead_from ps) (cond e (Some End) None)))) ≡ Some l → HasForm l
@@ -107,7 +108,7 @@ tagged_form tag ps l = go (bytes_eq tag (codes "device")) (bytes_eq tag (codes "
 
 pub form_from : (ps : Items) (l : Line) → line_from ps ≡ Some l → HasForm l
 unfolding line_from
-form_from ps l h = let r = and_then_some (λ tag. tagged tag ps) (text_at 0 ps) l h in tagged_form r.0 ps l r.2
+form_from ps l h = let r = and_then_some (λ tag. device_line_of_tag tag ps) (text_at 0 ps) l h in tagged_form r.0 ps l r.2
 
 pub form_in : (o : Option Data) (l : Line) → line_in o ≡ Some l → HasForm l
 form_in None l h = cc

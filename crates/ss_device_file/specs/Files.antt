@@ -164,8 +164,8 @@ pub record IsBadLine (text : List ℕ) (n : ℕ) : Type 0 where
   pub number : n ≡ length lines + 1
 
 -- why items make no tree, or one without an item of the mirror: the first cause that there is
-abbrev pub IsUnseated : List Line → List ℕ → Type 0
-IsUnseated ls id = IsAstray (items_in ls) id ⊎ (IsShort (items_in ls) id ⊎ (IsWhole (items_in ls) × (lost_in ls ≡ Some id)))
+abbrev pub HasUnseatedItem : List Line → List ℕ → Type 0
+HasUnseatedItem ls id = IsAstray (items_in ls) id ⊎ (IsShort (items_in ls) id ⊎ (IsWhole (items_in ls) × (lost_in ls ≡ Some id)))
 
 -- lines that are all of a text, or the first that is bad
 abbrev pub IsRefusedFront : List ℕ → DeviceFault → Type 0
@@ -174,22 +174,22 @@ IsRefusedFront text (BadTree id) = ⊥
 IsRefusedFront text Memory = Unit {0}
 
 -- some item has not its place
-abbrev pub IsMisplaced : List ItemLine → DeviceFault → Type 0
-IsMisplaced is (BadLine n) = ⊥
-IsMisplaced is (BadTree id) = IsAstray is id ⊎ IsShort is id
-IsMisplaced is Memory = Unit {0}
+abbrev pub IsFaultOfPlace : List ItemLine → DeviceFault → Type 0
+IsFaultOfPlace is (BadLine n) = ⊥
+IsFaultOfPlace is (BadTree id) = IsAstray is id ⊎ IsShort is id
+IsFaultOfPlace is Memory = Unit {0}
 
 -- items that make no device
 abbrev pub IsUnseatedBy : List Line → DeviceFault → Type 0
 IsUnseatedBy ls (BadLine n) = ⊥
-IsUnseatedBy ls (BadTree id) = IsUnseated ls id
+IsUnseatedBy ls (BadTree id) = HasUnseatedItem ls id
 IsUnseatedBy ls Memory = Unit {0}
 
 -- no line is bad, and the items have not their places
 pub record IsBadTree (text : List ℕ) (id : List ℕ) : Type 0 where
   pub lines : List Line
   pub all : AreAll text lines
-  pub unseated : IsUnseated lines id
+  pub unseated : HasUnseatedItem lines id
 
 abbrev pub IsWhyNoDevice : List ℕ → DeviceFault → Type 0
 IsWhyNoDevice text (BadLine n) = IsBadLine text n

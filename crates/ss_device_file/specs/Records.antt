@@ -4,7 +4,7 @@ use Rattle.std.specs.Prelude.{if◌then◌else◌}
 use Rattle.serde_json.specs.Data.{Members}
 use Rattle.serde_json.specs.Find.{as_object, get_member}
 use Rattle.serde_json.specs.Read.{read}
-use Rattle.ss_text.specs.Decimals.{marked}
+use Rattle.ss_text.specs.Decimals.{marked_text}
 use Rattle.ss_record.specs.Marks.{string_of}
 use Rattle.ss_record.specs.declared.readings.Reading.{Reading}
 use Rattle.ss_record.specs.declared.readings.Reading.TheVariants.{Item, Tombstone, Skipped}
@@ -16,7 +16,7 @@ use Rattle.ss_text.specs.Names.{id_of}
 
 -- the members of a record, as its marked text is read
 abbrev pub record_parts : List ℕ → Option Members
-record_parts text = option_and_then as_object (read (marked text))
+record_parts text = option_and_then as_object (read (marked_text text))
 
 abbrev pub id_told : Members → Option (List ℕ)
 id_told ms = option_and_then id_of (option_and_then string_of (get_member (codes "id") ms))

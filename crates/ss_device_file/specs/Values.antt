@@ -67,8 +67,8 @@ unfoldable pub dead_from : Items → Option Line
 dead_from ps = option_and_then (λ time. option_map (λ id. Dead id time) (id_at 2 ps)) (time_at 1 ps)
 
 -- the line that a first item names, of this list
-abbrev pub tagged : List ℕ → Items → Option Line
-tagged tag ps =
+abbrev pub device_line_of_tag : List ℕ → Items → Option Line
+device_line_of_tag tag ps =
     if bytes_eq tag (codes "device") then head_from ps
     else (if bytes_eq tag (codes "stamp") then synced_from ps
     else (if bytes_eq tag (codes "row") then row_from ps
@@ -77,7 +77,7 @@ tagged tag ps =
     else None))))
 
 unfoldable pub line_from : Items → Option Line
-line_from ps = option_and_then (λ tag. tagged tag ps) (text_at 0 ps)
+line_from ps = option_and_then (λ tag. device_line_of_tag tag ps) (text_at 0 ps)
 
 -- what a JSON value says as a line
 abbrev pub line_in : Option Data → Option Line

@@ -6,7 +6,7 @@ ghost use Rattle.serde_json.specs.Read.{read};
 ghost use Rattle.serde_json.specs.Find.{get_item};
 ghost use Rattle.serde_json.specs.View.{items_view, view};
 ghost use Rattle.ss_device_file.specs.Values.{dead_from, head_from, id_at, line_from, line_in, number_at, row_from};
-ghost use Rattle.ss_device_file.specs.Values.{stamp_at, synced_from, tagged, text_at, time_at};
+ghost use Rattle.ss_device_file.specs.Values.{stamp_at, synced_from, device_line_of_tag, text_at, time_at};
 
 use crate::lines::{Line, Version};
 use serde_json::Value;
@@ -131,7 +131,7 @@ fn dead_from(alloc: Global, parts: &[Value]) -> Result<Option<Line>, AllocError>
 
 /// The line of a list with this first item.
 fn tagged(alloc: Global, tag: &str, parts: &[Value]) -> Result<Option<Line>, AllocError>
-    ensures { IfOk result (λ line. line ≡ tagged tag.now (items_view parts.now)) }
+    ensures { IfOk result (λ line. line ≡ device_line_of_tag tag.now (items_view parts.now)) }
 {
     match tag {
         "device" => Ok(head_from(parts)),

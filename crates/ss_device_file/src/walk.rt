@@ -6,7 +6,7 @@ ghost use Rattle.ss_text.specs.Names.{is_id};
 ghost use Rattle.ss_record.specs.Ids.{places};
 ghost use Rattle.ss_device_file.specs.Places.{IsWhole, child_seats, last_id, root_seats, seats_behind};
 ghost use Rattle.ss_device_file.specs.Walking.{comes_next, seats_on};
-ghost use Rattle.ss_device_file.specs.Files.{IsMisplaced};
+ghost use Rattle.ss_device_file.specs.Files.{IsFaultOfPlace};
 
 use crate::faults::DeviceFault;
 use crate::lines::ItemLine;
@@ -114,7 +114,7 @@ fn last_id(alloc: Global, items: &[ItemLine]) -> Result<Id, AllocError>
 /// Tests that each item has its place, and that none is missing.
 pub(crate) fn check_places(alloc: Global, items: &[ItemLine]) -> Result<(), DeviceFault>
     ensures whole { OnOk result (IsWhole items.now) }
-    ensures wrong { IfErr result (λ fault. IsMisplaced items.now fault) }
+    ensures wrong { IfErr result (λ fault. IsFaultOfPlace items.now fault) }
 {
     let mut waiting = roots(alloc)?;
     let mut met = IndexSet::with_capacity_and_hasher(alloc, items.len(), Seed::random())?;

@@ -2,13 +2,13 @@
 use Rattle.std.proofs.Common.{◌≡◌, ℕ, ◌^◌, ◌<◌, ◌≤◌, List, [], ◌∷◌, ◌++◌, map, refl, sym, ap, ◌∙◌, subst, arith}
 use Rattle.std.specs.Prelude.{max, Result, Ok, Err, IfOk, IfErr}
 use Rattle.std.specs.List.{AllByRecursion, flat_map}
-use Rattle.ss_text.specs.Texts.{Reordered, nothing, head, swapped, chain}
+use Rattle.ss_text.specs.Texts.{IsReordering, nothing, head, swapped, chain}
 use Rattle.ss_text.specs.Time.{last_stamp}
 use Rattle.ss_bso.specs.declared.rows.Row.{Row}
 use Rattle.ss_bso.specs.declared.account.Plain.{Plain}
 use Rattle.ss_bso.specs.declared.account.Staged.{Staged}
 use Rattle.ss_bso.specs.declared.changes.Kept.{Kept}
-use Rattle.ss_bso.specs.Changes.{kept_of, latest, opened, plain_of}
+use Rattle.ss_bso.specs.Changes.{kept_of, latest, account_at_opening, plain_of}
 use Rattle.ss_bso.specs.Validity.{IsValid, SameAccount}
 use Rattle.ss_bso.proofs.Reordering.{reordered-map}
 use Rattle.ss_laws.proofs.SameApi.{tick-same}
@@ -48,13 +48,13 @@ same_accounts account other valid s =
 
 -- ---- lines in another order
 
-all_reordered : {ls ms : List Line} → Reordered ls ms → AllByRecursion IsLine ls → AllByRecursion IsLine ms
+all_reordered : {ls ms : List Line} → IsReordering ls ms → AllByRecursion IsLine ls → AllByRecursion IsLine ms
 all_reordered nothing h = tt
 all_reordered (head x r) h = (h.0, all_reordered r h.1)
 all_reordered (swapped x y xs) h = (h.1.0, (h.0, h.1.1))
 all_reordered (chain r s) h = all_reordered s (all_reordered r h)
 
-flat_reordered : {bs cs : List Staged} → Reordered bs cs → AllByRecursion IsLine (flat_map batch_lines bs) → AllByRecursion IsLine (flat_map batch_lines cs)
+flat_reordered : {bs cs : List Staged} → IsReordering bs cs → AllByRecursion IsLine (flat_map batch_lines bs) → AllByRecursion IsLine (flat_map batch_lines cs)
 flat_reordered nothing h = tt
 flat_reordered (head b {xs} {ys} r) h =
     all_append (batch_lines b) (flat_map batch_lines ys) (all_front (batch_lines b) (flat_map batch_lines xs) h)
@@ -92,7 +92,7 @@ formed_same kept other s h =
 
 -- ---- what is opened
 
-latest_same : {bs cs : List Staged} → Reordered bs cs → (time : ℕ) → latest time bs ≡ latest time cs
+latest_same : {bs cs : List Staged} → IsReordering bs cs → (time : ℕ) → latest time bs ≡ latest time cs
 latest_same nothing time = refl
 latest_same (head b r) time = latest_same r (max time b.begun)
 latest_same (swapped b c bs) time =
@@ -111,7 +111,7 @@ plain_same kept other s = record {
   counter = s.counter;
 }
 
-pub opened_same : (kept other : Kept) → SameKept kept other → SameAccount (opened kept) (opened other)
+pub opened_same : (kept other : Kept) → SameKept kept other → SameAccount (account_at_opening kept) (account_at_opening other)
 opened_same kept other s = tick-same (plain_of kept) (plain_of other) 0 (plain_same kept other s)
 
 -- ---- what can be opened

@@ -7,7 +7,7 @@ use Rattle.std.specs.declared.cmp.Ordering.{Ordering}
 use Rattle.std.specs.declared.cmp.Ordering.TheVariants.{Less, Equal, Greater}
 use Rattle.std.specs.Ordering.{is_eq, is_lt, nat_cmp, ordering_then}
 use Rattle.std.specs.Cmp.{IsTotalOrder, unsigned_ties}
-use Rattle.ss_text.specs.Texts.{Reordered, sorted, text_cmp}
+use Rattle.ss_text.specs.Texts.{IsReordering, sorted, text_cmp}
 use Rattle.ss_text.proofs.Basics.{neither_left, neither_right, no_way}
 use Rattle.ss_bso.specs.declared.rows.Row.{Row}
 use Rattle.ss_bso.specs.declared.account.Staged.{Staged}
@@ -29,7 +29,7 @@ use Rattle.ss_dump.proofs.Refilled.{first_good}
 
 -- ---- lists in order, of elements of which no two tie
 
-pub sorted_same : {X : Type 0} (cmp : X → X → Ordering) → IsTotalOrder cmp → (xs ys : List X) → Reordered xs ys → Pairs (λ (x y : X). cmp x y ≡ Equal → ⊥) xs
+pub sorted_same : {X : Type 0} (cmp : X → X → Ordering) → IsTotalOrder cmp → (xs ys : List X) → IsReordering xs ys → Pairs (λ (x y : X). cmp x y ≡ Equal → ⊥) xs
     → sorted (comes_before cmp) xs ≡ sorted (comes_before cmp) ys
 sorted_same {X} cmp total xs ys r apart =
     sorted-reordered (comes_before cmp) (through cmp total) r

@@ -15,7 +15,7 @@ use Rattle.ss_bso.specs.declared.changes.RowChange.TheVariants.{Put}
 use Rattle.ss_bso.specs.declared.changes.CollectionChange.TheVariants.{Set}
 use Rattle.ss_bso.specs.declared.changes.BatchChange.TheVariants.{Begin}
 use Rattle.ss_bso.specs.Account.{is_at}
-use Rattle.ss_bso.specs.Changes.{batch_grown, begun_by, changed, fresh_kept, row_changed, time_changed}
+use Rattle.ss_bso.specs.Changes.{batch_grown, begun_by, kept_after_changes, fresh_kept, row_changed, time_changed}
 use Rattle.ss_keeper.specs.Keeping.{TellsKept, changed_by}
 use Rattle.ss_account.specs.Opening.{IsGood, first_bad, is_bad_collection, is_bad_row}
 use Rattle.ss_dump.specs.Refilled.{filling, is_fresh}
@@ -116,7 +116,7 @@ none_grows (b ∷ bs) all = none_grows bs all
 
 -- ---- nothing becomes what is kept
 
-filled : (kept : Kept) → IsGood kept → changed fresh_kept (filling kept) ≡ kept
+filled : (kept : Kept) → IsGood kept → kept_after_changes fresh_kept (filling kept) ≡ kept
 filled kept h =
     let rows = rows_put kept h in
     let collections = times_put kept h in
@@ -140,4 +140,4 @@ told_filled kept held before after changes g t fresh c e = subst (λ o. IfSome o
     go None h = tt
     go (Some k) h =
         let same : k ≡ fresh_kept = sym (h k refl) ∙ fresh_is held fresh in
-        ap₂ (λ x y. changed x y) same c ∙ filled kept g
+        ap₂ (λ x y. kept_after_changes x y) same c ∙ filled kept g

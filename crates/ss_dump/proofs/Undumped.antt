@@ -11,7 +11,8 @@ use Rattle.ss_dump.specs.declared.faults.LineFault.TheVariants as line
 use Rattle.ss_dump.specs.Dumps.{account_lines, body_text, closed_by, digest_of, dump_text, text_of}
 use Rattle.ss_dump.specs.Telling.{IsToldWith}
 use Rattle.ss_dump.specs.Stages.{IsLineFault}
-use Rattle.ss_dump.specs.Undumped.{IsBadDigest, IsDumpOf, IsOtherDigest, IsWhyNoDump, IsStated, IsUnfit, WouldBeDump}
+use Rattle.ss_dump.specs.Undumped.{IsBadDigest, IsDumpOf, IsOtherDigest, IsWhyNoDump, TellsWithDigest, IsUnfit}
+use Rattle.ss_dump.specs.Undumped.{WouldBeDump}
 use Rattle.ss_dump.specs.Undumped.{of_line}
 use Rattle.ss_dump.proofs.Told.{text_told}
 
@@ -32,8 +33,8 @@ other_digest : (text : List ℕ) (kept : Kept) (digest found stated told : List 
     → stated ≡ digest → told ≡ found → (digest ≡ found → ⊥) → IsBadDigest text stated told
 other_digest text kept digest found stated told body t b f s w other =
     let r = text_told text kept digest t in
-    let is : IsStated text kept digest = record { formed = r.formed; stated_formed = r.digest_formed; ordered = r.ordered; text_is = r.text_is } in
-    (kept, subst (IsStated text kept) (sym s) is, w ∙ found_is text kept digest found body t b f, λ e. other (sym s ∙ (e ∙ w)))
+    let is : TellsWithDigest text kept digest = record { formed = r.formed; stated_formed = r.digest_formed; ordered = r.ordered; text_is = r.text_is } in
+    (kept, subst (TellsWithDigest text kept) (sym s) is, w ∙ found_is text kept digest found body t b f, λ e. other (sym s ∙ (e ∙ w)))
 
 pub would_be : (text : List ℕ) (kept : Kept) (digest found : List ℕ) (body : ℕ) → IsToldWith text kept digest → take body text ≡ text_of (account_lines kept) → found ≡ digest_of (take body text)
     → digest ≡ found → WouldBeDump text kept

@@ -22,7 +22,7 @@ pub record IsDumpOf (text : List ℕ) (kept : Kept) : Type 0 where
   pub text_is : text ≡ dump_text kept
 
 -- the text tells this, in order, and states a digest
-pub record IsStated (text : List ℕ) (kept : Kept) (digest : List ℕ) : Type 0 where
+pub record TellsWithDigest (text : List ℕ) (kept : Kept) (digest : List ℕ) : Type 0 where
   pub formed : AllByRecursion IsLine (account_lines kept)
   pub stated_formed : is_digest digest ≡ true
   pub ordered : in_order kept ≡ kept
@@ -30,7 +30,7 @@ pub record IsStated (text : List ℕ) (kept : Kept) (digest : List ℕ) : Type 0
 
 -- it states another digest than that of what stands before it
 abbrev pub IsBadDigest : List ℕ → List ℕ → List ℕ → Type 0
-IsBadDigest text stated found = (kept : Kept) × IsStated text kept stated × (found ≡ digest_of (body_text kept)) × (stated ≢ found)
+IsBadDigest text stated found = (kept : Kept) × TellsWithDigest text kept stated × (found ≡ digest_of (body_text kept)) × (stated ≢ found)
 
 -- the text would be a dump if an account could be opened from what it tells
 pub record WouldBeDump (text : List ℕ) (kept : Kept) : Type 0 where

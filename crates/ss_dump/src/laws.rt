@@ -4,7 +4,7 @@ ghost use Rattle.std.specs.Prelude.{◌≡◌, ℕ, List, map, IfOk, IfErr};
 ghost use Rattle.std.specs.List.{AllByRecursion, flat_map};
 ghost use Rattle.ss_bso.specs.declared.account.Plain.{Plain as PlainView};
 ghost use Rattle.ss_bso.specs.declared.changes.Kept.{Kept as KeptView};
-ghost use Rattle.ss_bso.specs.Changes.{kept_of, opened};
+ghost use Rattle.ss_bso.specs.Changes.{kept_of, account_at_opening};
 ghost use Rattle.ss_bso.specs.Validity.{IsValid, SameAccount};
 ghost use Rattle.ss_lines.specs.Lines.{IsLine};
 ghost use Rattle.ss_lines.specs.declared.lines.Line.TheVariants.{Row as RowLine};
@@ -49,7 +49,7 @@ pub fn a_dump_tells_its_account()
     ensures no_other { (kept other : KeptView) → AllByRecursion IsLine (account_lines kept) → IsGood kept
         → IsDumpOf (dump_text kept) other → other ≡ in_order kept }
     ensures same { (kept : KeptView) → SameKept kept (in_order kept) }
-    ensures opened { (kept other : KeptView) → SameKept kept other → SameAccount (opened kept) (opened other) }
+    ensures opened { (kept other : KeptView) → SameKept kept other → SameAccount (account_at_opening kept) (account_at_opening other) }
 {}
 
 fn collection_form(entry: &(Name, Stamp))

@@ -8,7 +8,7 @@ use Rattle.ss_dupe.specs.declared.sides.Side.TheVariants.{Local, Remote}
 use Rattle.ss_dupe.specs.declared.news.New.{New}
 use Rattle.ss_dupe.specs.declared.news.Mark.{Mark}
 use Rattle.ss_dupe.specs.Looks.{Id, is_in, children_of}
-use Rattle.ss_dupe.specs.Shapes.{AreShaped}
+use Rattle.ss_dupe.specs.Shapes.{HaveShapes}
 use Rattle.ss_dupe.specs.Sides.{Sides, tree_of, is_new}
 use Rattle.ss_dupe.specs.Pairs.{AreAlike}
 use Rattle.ss_dupe.specs.News.{new_at, news_of, AreApart, HasNew, same_mark, has_pair}
@@ -140,14 +140,14 @@ new_listed s side p x (y ∷ ys) h = elim (has-cases x y ys h) [
   | inr k ↦ inr (new_listed s side p x ys k)
 ]
 
-pub apart_of : (s : Sides) → AreShaped s → AreApart s
+pub apart_of : (s : Sides) → HaveShapes s → AreApart s
 apart_of s a = record { each = λ side x. at_side side x }
   where
     at_side : (side : Side) (x : Id) → Apart (children_of (tree_of s side) x)
     at_side Local x = apart-from_counts (children_of s.local x) (λ y h. a.local.once y x (a.local.listed y x h).1)
     at_side Remote x = apart-from_counts (children_of s.remote x) (λ y h. a.remote.once y x (a.remote.listed y x h).1)
 
-pub like_pairs : (s : Sides) → AreShaped s → (p q : Id) (index : Mark → Option Id) (ps : List (Id × Id)) → Indexed (news_of s Remote q) index → Matched (news_of s Local p) index ps →
+pub like_pairs : (s : Sides) → HaveShapes s → (p q : Id) (index : Mark → Option Id) (ps : List (Id × Id)) → Indexed (news_of s Remote q) index → Matched (news_of s Local p) index ps →
     (l r : Id) → (has_pair l r ps ≡ true) ↔ AreAlike s l r p q
 like_pairs s a p q index ps i m l r = (there, back)
   where

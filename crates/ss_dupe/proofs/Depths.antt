@@ -10,7 +10,7 @@ use Rattle.std.specs.List.Sorted.{IsStrictlySortedBy}
 use Rattle.ss_text.specs.Texts.{text_cmp}
 use Rattle.ss_record.specs.Ids.{has}
 use Rattle.ss_dupe.specs.Looks.{Id, is_in, parent_of, is_places}
-use Rattle.ss_dupe.specs.Shapes.{AreShaped}
+use Rattle.ss_dupe.specs.Shapes.{HaveShapes}
 use Rattle.ss_dupe.specs.Sides.{Sides}
 use Rattle.ss_dupe.specs.Pairs.{AreAlike, IsPair, Under_same, Under_pair, ArePairs}
 use Rattle.ss_dupe.specs.News.{InRound, is_shared, has_pair, Adds}
@@ -21,7 +21,7 @@ use Rattle.ss_dupe.proofs.OneEach.{parent-lists, children-inside, one_remote}
 use Rattle.ss_text.proofs.Basics.{both_left, no_way}
 use Rattle.std.proofs.lemmas.Bool.{and_from}
 
-module _ (s : Sides) (a : AreShaped s) where
+module _ (s : Sides) (a : HaveShapes s) where
   shared_is : (p : Id) → is_in s.local p ≡ true → is_in s.remote p ≡ true → is_shared s p p ≡ true
   shared_is p l r = and_from (bytes_eq p p) _ (same-self p) (and_from (is_in s.local p) _ l r)
 
@@ -91,7 +91,7 @@ before_all s current found is none = record {
   all = λ j l r lt h. absurd (omega arith);
 }
 
-pub one_round : (s : Sides) (a : AreShaped s) (n : ℕ) (current next : List (Id × Id)) (found later : BTreeMap Id Id) → After s n current found →
+pub one_round : (s : Sides) (a : HaveShapes s) (n : ℕ) (current next : List (Id × Id)) (found later : BTreeMap Id Id) → After s n current found →
     ((l r : Id) → (has_pair l r next ≡ true) ↔ ((p : Id) × (q : Id) × (has_pair p q current ≡ true) × AreAlike s l r p q)) → Adds found later next → After s (n + 1) next later
 unfolding InRound
 one_round s a n current next found later f is d = record {
@@ -125,7 +125,7 @@ one_round s a n current next found later f is d = record {
     all j l r (inl lt) h = d.kept l (f.all j l r lt h)
     all j l r (inr e) h = d.added l r (back l r (subst (λ m. InRound s (suc m) l r) e h))
 
-pub found_all : (s : Sides) (a : AreShaped s) (ids : List Id) (n : ℕ) (current : List (Id × Id)) (found : BTreeMap Id Id) (pairs : List (Id × Id)) → ((x : Id) → has x ids ≡ is_in s.local x) → length ids ≤ n →
+pub found_all : (s : Sides) (a : HaveShapes s) (ids : List Id) (n : ℕ) (current : List (Id × Id)) (found : BTreeMap Id Id) (pairs : List (Id × Id)) → ((x : Id) → has x ids ≡ is_in s.local x) → length ids ≤ n →
     After s n current found → tree.IsOrdered text_cmp found → pairs ≡ found.entries → ArePairs s pairs
 found_all s a ids n current found pairs are le f ordered is = record {
   in_order = subst (λ ps. IsStrictlySortedBy text_cmp (map (λ p. p.0) ps)) (sym is) ordered;

@@ -19,7 +19,7 @@ use Rattle.ss_record.specs.Ids.{has}
 use Rattle.ss_record.specs.Kinds.{kind_name, kind_of}
 use Rattle.ss_record.specs.Marks.{said_text, is_plain_number, is_plain, members_plain}
 use Rattle.ss_record.specs.Payloads.{payload_members}
-use Rattle.ss_text.specs.Decimals.{marked}
+use Rattle.ss_text.specs.Decimals.{marked_text}
 use Rattle.ss_record.proofs.IdLists.{has-nil, has-head, has-tail}
 use Rattle.ss_record.proofs.OfId.{kind_of-name}
 use Rattle.ss_record.proofs.Texts.{read_compact}
@@ -122,7 +122,7 @@ good_members : (x : List ℕ) (ms : Members) → payload_members x ≡ Some ms �
 good_members x ms e =
     let p = payload_parts x ms e in
     let low : members_depth ms ≤ 126 = let deep = p.1 in omega arith in
-    record { each = λ name d f. good_member name ms p.2 (Sorted-read (marked x) (object ms) p.0) low d f }
+    record { each = λ name d f. good_member name ms p.2 (Sorted-read (marked_text x) (object ms) p.0) low d f }
 
 kind_noline : (k : Kind) → NoLine (kind_name k)
 kind_noline Bookmark = noline_by (codes "bookmark") refl

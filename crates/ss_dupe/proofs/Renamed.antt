@@ -11,7 +11,7 @@ use Rattle.ss_dupe.specs.Looks.{Id, Look, look, is_in, at, parent_of, children_o
 use Rattle.ss_dupe.specs.Walks.{meets, Meets}
 use Rattle.ss_dupe.specs.Sides.{Sides, sides}
 use Rattle.ss_dupe.specs.Pairs.{ArePairs}
-use Rattle.ss_dupe.specs.Renaming.{named, renamed_item, tree_renamed}
+use Rattle.ss_dupe.specs.Renaming.{renamed_id, renamed_item, tree_renamed}
 use Rattle.ss_dupe.proofs.Basics.{same-is, same-true, same-apart, has-cases, has-nil, has-head, has-tail, or_rest}
 use Rattle.ss_dupe.proofs.Basics.{some_from_passes, false_from}
 use Rattle.ss_dupe.proofs.Walks.{meets_stepped}
@@ -228,20 +228,20 @@ module _ (t : List PlacedItem) (valid : IsValidTree t) (name : Id → Id) (one :
 -- ---- the renaming of the local items that are in a pair
 
 module _ (s : Sides) (vl : HasShape s.local) (vr : HasShape s.remote) (pairs : List (Id × Id)) (a : ArePairs s pairs) where
-  of_pair : (x r : Id) → lookup (bytes_eq x) pairs ≡ Some r → named pairs x ≡ r
+  of_pair : (x r : Id) → lookup (bytes_eq x) pairs ≡ Some r → renamed_id pairs x ≡ r
   of_pair x r e = ap (λ o. unwrap_or o x) e
 
-  of_none : (x : Id) → lookup (bytes_eq x) pairs ≡ None → named pairs x ≡ x
+  of_none : (x : Id) → lookup (bytes_eq x) pairs ≡ None → renamed_id pairs x ≡ x
   of_none x e = ap (λ o. unwrap_or o x) e
 
-  pub remote_stays : (x : Id) → is_in s.remote x ≡ true → named pairs x ≡ x
+  pub remote_stays : (x : Id) → is_in s.remote x ≡ true → renamed_id pairs x ≡ x
   remote_stays x h = cases (lookup (bytes_eq x) pairs) refl
     where
-      cases : (o : Option Id) → lookup (bytes_eq x) pairs ≡ o → named pairs x ≡ x
+      cases : (o : Option Id) → lookup (bytes_eq x) pairs ≡ o → renamed_id pairs x ≡ x
       cases None e = of_none x e
       cases (Some r) e = no_way (is_in s.remote x) h (new-not_other s vl vr Local x (pair_local_new s vl vr (a.each x r e)))
 
-  pub names_apart : (x y : Id) → is_in s.local x ≡ true → is_in s.local y ≡ true → named pairs x ≡ named pairs y → x ≡ y
+  pub names_apart : (x y : Id) → is_in s.local x ≡ true → is_in s.local y ≡ true → renamed_id pairs x ≡ renamed_id pairs y → x ≡ y
   names_apart x y hx hy e = cases (lookup (bytes_eq x) pairs) refl (lookup (bytes_eq y) pairs) refl
     where
       -- a remote id of a pair is no local id
@@ -254,9 +254,9 @@ module _ (s : Sides) (vl : HasShape s.local) (vr : HasShape s.remote) (pairs : L
       cases None f (Some q) g = absurd (clash y x q hx g (sym (of_pair y q g) ∙ sym e ∙ of_none x f))
       cases (Some r) f (Some q) g = one_local s vl vr (a.each x r f) (sym (of_pair x r f) ∙ e ∙ of_pair y q g) (a.each y q g)
 
-pub paired_is_valid : (m l r : List PlacedItem) (x y : List Id) (pairs : List (Id × Id)) → IsValidTree l → IsValidTree r → ArePairs (sides m l r x y) pairs → IsValidTree (tree_renamed (named pairs) l)
+pub paired_is_valid : (m l r : List PlacedItem) (x y : List Id) (pairs : List (Id × Id)) → IsValidTree l → IsValidTree r → ArePairs (sides m l r x y) pairs → IsValidTree (tree_renamed (renamed_id pairs) l)
 paired_is_valid m l r x y pairs vl vr a =
     let s = sides m l r x y in
     let hl = shape l vl in
     let hr = shape r vr in
-    renamed_is_valid l vl (named pairs) (names_apart s hl hr pairs a) (remote_stays s hl hr pairs a places (in-of s.remote places _ hr.top)) (λ z k. remote_stays s hl hr pairs a z (hr.roots_in z k).0)
+    renamed_is_valid l vl (renamed_id pairs) (names_apart s hl hr pairs a) (remote_stays s hl hr pairs a places (in-of s.remote places _ hr.top)) (λ z k. remote_stays s hl hr pairs a z (hr.roots_in z k).0)

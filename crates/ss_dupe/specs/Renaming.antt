@@ -8,8 +8,8 @@ use Rattle.ss_dupe.specs.Looks.{Id}
 use Rattle.ss_dupe.specs.Sides.{Sides, sides}
 
 -- the remote id of a local item that is in a pair; each other id stays
-abbrev pub named : List (Id × Id) → Id → Id
-named pairs x = unwrap_or (lookup (bytes_eq x) pairs) x
+abbrev pub renamed_id : List (Id × Id) → Id → Id
+renamed_id pairs x = unwrap_or (lookup (bytes_eq x) pairs) x
 
 abbrev pub renamed_item : (Id → Id) → PlacedItem → PlacedItem
 renamed_item name n = record {
@@ -26,5 +26,5 @@ unfoldable pub tree_renamed : (Id → Id) → List PlacedItem → List PlacedIte
 tree_renamed name t = map (renamed_item name) t
 
 -- what a merge is asked of, after the renaming
-abbrev pub paired : List (Id × Id) → Asked → Sides
-paired pairs s = sides (tree s.mirror.now) (tree_renamed (named pairs) (tree s.local.now)) (tree s.remote.now) s.local_dead.now s.remote_dead.now
+abbrev pub renamed_sides : List (Id × Id) → Asked → Sides
+renamed_sides pairs s = sides (tree s.mirror.now) (tree_renamed (renamed_id pairs) (tree s.local.now)) (tree s.remote.now) s.local_dead.now s.remote_dead.now

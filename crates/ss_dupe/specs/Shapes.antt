@@ -18,6 +18,6 @@ pub record HasShape (t : Look) : Type 0 where
   pub below : (x : Id) → is_in t x ≡ true → Meets (parent_of t) is_places x
 
 -- of the local and of the remote tree
-pub record AreShaped (s : Sides) : Type 0 where
+pub record HaveShapes (s : Sides) : Type 0 where
   pub local : HasShape s.local
   pub remote : HasShape s.remote

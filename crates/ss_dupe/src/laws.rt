@@ -11,7 +11,7 @@ ghost use Rattle.ss_dupe.specs.Keys.{key_of, telling};
 ghost use Rattle.ss_dupe.specs.Looks.{Id};
 ghost use Rattle.ss_dupe.specs.Sides.{sides};
 ghost use Rattle.ss_dupe.specs.Pairs.{ArePairs, IsPair};
-ghost use Rattle.ss_dupe.specs.Renaming.{named, tree_renamed};
+ghost use Rattle.ss_dupe.specs.Renaming.{renamed_id, tree_renamed};
 
 /// Of valid trees, whatever the mirror and the deleted ids are, no id stands in two pairs.
 pub fn no_id_is_in_two_pairs()
@@ -26,7 +26,7 @@ pub fn no_id_is_in_two_pairs()
 /// The local tree, with the remote ids for its paired items, is valid.
 pub fn renamed_trees_are_valid()
     ensures { (m l r : List PlacedItem) (x y : List Id) (pairs : List (Id × Id)) → IsValidTree l → IsValidTree r
-        → ArePairs (sides m l r x y) pairs → IsValidTree (tree_renamed (named pairs) l) }
+        → ArePairs (sides m l r x y) pairs → IsValidTree (tree_renamed (renamed_id pairs) l) }
 {}
 
 /// The keys of two items are equal exactly where the items are of one kind, and each member that tells items of that

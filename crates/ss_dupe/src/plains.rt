@@ -8,7 +8,7 @@ ghost use Rattle.ss_tree.specs.Entries.{tree};
 ghost use Rattle.ss_dupe.specs.Looks.{Id as Text};
 ghost use Rattle.ss_dupe.specs.Sides.{sides_asked, is_new, tree_of, deleted_on, other};
 ghost use Rattle.ss_dupe.specs.Plains.{AreIds, look_of, view};
-ghost use Rattle.ss_dupe.specs.Shapes.{AreShaped};
+ghost use Rattle.ss_dupe.specs.Shapes.{HaveShapes};
 
 use crate::plain::PlainTree;
 use crate::sides::Side;
@@ -48,7 +48,7 @@ impl<'a> Plains<'a> {
         ensures remote_ids { IfOk result (λ p. AreIds p.remote) }
         ensures local_tree { OnOk result (IsValidTree (tree sides.now.local.now)) }
         ensures remote_tree { OnOk result (IsValidTree (tree sides.now.remote.now)) }
-        ensures shaped { IfOk result (λ p. AreShaped (view p)) }
+        ensures shaped { IfOk result (λ p. HaveShapes (view p)) }
     {
         Ok(Plains {
             mirror: PlainTree::read(alloc, sides.mirror)?,

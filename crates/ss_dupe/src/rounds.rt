@@ -9,7 +9,7 @@ ghost use Rattle.ss_dupe.specs.Looks.{Id as Text};
 ghost use Rattle.ss_dupe.specs.Sides.{sides_asked};
 ghost use Rattle.ss_dupe.specs.Pairs.{AreAlike, ArePairs};
 ghost use Rattle.ss_dupe.specs.Plains.{AreIds, view};
-ghost use Rattle.ss_dupe.specs.Shapes.{AreShaped};
+ghost use Rattle.ss_dupe.specs.Shapes.{HaveShapes};
 ghost use Rattle.ss_dupe.specs.News.{Adds, HasNew, has_pair, is_shared, same_mark};
 
 use crate::news::{Mark, New, news_of};
@@ -46,7 +46,7 @@ fn like_children(
     local: &Id,
     remote: &Id,
 ) -> Result<Vec<(Id, Id)>, AllocError>
-    requires { AreShaped (view plains.now) }
+    requires { HaveShapes (view plains.now) }
     ensures { IfOk result (λ pairs. (l : Text) → (r : Text) → (has_pair l r pairs.items
         ≡ true) ↔ AreAlike (view plains.now) l r local.now remote.now) }
 {
@@ -104,7 +104,7 @@ fn round(
     current: &[(Id, Id)],
     found: &mut BTreeMap<Id, Id>,
 ) -> Result<Vec<(Id, Id)>, AllocError>
-    requires { AreShaped (view plains.now) }
+    requires { HaveShapes (view plains.now) }
     ensures next { IfOk result (λ next. (l : Text) → (r : Text) → (has_pair l r next.items ≡ true) ↔ ((p : Text)
         × (q : Text) × (has_pair p q current.now ≡ true) × AreAlike (view plains.now) l r p q)) }
     ensures found { IfOk result (λ next. Adds found.old found.new next.items) }
@@ -136,7 +136,7 @@ fn into_pairs(alloc: Global, found: BTreeMap<Id, Id>) -> Result<Vec<(Id, Id)>, A
 /// Pairs the new items that are the same on both sides of trees that were read out: a local id and a remote id, by
 /// local id.
 pub fn pair_read(alloc: Global, plains: &Plains) -> Result<Vec<(Id, Id)>, AllocError>
-    requires shaped { AreShaped (view plains.now) }
+    requires shaped { HaveShapes (view plains.now) }
     requires ids { AreIds plains.now.local }
     ensures { IfOk result (λ pairs. ArePairs (view plains.now) pairs.items) }
 {

@@ -2,7 +2,7 @@
 use Rattle.std.proofs.Common.{◌≡◌, ◌<◌, List, [], ◌∷◌, Contains, ◌⊎◌, inl, inr, ⊎_elim, subst, arith}
 use Rattle.std.proofs.lemmas.List.Elements.{Contains-append_left, Contains-append_right, Contains-append_cases}
 use Rattle.std.proofs.lemmas.List.Elements.{Contains-push, Contains-push_cases, All-contains}
-use Rattle.ss_text.specs.Texts.{Reordered, nothing, head, swapped, chain}
+use Rattle.ss_text.specs.Texts.{IsReordering, nothing, head, swapped, chain}
 use Rattle.ss_bso.proofs.Lists.{Each, All-from_Each}
 
 pub contains_nothing : {X : Type 0} (x : X) → Contains [] x → ⊥
@@ -36,11 +36,11 @@ contained : {X : Type 0} (z : X) (xs : List X) → Has z xs → Contains xs z
 contained z [] h = absurd h
 contained z (x ∷ xs) h = ⊎_elim (λ (e : x ≡ z). subst (λ w. Contains (x ∷ xs) w) e (contains_here x xs)) (λ (later : Has z xs). contains_there x z xs (contained z xs later)) h
 
-has-reordered : {X : Type 0} (z : X) {xs ys : List X} → Reordered xs ys → Has z xs → Has z ys
+has-reordered : {X : Type 0} (z : X) {xs ys : List X} → IsReordering xs ys → Has z xs → Has z ys
 has-reordered z nothing h = h
 has-reordered z (head x r) h = ⊎_elim (λ e. inl e) (λ later. inr (has-reordered z r later)) h
 has-reordered z (swapped x y xs) h = ⊎_elim (λ e. inr (inl e)) (λ later. ⊎_elim (λ e. inl e) (λ last. inr (inr last)) later) h
 has-reordered z (chain r s) h = has-reordered z s (has-reordered z r h)
 
-pub contains-reordered : {X : Type 0} (z : X) (xs ys : List X) → Reordered xs ys → Contains xs z → Contains ys z
+pub contains-reordered : {X : Type 0} (z : X) (xs ys : List X) → IsReordering xs ys → Contains xs z → Contains ys z
 contains-reordered z xs ys r c = contained z ys (has-reordered z r (has z xs c))

@@ -21,8 +21,9 @@ use Rattle.ss_flat.specs.declared.face.Face.{Face}
 use Rattle.ss_flat.specs.declared.lists.Shown.{Shown}
 use Rattle.ss_flat.specs.Greatest.{IsAllInOrder, IsGreatestOf}
 use Rattle.ss_flat.specs.Joining.{OtherKey}
-use Rattle.ss_flat.specs.Lists.{AreGone, AreShown, AreSkipped, IsAlive, IsGone, IsShown, IsShownVisit, visit_cmp}
-use Rattle.ss_flat.specs.States.{IdView, RoomedId, IsFace, IsFlatState, IsSkipped, IsStateOf, IsTombstone, IsVisit}
+use Rattle.ss_flat.specs.Lists.{AreGoneIds, AreShownRecords, AreSkippedIds, IsAlive, IsGoneId, IsShownRecord}
+use Rattle.ss_flat.specs.Lists.{IsShownVisit, visit_cmp}
+use Rattle.ss_flat.specs.States.{IdView, RoomedId, IsFace, IsFlatState, IsSkippedId, IsStateOf, IsTombstone, IsVisit}
 use Rattle.ss_flat.specs.States.{OtherVisit, State, face_cmp, heard_in, held_of, nothing as unheard, same_visit}
 use Rattle.ss_flat.specs.States.{time_of}
 use Rattle.ss_flat.specs.Texts.{record_text}
@@ -133,7 +134,7 @@ module _ (kind : FlatKind) (rows : List Row) (id : List ℕ) (heard : IdView) (s
       (found_each same_visit same_visit-own same_visit-flip heard.visits s.once))
       visit_found (Pairs-filter_map OtherVisit (λ (v w : Visit). visit_cmp v w ≢ Equal) (shown_visit heard.gone) visits_unlike heard.visits s.once)
 
-  face_shown : (f : Face) → shown_face heard ≡ Some f → IsShown kind rows id (record_text kind id f (shown_visits heard))
+  face_shown : (f : Face) → shown_face heard ≡ Some f → IsShownRecord kind rows id (record_text kind id f (shown_visits heard))
   face_shown f e =
       let is = shown_face-is heard f e in
       record {
@@ -145,7 +146,7 @@ module _ (kind : FlatKind) (rows : List Row) (id : List ℕ) (heard : IdView) (s
         text_is = refl;
       }
 
-  shown_found : (text : List ℕ) → IsShown kind rows id text → (f : Face) × (shown_face heard ≡ Some f) × (text ≡ record_text kind id f (shown_visits heard))
+  shown_found : (text : List ℕ) → IsShownRecord kind rows id text → (f : Face) × (shown_face heard ≡ Some f) × (text ≡ record_text kind id f (shown_visits heard))
   shown_found text shown =
       let face : heard.face ≡ Some shown.face = same_greatest face_cmp face_total face_exact (IsFace kind rows id) (IsFace kind rows id) (λ t h. h) (λ t h. h) heard.face (Some shown.face) s.face shown.greatest in
       let above = alive_above kind rows id heard.gone shown.face.time s.gone shown.alive in
@@ -214,12 +215,12 @@ module _ (rows : List Row) (state : State) (apart : Pairs OtherKey state.entries
   no_state : (id : List ℕ) → held_of id state ≡ None → IsStateOf state.kind rows id unheard
   no_state id e = subst (λ h. IsStateOf state.kind rows id h) (ap heard_in e) (is id)
 
-  shown_each : (e : List ℕ × RoomedId) (y : Shown) → Own e → shown_of state.kind e ≡ Some y → IsShown state.kind rows y.id y.text
+  shown_each : (e : List ℕ × RoomedId) (y : Shown) → Own e → shown_of state.kind e ≡ Some y → IsShownRecord state.kind rows y.id y.text
   unfolding shown_of
   shown_each e y found shown =
       let make : Face → Shown = λ face. record { id = e.0; text = record_text state.kind e.0 face (shown_visits e.1.heard) } in
       let o = map_some make (shown_face e.1.heard) y shown in
-      subst (λ (s : Shown). IsShown state.kind rows s.id s.text) o.2 (face_shown state.kind rows e.0 e.1.heard (own_state e.0 e.1 found) o.0 o.1)
+      subst (λ (s : Shown). IsShownRecord state.kind rows s.id s.text) o.2 (face_shown state.kind rows e.0 e.1.heard (own_state e.0 e.1 found) o.0 o.1)
 
   shown_id : (e : List ℕ × RoomedId) (y : Shown) → shown_of state.kind e ≡ Some y → e.0 ≡ y.id
   unfolding shown_of
@@ -228,7 +229,7 @@ module _ (rows : List Row) (state : State) (apart : Pairs OtherKey state.entries
       let o = map_some make (shown_face e.1.heard) y shown in
       ap (λ (s : Shown). s.id) o.2
 
-  shown_made : (y : Shown) (held : RoomedId) → IsStateOf state.kind rows y.id held.heard → IsShown state.kind rows y.id y.text → shown_of state.kind (y.id, held) ≡ Some y
+  shown_made : (y : Shown) (held : RoomedId) → IsStateOf state.kind rows y.id held.heard → IsShownRecord state.kind rows y.id y.text → shown_of state.kind (y.id, held) ≡ Some y
   unfolding shown_of
   shown_made y held s shown =
       let f = shown_found state.kind rows y.id held.heard s y.text shown in
@@ -236,26 +237,26 @@ module _ (rows : List Row) (state : State) (apart : Pairs OtherKey state.entries
       let same : make f.0 ≡ y = λ i. record { id = y.id; text = sym f.2 i } in
       ap (λ o. option_map make o) f.1 ∙ ap (λ z. Some z) same
 
-  shown_all : (y : Shown) → IsShown state.kind rows y.id y.text → Contains (filter_map (shown_of state.kind) state.entries) y
+  shown_all : (y : Shown) → IsShownRecord state.kind rows y.id y.text → Contains (filter_map (shown_of state.kind) state.entries) y
   shown_all y shown = by (held_of y.id state) refl
     where
       by : (o : Option RoomedId) → held_of y.id state ≡ o → Contains (filter_map (shown_of state.kind) state.entries) y
       by None e = absurd ((no_state y.id e).face shown.face shown.greatest.holds)
       by (Some held) e = found_kept bytes_eq same_text (shown_of state.kind) y.id held y (shown_made y held (own_state y.id held e) shown) state.entries e
 
-  pub shown_listed : AreShown state.kind rows (shown_list state.kind state.entries)
+  pub shown_listed : AreShownRecords state.kind rows (shown_list state.kind state.entries)
   shown_listed =
-      all_in_order (λ (a b : Shown). text_cmp a.id b.id) (on_total (λ (s : Shown). s.id) nat_list_cmp_total) (λ (s : Shown). IsShown state.kind rows s.id s.text) (filter_map (shown_of state.kind) state.entries)
-      (Each-filter_map Own (λ (s : Shown). IsShown state.kind rows s.id s.text) (shown_of state.kind) shown_each state.entries own) shown_all
+      all_in_order (λ (a b : Shown). text_cmp a.id b.id) (on_total (λ (s : Shown). s.id) nat_list_cmp_total) (λ (s : Shown). IsShownRecord state.kind rows s.id s.text) (filter_map (shown_of state.kind) state.entries)
+      (Each-filter_map Own (λ (s : Shown). IsShownRecord state.kind rows s.id s.text) (shown_of state.kind) shown_each state.entries own) shown_all
       (Pairs-filter_map OtherKey (λ (a b : Shown). text_cmp a.id b.id ≢ Equal) (shown_of state.kind) (λ x z y w other e f. ids_unlike x.0 z.0 y.id w.id other (shown_id x y e) (shown_id z w f)) state.entries apart)
 
-  gone_each : (e : List ℕ × RoomedId) (y : List ℕ × ℕ) → Own e → gone_of e ≡ Some y → IsGone state.kind rows y.0 y.1
+  gone_each : (e : List ℕ × RoomedId) (y : List ℕ × ℕ) → Own e → gone_of e ≡ Some y → IsGoneId state.kind rows y.0 y.1
   unfolding gone_of
   gone_each e y found gone =
       let o = map_some (λ (time : ℕ). (e.0, time)) (gone_unless (shown_face e.1.heard) e.1.heard.gone) y gone in
       let g = gone_unless_some (shown_face e.1.heard) e.1.heard.gone o.0 o.1 in
       let s = own_state e.0 e.1 found in
-      subst (λ (p : List ℕ × ℕ). IsGone state.kind rows p.0 p.1) o.2 (record {
+      subst (λ (p : List ℕ × ℕ). IsGoneId state.kind rows p.0 p.1) o.2 (record {
         greatest = subst (λ t. IsGreatestOf nat_cmp (IsTombstone state.kind rows e.0) t) g.1 s.gone;
         over = face_over state.kind rows e.0 e.1.heard s o.0 g.1 g.0;
       })
@@ -266,49 +267,49 @@ module _ (rows : List Row) (state : State) (apart : Pairs OtherKey state.entries
       let o = map_some (λ (time : ℕ). (e.0, time)) (gone_unless (shown_face e.1.heard) e.1.heard.gone) y gone in
       ap (λ (p : List ℕ × ℕ). p.0) o.2
 
-  gone_made : (y : List ℕ × ℕ) (held : RoomedId) → IsStateOf state.kind rows y.0 held.heard → IsGone state.kind rows y.0 y.1 → gone_of (y.0, held) ≡ Some y
+  gone_made : (y : List ℕ × ℕ) (held : RoomedId) → IsStateOf state.kind rows y.0 held.heard → IsGoneId state.kind rows y.0 y.1 → gone_of (y.0, held) ≡ Some y
   unfolding gone_of
   gone_made y held s gone =
       let time : held.heard.gone ≡ Some y.1 = same_greatest nat_cmp nat_cmp_total exact_unsigned (IsTombstone state.kind rows y.0) (IsTombstone state.kind rows y.0) (λ t h. h) (λ t h. h) held.heard.gone (Some y.1) s.gone gone.greatest in
       let none = gone_none state.kind rows y.0 held.heard s y.1 time gone.over in
       λ i. option_map (λ (t : ℕ). (y.0, t)) (gone_unless (none i) (time i))
 
-  gone_all : (y : List ℕ × ℕ) → IsGone state.kind rows y.0 y.1 → Contains (filter_map gone_of state.entries) y
+  gone_all : (y : List ℕ × ℕ) → IsGoneId state.kind rows y.0 y.1 → Contains (filter_map gone_of state.entries) y
   gone_all y gone = by (held_of y.0 state) refl
     where
       by : (o : Option RoomedId) → held_of y.0 state ≡ o → Contains (filter_map gone_of state.entries) y
       by None e = absurd ((no_state y.0 e).gone y.1 gone.greatest.holds)
       by (Some held) e = found_kept bytes_eq same_text gone_of y.0 held y (gone_made y held (own_state y.0 held e) gone) state.entries e
 
-  pub gone_listed : AreGone state.kind rows (gone_list state.entries)
+  pub gone_listed : AreGoneIds state.kind rows (gone_list state.entries)
   gone_listed =
-      all_in_order (λ (a b : List ℕ × ℕ). text_cmp a.0 b.0) (on_total (λ (g : List ℕ × ℕ). g.0) nat_list_cmp_total) (λ (g : List ℕ × ℕ). IsGone state.kind rows g.0 g.1) (filter_map gone_of state.entries)
-      (Each-filter_map Own (λ (g : List ℕ × ℕ). IsGone state.kind rows g.0 g.1) gone_of gone_each state.entries own) gone_all
+      all_in_order (λ (a b : List ℕ × ℕ). text_cmp a.0 b.0) (on_total (λ (g : List ℕ × ℕ). g.0) nat_list_cmp_total) (λ (g : List ℕ × ℕ). IsGoneId state.kind rows g.0 g.1) (filter_map gone_of state.entries)
+      (Each-filter_map Own (λ (g : List ℕ × ℕ). IsGoneId state.kind rows g.0 g.1) gone_of gone_each state.entries own) gone_all
       (Pairs-filter_map OtherKey (λ (a b : List ℕ × ℕ). text_cmp a.0 b.0 ≢ Equal) gone_of (λ x z y w other e f. ids_unlike x.0 z.0 y.0 w.0 other (gone_id x y e) (gone_id z w f)) state.entries apart)
 
-  skipped_each : (e : List ℕ × RoomedId) (y : List ℕ) → Own e → skipped_of e ≡ Some y → IsSkipped state.kind rows y
+  skipped_each : (e : List ℕ × RoomedId) (y : List ℕ) → Own e → skipped_of e ≡ Some y → IsSkippedId state.kind rows y
   unfolding skipped_of
   skipped_each e y found skipped =
       let kept = kept_if e.1.heard.skipped e.0 y skipped in
-      subst (λ id. IsSkipped state.kind rows id) kept.1 ((own_state e.0 e.1 found).skipped kept.0)
+      subst (λ id. IsSkippedId state.kind rows id) kept.1 ((own_state e.0 e.1 found).skipped kept.0)
 
   skipped_id : (e : List ℕ × RoomedId) (y : List ℕ) → skipped_of e ≡ Some y → e.0 ≡ y
   unfolding skipped_of
   skipped_id e y skipped = (kept_if e.1.heard.skipped e.0 y skipped).1
 
-  skipped_made : (y : List ℕ) (held : RoomedId) → IsStateOf state.kind rows y held.heard → IsSkipped state.kind rows y → skipped_of (y, held) ≡ Some y
+  skipped_made : (y : List ℕ) (held : RoomedId) → IsStateOf state.kind rows y held.heard → IsSkippedId state.kind rows y → skipped_of (y, held) ≡ Some y
   unfolding skipped_of
   skipped_made y held s skipped = ap (λ b. cond b (Some y) None) (true_then held.heard.skipped (λ e. s.unskipped e skipped))
 
-  skipped_all : (y : List ℕ) → IsSkipped state.kind rows y → Contains (filter_map skipped_of state.entries) y
+  skipped_all : (y : List ℕ) → IsSkippedId state.kind rows y → Contains (filter_map skipped_of state.entries) y
   skipped_all y skipped = by (held_of y state) refl
     where
       by : (o : Option RoomedId) → held_of y state ≡ o → Contains (filter_map skipped_of state.entries) y
       by None e = absurd ((no_state y e).unskipped refl skipped)
       by (Some held) e = found_kept bytes_eq same_text skipped_of y held y (skipped_made y held (own_state y held e) skipped) state.entries e
 
-  pub skipped_listed : AreSkipped state.kind rows (skipped_list state.entries)
+  pub skipped_listed : AreSkippedIds state.kind rows (skipped_list state.entries)
   skipped_listed =
-      all_in_order text_cmp nat_list_cmp_total (IsSkipped state.kind rows) (filter_map skipped_of state.entries)
-      (Each-filter_map Own (IsSkipped state.kind rows) skipped_of skipped_each state.entries own) skipped_all
+      all_in_order text_cmp nat_list_cmp_total (IsSkippedId state.kind rows) (filter_map skipped_of state.entries)
+      (Each-filter_map Own (IsSkippedId state.kind rows) skipped_of skipped_each state.entries own) skipped_all
       (Pairs-filter_map OtherKey (λ (a b : List ℕ). text_cmp a b ≢ Equal) skipped_of (λ x z y w other e f. ids_unlike x.0 z.0 y w other (skipped_id x y e) (skipped_id z w f)) state.entries apart)

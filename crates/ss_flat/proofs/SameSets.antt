@@ -12,8 +12,9 @@ use Rattle.ss_flat.specs.declared.kinds.FlatKind.{FlatKind}
 use Rattle.ss_flat.specs.declared.visits.Visit.{Visit}
 use Rattle.ss_flat.specs.declared.lists.Shown.{Shown}
 use Rattle.ss_flat.specs.Laws.{Associates, Commutes, IsIdempotent, SameSet}
-use Rattle.ss_flat.specs.Lists.{AreGone, AreShown, AreSkipped, IsAlive, IsGone, IsShown, IsShownVisit}
-use Rattle.ss_flat.specs.States.{IsFace, IsFlatState, IsSkipped, IsStateOf, IsTombstone, IsVisit, State, TellsSame}
+use Rattle.ss_flat.specs.Lists.{AreGoneIds, AreShownRecords, AreSkippedIds, IsAlive, IsGoneId, IsShownRecord}
+use Rattle.ss_flat.specs.Lists.{IsShownVisit}
+use Rattle.ss_flat.specs.States.{IsFace, IsFlatState, IsSkippedId, IsStateOf, IsTombstone, IsVisit, State, TellsSame}
 use Rattle.ss_flat.specs.States.{face_cmp, heard_of, time_of}
 use Rattle.ss_flat.proofs.Greatest.{greatest_moved, same_greatest}
 use Rattle.ss_flat.proofs.Orders.{face_exact, face_total}
@@ -91,13 +92,13 @@ module _ (kind : FlatKind) (rows others : List Row) (same : SameSet rows others)
     alive = alive_moved id s.time s.alive;
   }
 
-  gone_moved : (id : List ℕ) (time : ℕ) → IsGone kind rows id time → IsGone kind others id time
+  gone_moved : (id : List ℕ) (time : ℕ) → IsGoneId kind rows id time → IsGoneId kind others id time
   gone_moved id time g = record {
     greatest = greatest_moved nat_cmp nat_cmp_total exact_unsigned (IsTombstone kind rows id) (IsTombstone kind others id) (λ t h. tells_moved kind id _ rows others same.there h) (λ t h. tells_moved kind id _ others rows same.back h) (Some time) g.greatest;
     over = λ face h. g.over face (tells_moved kind id _ others rows same.back h);
   }
 
-pub shown_moved : (kind : FlatKind) (rows others : List Row) → SameSet rows others → (id text : List ℕ) → IsShown kind rows id text → IsShown kind others id text
+pub shown_moved : (kind : FlatKind) (rows others : List Row) → SameSet rows others → (id text : List ℕ) → IsShownRecord kind rows id text → IsShownRecord kind others id text
 shown_moved kind rows others same id text s = record {
   face = s.face;
   visits = s.visits;
@@ -112,17 +113,17 @@ shown_moved kind rows others same id text s = record {
 }
 
 -- sets of the same rows come to the same lists
-pub same_shown : (kind : FlatKind) (rows others : List Row) → SameSet rows others → (xs ys : List Shown) → AreShown kind rows xs → AreShown kind others ys → xs ≡ ys
+pub same_shown : (kind : FlatKind) (rows others : List Row) → SameSet rows others → (xs ys : List Shown) → AreShownRecords kind rows xs → AreShownRecords kind others ys → xs ≡ ys
 same_shown kind rows others same xs ys a b =
-    same_in_order (λ (x y : Shown). text_cmp x.id y.id) (on_total (λ (s : Shown). s.id) nat_list_cmp_total) (λ s. IsShown kind rows s.id s.text) (λ s. IsShown kind others s.id s.text)
+    same_in_order (λ (x y : Shown). text_cmp x.id y.id) (on_total (λ (s : Shown). s.id) nat_list_cmp_total) (λ s. IsShownRecord kind rows s.id s.text) (λ s. IsShownRecord kind others s.id s.text)
     (λ s h. shown_moved kind rows others same s.id s.text h) (λ s h. shown_moved kind others rows (set_turned same) s.id s.text h) xs ys a b
 
-pub same_gone : (kind : FlatKind) (rows others : List Row) → SameSet rows others → (xs ys : List (List ℕ × ℕ)) → AreGone kind rows xs → AreGone kind others ys → xs ≡ ys
+pub same_gone : (kind : FlatKind) (rows others : List Row) → SameSet rows others → (xs ys : List (List ℕ × ℕ)) → AreGoneIds kind rows xs → AreGoneIds kind others ys → xs ≡ ys
 same_gone kind rows others same xs ys a b =
-    same_in_order (λ (x y : List ℕ × ℕ). text_cmp x.0 y.0) (on_total (λ (g : List ℕ × ℕ). g.0) nat_list_cmp_total) (λ g. IsGone kind rows g.0 g.1) (λ g. IsGone kind others g.0 g.1)
+    same_in_order (λ (x y : List ℕ × ℕ). text_cmp x.0 y.0) (on_total (λ (g : List ℕ × ℕ). g.0) nat_list_cmp_total) (λ g. IsGoneId kind rows g.0 g.1) (λ g. IsGoneId kind others g.0 g.1)
     (λ g h. gone_moved kind rows others same g.0 g.1 h) (λ g h. gone_moved kind others rows (set_turned same) g.0 g.1 h) xs ys a b
 
-pub same_skipped : (kind : FlatKind) (rows others : List Row) → SameSet rows others → (xs ys : List (List ℕ)) → AreSkipped kind rows xs → AreSkipped kind others ys → xs ≡ ys
+pub same_skipped : (kind : FlatKind) (rows others : List Row) → SameSet rows others → (xs ys : List (List ℕ)) → AreSkippedIds kind rows xs → AreSkippedIds kind others ys → xs ≡ ys
 same_skipped kind rows others same xs ys a b =
-    same_in_order text_cmp nat_list_cmp_total (IsSkipped kind rows) (IsSkipped kind others)
+    same_in_order text_cmp nat_list_cmp_total (IsSkippedId kind rows) (IsSkippedId kind others)
     (λ id h. tells_moved kind id _ rows others same.there h) (λ id h. tells_moved kind id _ others rows same.back h) xs ys a b

@@ -5,7 +5,7 @@ use Rattle.std.specs.Cmp.{IsTotalOrder}
 use Rattle.std.specs.declared.cmp.Ordering.{Ordering}
 use Rattle.std.specs.declared.cmp.Ordering.TheVariants.{Less, Equal, Greater}
 use Rattle.std.specs.Ordering.{is_lt, ordering_reverse}
-use Rattle.ss_text.specs.Texts.{Reordered, nothing, head, swapped, chain, list_with, sorted}
+use Rattle.ss_text.specs.Texts.{IsReordering, nothing, head, swapped, chain, list_with, sorted}
 use Rattle.ss_text.proofs.Basics.{is_less}
 use Rattle.ss_bso.proofs.Lists.{Each, Pairs, Each-imp}
 use Rattle.ss_bso.proofs.Reordering.{reordered-refl, Each-reordered}
@@ -42,15 +42,15 @@ module _ {X : Type 0} (cmp : X → X → Ordering) (total : IsTotalOrder cmp) wh
   lt_once : (x y : X) → Lt x y → Lt y x → ⊥
   lt_once x y e f = not_both (cmp x y) (cmp y x) (total.antisymm y x) e f
 
-  reordered_step : (b : Bool) (x y : X) (ys : List X) → Reordered (x ∷ ys) (list_with lt x ys) → Reordered (x ∷ y ∷ ys) (cond b (y ∷ list_with lt x ys) (x ∷ y ∷ ys))
+  reordered_step : (b : Bool) (x y : X) (ys : List X) → IsReordering (x ∷ ys) (list_with lt x ys) → IsReordering (x ∷ y ∷ ys) (cond b (y ∷ list_with lt x ys) (x ∷ y ∷ ys))
   reordered_step true x y ys r = chain (swapped x y ys) (head y r)
   reordered_step false x y ys r = reordered-refl (x ∷ y ∷ ys)
 
-  reordered-placed : (x : X) (ys : List X) → Reordered (x ∷ ys) (list_with lt x ys)
+  reordered-placed : (x : X) (ys : List X) → IsReordering (x ∷ ys) (list_with lt x ys)
   reordered-placed x [] = reordered-refl (x ∷ [])
   reordered-placed x (y ∷ ys) = reordered_step (lt y x) x y ys (reordered-placed x ys)
 
-  pub reordered-sorted : (xs : List X) → Reordered xs (sorted lt xs)
+  pub reordered-sorted : (xs : List X) → IsReordering xs (sorted lt xs)
   reordered-sorted [] = nothing
   reordered-sorted (x ∷ xs) = chain (head x (reordered-sorted xs)) (reordered-placed x (sorted lt xs))
 

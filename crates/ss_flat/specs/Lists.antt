@@ -9,7 +9,7 @@ use Rattle.ss_flat.specs.declared.visits.Visit.{Visit}
 use Rattle.ss_flat.specs.declared.face.Face.{Face}
 use Rattle.ss_flat.specs.declared.lists.Shown.{Shown}
 use Rattle.ss_flat.specs.Greatest.{IsAllInOrder, IsGreatest}
-use Rattle.ss_flat.specs.States.{IsFace, IsSkipped, IsTombstone, IsVisit, face_cmp}
+use Rattle.ss_flat.specs.States.{IsFace, IsSkippedId, IsTombstone, IsVisit, face_cmp}
 use Rattle.ss_flat.specs.Texts.{record_text}
 
 -- the time is above that of every tombstone of the id
@@ -27,7 +27,7 @@ pub record IsShownVisit (kind : FlatKind) (rows : List Row) (id : List ℕ) (vis
   pub alive : IsAlive kind rows id time
 
 -- the id is shown with this record: the time of its greatest face is above every tombstone
-pub record IsShown (kind : FlatKind) (rows : List Row) (id text : List ℕ) : Type 0 where
+pub record IsShownRecord (kind : FlatKind) (rows : List Row) (id text : List ℕ) : Type 0 where
   pub face : Face
   pub visits : List Visit
   pub greatest : IsGreatest face_cmp (IsFace kind rows id) face
@@ -36,17 +36,17 @@ pub record IsShown (kind : FlatKind) (rows : List Row) (id text : List ℕ) : Ty
   pub text_is : text ≡ record_text kind id face visits
 
 -- the id is gone since this time: it is the time of its last tombstone, and no record's is above it
-pub record IsGone (kind : FlatKind) (rows : List Row) (id : List ℕ) (time : ℕ) : Type 0 where
+pub record IsGoneId (kind : FlatKind) (rows : List Row) (id : List ℕ) (time : ℕ) : Type 0 where
   pub greatest : IsGreatest nat_cmp (IsTombstone kind rows id) time
   pub over : (face : Face) → IsFace kind rows id face → face.time ≤ time
 
 -- ---- the lists, each by id
 
-abbrev pub AreShown : FlatKind → List Row → List Shown → Type 0
-AreShown kind rows items = IsAllInOrder (λ a b. text_cmp a.id b.id) (λ shown. IsShown kind rows shown.id shown.text) items
+abbrev pub AreShownRecords : FlatKind → List Row → List Shown → Type 0
+AreShownRecords kind rows items = IsAllInOrder (λ a b. text_cmp a.id b.id) (λ shown. IsShownRecord kind rows shown.id shown.text) items
 
-abbrev pub AreGone : FlatKind → List Row → List (List ℕ × ℕ) → Type 0
-AreGone kind rows gone = IsAllInOrder (λ a b. text_cmp a.0 b.0) (λ entry. IsGone kind rows entry.0 entry.1) gone
+abbrev pub AreGoneIds : FlatKind → List Row → List (List ℕ × ℕ) → Type 0
+AreGoneIds kind rows gone = IsAllInOrder (λ a b. text_cmp a.0 b.0) (λ entry. IsGoneId kind rows entry.0 entry.1) gone
 
-abbrev pub AreSkipped : FlatKind → List Row → List (List ℕ) → Type 0
-AreSkipped kind rows ids = IsAllInOrder text_cmp (IsSkipped kind rows) ids
+abbrev pub AreSkippedIds : FlatKind → List Row → List (List ℕ) → Type 0
+AreSkippedIds kind rows ids = IsAllInOrder text_cmp (IsSkippedId kind rows) ids

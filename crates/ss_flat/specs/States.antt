@@ -45,8 +45,8 @@ abbrev pub IsVisit : FlatKind → List Row → List ℕ → Visit → ℕ → Ty
 IsVisit kind rows id visit time = Tells kind rows id (λ row r. OnRecord (λ said. Contains said.visits visit × (row.modified ≡ time)) r)
 
 -- a row of the id was skipped
-abbrev pub IsSkipped : FlatKind → List Row → List ℕ → Type 0
-IsSkipped kind rows id = Tells kind rows id (λ row r. r ≡ Skipped)
+abbrev pub IsSkippedId : FlatKind → List Row → List ℕ → Type 0
+IsSkippedId kind rows id = Tells kind rows id (λ row r. r ≡ Skipped)
 
 -- ---- the state
 
@@ -82,8 +82,8 @@ pub record IsStateOf (kind : FlatKind) (rows : List Row) (id : List ℕ) (heard 
   pub face : IsGreatestOf face_cmp (IsFace kind rows id) heard.face
   pub visits : (visit : Visit) → IsGreatestOf nat_cmp (IsVisit kind rows id visit) (time_of visit heard.visits)
   pub once : Pairs OtherVisit heard.visits
-  pub skipped : heard.skipped ≡ true → IsSkipped kind rows id
-  pub unskipped : heard.skipped ≡ false → IsSkipped kind rows id → ⊥
+  pub skipped : heard.skipped ≡ true → IsSkippedId kind rows id
+  pub unskipped : heard.skipped ≡ false → IsSkippedId kind rows id → ⊥
 
 -- what is kept of an id, and how many more visits fit without memory
 pub record RoomedId : Type 0 where

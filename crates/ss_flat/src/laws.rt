@@ -5,17 +5,17 @@ ghost use Rattle.ss_bso.specs.declared.rows.Row.{Row};
 ghost use Rattle.ss_flat.specs.declared.kinds.FlatKind.{FlatKind};
 ghost use Rattle.ss_flat.specs.declared.lists.Shown.{Shown};
 ghost use Rattle.ss_flat.specs.Laws.{Associates, Commutes, IsIdempotent, SameSet};
-ghost use Rattle.ss_flat.specs.Lists.{AreGone, AreShown, AreSkipped};
+ghost use Rattle.ss_flat.specs.Lists.{AreGoneIds, AreShownRecords, AreSkippedIds};
 ghost use Rattle.ss_flat.specs.States.{IsFlatState, State, TellsSame};
 
 /// The order and repeats of rows don't matter: rows that are the same as a set come to the same lists.
 pub fn order_and_repeats_are_nothing()
     ensures shown { (kind : FlatKind) (rows others : List Row) → SameSet rows others → (xs ys : List Shown)
-        → AreShown kind rows xs → AreShown kind others ys → xs ≡ ys }
+        → AreShownRecords kind rows xs → AreShownRecords kind others ys → xs ≡ ys }
     ensures gone { (kind : FlatKind) (rows others : List Row) → SameSet rows others → (xs ys : List (List ℕ × ℕ))
-        → AreGone kind rows xs → AreGone kind others ys → xs ≡ ys }
+        → AreGoneIds kind rows xs → AreGoneIds kind others ys → xs ≡ ys }
     ensures skipped { (kind : FlatKind) (rows others : List Row) → SameSet rows others → (xs ys : List (List ℕ))
-        → AreSkipped kind rows xs → AreSkipped kind others ys → xs ≡ ys }
+        → AreSkippedIds kind rows xs → AreSkippedIds kind others ys → xs ≡ ys }
 {}
 
 /// A set of rows has one state, by what is kept of each id, and a state is that of every list of the same rows.

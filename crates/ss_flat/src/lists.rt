@@ -7,7 +7,7 @@ ghost use Rattle.ss_text.specs.Texts.{sorted, text_cmp};
 ghost use Rattle.ss_bso.specs.declared.rows.Row.{Row as RowView};
 ghost use Rattle.ss_bso.specs.Lists.{Pairs};
 ghost use Rattle.ss_flat.specs.Joining.{OtherKey};
-ghost use Rattle.ss_flat.specs.Lists.{AreGone, AreShown, AreSkipped};
+ghost use Rattle.ss_flat.specs.Lists.{AreGoneIds, AreShownRecords, AreSkippedIds};
 ghost use Rattle.ss_flat.specs.States.{IsFlatState};
 ghost use Rattle.ss_flat.specs.Told.{gone_of, shown_of, skipped_of};
 
@@ -81,7 +81,7 @@ impl Flat {
     /// The items, by id.
     pub fn shown(&self, alloc: Global) -> Result<Vec<Shown>, AllocError>
         ensures { IfOk result (λ shown. (rows : List RowView) → IsFlatState rows self.now
-            → AreShown self.now.kind rows shown.items) }
+            → AreShownRecords self.now.kind rows shown.items) }
     {
         shown_by_id(self.all_shown(alloc)?)
     }
@@ -121,7 +121,7 @@ impl Flat {
     /// The ids that are gone, each with the time of its last tombstone, by id.
     pub fn gone(&self, alloc: Global) -> Result<Vec<(Id, Stamp)>, AllocError>
         ensures { IfOk result (λ gone. (rows : List RowView) → IsFlatState rows self.now
-            → AreGone self.now.kind rows gone.items) }
+            → AreGoneIds self.now.kind rows gone.items) }
     {
         gone_by_id(self.all_gone(alloc)?)
     }
@@ -156,7 +156,7 @@ impl Flat {
     /// The ids of which a row was skipped, by id.
     pub fn skipped(&self, alloc: Global) -> Result<Ids, AllocError>
         ensures { IfOk result (λ skipped. (rows : List RowView) → IsFlatState rows self.now
-            → AreSkipped self.now.kind rows skipped) }
+            → AreSkippedIds self.now.kind rows skipped) }
     {
         Ok(Ids::new(skipped_by_id(self.all_skipped(alloc)?)?))
     }

@@ -38,8 +38,8 @@ abbrev pub time_of : Heard → ℕ
 time_of heard = unwrap_or heard.modified 0
 
 -- another status than the awaited one: something has changed, or the request is refused
-abbrev pub unawaited : Awaited → Heard → Answer
-unawaited awaited heard = if is_conditional awaited && (heard.status == 412) then Changed (time_of heard) else Refused heard.status
+abbrev pub unawaited_answer : Awaited → Heard → Answer
+unawaited_answer awaited heard = if is_conditional awaited && (heard.status == 412) then Changed (time_of heard) else Refused heard.status
 
 -- a page with the time of the collection
 abbrev pub page_of : Heard → ℕ → Json → Option Answer
@@ -77,4 +77,4 @@ understood Writing heard d = written_of d
 -- the answer that a response is; one with the awaited status that isn't in form is no answer
 unfoldable pub answer_of : Awaited → Heard → Answer
 answer_of awaited heard =
-    if heard.status == status_of awaited then unwrap_or (option_and_then (understood awaited heard) (json_of heard.body)) Unread else unawaited awaited heard
+    if heard.status == status_of awaited then unwrap_or (option_and_then (understood awaited heard) (json_of heard.body)) Unread else unawaited_answer awaited heard

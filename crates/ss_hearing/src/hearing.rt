@@ -2,7 +2,7 @@
 
 ghost use Rattle.std.specs.Prelude.{◌≡◌, IfOk, OnErr, Some, None, option_map};
 ghost use Rattle.json.specs.Value.{value_view};
-ghost use Rattle.ss_hearing.specs.Hearing.{status_of, time_of, unawaited, page_of, answer_or_failure, held_of};
+ghost use Rattle.ss_hearing.specs.Hearing.{status_of, time_of, unawaited_answer, page_of, answer_or_failure, held_of};
 ghost use Rattle.ss_hearing.specs.Hearing.{written_of};
 ghost use Rattle.ss_hearing.specs.Hearing.{understood, answer_of};
 
@@ -28,7 +28,7 @@ fn time_of(heard: &Heard) -> Stamp
 
 /// Another status than the awaited one.
 fn unawaited(awaited: Awaited, heard: &Heard) -> Answer
-    ensures { result ≡ unawaited awaited heard.now }
+    ensures { result ≡ unawaited_answer awaited heard.now }
 {
     if awaited.is_conditional() && heard.status == 412 {
         Answer::Changed(time_of(heard))

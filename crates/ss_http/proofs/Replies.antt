@@ -22,7 +22,7 @@ use Rattle.ss_http.specs.declared.response.ResponseHead.{ResponseHead}
 use Rattle.ss_http.specs.declared.heard.Heard.{Heard}
 use Rattle.ss_http.specs.Fields.{Line, lines, field_if, same_name, first_named, closes, holds_close, without_spaces}
 use Rattle.ss_http.specs.Responses.{type_of, body_fields, fields, reason_of, head_text, response}
-use Rattle.ss_http.specs.Hearing.{Hears, size_of, said, IsBare, IsAllow, IsSound}
+use Rattle.ss_http.specs.Hearing.{Hears, size_of, heard_of_response, IsBare, IsAllow, IsSound}
 use Rattle.ss_http.proofs.LineLemmas.{lines-append}
 use Rattle.ss_http.proofs.Written.{field_of, lines_print, Fit, fit-append, fit_if, bare_map, are_fields, values_are}
 use Rattle.ss_http.proofs.Written.{none_named, named_here, or_none, none_closing, if_count, if_long, map_long}
@@ -305,7 +305,7 @@ size_heard h body false e few empty =
     ∙ ap (option_and_then (number_of LENGTH_DIGITS)) (length_heard h (length body) e) ∙ number_again (length body) few
 
 -- a written response is heard as it was meant
-pub hears_response : (h : ResponseHead) (body rest : List ℕ) → IsSound h body → Hears (response h body ++ rest) (said h body) rest
+pub hears_response : (h : ResponseHead) (body rest : List ℕ) → IsSound h body → Hears (response h body ++ rest) (heard_of_response h body) rest
 hears_response h body rest s =
     let n = length body in
     let few : h.status < 2 ^ 64 = omega (arith, s.status) in

@@ -4,7 +4,7 @@ use Rattle.ss_outside.specs.Told.{Meanings, HasRead}
 use Rattle.ss_http.specs.declared.fault.MsgFault.{MsgFault}
 
 -- the bytes that were read and belong to no message yet, and why no message will come any more, if so
-pub record Kept : Type 0 where
+pub record KeptBytes : Type 0 where
   pub bytes : List ℕ
   pub stop : Option MsgFault
 

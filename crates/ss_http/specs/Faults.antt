@@ -29,13 +29,13 @@ pub record WantsBody (buf : List ℕ) : Type 0 where
   pub short : length buf < length (print_request head) + n
 
 -- the head has a Transfer-Encoding
-pub record IsCoded (buf : List ℕ) : Type 0 where
+pub record HasTransferCoding (buf : List ℕ) : Type 0 where
   pub head : RequestHead
   pub begins : BeginsWith buf head
   pub coded : IsSome (first_named (codes "Transfer-Encoding") (fields_of head))
 
 -- the head has no Transfer-Encoding, and a Content-Length that isn't 1 to 18 digits, or two that differ
-pub record IsUnmeasured (buf : List ℕ) : Type 0 where
+pub record HasFaultyLength (buf : List ℕ) : Type 0 where
   pub head : RequestHead
   pub begins : BeginsWith buf head
   pub plain : first_named (codes "Transfer-Encoding") (fields_of head) ≡ None
@@ -54,8 +54,8 @@ IsMessageFault faults.End bytes = bytes ≡ []
 IsMessageFault faults.Cut bytes = WantsHead bytes ⊎ WantsBody bytes
 IsMessageFault faults.BadHead bytes = NeverHead bytes
 IsMessageFault faults.HeadTooLong bytes = (most_head_bytes ≤ length bytes) × NoHead bytes
-IsMessageFault faults.Coded bytes = IsCoded bytes
-IsMessageFault faults.BadLength bytes = IsUnmeasured bytes
+IsMessageFault faults.Coded bytes = HasTransferCoding bytes
+IsMessageFault faults.BadLength bytes = HasFaultyLength bytes
 IsMessageFault (faults.TooLarge n) bytes = IsTooLarge n bytes
 IsMessageFault faults.ReadFault bytes = NoMessage bytes
 IsMessageFault faults.Memory bytes = ⊤

@@ -139,8 +139,8 @@ RisesHearing _ before now = now ≡ before
 -- ---- the responses of this crate
 
 -- what a written response says
-abbrev pub said : ResponseHead → List ℕ → Heard
-said head body = record { status = head.status; modified = head.modified; next = option_map decimal head.next; body = body; last = head.last }
+abbrev pub heard_of_response : ResponseHead → List ℕ → Heard
+heard_of_response head body = record { status = head.status; modified = head.modified; next = option_map decimal head.next; body = body; last = head.last }
 
 -- a value of bytes that a field may have, with no blank at its ends
 pub record IsBare (value : List ℕ) : Type 0 where

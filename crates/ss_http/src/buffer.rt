@@ -5,7 +5,7 @@ ghost use Rattle.std.specs.Prelude.{IfOk, OnErr};
 ghost use Rattle.ss_http.specs.declared.limits.TheConstants.{ROOM};
 ghost use Rattle.ss_outside.specs.Causes.{RisesOnErr};
 ghost use Rattle.ss_outside.specs.Told.{EndsAt};
-ghost use Rattle.ss_http.specs.Buffers.{Kept, Brings, count_of};
+ghost use Rattle.ss_http.specs.Buffers.{KeptBytes, Brings, count_of};
 
 use crate::fault::MsgFault;
 use crate::limits::{FIRST_ROOM, ROOM};
@@ -25,10 +25,10 @@ pub struct Buffer {
 
 impl Model for Buffer {
     ghost use Rattle.std.specs.Prelude.{◌≤◌, slice_range, length, vec_capacity};
-    ghost use Rattle.ss_http.specs.Buffers.{Kept};
+    ghost use Rattle.ss_http.specs.Buffers.{KeptBytes};
     ghost use Rattle.ss_http.specs.declared.limits.TheConstants.{ROOM};
 
-    ghost Value = { Kept };
+    ghost Value = { KeptBytes };
 
     ghost view = { λ buffer. record { bytes = slice_range buffer.bytes.items buffer.start buffer.end; stop = buffer.stop } };
 

@@ -3,7 +3,7 @@
 ghost use Rattle.std.specs.Prelude.{◌≡◌, ◌++◌, List, ℕ, Some, None, Option, Err};
 ghost use Rattle.ss_http.specs.Messages.{ReadsMessage, NoMessage, NeverMessage, Splits};
 ghost use Rattle.ss_http.specs.Faults.{IsMessageFault, IsRefusal};
-ghost use Rattle.ss_http.specs.Hearing.{AfterAll, Hears, Hearing, IsSound, said};
+ghost use Rattle.ss_http.specs.Hearing.{AfterAll, Hears, Hearing, IsSound, heard_of_response};
 ghost use Rattle.ss_http.specs.Requests.{IsSendable, message_sent, request_text};
 ghost use Rattle.ss_http.specs.Responses.{response};
 ghost use Rattle.ss_http.specs.declared.fault.MsgFault.{MsgFault};
@@ -40,7 +40,7 @@ pub fn requests_are_read()
 /// stands whole at the front is refused by no fault but of the source or for want of memory.
 pub fn responses_are_heard()
     ensures said { (head : ResponseHead) (body rest : List ℕ) → IsSound head body
-        → Hears (response head body ++ rest) (said head body) rest }
+        → Hears (response head body ++ rest) (heard_of_response head body) rest }
     ensures once { (input : List ℕ) (a b : Heard) (r q : List ℕ) → Hears input a r → Hears input b q → (a ≡ b)
         × (r ≡ q) }
     ensures always { (got left : List ℕ) (heard : Heard) (rest : List ℕ) (e : HeardFault)

@@ -7,7 +7,7 @@ ghost use Rattle.ss_outside.specs.Told.{HasRead};
 ghost use Rattle.ss_http.specs.Buffers.{Brings};
 ghost use Rattle.ss_http.specs.Faults.{IsMessageFault, IsRefusal};
 ghost use Rattle.ss_http.specs.Heads.{IsHeadAt};
-ghost use Rattle.ss_http.specs.Reading.{IsDecided, IsShort, EndsWith, RisesWith, ReadsNext, ended_by};
+ghost use Rattle.ss_http.specs.Reading.{DecidesHead, IsShort, EndsWith, RisesWith, ReadsNext, ended_by};
 ghost use Rattle.ss_http.specs.Messages.{ReadsMessage};
 ghost use Rattle.ss_http.specs.declared.message.Message.{Message};
 
@@ -56,7 +56,7 @@ fn read_head<S: Source>(
     ensures stop { buffer.new.stop ≡ buffer.old.stop }
     ensures bytes { Brings buffer.old.bytes buffer.new.bytes (S.Told.told source.old) (S.Told.told source.new) }
     ensures head { IfOk result (λ head. IsHeadAt buffer.new.bytes head) }
-    ensures ready { IsDecided buffer.old.bytes → (buffer.new ≡ buffer.old)
+    ensures ready { DecidesHead buffer.old.bytes → (buffer.new ≡ buffer.old)
         × (S.Told.told source.new ≡ S.Told.told source.old) }
     ensures fault { IfErr result (λ e. IsMessageFault e buffer.new.bytes) }
     ensures ended { IfErr result (λ e. EndsWith e (S.Told.told source.new)) }
@@ -117,7 +117,7 @@ fn read_whole<S: Source>(
         (drop r.1 buffer.new.bytes)) }
     ensures ready { (m : Message) (rest : List ℕ) → ReadsMessage buffer.old.bytes m rest
         → S.Told.told source.new ≡ S.Told.told source.old }
-    ensures refused { IfErr result (λ e. IsRefusal e → IsDecided buffer.old.bytes
+    ensures refused { IfErr result (λ e. IsRefusal e → DecidesHead buffer.old.bytes
         → S.Told.told source.new ≡ S.Told.told source.old) }
     ensures fault { IfErr result (λ e. IsMessageFault e buffer.new.bytes) }
     ensures ended { IfErr result (λ e. EndsWith e (S.Told.told source.new)) }
@@ -167,7 +167,7 @@ pub fn read_message<S: Source>(
         → S.Told.told source.new ≡ S.Told.told source.old) }
     // A message whose head is refused is refused without a read where the head is kept whole, or as many bytes are kept
     // as it may have.
-    ensures refused { IfNone buffer.old.stop (IfErr result (λ e. IsRefusal e → IsDecided buffer.old.bytes
+    ensures refused { IfNone buffer.old.stop (IfErr result (λ e. IsRefusal e → DecidesHead buffer.old.bytes
         → S.Told.told source.new ≡ S.Told.told source.old)) }
     ensures ended { IfNone buffer.old.stop (IfErr result (λ e. EndsWith e (S.Told.told source.new))) }
     ensures cause { IfNone buffer.old.stop (MatchResult result

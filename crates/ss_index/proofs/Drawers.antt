@@ -9,7 +9,7 @@ use Rattle.ss_bso.specs.Limits.{row_bytes}
 use Rattle.ss_list.specs.Chain.{Chain, value_of, without, first_of}
 use Rattle.indexmap.specs.IndexMap.{IndexMap, get}
 use Rattle.ss_index.specs.Held.{has_id, rows_but_id}
-use Rattle.ss_index.specs.Layout.{NoLater, IsKept}
+use Rattle.ss_index.specs.Layout.{NoLater, IsLayout}
 use Rattle.ss_bso.specs.Lists.{OtherId}
 use Rattle.ss_bso.proofs.Lists.{Each, Each-append, Each-imp, Pairs, Pairs-filter, Pairs-append}
 use Rattle.ss_bso.proofs.SameRows.{find-none, filter-all}
@@ -144,7 +144,7 @@ size-without p row (node ∷ nodes) found =
 some_and : {X : Type 0} (P : X → Type 0) (o : Option X) (x : X) → o ≡ Some x → IsSomeAnd o P → P x
 some_and P o x e h = subst (λ v. IsSomeAnd v P) e h
 
-module _ {S : Type 0} {places : IndexMap (List ℕ) ℕ S} {chain : Chain Row} {bytes : ℕ} (kept : IsKept places chain bytes) where
+module _ {S : Type 0} {places : IndexMap (List ℕ) ℕ S} {chain : Chain Row} {bytes : ℕ} (kept : IsLayout places chain bytes) where
   -- the row at the place of an id
   pub live_id : (id : List ℕ) (p : ℕ) (row : Row) → get bytes_eq places id ≡ Some p → value_of chain p ≡ Some row → row.id ≡ id
   live_id id p row e v = some_and (λ (one : Row). one.id ≡ id) (value_of chain p) row v (kept.live id p e)
@@ -204,7 +204,7 @@ module _ {S : Type 0} {places : IndexMap (List ℕ) ℕ S} {chain : Chain Row} {
               subst (λ o. IsSomeAnd o (λ (one : Row). one.id ≡ q)) (sym (others r other)) (kept.live q r f))
         ] refl (sym (updates q) ∙ h)
 
-    pub taken_kept : IsKept now rest (bytes - length row.payload)
+    pub taken_kept : IsLayout now rest (bytes - length row.payload)
     taken_kept = record {
       covers = subst (λ left. Each (λ (node : ℕ × Row). get bytes_eq now node.1.id ≡ Some node.0) left) (sym nodes)
           (covers-kept (get bytes_eq places) (get bytes_eq now) id (Some p) e (λ q t. updates q ∙ ap (λ b. cond b None (get bytes_eq places q)) t)
@@ -216,7 +216,7 @@ module _ {S : Type 0} {places : IndexMap (List ℕ) ℕ S} {chain : Chain Row} {
     }
 
   -- a map that has lost an id that was not there
-  pub kept_still : {now : IndexMap (List ℕ) ℕ S} → ((q : List ℕ) → get bytes_eq now q ≡ get bytes_eq places q) → IsKept now chain bytes
+  pub kept_still : {now : IndexMap (List ℕ) ℕ S} → ((q : List ℕ) → get bytes_eq now q ≡ get bytes_eq places q) → IsLayout now chain bytes
   kept_still {now} same = record {
     covers = Each-imp (λ (node : ℕ × Row). get bytes_eq places node.1.id ≡ Some node.0) (λ (node : ℕ × Row). get bytes_eq now node.1.id ≡ Some node.0) (λ node h. same node.1.id ∙ h) chain.nodes kept.covers;
     live = λ q r h. kept.live q r (sym (same q) ∙ h);
@@ -248,7 +248,7 @@ module _ {S : Type 0} {places : IndexMap (List ℕ) ℕ S} {chain : Chain Row} {
               subst (λ o. IsSomeAnd o (λ (one : Row). one.id ≡ q)) (sym (others r other)) (kept.live q r f))
         ] refl (sym (updates q) ∙ h)
 
-    pub put_kept : IsKept now more (bytes + length row.payload)
+    pub put_kept : IsLayout now more (bytes + length row.payload)
     put_kept = record {
       covers = subst (λ left. Each (λ (node : ℕ × Row). get bytes_eq now node.1.id ≡ Some node.0) left) (sym nodes)
           (Each-append (λ (node : ℕ × Row). get bytes_eq now node.1.id ≡ Some node.0) chain.nodes ((p, row) ∷ [])

@@ -11,22 +11,22 @@ use Rattle.ss_bso.specs.declared.rows.Row.{Row}
 use Rattle.ss_bso.specs.declared.changes.CollectionChange.{CollectionChange}
 use Rattle.ss_bso.specs.declared.changes.CollectionChange.TheVariants as collection
 use Rattle.ss_bso.specs.Account.{is_alive}
-use Rattle.ss_bso.specs.Changes.{changed, drops, row_changed}
+use Rattle.ss_bso.specs.Changes.{kept_after_changes, drops, row_changed}
 use Rattle.ss_bso.specs.declared.changes.Changes.{Changes}
 use Rattle.ss_bso.specs.declared.changes.Kept.{Kept}
 use Rattle.ss_index.specs.declared.ready.Ready.{Ready}
 use Rattle.ss_bso.specs.Limits.{row_bytes}
-use Rattle.ss_index.specs.Held.{Held, IsSized}
+use Rattle.ss_index.specs.Held.{HeldRows, HasCountablePayload}
 use Rattle.ss_index.specs.Shelved.{rows_in, rows_without, dropped_name, dropped_names, NamesDrawers, NamesApart}
 use Rattle.ss_index.specs.Shelved.{IsShelf}
-use Rattle.ss_index.specs.Ready.{applied, changes_of, rows_left, IsReady}
+use Rattle.ss_index.specs.Ready.{rows_after_ready, changes_of, rows_left, IsReady}
 use Rattle.ss_index.specs.Sweep.{Outlives}
 use Rattle.ss_bso.proofs.Lists.{Each, Each-filter, Each-imp}
 use Rattle.ss_index.proofs.Shelves.{filter-none, filter-every, of_collection, of_another, others_named, names_beside}
 use Rattle.ss_index.proofs.Shelves.{named-edited, counted, len-adds, bytes-adds, none_named}
 use Rattle.ss_text.proofs.Basics.{bytes_eq-sym, length-filter_le, filter_map-push}
 
-pub without_in : (name : List ℕ) (held now : Held) → now.rows ≡ [] → (drawers : List (List ℕ × Held)) → NamesDrawers drawers → NamesApart (keys_of drawers) → lookup (bytes_eq name) drawers ≡ Some held
+pub without_in : (name : List ℕ) (held now : HeldRows) → now.rows ≡ [] → (drawers : List (List ℕ × HeldRows)) → NamesDrawers drawers → NamesApart (keys_of drawers) → lookup (bytes_eq name) drawers ≡ Some held
     → rows_in (set_value (bytes_eq name) drawers now) ≡ rows_without (rows_in drawers) name
 without_in name held now none [] n a e = cc
 without_in name held now none (drawer ∷ drawers) n a e =
@@ -46,12 +46,12 @@ without_in name held now none (drawer ∷ drawers) n a e =
     ] refl e
     ∙ sym (filter-append other drawer.1.rows (rows_in drawers))
 
-pub without_none : (name : List ℕ) (drawers : List (List ℕ × Held)) → NamesDrawers drawers → lookup (bytes_eq name) drawers ≡ None → rows_in drawers ≡ rows_without (rows_in drawers) name
+pub without_none : (name : List ℕ) (drawers : List (List ℕ × HeldRows)) → NamesDrawers drawers → lookup (bytes_eq name) drawers ≡ None → rows_in drawers ≡ rows_without (rows_in drawers) name
 without_none name drawers n e =
     sym (filter-every (λ row. not (bytes_eq row.collection name)) (rows_in drawers)
     (Each-imp (λ (row : Row). bytes_eq row.collection name ≡ false) (λ (row : Row). not (bytes_eq row.collection name) ≡ true) (λ row k. ap not k) (rows_in drawers) (none_named name drawers n e)))
 
-pub cleared : {drawers : List (List ℕ × Held)} {len total ends : ℕ} (shelf : IsShelf drawers len total ends) (name : List ℕ) (held now : Held) (after : List (List ℕ × Held)) → lookup (bytes_eq name) drawers ≡ Some held
+pub cleared : {drawers : List (List ℕ × HeldRows)} {len total ends : ℕ} (shelf : IsShelf drawers len total ends) (name : List ℕ) (held now : HeldRows) (after : List (List ℕ × HeldRows)) → lookup (bytes_eq name) drawers ≡ Some held
     → after ≡ set_value (bytes_eq name) drawers now → keys_of after ≡ keys_of drawers → now.rows ≡ [] → IsShelf after (len - length held.rows) (total - row_bytes held.rows) ends
 cleared {drawers} {len} {total} {ends} shelf name held now after e set keys none =
     let no_rows : ◌≡◌ {A = ℕ} (length now.rows) 0 = ap (λ l. length l) none in
@@ -61,8 +61,8 @@ cleared {drawers} {len} {total} {ends} shelf name held now after e set keys none
       names = subst (λ l. NamesApart l) (sym keys) shelf.names;
       len_counts = omega (arith, no_rows, shelf.len_counts, ap (λ l. length (rows_in l)) set, counted (λ l. length l) len-adds name held now drawers e);
       total_counts = omega (arith, no_bytes, shelf.total_counts, ap (λ l. row_bytes (rows_in l)) set, counted row_bytes bytes-adds name held now drawers e);
-      sizes = subst (λ l. Each IsSized l) (sym (ap (λ l. rows_in l) set ∙ without_in name held now none drawers shelf.named shelf.names e))
-          (Each-filter IsSized (λ row. not (bytes_eq row.collection name)) (rows_in drawers) shelf.sizes);
+      sizes = subst (λ l. Each HasCountablePayload l) (sym (ap (λ l. rows_in l) set ∙ without_in name held now none drawers shelf.named shelf.names e))
+          (Each-filter HasCountablePayload (λ row. not (bytes_eq row.collection name)) (rows_in drawers) shelf.sizes);
       outlive = subst (λ l. Each (Outlives ends) l) (sym (ap (λ l. rows_in l) set ∙ without_in name held now none drawers shelf.named shelf.names e))
           (Each-filter (Outlives ends) (λ row. not (bytes_eq row.collection name)) (rows_in drawers) shelf.outlive);
     }
@@ -116,7 +116,7 @@ left_number [] rows = omega arith
 left_number (name ∷ names) rows = omega (arith, left_number names (rows_without rows name), length-filter_le (λ row. not (bytes_eq row.collection name)) rows)
 
 -- what is applied is what the keepers make of the changes
-pub applied_is : (ready : Ready) (changes : Changes) (kept : Kept) (drawers : List (List ℕ × Held)) → IsReady ready changes drawers → kept.rows ≡ rows_in drawers → applied ready (rows_in drawers) ≡ (changed kept changes).rows
+pub applied_is : (ready : Ready) (changes : Changes) (kept : Kept) (drawers : List (List ℕ × HeldRows)) → IsReady ready changes drawers → kept.rows ≡ rows_in drawers → rows_after_ready ready (rows_in drawers) ≡ (kept_after_changes kept changes).rows
 applied_is ready changes kept drawers is same =
     ap (λ m. fold row_changed (rows_left ready.dropped.items (filter (is_alive m) (rows_in drawers))) (changes_of ready.rows.items)) is.moment
     ∙ ap (λ names. fold row_changed (rows_left names (filter (is_alive changes.moment) (rows_in drawers))) (changes_of ready.rows.items)) is.dropped

@@ -13,7 +13,7 @@ use denote.Param.Members.{Mut}
 use Rattle.std.proofs.lemmas.Map.Keys.{ge_from_not_lt}
 use Rattle.std.specs.Cmp.{nat_cmp_total}
 use Rattle.std.specs.Ordering.{nat_cmp, is_lt}
-use Rattle.ss_text.specs.Texts.{Reordered, head, swapped, chain}
+use Rattle.ss_text.specs.Texts.{IsReordering, head, swapped, chain}
 use Rattle.ss_bso.specs.declared.rows.Row.{Row}
 use Rattle.ss_bso.specs.Account.{is_at}
 use Rattle.ss_bso.specs.Changes.{rows_but}
@@ -35,13 +35,13 @@ in_time_sorted rows up =
 
 -- how far the filling has come: the rows that are in, and those to come
 pub record Filled (all inside rest : List Row) : Type 0 where
-  pub same : Reordered all (inside ++ rest)
+  pub same : IsReordering all (inside ++ rest)
   pub times : Pairs NoLater rest
   pub later : Each (λ (row : Row). Each (NoLater row) rest) inside
 
 pub fill_begun : (rows inside : List Row) → inside ≡ [] → Pairs NoLater rows → Filled rows inside rows
 fill_begun rows inside none times = record {
-  same = subst (λ l. Reordered rows (l ++ rows)) (sym none) (reordered-refl rows);
+  same = subst (λ l. IsReordering rows (l ++ rows)) (sym none) (reordered-refl rows);
   times = times;
   later = subst (λ l. Each (λ (row : Row). Each (NoLater row) rows) l) (sym none) tt;
 }
@@ -53,10 +53,10 @@ module _ {all inside : List Row} {row : Row} {rest : List Row} (f : Filled all i
       Each-filter (λ (other : Row). other.modified ≤ row.modified) (λ one. bytes_eq one.collection row.collection) inside
       (Each-imp (λ (one : Row). Each (NoLater one) (row ∷ rest)) (λ (other : Row). other.modified ≤ row.modified) (λ one h. h.0) inside f.later)
 
-  row_first : Reordered (inside ++ row ∷ rest) (row ∷ (inside ++ rest))
+  row_first : IsReordering (inside ++ row ∷ rest) (row ∷ (inside ++ rest))
   row_first = to_front inside
     where
-      to_front : (us : List Row) → Reordered (us ++ row ∷ rest) (row ∷ (us ++ rest))
+      to_front : (us : List Row) → IsReordering (us ++ row ∷ rest) (row ∷ (us ++ rest))
       to_front [] = reordered-refl (row ∷ rest)
       to_front (u ∷ us) = chain (head u (to_front us)) (swapped u row (us ++ rest))
 
@@ -70,24 +70,24 @@ module _ {all inside : List Row} {row : Row} {rest : List Row} (f : Filled all i
       front [] e = tt
       front (u ∷ us) e = (e.0, front us e.1)
 
-  pub fill_more : (after : List Row) → Pairs Apart all → Reordered after (rows_but row.collection row.id inside ++ row ∷ []) → Filled all after rest
+  pub fill_more : (after : List Row) → Pairs Apart all → IsReordering after (rows_but row.collection row.id inside ++ row ∷ []) → Filled all after rest
   fill_more after apart put =
-      let put_last : Reordered after (inside ++ row ∷ []) = subst (λ l. Reordered after (l ++ row ∷ [])) (next_new apart) put in
+      let put_last : IsReordering after (inside ++ row ∷ []) = subst (λ l. IsReordering after (l ++ row ∷ [])) (next_new apart) put in
       record {
-        same = chain f.same (subst (λ l. Reordered l (after ++ rest)) (append_assoc inside (row ∷ []) rest) (reordered-append_right rest (reordered-sym put_last)));
+        same = chain f.same (subst (λ l. IsReordering l (after ++ rest)) (append_assoc inside (row ∷ []) rest) (reordered-append_right rest (reordered-sym put_last)));
         times = f.times.1;
         later = Each-reordered (λ (one : Row). Each (NoLater one) rest) (reordered-sym put_last)
             (Each-append (λ (one : Row). Each (NoLater one) rest) inside (row ∷ [])
             (Each-imp (λ (one : Row). Each (NoLater one) (row ∷ rest)) (λ (one : Row). Each (NoLater one) rest) (λ one h. h.1) inside f.later) (f.times.0, tt));
       }
 
-pub fill_done : {all inside rest : List Row} → Filled all inside rest → rest ≡ [] → Reordered all inside
-fill_done {all} {inside} f e = subst (λ l. Reordered all l) (append-nil inside) (subst (λ l. Reordered all (inside ++ l)) e f.same)
+pub fill_done : {all inside rest : List Row} → Filled all inside rest → rest ≡ [] → IsReordering all inside
+fill_done {all} {inside} f e = subst (λ l. IsReordering all l) (append-nil inside) (subst (λ l. IsReordering all (inside ++ l)) e f.same)
 
 pub fill_number : {all inside : List Row} {row : Row} {rest : List Row} → Filled all inside (row ∷ rest) → length inside + 1 ≤ length all
 fill_number {all} {inside} {row} {rest} f = omega (arith, length-reordered f.same, length-append inside (row ∷ rest))
 
-pub apart-reordered : {rows others : List Row} → Reordered rows others → Pairs Apart rows → Pairs Apart others
+pub apart-reordered : {rows others : List Row} → IsReordering rows others → Pairs Apart rows → Pairs Apart others
 apart-reordered r e = Pairs-reordered Apart apart_flip r e
 
 -- what a sort by time leaves

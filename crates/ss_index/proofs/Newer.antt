@@ -3,7 +3,7 @@ use Rattle.std.specs.Prelude.{◌≡◌, ◌≤◌, ◌+◌, ℕ, Bool, true, fa
 use Rattle.std.specs.List.{count_by}
 use Rattle.std.proofs.Common.{sym, ap, ◌∙◌, subst, arith}
 use Rattle.std.proofs.lemmas.List.Sums.{length-filter}
-use Rattle.ss_text.specs.Texts.{Reordered}
+use Rattle.ss_text.specs.Texts.{IsReordering}
 use Rattle.ss_bso.specs.declared.rows.Row.{Row}
 use Rattle.ss_bso.specs.Limits.{rows_of}
 use Rattle.ss_bso.proofs.Reordering.{reordered-filter, length-reordered}
@@ -24,7 +24,7 @@ fewer : {X : Type 0} (p q : X → Bool) (xs : List X) → length (filter p (filt
 fewer p q [] = omega arith
 fewer p q (x ∷ xs) = less-step p (q x) x (filter q xs) xs (fewer p q xs)
 
-pub fewer_of : (p : Row → Bool) (collection : List ℕ) (rows others : List Row) → Reordered others rows → count_by p (rows_of collection others) ≤ count_by p rows
+pub fewer_of : (p : Row → Bool) (collection : List ℕ) (rows others : List Row) → IsReordering others rows → count_by p (rows_of collection others) ≤ count_by p rows
 fewer_of p collection rows others same =
     let few : length (filter p (rows_of collection others)) ≤ length (filter p others) = fewer p (λ row. bytes_eq row.collection collection) others in
     let one = length-filter p (rows_of collection others) in

@@ -5,7 +5,7 @@ use Rattle.std.proofs.Common.{sym, ap, subst, ◌∙◌, append-nil}
 use Rattle.std.proofs.lemmas.List.Elements.{filter-append}
 use Rattle.std.proofs.lemmas.List.Folds.{list_any_more}
 use Rattle.std.specs.Option.{option_to_list, option_map_or}
-use Rattle.ss_text.specs.Texts.{Reordered, nothing, head, swapped, chain}
+use Rattle.ss_text.specs.Texts.{IsReordering, nothing, head, swapped, chain}
 use Rattle.ss_bso.specs.declared.rows.Row.{Row}
 use Rattle.ss_bso.specs.Write.{is_among}
 use Rattle.ss_query.specs.declared.requests.Query.{Query}
@@ -20,7 +20,7 @@ use Rattle.std.proofs.Math.Bool.{or-false}
 use Rattle.std.proofs.lemmas.Bool.{and_from}
 use Rattle.ss_text.proofs.Basics.{bytes_eq-sym, same_text}
 
-to_end : {X : Type 0} (x : X) (us : List X) → Reordered (x ∷ us) (us ++ x ∷ [])
+to_end : {X : Type 0} (x : X) (us : List X) → IsReordering (x ∷ us) (us ++ x ∷ [])
 to_end x [] = reordered-refl (x ∷ [])
 to_end x (u ∷ us) = chain (swapped x u us) (head u (to_end x us))
 
@@ -34,23 +34,23 @@ Each-find_none {X} p (x ∷ xs) e =
 
 -- one more row passes
 module _ (p : Row → Bool) (id : List ℕ) (row : Row) (new : (one : Row) → has_id id one ≡ true → p one ≡ false) where
-  added : (rows : List Row) → Pairs OtherId rows → find (has_id id) rows ≡ Some row → Reordered (filter (λ one. p one || has_id id one) rows) (filter p rows ++ row ∷ [])
+  added : (rows : List Row) → Pairs OtherId rows → find (has_id id) rows ≡ Some row → IsReordering (filter (λ one. p one || has_id id one) rows) (filter p rows ++ row ∷ [])
   added [] a e = cc
   added (one ∷ rows) a e =
       let more : List Row = filter (λ r. p r || has_id id r) rows in
       let kept : List Row = filter p rows in
-      elim (has_id id one) as (λ v. has_id id one ≡ v → cond v (Some one) (find (has_id id) rows) ≡ Some row → Reordered (cond (p one || v) (one ∷ more) more) (cond (p one) (one ∷ kept) kept ++ row ∷ [])) [
+      elim (has_id id one) as (λ v. has_id id one ≡ v → cond v (Some one) (find (has_id id) rows) ≡ Some row → IsReordering (cond (p one || v) (one ∷ more) more) (cond (p one) (one ∷ kept) kept ++ row ∷ [])) [
         | true ↦ (λ t h.
             let same : one ≡ row = cc in
             let none : p one ≡ false = new one t in
             let others : more ≡ kept = filter-same (λ r. p r || has_id id r) p rows
             (Each-imp (OtherId one) (λ (r : Row). (p r || has_id id r) ≡ p r)
             (λ r f. ap (λ v. p r || v) (ap (λ name. bytes_eq r.id name) (sym (same_text one.id id t)) ∙ f) ∙ or-false (p r)) rows a.0) in
-            subst (λ b. Reordered (cond (b || true) (one ∷ more) more) (cond b (one ∷ kept) kept ++ row ∷ [])) (sym none)
-            (subst (λ l. Reordered (one ∷ l) (kept ++ row ∷ [])) (sym others)
-            (subst (λ r. Reordered (one ∷ kept) (kept ++ r ∷ [])) same (to_end one kept))))
+            subst (λ b. IsReordering (cond (b || true) (one ∷ more) more) (cond b (one ∷ kept) kept ++ row ∷ [])) (sym none)
+            (subst (λ l. IsReordering (one ∷ l) (kept ++ row ∷ [])) (sym others)
+            (subst (λ r. IsReordering (one ∷ kept) (kept ++ r ∷ [])) same (to_end one kept))))
         | false ↦ (λ t h.
-            elim (p one) as (λ b. Reordered (cond (b || false) (one ∷ more) more) (cond b (one ∷ kept) kept ++ row ∷ [])) [
+            elim (p one) as (λ b. IsReordering (cond (b || false) (one ∷ more) more) (cond b (one ∷ kept) kept ++ row ∷ [])) [
               | true ↦ head one (added rows a.1 h)
               | false ↦ added rows a.1 h
             ])
@@ -82,26 +82,26 @@ module _ (query : Query) (rows : List Row) (distinct : Pairs OtherId rows) (ids 
       ] refl) rows (Each-any rows))
 
   -- one id more
-  pub picked_more : (old new : List Row) → Reordered (filter (is_asked query) (filter (λ row. is_among (take i ids) row.id) rows)) old → new ≡ old ++ picked_row query rows (take i ids) id
-      → Reordered (filter (is_asked query) (filter (λ row. is_among (take (i + 1) ids) row.id) rows)) new
+  pub picked_more : (old new : List Row) → IsReordering (filter (is_asked query) (filter (λ row. is_among (take i ids) row.id) rows)) old → new ≡ old ++ picked_row query rows (take i ids) id
+      → IsReordering (filter (is_asked query) (filter (λ row. is_among (take (i + 1) ids) row.id) rows)) new
   picked_more old new r e =
-      subst (λ l. Reordered (filter (is_asked query) l) new) (sym more_rows)
-      (subst (λ l. Reordered (filter (is_asked query) (filter (λ row. is_among (take i ids) row.id || has_id id row) rows)) l) (sym e)
+      subst (λ l. IsReordering (filter (is_asked query) l) new) (sym more_rows)
+      (subst (λ l. IsReordering (filter (is_asked query) (filter (λ row. is_among (take i ids) row.id || has_id id row) rows)) l) (sym e)
       (by (is_among (take i ids) id) (find (has_id id) rows) refl refl))
     where
       by : (b : Bool) (o : Option Row) → is_among (take i ids) id ≡ b → find (has_id id) rows ≡ o
-          → Reordered (filter (is_asked query) (filter (λ row. is_among (take i ids) row.id || has_id id row) rows)) (old ++ cond b [] (filter (is_asked query) (option_to_list o)))
+          → IsReordering (filter (is_asked query) (filter (λ row. is_among (take i ids) row.id || has_id id row) rows)) (old ++ cond b [] (filter (is_asked query) (option_to_list o)))
       by true o b f =
-          subst (λ l. Reordered (filter (is_asked query) (filter (λ row. is_among (take i ids) row.id || has_id id row) rows)) l) (sym (append-nil old))
-          (subst (λ l. Reordered (filter (is_asked query) l) old) (sym (same_rows_again (λ row t. ap (λ name. is_among (take i ids) name) (same_text row.id id t) ∙ b))) r)
+          subst (λ l. IsReordering (filter (is_asked query) (filter (λ row. is_among (take i ids) row.id || has_id id row) rows)) l) (sym (append-nil old))
+          (subst (λ l. IsReordering (filter (is_asked query) l) old) (sym (same_rows_again (λ row t. ap (λ name. is_among (take i ids) name) (same_text row.id id t) ∙ b))) r)
       by false None b f =
-          subst (λ l. Reordered (filter (is_asked query) (filter (λ row. is_among (take i ids) row.id || has_id id row) rows)) l) (sym (append-nil old))
-          (subst (λ l. Reordered (filter (is_asked query) l) old) (sym (filter-same (λ row. is_among (take i ids) row.id || has_id id row) (λ row. is_among (take i ids) row.id) rows
+          subst (λ l. IsReordering (filter (is_asked query) (filter (λ row. is_among (take i ids) row.id || has_id id row) rows)) l) (sym (append-nil old))
+          (subst (λ l. IsReordering (filter (is_asked query) l) old) (sym (filter-same (λ row. is_among (take i ids) row.id || has_id id row) (λ row. is_among (take i ids) row.id) rows
           (Each-imp (λ (row : Row). has_id id row ≡ false) (λ (row : Row). (is_among (take i ids) row.id || has_id id row) ≡ is_among (take i ids) row.id)
           (λ row t. ap (λ v. is_among (take i ids) row.id || v) t ∙ or-false (is_among (take i ids) row.id)) rows (Each-find_none (has_id id) rows f)))) r)
       by false (Some row) b f =
           let step = added (λ one. is_among (take i ids) one.id) id row (λ one t. ap (λ name. is_among (take i ids) name) (same_text one.id id t) ∙ b) rows distinct f in
-          chain (subst (λ l. Reordered (filter (is_asked query) (filter (λ one. is_among (take i ids) one.id || has_id id one) rows)) l)
+          chain (subst (λ l. IsReordering (filter (is_asked query) (filter (λ one. is_among (take i ids) one.id || has_id id one) rows)) l)
           (filter-append (is_asked query) (filter (λ one. is_among (take i ids) one.id) rows) (row ∷ [])) (reordered-filter (is_asked query) step))
           (reordered-append_right (filter (is_asked query) (row ∷ [])) r)
 
@@ -122,7 +122,7 @@ asked_of_ids query ids (row ∷ rows) e =
         ap (λ o. option_map_or (λ list. is_among list one.id) o true && newer && older) s ∙ ap (λ v. v && newer && older) t
 
 -- no id names no row
-pub none_among : (query : Query) (rows : List Row) → Reordered (filter (is_asked query) (filter (λ row. is_among [] row.id) rows)) []
+pub none_among : (query : Query) (rows : List Row) → IsReordering (filter (is_asked query) (filter (λ row. is_among [] row.id) rows)) []
 none_among query [] = nothing
 none_among query (row ∷ rows) = none_among query rows
 

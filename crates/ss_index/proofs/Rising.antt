@@ -14,14 +14,14 @@ use Rattle.ss_bso.specs.Lists.{Each, Pairs}
 use Rattle.ss_bso.proofs.Lists.{All-from_Each, Each-and, Each-append, Each-filter, Each-imp, Pairs-append}
 use Rattle.indexmap.specs.IndexMap.{IndexMap}
 use Rattle.ss_list.specs.Chain.{Chain, places, value_of, last_of}
-use Rattle.ss_index.specs.Layout.{NoLater, IsKept}
+use Rattle.ss_index.specs.Layout.{NoLater, IsLayout}
 use Rattle.ss_index.specs.Ready.{IsLast, InTime, NotEarlier, NotLater, PutsInOrder, Sooner, put_time, rows_left}
 use Rattle.ss_index.specs.Shelved.{rows_without}
 use Rattle.ss_index.proofs.Sweeping.{middle_value}
 use Rattle.ss_index.proofs.Walks.{keys-append, last_of-push, empty_or_ends, Each-values, no_later}
 
 -- no row of a chain is later than its last
-pub all_sooner : {S : Type 0} (rooms : IndexMap (List ℕ) ℕ S) (chain : Chain Row) (bytes : ℕ) (kept : IsKept rooms chain bytes) (here : ℕ) (row : Row) → Some here ≡ last_of (places chain) → value_of chain here ≡ Some row
+pub all_sooner : {S : Type 0} (rooms : IndexMap (List ℕ) ℕ S) (chain : Chain Row) (bytes : ℕ) (kept : IsLayout rooms chain bytes) (here : ℕ) (row : Row) → Some here ≡ last_of (places chain) → value_of chain here ≡ Some row
     → Each (λ (other : Row). other.modified ≤ row.modified) (values_of chain.nodes)
 all_sooner rooms chain bytes kept here row last v =
     elim (empty_or_ends chain.nodes) [

@@ -10,7 +10,7 @@ use Rattle.ss_bso.specs.Account.{is_alive}
 use Rattle.ss_list.specs.Chain.{Chain, value_of, without, first_of, IsAfter}
 use Rattle.indexmap.specs.IndexMap.{IndexMap, get}
 use Rattle.ss_index.specs.Held.{has_id}
-use Rattle.ss_index.specs.Layout.{IsKept}
+use Rattle.ss_index.specs.Layout.{IsLayout}
 use Rattle.ss_bso.specs.Lists.{OtherId}
 use Rattle.ss_index.specs.Sweep.{Outlives, Swept}
 use Rattle.ss_bso.proofs.Lists.{Each, Each-append, Each-imp, Pairs}
@@ -53,7 +53,7 @@ remove_middle p row [] after e = ap (λ v. cond v after ((p, row) ∷ remove_ent
 remove_middle p row (node ∷ front) after e =
     ap (λ v. cond v (front ++ (p, row) ∷ after) (node ∷ remove_entry (nat_eq p) (front ++ (p, row) ∷ after))) e.0 ∙ ap (λ rest. node ∷ rest) (remove_middle p row front after e.1)
 
-module _ {S : Type 0} (rooms : IndexMap (List ℕ) ℕ S) (chain : Chain Row) (bytes : ℕ) (kept : IsKept rooms chain bytes) (front : List (ℕ × Row)) (p : ℕ) (row : Row) (after : List (ℕ × Row)) (split : chain.nodes ≡ front ++ (p, row) ∷ after) where
+module _ {S : Type 0} (rooms : IndexMap (List ℕ) ℕ S) (chain : Chain Row) (bytes : ℕ) (kept : IsLayout rooms chain bytes) (front : List (ℕ × Row)) (p : ℕ) (row : Row) (after : List (ℕ × Row)) (split : chain.nodes ≡ front ++ (p, row) ∷ after) where
   pub middle_place : get bytes_eq rooms row.id ≡ Some p
   middle_place = each_middle (λ (node : ℕ × Row). get bytes_eq rooms node.1.id ≡ Some node.0) front (p, row) after (subst (λ l. Each (λ (node : ℕ × Row). get bytes_eq rooms node.1.id ≡ Some node.0) l) split kept.covers)
 

@@ -8,7 +8,7 @@ use Rattle.ss_bso.specs.declared.rows.Row.{Row}
 use Rattle.ss_bso.specs.Lists.{Each}
 use Rattle.ss_bso.specs.Limits.{row_bytes}
 use Rattle.ss_bso.proofs.Lists.{Each-filter}
-use Rattle.ss_index.specs.Held.{Held, some_rows, IsSized}
+use Rattle.ss_index.specs.Held.{HeldRows, some_rows, HasCountablePayload}
 use Rattle.ss_index.specs.Shelved.{rows_in, has_rows, NamesApart, IsShelf}
 use Rattle.ss_index.specs.Sweep.{Outlives}
 
@@ -26,7 +26,7 @@ some_nodes (node ∷ nodes) =
     ] refl
 
 -- no row is lost
-pub rows_in-tidied : (drawers : List (List ℕ × Held)) → rows_in (filter has_rows drawers) ≡ rows_in drawers
+pub rows_in-tidied : (drawers : List (List ℕ × HeldRows)) → rows_in (filter has_rows drawers) ≡ rows_in drawers
 rows_in-tidied [] = refl
 rows_in-tidied (drawer ∷ drawers) =
     elim (has_rows drawer) as (λ v. has_rows drawer ≡ v → rows_in (cond v (drawer ∷ filter has_rows drawers) (filter has_rows drawers)) ≡ drawer.1.rows ++ rows_in drawers) [
@@ -34,12 +34,12 @@ rows_in-tidied (drawer ∷ drawers) =
       | false ↦ (λ e. rows_in-tidied drawers ∙ ap (λ l. l ++ rows_in drawers) (sym (no_rows drawer.1.rows e)))
     ] refl
 
-keys-each : (P : List ℕ → Type 0) (p : List ℕ × Held → Bool) (drawers : List (List ℕ × Held)) → Each P (keys_of drawers) → Each P (keys_of (filter p drawers))
+keys-each : (P : List ℕ → Type 0) (p : List ℕ × HeldRows → Bool) (drawers : List (List ℕ × HeldRows)) → Each P (keys_of drawers) → Each P (keys_of (filter p drawers))
 keys-each P p [] e = tt
 keys-each P p (drawer ∷ drawers) e =
     elim (p drawer) as (λ v. Each P (keys_of (cond v (drawer ∷ filter p drawers) (filter p drawers)))) [ true ↦ (e.0, keys-each P p drawers e.1) | false ↦ keys-each P p drawers e.1 ]
 
-keys-apart : (p : List ℕ × Held → Bool) (drawers : List (List ℕ × Held)) → NamesApart (keys_of drawers) → NamesApart (keys_of (filter p drawers))
+keys-apart : (p : List ℕ × HeldRows → Bool) (drawers : List (List ℕ × HeldRows)) → NamesApart (keys_of drawers) → NamesApart (keys_of (filter p drawers))
 keys-apart p [] e = tt
 keys-apart p (drawer ∷ drawers) e =
     elim (p drawer) as (λ v. NamesApart (keys_of (cond v (drawer ∷ filter p drawers) (filter p drawers)))) [
@@ -47,12 +47,12 @@ keys-apart p (drawer ∷ drawers) e =
       | false ↦ keys-apart p drawers e.1
     ]
 
-pub tidied : {drawers : List (List ℕ × Held)} {len total ends : ℕ} (shelf : IsShelf drawers len total ends) → IsShelf (filter has_rows drawers) len total ends
+pub tidied : {drawers : List (List ℕ × HeldRows)} {len total ends : ℕ} (shelf : IsShelf drawers len total ends) → IsShelf (filter has_rows drawers) len total ends
 tidied {drawers} {len} {total} {ends} shelf = record {
-  named = Each-filter (λ (drawer : List ℕ × Held). Each (λ (row : Row). row.collection ≡ drawer.0) drawer.1.rows) has_rows drawers shelf.named;
+  named = Each-filter (λ (drawer : List ℕ × HeldRows). Each (λ (row : Row). row.collection ≡ drawer.0) drawer.1.rows) has_rows drawers shelf.named;
   names = keys-apart has_rows drawers shelf.names;
   len_counts = shelf.len_counts ∙ ap (λ l. length l) (sym (rows_in-tidied drawers));
   total_counts = shelf.total_counts ∙ ap (λ l. row_bytes l) (sym (rows_in-tidied drawers));
-  sizes = subst (λ l. Each IsSized l) (sym (rows_in-tidied drawers)) shelf.sizes;
+  sizes = subst (λ l. Each HasCountablePayload l) (sym (rows_in-tidied drawers)) shelf.sizes;
   outlive = subst (λ l. Each (Outlives ends) l) (sym (rows_in-tidied drawers)) shelf.outlive;
 }

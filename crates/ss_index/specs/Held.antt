@@ -7,13 +7,13 @@ use Rattle.ss_query.specs.Answer.{is_asked}
 use Rattle.ss_bso.specs.declared.rows.Row.{Row}
 
 -- the rows in the order of time, and how many more fit without memory
-pub record Held : Type 0 where
+pub record HeldRows : Type 0 where
   pub rows : List Row
   pub spare : ℕ
 
 -- a row's payload can be counted in 64 bits
-abbrev pub IsSized : Row → Type 0
-IsSized row = length row.payload < 2 ^ 64
+abbrev pub HasCountablePayload : Row → Type 0
+HasCountablePayload row = length row.payload < 2 ^ 64
 
 -- whether there is a row
 abbrev pub some_rows : List Row → Bool

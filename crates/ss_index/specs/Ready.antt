@@ -10,7 +10,7 @@ use Rattle.ss_bso.specs.Changes.{row_changed}
 use Rattle.ss_bso.specs.Limits.{rows_of}
 use Rattle.ss_index.specs.declared.ready.ReadyRow.{ReadyRow}
 use Rattle.ss_index.specs.declared.ready.ReadyRow.TheVariants as entry
-use Rattle.ss_index.specs.Held.{Held}
+use Rattle.ss_index.specs.Held.{HeldRows}
 use Rattle.ss_bso.specs.Lists.{Each, Pairs}
 use Rattle.ss_index.specs.declared.ready.Ready.{Ready}
 use Rattle.ss_bso.specs.declared.changes.Changes.{Changes}
@@ -30,7 +30,7 @@ HasKey (entry.Put key new) = key ≡ new.id
 HasKey (entry.Drop collection id) = Unit {0}
 
 -- how many more rows fit into a drawer without memory
-abbrev pub spare_of : List ℕ → List (List ℕ × Held) → ℕ
+abbrev pub spare_of : List ℕ → List (List ℕ × HeldRows) → ℕ
 spare_of collection drawers = option_map_or (λ held. held.spare) (lookup (bytes_eq collection) drawers) 0
 
 -- how many rows changes put into a collection
@@ -72,7 +72,7 @@ put_time time (row.Put new) = new.modified
 put_time time (row.Drop collection id) = time
 
 -- there is room in the drawers, the counts fit, and the times rise
-pub record CanChange (drawers : List (List ℕ × Held)) (changes : List RowChange) : Type 0 where
+pub record CanChange (drawers : List (List ℕ × HeldRows)) (changes : List RowChange) : Type 0 where
   pub room : (collection : List ℕ) → puts_in collection changes ≤ spare_of collection drawers
   pub times : InTime (rows_in drawers) changes
   pub number : length (rows_in drawers) + length changes < 2 ^ 32 - 1
@@ -82,14 +82,14 @@ abbrev pub rows_left : List (List ℕ) → List Row → List Row
 rows_left names rows = fold rows_without rows names
 
 -- what is ready can be applied without memory
-pub record CanApply (ready : Ready) (drawers : List (List ℕ × Held)) : Type 0 where
+pub record CanApply (ready : Ready) (drawers : List (List ℕ × HeldRows)) : Type 0 where
   pub keys : Each HasKey ready.rows.items
   pub room : (collection : List ℕ) → puts_in collection (changes_of ready.rows.items) ≤ spare_of collection drawers
   pub times : InTime (rows_left ready.dropped.items (filter (is_alive ready.moment) (rows_in drawers))) (changes_of ready.rows.items)
   pub number : length (rows_in drawers) + length (changes_of ready.rows.items) < 2 ^ 32 - 1
 
 -- changes are ready on a shelf
-pub record IsReady (ready : Ready) (changes : Changes) (drawers : List (List ℕ × Held)) : Type 0 where
+pub record IsReady (ready : Ready) (changes : Changes) (drawers : List (List ℕ × HeldRows)) : Type 0 where
   pub moment : ready.moment ≡ changes.moment
   pub dropped : ready.dropped.items ≡ dropped_names changes.collections
   pub rows : changes_of ready.rows.items ≡ changes.rows
@@ -97,5 +97,5 @@ pub record IsReady (ready : Ready) (changes : Changes) (drawers : List (List ℕ
 
 -- the rows of a shelf after what is ready was applied: first those that have ended go, then collections are dropped, and then
 -- rows are changed
-abbrev pub applied : Ready → List Row → List Row
-applied ready rows = fold row_changed (rows_left ready.dropped.items (filter (is_alive ready.moment) rows)) (changes_of ready.rows.items)
+abbrev pub rows_after_ready : Ready → List Row → List Row
+rows_after_ready ready rows = fold row_changed (rows_left ready.dropped.items (filter (is_alive ready.moment) rows)) (changes_of ready.rows.items)

@@ -4,7 +4,7 @@ use Rattle.std.specs.Map.{keys_of, values_of}
 use Rattle.ss_bso.specs.declared.rows.Row.{Row}
 use Rattle.ss_bso.specs.Account.{is_alive}
 use Rattle.ss_list.specs.Chain.{first_of}
-use Rattle.ss_index.specs.Held.{Held}
+use Rattle.ss_index.specs.Held.{HeldRows}
 use Rattle.ss_bso.specs.Lists.{Each}
 
 -- a row is alive at each moment before this one
@@ -23,11 +23,11 @@ pub record Swept (moment : ℕ) (all : List Row) (nodes : List (ℕ × Row)) (at
   pub count : passed + length after ≡ length all
 
 -- a fact on each row of the first so many drawers
-abbrev pub HoldsTo : (Row → Type 0) → ℕ → List (List ℕ × Held) → Type 0
+abbrev pub HoldsTo : (Row → Type 0) → ℕ → List (List ℕ × HeldRows) → Type 0
 HoldsTo P zero drawers = Unit {0}
 HoldsTo P (suc k) [] = Unit {0}
 HoldsTo P (suc k) (drawer ∷ drawers) = Each P drawer.1.rows × HoldsTo P k drawers
 
 -- the rows of the first so many drawers are alive
-abbrev pub AliveTo : ℕ → ℕ → List (List ℕ × Held) → Type 0
+abbrev pub AliveTo : ℕ → ℕ → List (List ℕ × HeldRows) → Type 0
 AliveTo moment k drawers = HoldsTo (λ (row : Row). is_alive moment row ≡ true) k drawers

@@ -4,9 +4,9 @@ ghost use Rattle.std.specs.Prelude.{length, None, IfOk, OnOk, OnErr, IsFalse, Is
 ghost use Rattle.std.specs.Option.{option_copied};
 ghost use Rattle.ss_bso.specs.Account.{is_alive};
 ghost use Rattle.ss_bso.specs.Limits.{row_bytes};
-ghost use Rattle.ss_index.specs.Held.{has_id, rows_but_id, picked_row, some_rows, IsSized};
+ghost use Rattle.ss_index.specs.Held.{has_id, rows_but_id, picked_row, some_rows, HasCountablePayload};
 ghost use Rattle.ss_bso.specs.Write.{is_among};
-ghost use Rattle.ss_text.specs.Texts.{Reordered};
+ghost use Rattle.ss_text.specs.Texts.{IsReordering};
 ghost use Rattle.ss_query.specs.Answer.{answer, answer_of, is_asked};
 ghost use Rattle.ss_bso.specs.Lists.{Each, OtherId, Pairs};
 ghost use Rattle.ss_index.specs.Sweep.{Outlives};
@@ -31,15 +31,15 @@ pub(crate) struct Drawer {
 }
 
 impl Model for Drawer {
-    ghost use Rattle.ss_index.specs.Held.{Held};
+    ghost use Rattle.ss_index.specs.Held.{HeldRows};
 
-    ghost Value = { Held };
+    ghost Value = { HeldRows };
 
-    ghost use Rattle.ss_index.specs.Layout.{held, IsKept};
+    ghost use Rattle.ss_index.specs.Layout.{held_rows, IsLayout};
 
-    ghost view = { λ d. held d.places d.rows };
+    ghost view = { λ d. held_rows d.places d.rows };
 
-    ghost invariant = { λ d. IsKept d.places d.rows d.bytes };
+    ghost invariant = { λ d. IsLayout d.places d.rows d.bytes };
 }
 
 fn is_named(ids: &[Id], id: &Id) -> bool
@@ -117,7 +117,7 @@ impl Drawer {
         rows: &mut Vec<Row>,
         steps: &mut Steps<L>,
     ) -> Result<(), AllocError>
-        ensures { OnOk result (Reordered (rows.old.items ++ self.now.rows) rows.new.items) }
+        ensures { OnOk result (IsReordering (rows.old.items ++ self.now.rows) rows.new.items) }
     {
         let all = Query {
             ids: None,
@@ -242,7 +242,7 @@ impl Drawer {
         requires bytes { row_bytes self.old.rows < 2 ^ 127 }
         ensures rows { self.new.rows ≡ self.old.rows ++ row ∷ [] }
         ensures spare { self.old.spare ≤ self.new.spare + 1 }
-        ensures size { IsSized row }
+        ensures size { HasCountablePayload row }
     {
         self.bytes += row.payload.as_str().len() as u128;
         let at = self.rows.push_back(row);
@@ -257,7 +257,7 @@ impl Drawer {
         requires bytes { row_bytes self.old.rows < 2 ^ 127 }
         ensures rows { self.new.rows ≡ rows_but_id row.id self.old.rows ++ row ∷ [] }
         ensures spare { self.old.spare ≤ self.new.spare + 1 }
-        ensures size { IsSized row }
+        ensures size { HasCountablePayload row }
     {
         self.take(&row.id);
         self.append(key, row);
@@ -291,7 +291,7 @@ impl Drawer {
         query: &Query,
     ) -> Result<Vec<&'a Row>, AllocError>
         requires { Pairs OtherId self.now.rows }
-        ensures { IfOk result (λ found. Reordered (filter (is_asked query.now)
+        ensures { IfOk result (λ found. IsReordering (filter (is_asked query.now)
             (filter (λ row. is_among ids.now row.id) self.now.rows)) (map (λ row. row.now) found.items)) }
     {
         let mut found = Vec::new(alloc);

@@ -1,7 +1,7 @@
 //! What is counted of collections.
 ghost use Rattle.std.specs.Prelude.{◌≡◌, ◌++◌, IfOk, OnOk};
 ghost use Rattle.ss_query.specs.Told.{by_name};
-ghost use Rattle.ss_index.specs.Numbers.{capped, entry_of, measured_rows};
+ghost use Rattle.ss_index.specs.Numbers.{capped_number, entry_of, measured_rows};
 
 use crate::drawer::Drawer;
 use ss_query::Numbers;
@@ -48,7 +48,7 @@ impl Measure {
 
 /// A number, or the greatest u64 where it is more.
 pub(crate) fn capped(number: u128) -> u64
-    ensures { result ≡ capped number }
+    ensures { result ≡ capped_number number }
 {
     number.min(u128::from(u64::MAX)) as u64
 }

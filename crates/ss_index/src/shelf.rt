@@ -5,9 +5,9 @@ ghost use Rattle.std.specs.Prelude.{IsTrue, OnErr, OnOk};
 ghost use Rattle.std.specs.Map.{lookup};
 ghost use Rattle.std.specs.Option.{option_copied, option_to_list};
 ghost use Rattle.std.specs.Str.{bytes_eq};
-ghost use Rattle.ss_text.specs.Texts.{Reordered};
+ghost use Rattle.ss_text.specs.Texts.{IsReordering};
 ghost use Rattle.ss_bso.specs.Account.{is_alive, is_at, row_at};
-ghost use Rattle.ss_bso.specs.Changes.{changed, row_changed};
+ghost use Rattle.ss_bso.specs.Changes.{kept_after_changes, row_changed};
 ghost use Rattle.ss_bso.specs.declared.changes.Changes.{Changes};
 ghost use Rattle.ss_bso.specs.declared.changes.Kept.{Kept};
 ghost use Rattle.ss_bso.specs.declared.changes.RowChange.TheVariants.{Put, Drop};
@@ -15,9 +15,9 @@ ghost use Rattle.ss_bso.specs.Limits.{rows_of, row_bytes};
 ghost use Rattle.ss_query.specs.Answer.{answer, answer_of, picked_ids};
 ghost use Rattle.ss_index.specs.Held.{some_rows};
 ghost use Rattle.ss_index.specs.Layout.{NoLater};
-ghost use Rattle.ss_index.specs.Numbers.{capped, entries_of, measured_rows, per_name};
+ghost use Rattle.ss_index.specs.Numbers.{capped_number, entries_of, measured_rows, per_name};
 ghost use Rattle.ss_bso.specs.Lists.{Apart, Each, Pairs};
-ghost use Rattle.ss_index.specs.Ready.{applied, change_of, changes_of, puts_in, rows_left, spare_of, CanApply};
+ghost use Rattle.ss_index.specs.Ready.{rows_after_ready, change_of, changes_of, puts_in, rows_left, spare_of, CanApply};
 ghost use Rattle.ss_index.specs.Ready.{CanChange, HasKey, InTime, IsLast, IsReady, NotEarlier, NotLater, PutsInOrder};
 ghost use Rattle.ss_index.specs.Ready.{put_time};
 ghost use Rattle.ss_index.specs.Shelved.{dropped_names, rows_in, rows_without, NoneEmpty};
@@ -47,9 +47,9 @@ pub struct Shelf {
 
 impl Model for Shelf {
     ghost use Rattle.std.specs.Prelude.{List, ℕ};
-    ghost use Rattle.ss_index.specs.Held.{Held};
+    ghost use Rattle.ss_index.specs.Held.{HeldRows};
 
-    ghost Value = { List (List ℕ × Held) };
+    ghost Value = { List (List ℕ × HeldRows) };
 
     ghost use Rattle.ss_index.specs.Shelved.{IsShelf};
 
@@ -60,7 +60,7 @@ impl Model for Shelf {
 
 /// The rows in the order of time.
 fn in_time(mut rows: Vec<Row>) -> Result<Vec<Row>, AllocError>
-    ensures same { IfOk result (λ sorted. Reordered rows.items sorted.items) }
+    ensures same { IfOk result (λ sorted. IsReordering rows.items sorted.items) }
     ensures sorted { IfOk result (λ sorted. Pairs NoLater sorted.items) }
 {
     rows.sort_by(|row, other| row.modified.get().cmp(&other.modified.get()))?;
@@ -84,7 +84,7 @@ impl Shelf {
     pub fn from_rows(alloc: Global, rows: Vec<Row>) -> Result<Shelf, AllocError>
         requires places { AllPairs (λ row other. IsFalse (is_at row.collection row.id other)) rows.items }
         requires number { length rows.items < 2 ^ 32 - 1 }
-        ensures { IfOk result (λ shelf. Reordered rows.items (rows_in shelf)) }
+        ensures { IfOk result (λ shelf. IsReordering rows.items (rows_in shelf)) }
     {
         let mut shelf = Shelf::new(alloc);
         shelf.fill(alloc, in_time(rows)?)?;
@@ -97,7 +97,7 @@ impl Shelf {
         requires times { Pairs NoLater rows.items }
         requires places { Pairs Apart rows.items }
         requires number { length rows.items < 2 ^ 32 - 1 }
-        ensures { OnOk result (Reordered rows.items (rows_in self.new)) }
+        ensures { OnOk result (IsReordering rows.items (rows_in self.new)) }
     {
         for row in rows {
             let key = row.id.copy(alloc)?;
@@ -116,7 +116,7 @@ impl Shelf {
 
     /// The payload bytes of all rows, or the greatest u64 where they are more.
     pub fn total(&self) -> u64
-        ensures { result ≡ capped (row_bytes (rows_in self.now)) }
+        ensures { result ≡ capped_number (row_bytes (rows_in self.now)) }
     {
         capped(self.total)
     }
@@ -133,7 +133,7 @@ impl Shelf {
 
     /// The payload bytes of a collection's rows, or the greatest u64 where they are more.
     pub fn bytes_of(&self, collection: &Name) -> u64
-        ensures { result ≡ capped (row_bytes (rows_of collection.now (rows_in self.now))) }
+        ensures { result ≡ capped_number (row_bytes (rows_of collection.now (rows_in self.now))) }
     {
         match self.drawers.get(collection) {
             Some(drawer) => capped(drawer.bytes()),
@@ -211,7 +211,7 @@ impl Shelf {
 
     /// The payload bytes of each collection that has a row, each up to the greatest u64, upwards by name.
     pub fn usage(&self, alloc: Global) -> Result<Numbers, AllocError>
-        ensures { IfOk result (λ usage. usage ≡ per_name (λ rows. capped (row_bytes rows)) (rows_in self.now)) }
+        ensures { IfOk result (λ usage. usage ≡ per_name (λ rows. capped_number (row_bytes rows)) (rows_in self.now)) }
     {
         self.numbers(alloc, Measure::Bytes)
     }
@@ -245,7 +245,7 @@ impl Shelf {
 
     /// A copy of all rows, in some order.
     pub fn copy_rows(&self, alloc: Global) -> Result<Rows, AllocError>
-        ensures { IfOk result (λ rows. Reordered (rows_in self.now) rows) }
+        ensures { IfOk result (λ rows. IsReordering (rows_in self.now) rows) }
     {
         self.copy_counting::<Brand>(alloc, Blank::new(1))
     }
@@ -254,7 +254,7 @@ impl Shelf {
         requires name { blank.name ≡ L.name }
         requires parts { blank.parts ≡ L.parts }
         requires some_part { 0 < blank.parts }
-        ensures { IfOk result (λ rows. Reordered (rows_in self.now) rows) }
+        ensures { IfOk result (λ rows. IsReordering (rows_in self.now) rows) }
     {
         let mut steps = Steps::<L>::new(blank);
         let mut rows = Vec::new(alloc);
@@ -272,7 +272,7 @@ impl Shelf {
         rows: &mut Vec<Row>,
         steps: &mut Steps<L>,
     ) -> Result<(), AllocError>
-        ensures { OnOk result (Reordered (rows.old.items ++ rows_in (option_to_list (slice_get self.now i)))
+        ensures { OnOk result (IsReordering (rows.old.items ++ rows_in (option_to_list (slice_get self.now i)))
             rows.new.items) }
     {
         match self.drawers.get_index(i) {
@@ -287,7 +287,7 @@ impl Shelf {
         requires room { 0 < spare_of row.collection self.old }
         requires last { Each (λ other. other.modified ≤ row.modified) (rows_of row.collection (rows_in self.old)) }
         requires len { length (rows_in self.old) < 2 ^ 32 - 1 }
-        ensures rows { Reordered (rows_in self.new) (row_changed (rows_in self.old) (Put row)) }
+        ensures rows { IsReordering (rows_in self.new) (row_changed (rows_in self.old) (Put row)) }
         ensures room { (collection : List ℕ) → spare_of collection self.old
             ≤ spare_of collection self.new + cond (bytes_eq collection row.collection) 1 0 }
     {
@@ -307,7 +307,7 @@ impl Shelf {
 
     /// Takes the row of a collection and id out, where it is there. It takes no memory.
     fn drop_row(&mut self, collection: Name, id: Id)
-        ensures rows { Reordered (rows_in self.new) (row_changed (rows_in self.old) (Drop collection id)) }
+        ensures rows { IsReordering (rows_in self.new) (row_changed (rows_in self.old) (Drop collection id)) }
         ensures room { (name : List ℕ) → spare_of name self.old ≤ spare_of name self.new }
     {
         match self.drawers.get_mut(&collection) {
@@ -326,7 +326,7 @@ impl Shelf {
     fn change_row(&mut self, change: ReadyRow)
         requires key { HasKey change }
         requires can { CanChange self.old (change_of change ∷ []) }
-        ensures rows { Reordered (rows_in self.new) (row_changed (rows_in self.old) (change_of change)) }
+        ensures rows { IsReordering (rows_in self.new) (row_changed (rows_in self.old) (change_of change)) }
         ensures room { (collection : List ℕ) → spare_of collection self.old
             ≤ spare_of collection self.new + puts_in collection (change_of change ∷ []) }
     {
@@ -340,7 +340,7 @@ impl Shelf {
     fn change_rows(&mut self, changes: Vec<ReadyRow>)
         requires keys { Each HasKey changes.items }
         requires can { CanChange self.old (changes_of changes.items) }
-        ensures { Reordered (rows_in self.new) (fold row_changed (rows_in self.old) (changes_of changes.items)) }
+        ensures { IsReordering (rows_in self.new) (fold row_changed (rows_in self.old) (changes_of changes.items)) }
     {
         for change in changes {
             self.change_row(change);
@@ -623,9 +623,9 @@ impl Shelf {
     /// It takes no memory.
     pub fn apply(&mut self, ready: Ready)
         requires { CanApply ready self.old }
-        ensures applied { Reordered (rows_in self.new) (applied ready (rows_in self.old)) }
+        ensures applied { IsReordering (rows_in self.new) (rows_after_ready ready (rows_in self.old)) }
         ensures changed { (kept : Kept) (changes : Changes) → IsReady ready changes self.old
-            → kept.rows ≡ rows_in self.old → Reordered (rows_in self.new) (changed kept changes).rows }
+            → kept.rows ≡ rows_in self.old → IsReordering (rows_in self.new) (kept_after_changes kept changes).rows }
         ensures dropped { 0 < length ready.dropped.items → NoneEmpty self.new }
     {
         let Ready {

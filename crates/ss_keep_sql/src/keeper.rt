@@ -2,7 +2,7 @@
 
 ghost use Rattle.std.specs.Prelude.{◌≡◌, ◌≢◌, ◌≤◌, IfOk, IfErr, None};
 ghost use Rattle.ss_outside.specs.Causes.{Rose};
-ghost use Rattle.ss_keeper.specs.Calls.{uncalled};
+ghost use Rattle.ss_keeper.specs.Calls.{no_keeper_calls};
 ghost use Rattle.ss_keeper.specs.Keeping.{HasCause};
 ghost use Rattle.ss_keep_sql.specs.Opening.{HasVersion, TellsVersion};
 
@@ -49,7 +49,7 @@ impl SqlKeeper {
     /// Opens the database at a path, or makes it where there is no file or an empty one. One keeper at a time has a
     /// file. One that isn't taken has no log beside it that wasn't there, unless the log has pages.
     pub fn open_file(rt: &HostRuntime, path: &str) -> Result<SqlKeeper, FileFault>
-        ensures count { IfOk result (λ keeper. keeper ≡ record { faults = 0; calls = uncalled }) }
+        ensures count { IfOk result (λ keeper. keeper ≡ record { faults = 0; calls = no_keeper_calls }) }
         ensures cause { IfErr result TellsVersion }
     {
         let log = NewLog::beside(rt, path);
@@ -69,7 +69,7 @@ impl SqlKeeper {
 
     /// As `open_file`, without the reason where the file can't be opened.
     pub fn open(rt: &HostRuntime, path: &str) -> Result<SqlKeeper, SqlFault>
-        ensures count { IfOk result (λ keeper. keeper ≡ record { faults = 0; calls = uncalled }) }
+        ensures count { IfOk result (λ keeper. keeper ≡ record { faults = 0; calls = no_keeper_calls }) }
         ensures cause { IfErr result HasVersion }
     {
         match SqlKeeper::open_file(rt, path) {
@@ -88,7 +88,7 @@ impl<S: Alter + Drop> SqlKeeper<S> {
         alloc: Global,
         mut connection: Connection<S>,
     ) -> Result<SqlKeeper<S>, (Connection<S>, SqlFault)>
-        ensures count { IfOk result (λ keeper. keeper ≡ record { faults = 0; calls = uncalled }) }
+        ensures count { IfOk result (λ keeper. keeper ≡ record { faults = 0; calls = no_keeper_calls }) }
         ensures cause { IfErr result (λ refused. HasVersion refused.1) }
     {
         match take(alloc, &mut connection) {

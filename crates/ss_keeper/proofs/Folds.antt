@@ -14,7 +14,7 @@ use Rattle.ss_bso.specs.declared.changes.RowChange.TheVariants as row
 use Rattle.ss_bso.specs.declared.changes.CollectionChange.{CollectionChange}
 use Rattle.ss_bso.specs.declared.changes.CollectionChange.TheVariants as collection
 use Rattle.ss_bso.specs.Account.{is_alive}
-use Rattle.ss_bso.specs.Changes.{batches_changed, changed, drops, row_changed, rows_but, time_changed}
+use Rattle.ss_bso.specs.Changes.{batches_changed, kept_after_changes, drops, row_changed, rows_but, time_changed}
 use Rattle.ss_bso.specs.Write.{times_without}
 use Rattle.ss_keeper.specs.Memory.{after_commits}
 use Rattle.ss_keeper.specs.Together.{collection_of, id_of, is_set, is_spared, is_time_spared, is_touched, last_puts}
@@ -113,33 +113,33 @@ one-more later now all h old brought more left e =
 pub rows-after : (kept : Kept) (commits : List Changes) → (after_commits kept commits).rows ≡ filter (is_spared commits) kept.rows ++ spared_puts commits
 rows-after kept [] = sym (append-nil (filter (λ _. true) kept.rows) ∙ filter-all kept.rows)
 rows-after kept (commit ∷ commits) =
-    rows-after (changed kept commit) commits
-    ∙ one-more (is_spared commits) (spares commit) (is_spared (commit ∷ commits)) (λ row. refl) kept.rows (last_puts commit.rows) (spared_puts commits) (changed kept commit).rows (rows-after_one kept.rows commit)
+    rows-after (kept_after_changes kept commit) commits
+    ∙ one-more (is_spared commits) (spares commit) (is_spared (commit ∷ commits)) (λ row. refl) kept.rows (last_puts commit.rows) (spared_puts commits) (kept_after_changes kept commit).rows (rows-after_one kept.rows commit)
 
 -- the collections after them
 pub times-after : (kept : Kept) (commits : List Changes) → (after_commits kept commits).collections ≡ filter (λ entry. is_time_spared commits entry.0) kept.collections ++ spared_times commits
 times-after kept [] = sym (append-nil (filter (λ _. true) kept.collections) ∙ filter-all kept.collections)
 times-after kept (commit ∷ commits) =
-    times-after (changed kept commit) commits
+    times-after (kept_after_changes kept commit) commits
     ∙ one-more (λ (entry : List ℕ × ℕ). is_time_spared commits entry.0) (λ entry. spares_time commit entry.0) (λ entry. is_time_spared (commit ∷ commits) entry.0) (λ entry. refl)
-    kept.collections (last_times commit.collections) (spared_times commits) (changed kept commit).collections (times-after_one kept.collections commit)
+    kept.collections (last_times commit.collections) (spared_times commits) (kept_after_changes kept commit).collections (times-after_one kept.collections commit)
 
 -- the rest after them
 pub store-after : (kept : Kept) (commits : List Changes) → (after_commits kept commits).store ≡ fold (λ _ commit. commit.store) kept.store commits
 store-after kept [] = refl
-store-after kept (commit ∷ commits) = store-after (changed kept commit) commits
+store-after kept (commit ∷ commits) = store-after (kept_after_changes kept commit) commits
 
 pub last_delete-after : (kept : Kept) (commits : List Changes) → (after_commits kept commits).last_delete ≡ fold (λ _ commit. commit.last_delete) kept.last_delete commits
 last_delete-after kept [] = refl
-last_delete-after kept (commit ∷ commits) = last_delete-after (changed kept commit) commits
+last_delete-after kept (commit ∷ commits) = last_delete-after (kept_after_changes kept commit) commits
 
 pub counter-after : (kept : Kept) (commits : List Changes) → (after_commits kept commits).counter ≡ fold (λ _ commit. commit.counter) kept.counter commits
 counter-after kept [] = refl
-counter-after kept (commit ∷ commits) = counter-after (changed kept commit) commits
+counter-after kept (commit ∷ commits) = counter-after (kept_after_changes kept commit) commits
 
 pub batches-after : (kept : Kept) (commits : List Changes) → (after_commits kept commits).batches ≡ fold (λ held commit. batches_changed held commit.batches) kept.batches commits
 batches-after kept [] = refl
-batches-after kept (commit ∷ commits) = batches-after (changed kept commit) commits
+batches-after kept (commit ∷ commits) = batches-after (kept_after_changes kept commit) commits
 
 -- one more commit
 pub fold-push : {A B : Type 0} (f : B → A → B) (start : B) (xs : List A) (x : A) → fold f start (xs ++ x ∷ []) ≡ f (fold f start xs) x

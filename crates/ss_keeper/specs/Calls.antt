@@ -3,8 +3,8 @@ use Rattle.ss_outside.specs.Plans.{raised_count}
 use Rattle.ss_keeper.specs.declared.calls.KeeperCalls.{KeeperCalls}
 
 -- of a keeper that was never called
-abbrev pub uncalled : KeeperCalls
-uncalled = record { loads = 0; commits = 0 }
+abbrev pub no_keeper_calls : KeeperCalls
+no_keeper_calls = record { loads = 0; commits = 0 }
 
 -- calls, and one more for what it holds; a count stops at the greatest u64
 abbrev pub with_load : KeeperCalls → KeeperCalls

@@ -4,7 +4,7 @@ use Rattle.std.specs.Option.{option_map}
 use Rattle.ss_outside.specs.Causes.{Rose}
 use Rattle.ss_bso.specs.declared.changes.Kept.{Kept}
 use Rattle.ss_bso.specs.declared.changes.Changes.{Changes}
-use Rattle.ss_bso.specs.Changes.{changed}
+use Rattle.ss_bso.specs.Changes.{kept_after_changes}
 use Rattle.ss_keeper.specs.declared.faults.KeepFault.{KeepFault}
 use Rattle.ss_keeper.specs.declared.faults.KeepFault.TheVariants.{Fault}
 
@@ -14,7 +14,7 @@ TellsKept kept told = (x : Kept) → told ≡ Some x → kept ≡ x
 
 -- what is told after changes; what isn't told stays untold
 abbrev pub changed_by : Changes → Option Kept → Option Kept
-changed_by changes told = option_map (λ kept. changed kept changes) told
+changed_by changes told = option_map (λ kept. kept_after_changes kept changes) told
 
 -- the count of faults doesn't fall, it rose where a fault is answered, and it stands where none is
 pub record HasCause {T : Type 0} (before now : ℕ) (result : Result T KeepFault) : Type 0 where

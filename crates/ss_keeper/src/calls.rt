@@ -1,7 +1,7 @@
 //! How often a keeper is called.
 
 ghost use Rattle.std.specs.Prelude.{◌≡◌};
-ghost use Rattle.ss_keeper.specs.Calls.{uncalled, with_commit, with_load};
+ghost use Rattle.ss_keeper.specs.Calls.{no_keeper_calls, with_commit, with_load};
 
 /// How often a keeper was called: for what it holds, and to make changes, whatever it answered. A count stops at the
 /// greatest u64.
@@ -14,7 +14,7 @@ pub struct KeeperCalls {
 impl KeeperCalls {
     /// Those of a keeper that was never called.
     pub fn new() -> KeeperCalls
-        ensures { result ≡ uncalled }
+        ensures { result ≡ no_keeper_calls }
     {
         KeeperCalls {
             loads: 0,

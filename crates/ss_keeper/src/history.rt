@@ -1,7 +1,7 @@
 //! What is kept, in memory, with the changes of later commits beside it.
 
 ghost use Rattle.std.specs.Prelude.{◌≡◌, [], IfOk, OnOk, OnErr};
-ghost use Rattle.ss_bso.specs.Changes.{changed};
+ghost use Rattle.ss_bso.specs.Changes.{kept_after_changes};
 ghost use Rattle.ss_keeper.specs.Memory.{after_commits};
 
 use crate::making::make;
@@ -138,7 +138,7 @@ impl History {
 
     /// Adds a commit; without memory it changes nothing.
     pub(crate) fn add(&mut self, alloc: Global, changes: &Changes) -> Result<(), AllocError>
-        ensures ok { OnOk result (self.new ≡ changed self.old changes.now) }
+        ensures ok { OnOk result (self.new ≡ kept_after_changes self.old changes.now) }
         ensures err { OnErr result (self.new ≡ self.old) }
     {
         let copied = changes.copy(alloc)?;

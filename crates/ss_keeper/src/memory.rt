@@ -2,8 +2,8 @@
 
 ghost use Rattle.std.specs.Prelude.{◌≡◌, ◌↔◌, ℕ, None, Some, IsTrue, IfOk, OnOk, OnErr};
 ghost use Rattle.ss_outside.specs.Plans.{after_call, fault_count, fresh_plan, is_failing};
-ghost use Rattle.ss_bso.specs.Changes.{changed};
-ghost use Rattle.ss_keeper.specs.Calls.{uncalled, with_commit, with_load};
+ghost use Rattle.ss_bso.specs.Changes.{kept_after_changes};
+ghost use Rattle.ss_keeper.specs.Calls.{no_keeper_calls, with_commit, with_load};
 ghost use Rattle.ss_keeper.specs.Keeping.{HasCause};
 
 use crate::calls::KeeperCalls;
@@ -44,7 +44,7 @@ impl KeeperUnder<Numbered> {
     pub fn new(kept: Kept, failing: Vec<u64>) -> MemKeeper
         ensures kept { result.kept ≡ kept }
         ensures plan { result.plan ≡ Some (fresh_plan failing.items) }
-        ensures calls { result.calls ≡ uncalled }
+        ensures calls { result.calls ≡ no_keeper_calls }
     {
         KeeperUnder {
             history: History::new(kept),
@@ -59,7 +59,7 @@ impl KeeperUnder<Never> {
     pub fn new(kept: Kept) -> SureKeeper
         ensures kept { result.kept ≡ kept }
         ensures plan { result.plan ≡ None }
-        ensures calls { result.calls ≡ uncalled }
+        ensures calls { result.calls ≡ no_keeper_calls }
     {
         KeeperUnder {
             history: History::new(kept),
@@ -99,7 +99,7 @@ impl<F: Faults + Drop> Keeper for KeeperUnder<F> {
     }
 
     fn commit(&mut self, alloc: Global, changes: &Changes) -> Result<(), KeepFault>
-        ensures done { OnOk result (self.new.kept ≡ changed self.old.kept changes.now) }
+        ensures done { OnOk result (self.new.kept ≡ kept_after_changes self.old.kept changes.now) }
         ensures refused { OnErr result (self.new.kept ≡ self.old.kept) }
         ensures fails { (result ≡ Err KeepFault.Fault) ↔ IsTrue (is_failing self.old.plan) }
         ensures counted { self.new.plan ≡ after_call self.old.plan }

@@ -1,6 +1,6 @@
 -- The sorted list has the same elements, and they stand in order.
 use Rattle.std.specs.Prelude.{◌≡◌, Bool, true, false, cond, List, [], ◌∷◌, refl}
-use Rattle.ss_text.specs.Texts.{Reordered, nothing, head, swapped, chain, list_with, sorted}
+use Rattle.ss_text.specs.Texts.{IsReordering, nothing, head, swapped, chain, list_with, sorted}
 use Rattle.ss_bso.specs.declared.rows.Row.{Row}
 use Rattle.ss_query.specs.declared.requests.Sort.{Sort}
 use Rattle.ss_query.specs.Answer.{comes_before}
@@ -13,13 +13,13 @@ use Rattle.std.proofs.lemmas.List.Sorted.{ranks_by}
 use Rattle.std.specs.Prelude.{IsFalse}
 use Rattle.ss_laws.specs.Laws.{SortLaw}
 
-reordered-placed : {X : Type 0} (before : X → X → Bool) (x : X) (ys : List X) → Reordered (x ∷ ys) (list_with before x ys)
+reordered-placed : {X : Type 0} (before : X → X → Bool) (x : X) (ys : List X) → IsReordering (x ∷ ys) (list_with before x ys)
 reordered-placed before x [] = head x nothing
 reordered-placed before x (y ∷ ys) =
-    elim (before y x) as (λ v. Reordered (x ∷ y ∷ ys) (cond v (y ∷ list_with before x ys) (x ∷ y ∷ ys)))
+    elim (before y x) as (λ v. IsReordering (x ∷ y ∷ ys) (cond v (y ∷ list_with before x ys) (x ∷ y ∷ ys)))
     [ true ↦ chain (swapped x y ys) (head y (reordered-placed before x ys)) | false ↦ reordered-refl (x ∷ y ∷ ys) ]
 
-pub reordered-sorted : {X : Type 0} (before : X → X → Bool) (xs : List X) → Reordered xs (sorted before xs)
+pub reordered-sorted : {X : Type 0} (before : X → X → Bool) (xs : List X) → IsReordering xs (sorted before xs)
 reordered-sorted before [] = nothing
 reordered-sorted before (x ∷ xs) = chain (head x (reordered-sorted before xs)) (reordered-placed before x (sorted before xs))
 

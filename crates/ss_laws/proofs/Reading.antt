@@ -3,13 +3,13 @@ use Rattle.std.specs.Prelude.{◌≡◌, ◌≢◌, ℕ, Bool, true, false, not,
 use Rattle.std.specs.Prelude.{None, find, filter, filter_map, map, bytes_eq, refl}
 use Rattle.std.specs.List.{cons_option}
 use Rattle.std.proofs.Common.{subst, sym, ap, ◌∙◌}
-use Rattle.ss_text.specs.Texts.{Reordered, chain, once_by}
+use Rattle.ss_text.specs.Texts.{IsReordering, chain, once_by}
 use Rattle.ss_bso.specs.declared.rows.Row.{Row}
 use Rattle.ss_bso.specs.declared.parts.Part.{Part}
 use Rattle.ss_bso.specs.declared.account.Plain.{Plain}
 use Rattle.ss_bso.specs.Account.{is_at, row_at}
 use Rattle.ss_bso.specs.Validity.{IsValid}
-use Rattle.ss_bso.specs.Put.{put}
+use Rattle.ss_bso.specs.Put.{row_after_put}
 use Rattle.ss_bso.specs.Write.{ids_of, parts_of, is_among, put_all, rows_without, rows_written}
 use Rattle.ss_laws.specs.Laws.{WriteLaw}
 use Rattle.ss_bso.proofs.Lists.{Each-imp, Each-passes, Pairs-from_AllPairs, find-skip, find-filter}
@@ -157,10 +157,10 @@ parts_of-append id (part ∷ parts) more =
 
 pub put_all-append : (collection : List ℕ) (parts more : List Part) (time : ℕ) (old : Option Row) → put_all collection (parts ++ more) time old ≡ put_all collection more time (put_all collection parts time old)
 put_all-append collection [] more time old = refl
-put_all-append collection (part ∷ parts) more time old = put_all-append collection parts more time (Some (put old collection part time))
+put_all-append collection (part ∷ parts) more time old = put_all-append collection parts more time (Some (row_after_put old collection part time))
 
 pub rows_written-one_by_one : (rows : List Row) (collection : List ℕ) (parts more : List Part) (time : ℕ) → Pairs Apart rows
-    → Reordered (rows_written collection (parts ++ more) time rows) (rows_written collection more time (rows_written collection parts time rows))
+    → IsReordering (rows_written collection (parts ++ more) time rows) (rows_written collection more time (rows_written collection parts time rows))
 rows_written-one_by_one rows collection parts more time places =
     let once : List Row = rows_written collection parts time rows in
     same_rows (rows_written collection (parts ++ more) time rows) (rows_written collection more time once)
@@ -180,16 +180,16 @@ rows_written-one_by_one rows collection parts more time places =
     ] refl)
 
 pub rows_written-joined : (account : Plain) (collection : List ℕ) (parts more : List Part) (time : ℕ) → IsValid account
-    → Reordered (rows_written collection (parts ++ more) time account.rows) (rows_written collection more time (rows_written collection parts time account.rows))
+    → IsReordering (rows_written collection (parts ++ more) time account.rows) (rows_written collection more time (rows_written collection parts time account.rows))
 rows_written-joined account collection parts more time valid = rows_written-one_by_one account.rows collection parts more time (Pairs-from_AllPairs Apart account.rows valid.places)
 
 -- a write does not depend on the order of the rows
-pub rows_written-reordered : (collection : List ℕ) (parts : List Part) (time : ℕ) (rows others : List Row) → Reordered rows others → Pairs Apart rows
-    → Reordered (rows_written collection parts time rows) (rows_written collection parts time others)
+pub rows_written-reordered : (collection : List ℕ) (parts : List Part) (time : ℕ) (rows others : List Row) → IsReordering rows others → Pairs Apart rows
+    → IsReordering (rows_written collection parts time rows) (rows_written collection parts time others)
 rows_written-reordered collection parts time rows others r places =
     let made_eq : filter_map (made collection parts time rows) (ids_of parts) ≡ filter_map (made collection parts time others) (ids_of parts) =
     λ i. filter_map (λ id. put_all collection (parts_of id parts) time (row-same collection id rows others r places i)) (ids_of parts) in
-    subst (λ more. Reordered (rows_without collection (ids_of parts) rows ++ filter_map (made collection parts time rows) (ids_of parts)) (rows_without collection (ids_of parts) others ++ more)) made_eq
+    subst (λ more. IsReordering (rows_without collection (ids_of parts) rows ++ filter_map (made collection parts time rows) (ids_of parts)) (rows_without collection (ids_of parts) others ++ more)) made_eq
     (reordered-append_right (filter_map (made collection parts time rows) (ids_of parts)) (reordered-filter (λ row. not (bytes_eq row.collection collection && is_among (ids_of parts) row.id)) r))
 
 -- ---- one part: the row of its place goes, and the row that it makes comes at the end
@@ -198,15 +198,15 @@ rows_written-reordered collection parts time rows others r places =
 abbrev pub with_row : Row → List Row → List Row
 with_row row rows = filter (λ other. not (is_at row.collection row.id other)) rows ++ row ∷ []
 
-pub rows_written-one : (collection : List ℕ) (part : Part) (time : ℕ) (rows : List Row) → rows_written collection (part ∷ []) time rows ≡ with_row (put (row_at collection part.id rows) collection part time) rows
+pub rows_written-one : (collection : List ℕ) (part : Part) (time : ℕ) (rows : List Row) → rows_written collection (part ∷ []) time rows ≡ with_row (row_after_put (row_at collection part.id rows) collection part time) rows
 rows_written-one collection part time rows =
     (λ i. filter (λ (row : Row). not (bytes_eq row.collection collection && (or_false (bytes_eq part.id row.id) ∙ bytes_eq-sym part.id row.id) i)) rows
     ++ cons_option (put_all collection (cond (bytes_eq-same part.id part.id refl i) (part ∷ []) []) time (row_at collection part.id rows)) [])
 
 -- a loop's step: one more part
-pub rows_written-more : (collection : List ℕ) (parts : List Part) (part : Part) (time : ℕ) (old rows : List Row) → Pairs Apart old → Reordered (rows_written collection parts time old) rows
-    → Reordered (rows_written collection (parts ++ part ∷ []) time old) (with_row (put (row_at collection part.id rows) collection part time) rows)
+pub rows_written-more : (collection : List ℕ) (parts : List Part) (part : Part) (time : ℕ) (old rows : List Row) → Pairs Apart old → IsReordering (rows_written collection parts time old) rows
+    → IsReordering (rows_written collection (parts ++ part ∷ []) time old) (with_row (row_after_put (row_at collection part.id rows) collection part time) rows)
 rows_written-more collection parts part time old rows places r =
-    subst (λ left. Reordered (rows_written collection (parts ++ part ∷ []) time old) left) (rows_written-one collection part time rows)
+    subst (λ left. IsReordering (rows_written collection (parts ++ part ∷ []) time old) left) (rows_written-one collection part time rows)
     (chain (rows_written-one_by_one old collection parts (part ∷ []) time places)
     (rows_written-reordered collection (part ∷ []) time (rows_written collection parts time old) rows r (places-written collection parts time old places)))

@@ -5,7 +5,7 @@ use Rattle.std.specs.Prelude.{is_some, option_map, unwrap_or, bytes_eq, refl}
 use Rattle.std.specs.Option.{option_map_or}
 use Rattle.std.proofs.Common.{subst, sym, ap, ◌∙◌}
 use Rattle.ss_text.specs.Time.{after, last_stamp, stops}
-use Rattle.ss_text.specs.Texts.{Reordered, nothing}
+use Rattle.ss_text.specs.Texts.{IsReordering, nothing}
 use Rattle.ss_text.specs.declared.stamps.Cond.{Cond}
 use Rattle.ss_bso.specs.declared.rows.Row.{Row}
 use Rattle.ss_bso.specs.declared.parts.Part.{Part}
@@ -15,7 +15,8 @@ use Rattle.ss_bso.specs.declared.account.Staged.{Staged}
 use Rattle.ss_bso.specs.Account.{tick, is_alive, is_open, row_at, time_of}
 use Rattle.ss_bso.specs.Limits.{most_live_batches, most_rows_and_collections, most_account_payload_bytes, rows_of}
 use Rattle.ss_bso.specs.Validity.{IsValid, SameAccount}
-use Rattle.ss_bso.specs.Write.{ids_of, parts_of, is_among, put_all, stamped, write, rows_without, rows_written}
+use Rattle.ss_bso.specs.Write.{ids_of, parts_of, is_among, put_all, account_after_write, write, rows_without}
+use Rattle.ss_bso.specs.Write.{rows_written}
 use Rattle.ss_query.specs.declared.requests.Request.{Request}
 use Rattle.ss_query.specs.declared.requests.Request.TheVariants.{Info, DeleteAll, List as ListOf, Post}
 use Rattle.ss_query.specs.declared.requests.Request.TheVariants.{DeleteCollection, DeleteIds, Get, Put, Delete}
@@ -30,7 +31,8 @@ use Rattle.ss_query.specs.declared.replies.Body.TheVariants.{Quota as QuotaBody,
 use Rattle.ss_bso.specs.Batches.{fit}
 use Rattle.ss_query.specs.Refused.{Refusal, NoItem, NoMoreBatches, NoBatch, BatchFull, ClockEnded, AccountFull}
 use Rattle.ss_query.specs.Refused.{status_of, said_by, time_shown, condition_of, is_there, is_listed, has_item}
-use Rattle.ss_query.specs.Refused.{target_time, collection_time, item_time, batch_of, staged_parts, continued, begins}
+use Rattle.ss_query.specs.Refused.{target_time, collection_time, item_time, batch_of, staged_parts, continued_batch}
+use Rattle.ss_query.specs.Refused.{begins}
 use Rattle.ss_bso.specs.Batches.{grown}
 use Rattle.ss_query.specs.Effect.{stamp_in, effect, is_write, is_over, is_empty, write_some, parts_to_put}
 use Rattle.ss_query.specs.Effect.{batches_after, counter_after}
@@ -64,7 +66,7 @@ keyed_from account v = record {
   numbers = Pairs-from_AllPairs OtherNumber account.batches v.numbers;
 }
 
-pub time-same : (collection : List ℕ) (times others : List (List ℕ × ℕ)) → Reordered times others → Pairs NamedApart times → time_of collection times ≡ time_of collection others
+pub time-same : (collection : List ℕ) (times others : List (List ℕ × ℕ)) → IsReordering times others → Pairs NamedApart times → time_of collection times ≡ time_of collection others
 time-same collection times others r names =
     ap (λ found. option_map (λ (entry : List ℕ × ℕ). entry.1) found)
     (find-reordered (λ (entry : List ℕ × ℕ). bytes_eq entry.0 collection) r (pairs_not_both NamedApart (λ (entry : List ℕ × ℕ). bytes_eq entry.0 collection)
@@ -83,9 +85,9 @@ batch-same one other collection number s k =
 -- the clock
 pub tick-same : (one other : Plain) (now : ℕ) → SameAccount one other → SameAccount (tick one now) (tick other now)
 tick-same one other now s = record {
-  rows = subst (λ moment. Reordered (filter (is_alive (after one.moment now)) one.rows) (filter (is_alive (after moment now)) other.rows)) s.moment (reordered-filter (is_alive (after one.moment now)) s.rows);
+  rows = subst (λ moment. IsReordering (filter (is_alive (after one.moment now)) one.rows) (filter (is_alive (after moment now)) other.rows)) s.moment (reordered-filter (is_alive (after one.moment now)) s.rows);
   collections = s.collections;
-  batches = subst (λ moment. Reordered (filter (is_open (after one.moment now)) one.batches) (filter (is_open (after moment now)) other.batches)) s.moment (reordered-filter (is_open (after one.moment now)) s.batches);
+  batches = subst (λ moment. IsReordering (filter (is_open (after one.moment now)) one.batches) (filter (is_open (after moment now)) other.batches)) s.moment (reordered-filter (is_open (after one.moment now)) s.batches);
   store = s.store;
   last_delete = s.last_delete;
   moment = ap (λ moment. after moment now) s.moment;
@@ -168,7 +170,7 @@ module _ (one other : Plain) (s : SameAccount one other) (k : Keyed one) where
   writes_eq (Delete collection id condition) = refl
 
   -- the effect
-  stamped_at : (collection : List ℕ) (time : ℕ) (rows others : List Row) → Reordered rows others → SameAccount (stamped one collection time rows) (stamped other collection time others)
+  stamped_at : (collection : List ℕ) (time : ℕ) (rows others : List Row) → IsReordering rows others → SameAccount (account_after_write one collection time rows) (account_after_write other collection time others)
   stamped_at collection time rows others r = record {
     rows = r;
     collections = reordered-append_right ((collection, time) ∷ []) (reordered-filter (λ (entry : List ℕ × ℕ). not (bytes_eq entry.0 collection)) s.collections);
@@ -185,15 +187,15 @@ module _ (one other : Plain) (s : SameAccount one other) (k : Keyed one) where
       let made_eq : filter_map (made one.rows) (ids_of parts) ≡ filter_map (made other.rows) (ids_of parts) =
       λ i. filter_map (λ id. put_all collection (parts_of id parts) time (row_eq collection id i)) (ids_of parts) in
       stamped_at collection time (rows_written collection parts time one.rows) (rows_written collection parts time other.rows)
-      (subst (λ more. Reordered (rows_without collection (ids_of parts) one.rows ++ filter_map (made one.rows) (ids_of parts)) (rows_without collection (ids_of parts) other.rows ++ more)) made_eq
+      (subst (λ more. IsReordering (rows_without collection (ids_of parts) one.rows ++ filter_map (made one.rows) (ids_of parts)) (rows_without collection (ids_of parts) other.rows ++ more)) made_eq
       (reordered-append_right (filter_map (made one.rows) (ids_of parts)) (reordered-filter (λ row. not (bytes_eq row.collection collection && is_among (ids_of parts) row.id)) s.rows)))
 
   write_same : (collection : List ℕ) (parts : List Part) → SameAccount (write one collection parts (stamp_in one)) (write other collection parts (stamp_in other))
   write_same collection parts = subst (λ time. SameAccount (write one collection parts (stamp_in one)) (write other collection parts time)) stamp_eq (write_at collection parts (stamp_in one))
 
-  without_same : (collection : List ℕ) (ids : List (List ℕ)) → SameAccount (stamped one collection (stamp_in one) (rows_without collection ids one.rows)) (stamped other collection (stamp_in other) (rows_without collection ids other.rows))
+  without_same : (collection : List ℕ) (ids : List (List ℕ)) → SameAccount (account_after_write one collection (stamp_in one) (rows_without collection ids one.rows)) (account_after_write other collection (stamp_in other) (rows_without collection ids other.rows))
   without_same collection ids =
-      subst (λ time. SameAccount (stamped one collection (stamp_in one) (rows_without collection ids one.rows)) (stamped other collection time (rows_without collection ids other.rows))) stamp_eq
+      subst (λ time. SameAccount (account_after_write one collection (stamp_in one) (rows_without collection ids one.rows)) (account_after_write other collection time (rows_without collection ids other.rows))) stamp_eq
       (stamped_at collection (stamp_in one) (rows_without collection ids one.rows) (rows_without collection ids other.rows)
       (reordered-filter (λ row. not (bytes_eq row.collection collection && is_among ids row.id)) s.rows))
 
@@ -201,12 +203,12 @@ module _ (one other : Plain) (s : SameAccount one other) (k : Keyed one) where
   write_some_at collection [] = s
   write_some_at collection (part ∷ parts) = write_same collection (part ∷ parts)
 
-  batches_same : (collection : List ℕ) (parts : List Part) (mode : Mode) → Reordered (batches_after one collection parts mode) (batches_after other collection parts mode)
+  batches_same : (collection : List ℕ) (parts : List Part) (mode : Mode) → IsReordering (batches_after one collection parts mode) (batches_after other collection parts mode)
   batches_same collection parts PlainPost = s.batches
   batches_same collection parts Begin =
       let new : ℕ → ℕ → Staged = λ counter moment. record { number = counter + 1; collection = collection; begun = moment; parts = parts } in
       let new_eq : new one.counter one.moment ≡ new other.counter other.moment = λ i. new (s.counter i) (s.moment i) in
-      subst (λ batch. Reordered (one.batches ++ new one.counter one.moment ∷ []) (other.batches ++ batch ∷ [])) new_eq (reordered-append_right (new one.counter one.moment ∷ []) s.batches)
+      subst (λ batch. IsReordering (one.batches ++ new one.counter one.moment ∷ []) (other.batches ++ batch ∷ [])) new_eq (reordered-append_right (new one.counter one.moment ∷ []) s.batches)
   batches_same collection parts (Append number) = reordered-map (grown number parts) s.batches
   batches_same collection parts (Commit number) = reordered-filter (λ batch. not (batch.number == number)) s.batches
 
@@ -249,8 +251,8 @@ module _ (one other : Plain) (s : SameAccount one other) (k : Keyed one) where
     counter = s.counter;
   }
   effect_same (DeleteIds collection ids condition) =
-      let x : Plain = stamped one collection (stamp_in one) (rows_without collection ids one.rows) in
-      let u : Plain = stamped other collection (stamp_in other) (rows_without collection ids other.rows) in
+      let x : Plain = account_after_write one collection (stamp_in one) (rows_without collection ids one.rows) in
+      let u : Plain = account_after_write other collection (stamp_in other) (rows_without collection ids other.rows) in
       subst (λ found. SameAccount (cond (is_some (time_of collection one.collections)) x one) (cond (is_some found) u other)) (time_eq collection)
       (cond_same (is_some (time_of collection one.collections)) x u (without_same collection ids))
   effect_same (Get collection id condition) = s
@@ -289,7 +291,7 @@ module _ (one other : Plain) (s : SameAccount one other) (k : Keyed one) where
   misses_batch_eq (Info what condition) = refl
   misses_batch_eq (DeleteAll condition) = refl
   misses_batch_eq (ListOf collection query condition) = refl
-  misses_batch_eq (Post collection records mode condition) = λ i. option_map_or (λ number. is_none (batch_eq collection number i)) (continued mode) false
+  misses_batch_eq (Post collection records mode condition) = λ i. option_map_or (λ number. is_none (batch_eq collection number i)) (continued_batch mode) false
   misses_batch_eq (DeleteCollection collection condition) = refl
   misses_batch_eq (DeleteIds collection ids condition) = refl
   misses_batch_eq (Get collection id condition) = refl
@@ -300,7 +302,7 @@ module _ (one other : Plain) (s : SameAccount one other) (k : Keyed one) where
   overfills_eq (Info what condition) = refl
   overfills_eq (DeleteAll condition) = refl
   overfills_eq (ListOf collection query condition) = refl
-  overfills_eq (Post collection records mode condition) = λ i. option_map_or (λ number. not (fit (staged_eq collection number i ++ records.parts))) (continued mode) false
+  overfills_eq (Post collection records mode condition) = λ i. option_map_or (λ number. not (fit (staged_eq collection number i ++ records.parts))) (continued_batch mode) false
   overfills_eq (DeleteCollection collection condition) = refl
   overfills_eq (DeleteIds collection ids condition) = refl
   overfills_eq (Get collection id condition) = refl

@@ -8,7 +8,7 @@ use Rattle.ss_bso.specs.declared.parts.Part.{Part}
 use Rattle.ss_bso.specs.declared.account.Plain.{Plain}
 use Rattle.ss_bso.specs.declared.account.Staged.{Staged}
 use Rattle.ss_bso.specs.Account.{tick, time_of}
-use Rattle.ss_bso.specs.Write.{stamped, rows_without}
+use Rattle.ss_bso.specs.Write.{account_after_write, rows_without}
 use Rattle.ss_query.specs.declared.requests.Request.{Request}
 use Rattle.ss_query.specs.declared.requests.Request.TheVariants.{Info, DeleteAll, List as ListOf, Post}
 use Rattle.ss_query.specs.declared.requests.Request.TheVariants.{DeleteCollection, DeleteIds, Get, Put, Delete}
@@ -57,8 +57,8 @@ shown-effect s n m bs cs (Post collection records (Commit number) cond) e = cc
 shown-effect s n m bs cs (DeleteCollection collection cond) e = refl
 shown-effect s n m bs cs (DeleteIds collection ids cond) e =
     shown-cond (is_some (time_of collection s.collections))
-    (stamped (account_of s n bs) collection (stamp_in (account_of s n bs)) (rows_without collection ids s.rows)) (account_of s n bs)
-    (stamped (account_of s m cs) collection (stamp_in (account_of s m cs)) (rows_without collection ids s.rows)) (account_of s m cs)
+    (account_after_write (account_of s n bs) collection (stamp_in (account_of s n bs)) (rows_without collection ids s.rows)) (account_of s n bs)
+    (account_after_write (account_of s m cs) collection (stamp_in (account_of s m cs)) (rows_without collection ids s.rows)) (account_of s m cs)
     refl refl
 shown-effect s n m bs cs (Get collection id cond) e = refl
 shown-effect s n m bs cs (Put collection id fields cond) e = refl

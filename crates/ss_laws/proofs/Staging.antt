@@ -10,7 +10,7 @@ use Rattle.std.proofs.lemmas.List.{append_assoc, append-nil}
 use Rattle.ss_bso.specs.declared.rows.Row.{Row}
 use Rattle.ss_bso.specs.declared.parts.Part.{Part}
 use Rattle.ss_bso.specs.Account.{row_at, time_of}
-use Rattle.ss_bso.specs.Write.{stamped, rows_without}
+use Rattle.ss_bso.specs.Write.{account_after_write, rows_without}
 use Rattle.ss_bso.specs.declared.account.Plain.{Plain}
 use Rattle.ss_bso.specs.declared.account.Staged.{Staged}
 use Rattle.ss_query.specs.declared.requests.Request.{Request}
@@ -227,7 +227,7 @@ gathers-done opening past account (Post collection records (Append number) cond)
 gathers-done opening past account (Post collection records (Commit number) cond) e g = gathers-filter opening past account.counter (λ batch. not (batch.number == number)) account.batches g
 gathers-done opening past account (DeleteCollection collection cond) e g = gathers-filter opening past account.counter (λ batch. not (bytes_eq batch.collection collection)) account.batches g
 gathers-done opening past account (DeleteIds collection ids cond) e g =
-    gathers-cond opening past (is_some (time_of collection account.collections)) (stamped account collection (stamp_in account) (rows_without collection ids account.rows)) account g g
+    gathers-cond opening past (is_some (time_of collection account.collections)) (account_after_write account collection (stamp_in account) (rows_without collection ids account.rows)) account g g
 gathers-done opening past account (Get collection id cond) e g = g
 gathers-done opening past account (Put collection id fields cond) e g = g
 gathers-done opening past account (Delete collection id cond) e g = g

@@ -5,7 +5,7 @@ use Rattle.std.proofs.Common.{ap, sym, subst, ◌∙◌, arith}
 use Rattle.ss_bso.specs.declared.parts.Part.{Part}
 use Rattle.ss_bso.specs.declared.account.Plain.{Plain}
 use Rattle.ss_bso.specs.Account.{tick, time_of}
-use Rattle.ss_bso.specs.Write.{stamped, rows_without}
+use Rattle.ss_bso.specs.Write.{account_after_write, rows_without}
 use Rattle.ss_query.specs.declared.requests.Request.{Request}
 use Rattle.ss_query.specs.declared.requests.Request.TheVariants.{Info, DeleteAll, List as ListOf, Post}
 use Rattle.ss_query.specs.declared.requests.Request.TheVariants.{DeleteCollection, DeleteIds, Get, Put, Delete}
@@ -27,7 +27,7 @@ some_stamp account collection [] e = cc
 some_stamp account collection (part ∷ parts) e = record { store = refl; moment = refl }
 
 ids_stamp : (b : Bool) (account : Plain) (collection : List ℕ) (ids : List (List ℕ)) → b ≡ true
-    → IsStamp account (cond b (stamped account collection (stamp_in account) (rows_without collection ids account.rows)) account)
+    → IsStamp account (cond b (account_after_write account collection (stamp_in account) (rows_without collection ids account.rows)) account)
 ids_stamp true account collection ids e = record { store = refl; moment = refl }
 ids_stamp false account collection ids e = cc
 
@@ -70,7 +70,7 @@ effect_shows account (Post collection records mode condition) e =
 effect_shows account (DeleteCollection collection condition) e = cc
 effect_shows account (DeleteIds collection ids condition) e =
     subst (λ (a : Plain). ShowsSame account a)
-    (sym (ids_quiet (is_some (time_of collection account.collections)) account (stamped account collection (stamp_in account) (rows_without collection ids account.rows)) e))
+    (sym (ids_quiet (is_some (time_of collection account.collections)) account (account_after_write account collection (stamp_in account) (rows_without collection ids account.rows)) e))
     (shows_self account)
 effect_shows account (Get collection id condition) e = shows_self account
 effect_shows account (Put collection id fields condition) e = cc
@@ -89,7 +89,7 @@ effect_same account (Post collection records (Append number) condition) e outsid
 effect_same account (Post collection records (Commit number) condition) e outside = cc
 effect_same account (DeleteCollection collection condition) e outside = cc
 effect_same account (DeleteIds collection ids condition) e outside =
-    ids_quiet (is_some (time_of collection account.collections)) account (stamped account collection (stamp_in account) (rows_without collection ids account.rows)) e
+    ids_quiet (is_some (time_of collection account.collections)) account (account_after_write account collection (stamp_in account) (rows_without collection ids account.rows)) e
 effect_same account (Get collection id condition) e outside = refl
 effect_same account (Put collection id fields condition) e outside = cc
 effect_same account (Delete collection id condition) e outside = cc

@@ -18,7 +18,8 @@ use Rattle.ss_bso.specs.Limits.{most_live_batches, most_batch_bytes, most_batch_
 use Rattle.ss_bso.specs.Limits.{most_account_payload_bytes, row_bytes, part_bytes}
 use Rattle.ss_bso.specs.Validity.{IsValid, IsValidBatch, IsWithinLimits}
 use Rattle.ss_bso.proofs.Full.{within-both, within-bytes, within-number}
-use Rattle.ss_bso.specs.Write.{stamped, write, rows_without, rows_written, times_without, times_with, is_among}
+use Rattle.ss_bso.specs.Write.{account_after_write, write, rows_without, rows_written, times_without, times_with}
+use Rattle.ss_bso.specs.Write.{is_among}
 use Rattle.ss_query.specs.declared.requests.Request.{Request}
 use Rattle.ss_query.specs.declared.requests.Request.TheVariants.{Info, DeleteAll, List as ListOf, Post}
 use Rattle.ss_query.specs.declared.requests.Request.TheVariants.{DeleteCollection, DeleteIds, Get, Put, Delete}
@@ -208,8 +209,8 @@ pub valid-tick : (account : Plain) (now : ℕ) → IsValid account → IsValid (
 valid-tick account now v = valid_from (tick account now) (stored-tick account now (stored_from account v)) (batched-tick account now (batched_from account v))
 
 -- a write that leaves these rows of a collection
-stored-stamped : (account : Plain) (collection : List ℕ) (rows : List Row) → account.store < last_stamp → IsWithinLimits (stamped account collection (stamp_in account) rows)
-    → Pairs Apart rows → Each (IsItem (times_with collection (stamp_in account) account.collections)) rows → Stored (shown account) → Stored (shown (stamped account collection (stamp_in account) rows))
+stored-stamped : (account : Plain) (collection : List ℕ) (rows : List Row) → account.store < last_stamp → IsWithinLimits (account_after_write account collection (stamp_in account) rows)
+    → Pairs Apart rows → Each (IsItem (times_with collection (stamp_in account) account.collections)) rows → Stored (shown account) → Stored (shown (account_after_write account collection (stamp_in account) rows))
 stored-stamped account collection rows room within places items s = record {
   places = places;
   names = names_with account.collections collection (stamp_in account) s.names;
@@ -232,8 +233,8 @@ stored-write account collection parts room within s =
     (places-written collection parts (stamp_in account) account.rows s.places)
     (items-written collection parts (stamp_in account) account.store account.collections account.rows later s.times s.items) s
 
-stored-without : (account : Plain) (collection : List ℕ) (ids : List (List ℕ)) → account.store < last_stamp → IsWithinLimits (stamped account collection (stamp_in account) (rows_without collection ids account.rows))
-    → Stored (shown account) → Stored (shown (stamped account collection (stamp_in account) (rows_without collection ids account.rows)))
+stored-without : (account : Plain) (collection : List ℕ) (ids : List (List ℕ)) → account.store < last_stamp → IsWithinLimits (account_after_write account collection (stamp_in account) (rows_without collection ids account.rows))
+    → Stored (shown account) → Stored (shown (account_after_write account collection (stamp_in account) (rows_without collection ids account.rows)))
 stored-without account collection ids room within s =
     let keep : Row → Bool = λ row. not (bytes_eq row.collection collection && is_among ids row.id) in
     stored-stamped account collection (rows_without collection ids account.rows) room within (Pairs-filter Apart keep account.rows s.places)
@@ -248,10 +249,10 @@ stored-write_some account collection (part ∷ parts) clock over s =
     stored-write account collection (part ∷ parts) (clock_from true account.store clock refl) (over_from true (write account collection (part ∷ parts) (stamp_in account)) over refl) s
 
 stored-cond : (writes : Bool) (account : Plain) (collection : List ℕ) (ids : List (List ℕ)) → (writes && nat_le last_stamp account.store) ≡ false
-    → (writes && is_over (cond writes (stamped account collection (stamp_in account) (rows_without collection ids account.rows)) account)) ≡ false
-    → Stored (shown account) → Stored (shown (cond writes (stamped account collection (stamp_in account) (rows_without collection ids account.rows)) account))
+    → (writes && is_over (cond writes (account_after_write account collection (stamp_in account) (rows_without collection ids account.rows)) account)) ≡ false
+    → Stored (shown account) → Stored (shown (cond writes (account_after_write account collection (stamp_in account) (rows_without collection ids account.rows)) account))
 stored-cond true account collection ids clock over s =
-    stored-without account collection ids (clock_from true account.store clock refl) (over_from true (stamped account collection (stamp_in account) (rows_without collection ids account.rows)) over refl) s
+    stored-without account collection ids (clock_from true account.store clock refl) (over_from true (account_after_write account collection (stamp_in account) (rows_without collection ids account.rows)) over refl) s
 stored-cond false account collection ids clock over s = s
 
 -- a deleted collection takes its rows along
@@ -310,7 +311,7 @@ moment-write_some account collection [] = omega arith
 moment-write_some account collection (part ∷ parts) = omega arith
 
 batched-cond : (writes : Bool) (account : Plain) (collection : List ℕ) (rows : List Row) → Batched account.moment account.counter account.batches
-    → let left : Plain = cond writes (stamped account collection (stamp_in account) rows) account in Batched left.moment left.counter left.batches
+    → let left : Plain = cond writes (account_after_write account collection (stamp_in account) rows) account in Batched left.moment left.counter left.batches
 batched-cond true account collection rows b = batched-later account.moment (stamp_in account) account.counter account.batches (omega arith) b
 batched-cond false account collection rows b = b
 

@@ -5,7 +5,7 @@ use Rattle.std.proofs.Common.{subst, sym, ap, ◌∙◌, arith}
 use Rattle.ss_bso.specs.declared.rows.Row.{Row}
 use Rattle.ss_bso.specs.declared.parts.Part.{Part}
 use Rattle.ss_bso.specs.Account.{is_at, row_at, time_of}
-use Rattle.ss_bso.specs.Put.{put}
+use Rattle.ss_bso.specs.Put.{row_after_put}
 use Rattle.ss_bso.specs.Write.{ids_of, parts_of, is_among, put_all, rows_without, rows_written, times_with}
 use Rattle.ss_bso.proofs.Lists.{Each-any, Each-imp, Each-filter, Each-append, Each-passes, Each-find, Each-filter_map}
 use Rattle.ss_bso.proofs.Lists.{Pairs-filter, Pairs-append, Pairs-filter_map, find-passes}
@@ -54,7 +54,7 @@ OnPut collection id time (Some row) = IsPut collection id time row
 put_all-is : (collection id : List ℕ) (time : ℕ) (parts : List Part) (old : Option Row) → Each (λ (part : Part). part.id ≡ id) parts → OnPut collection id time old → OnPut collection id time (put_all collection parts time old)
 put_all-is collection id time [] old e h = h
 put_all-is collection id time (part ∷ parts) old e h =
-    put_all-is collection id time parts (Some (put old collection part time)) e.1 (record { named = refl; of = e.0; within = omega arith })
+    put_all-is collection id time parts (Some (row_after_put old collection part time)) e.1 (record { named = refl; of = e.0; within = omega arith })
 
 -- the row that stood there
 old_is : (collection id : List ℕ) (time store : ℕ) (times : List (List ℕ × ℕ)) (rows : List Row) (old : Option Row) → row_at collection id rows ≡ old → store ≤ time → Each (λ (entry : List ℕ × ℕ). entry.1 ≤ store) times → Each (IsItem times) rows → OnPut collection id time old
@@ -114,7 +114,7 @@ OnNamed collection id (Some row) = IsNamed collection id row
 
 put_all-named : (collection id : List ℕ) (time : ℕ) (parts : List Part) (old : Option Row) → Each (λ (part : Part). part.id ≡ id) parts → OnNamed collection id old → OnNamed collection id (put_all collection parts time old)
 put_all-named collection id time [] old e h = h
-put_all-named collection id time (part ∷ parts) old e h = put_all-named collection id time parts (Some (put old collection part time)) e.1 (record { named = refl; of = e.0 })
+put_all-named collection id time (part ∷ parts) old e h = put_all-named collection id time parts (Some (row_after_put old collection part time)) e.1 (record { named = refl; of = e.0 })
 
 pub row_at-named : (collection id : List ℕ) (rows : List Row) (row : Row) → row_at collection id rows ≡ Some row → IsNamed collection id row
 row_at-named collection id rows row e =

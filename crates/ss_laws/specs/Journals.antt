@@ -43,8 +43,8 @@ reply_at journal place =
     option_map (λ entry. (entry_outcome (account_after journal.opening (take place journal.entries)) entry).reply) (slice_get journal.entries place)
 
 -- a journal without entries
-abbrev pub begun : Plain → ℕ → Journal
-begun opening most = record { opening = opening; most = most; entries = [] }
+abbrev pub empty_journal : Plain → ℕ → Journal
+empty_journal opening most = record { opening = opening; most = most; entries = [] }
 
 -- a journal with one more entry
 abbrev pub with_entry : Journal → Entry → Journal

@@ -3,7 +3,7 @@ use Rattle.std.specs.Prelude.{All, AllPairs, IsFalse, ◌≡◌, ◌≢◌, ◌<
 use Rattle.std.specs.Prelude.{◌||◌, is_some, List, IsTrue}
 use Rattle.std.specs.List.{AllZip}
 use Rattle.std.specs.Option.{option_map_or}
-use Rattle.ss_text.specs.Texts.{Reordered, sorted}
+use Rattle.ss_text.specs.Texts.{IsReordering, sorted}
 use Rattle.ss_text.specs.Time.{last_stamp, stops}
 use Rattle.ss_text.specs.declared.stamps.Cond.{Cond}
 use Rattle.ss_text.specs.declared.stamps.Cond.TheVariants.{IfAbsent, IfUnmodified}
@@ -19,7 +19,8 @@ use Rattle.ss_query.specs.declared.requests.Request.TheVariants.{Post}
 use Rattle.ss_query.specs.declared.requests.Mode.TheVariants.{Commit}
 use Rattle.ss_query.specs.declared.requests.Sort.{Sort}
 use Rattle.ss_query.specs.Answer.{comes_before}
-use Rattle.ss_query.specs.Refused.{begins, continued, with_condition, target_time, collection_time, is_there, is_listed}
+use Rattle.ss_query.specs.Refused.{begins, continued_batch, with_condition, target_time, collection_time, is_there}
+use Rattle.ss_query.specs.Refused.{is_listed}
 use Rattle.ss_query.specs.Refused.{IsLive, Fits}
 use Rattle.ss_query.specs.Effect.{effect, is_write}
 use Rattle.ss_query.specs.Api.{api, refusal, Outcome}
@@ -27,7 +28,7 @@ use Rattle.ss_query.specs.Flat.{Ask, Turn, after_all, turns, flat}
 
 -- whether a request is of a batch: a begin, an append or a commit
 abbrev pub is_of_batch : Request → Bool
-is_of_batch (Post collection records mode cond) = begins mode || is_some (continued mode)
+is_of_batch (Post collection records mode cond) = begins mode || is_some (continued_batch mode)
 is_of_batch _ = false
 
 -- whether an ask is of no batch
@@ -106,5 +107,5 @@ pub record WriteLaw (collection : List ℕ) (parts : List Part) (time : ℕ) (ro
 
 -- the order of an answer: the same rows, and none that comes before an earlier one
 pub record SortLaw (sort : Sort) (rows : List Row) : Type 0 where
-  pub same : Reordered rows (sorted (comes_before sort) rows)
+  pub same : IsReordering rows (sorted (comes_before sort) rows)
   pub in_order : AllPairs (λ row other. IsFalse (comes_before sort other row)) (sorted (comes_before sort) rows)

@@ -1,7 +1,7 @@
 //! The journal of an account: what was asked, in order, from an opening account.
 
 ghost use Rattle.std.specs.Prelude.{◌≡◌, ◌<◌, length, IfOk, IfErr};
-ghost use Rattle.ss_laws.specs.Journals.{begun, with_entry};
+ghost use Rattle.ss_laws.specs.Journals.{empty_journal, with_entry};
 
 use ss_bso::Plain;
 use ss_query::{Mark, Request};
@@ -56,7 +56,7 @@ impl Journal {
     /// A journal without entries. The memory for `most` of them is taken here. Where it is wanting the opening comes
     /// back.
     pub fn new(alloc: Global, opening: Plain, most: u32) -> Result<Journal, (Plain, AllocError)>
-        ensures begun { IfOk result (λ journal. journal ≡ begun opening most) }
+        ensures begun { IfOk result (λ journal. journal ≡ empty_journal opening most) }
         ensures returned { IfErr result (λ refused. refused.0 ≡ opening) }
     {
         match Vec::with_capacity(alloc, most as usize) {
@@ -98,7 +98,7 @@ impl Journal {
 
     /// Begins again from an opening, without entries. The memory for them stays taken.
     pub fn restart(&mut self, opening: Plain)
-        ensures begun { self.new ≡ begun opening self.old.most }
+        ensures begun { self.new ≡ empty_journal opening self.old.most }
     {
         self.opening = opening;
         self.entries.clear();

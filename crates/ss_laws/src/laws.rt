@@ -7,7 +7,7 @@ ghost use Rattle.ss_text.specs.declared.stamps.Cond.{Cond};
 ghost use Rattle.ss_bso.specs.declared.rows.Row.{Row};
 ghost use Rattle.ss_bso.specs.declared.parts.Part.{Part};
 ghost use Rattle.ss_bso.specs.declared.parts.Records.{Records};
-ghost use Rattle.ss_text.specs.Texts.{Reordered};
+ghost use Rattle.ss_text.specs.Texts.{IsReordering};
 ghost use Rattle.ss_query.specs.declared.requests.Sort.{Sort};
 ghost use Rattle.ss_bso.specs.Write.{rows_written};
 ghost use Rattle.ss_query.specs.Fit.{IsFitRequest};
@@ -96,7 +96,7 @@ pub fn write_law()
     ensures rows { (collection : List ℕ) (parts : List Part) (time : ℕ) (rows : List Row)
         → WriteLaw collection parts time rows }
     ensures joined { (account : Plain) (collection : List ℕ) (parts more : List Part) (time : ℕ) → IsValid account
-        → Reordered (rows_written collection (parts ++ more) time account.rows)
+        → IsReordering (rows_written collection (parts ++ more) time account.rows)
         (rows_written collection more time (rows_written collection parts time account.rows)) }
 {}
 

@@ -117,15 +117,15 @@ tag_of text =
     else None)))))))
 
 -- the line of a kind that a list is
-abbrev pub tagged : Tag → Data → Option Line
-tagged tag.Account d = Some Account
-tagged tag.Times d = times_from d
-tagged tag.Collection d = collection_from d
-tagged tag.Row d = row_from d
-tagged tag.Batch d = batch_from d
-tagged tag.Part d = part_from d
-tagged tag.Digest d = digest_from d
-tagged tag.End d = Some End
+abbrev pub line_of_tag : Tag → Data → Option Line
+line_of_tag tag.Account d = Some Account
+line_of_tag tag.Times d = times_from d
+line_of_tag tag.Collection d = collection_from d
+line_of_tag tag.Row d = row_from d
+line_of_tag tag.Batch d = batch_from d
+line_of_tag tag.Part d = part_from d
+line_of_tag tag.Digest d = digest_from d
+line_of_tag tag.End d = Some End
 
 unfoldable pub line_from : Data → Option Line
-line_from d = option_and_then (λ kind. tagged kind d) (option_and_then tag_of (text_at 0 d))
+line_from d = option_and_then (λ kind. line_of_tag kind d) (option_and_then tag_of (text_at 0 d))

@@ -5,7 +5,7 @@ ghost use Rattle.serde_json.specs.Find.{as_str};
 ghost use Rattle.serde_json.specs.View.{view};
 ghost use Rattle.ss_lines.specs.Values.{batch_from, collection_from, digest_from, field_of, id_at, integer_of};
 ghost use Rattle.ss_lines.specs.Values.{line_from, name_at, natural_at, natural_of, optional_of, part_from, row_from};
-ghost use Rattle.ss_lines.specs.Values.{seconds_of, tag_of, tagged, text_at, time_at, times_from};
+ghost use Rattle.ss_lines.specs.Values.{seconds_of, tag_of, line_of_tag, text_at, time_at, times_from};
 
 use crate::digests::Digest;
 use crate::lines::Line;
@@ -346,7 +346,7 @@ fn tag_of(text: &str) -> Option<Tag>
 }
 
 fn tagged(alloc: Global, tag: Tag, list: Value) -> Result<Option<Line>, AllocError>
-    ensures { IfOk result (λ line. line ≡ tagged tag (view list)) }
+    ensures { IfOk result (λ line. line ≡ line_of_tag tag (view list)) }
 {
     match tag {
         Tag::Account => Ok(Some(Line::Account)),

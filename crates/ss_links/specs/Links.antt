@@ -10,7 +10,7 @@ abbrev pub AreNone : Option (List ℕ) → Type 0
 AreNone bytes = (x : List ℕ) → bytes ≡ Some x → x ≡ []
 
 -- of a link from which no byte was taken, to which none was written, and none of whose calls failed
-pub record IsUnused (now : Meanings) : Type 0 where
+pub record IsUnusedLink (now : Meanings) : Type 0 where
   pub taken : AreNone now.taken
   pub written : AreNone now.written
   pub read_faults : now.read_faults ≡ 0

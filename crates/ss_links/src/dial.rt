@@ -1,7 +1,7 @@
 //! Dials.
 
 ghost use Rattle.std.specs.Prelude.{◌≡◌, ℕ, Option, List, IfOk};
-ghost use Rattle.ss_links.specs.Links.{IsUnused};
+ghost use Rattle.ss_links.specs.Links.{IsUnusedLink};
 ghost use Rattle.ss_links.specs.Dials.{Address, HungLink, HasAsked, HasCause, HasHung, HangUpCounts};
 
 use ss_outside::{Sink, Source};
@@ -30,7 +30,7 @@ pub trait Dial {
 
     /// Makes a link to this port of this host: no byte of it was taken or written.
     fn dial(&mut self, host: &str, port: u16) -> Result<Self::Link, DialFault>
-        ensures unused { IfOk result (λ link. IsUnused (Self.Link.Told.told link)) }
+        ensures unused { IfOk result (λ link. IsUnusedLink (Self.Link.Told.told link)) }
         ensures asked { HasAsked (record { host = host.now; port = port }) result (asked self.old) (asked self.new) }
         ensures hung { hung self.new ≡ hung self.old }
         ensures cause { HasCause result (dial_faults self.old) (dial_faults self.new) };

@@ -3,7 +3,7 @@
 ghost use Rattle.std.specs.Prelude.{◌≡◌, ◌++◌, [], ◌∷◌, All, Some, IfOk, OnOk, OnErr, map, option_map, option_copied};
 ghost use Rattle.std.specs.Prelude.{vec_len};
 ghost use Rattle.ss_outside.specs.Plans.{fresh_plan, raised_count};
-ghost use Rattle.ss_links.specs.Links.{IsUnused, link_tells};
+ghost use Rattle.ss_links.specs.Links.{IsUnusedLink, link_tells};
 ghost use Rattle.ss_links.specs.Dials.{HasAsked, HasCause, HasDialled, HasHung, HangUpCounts, hung_of, with_link};
 ghost use Rattle.ss_links.specs.Asked.{address_of};
 
@@ -37,7 +37,7 @@ pub struct DialUnder<F: Faults + Drop> {
 
 impl<F: Faults + Drop> Model for DialUnder<F> {
     ghost use Rattle.std.specs.Prelude.{◌≤◌, All, map, reverse, length, Some, None, if◌then◌else◌, vec_capacity};
-    ghost use Rattle.ss_links.specs.Links.{IsUnused, link_tells};
+    ghost use Rattle.ss_links.specs.Links.{IsUnusedLink, link_tells};
     ghost use Rattle.ss_links.specs.Dials.{Dialling, hung_of};
     ghost use Rattle.ss_links.specs.Asked.{address_of};
 
@@ -52,7 +52,7 @@ impl<F: Faults + Drop> Model for DialUnder<F> {
       faults = d.faults;
     } };
 
-    ghost invariant = { λ d. All (λ link. IsUnused (link_tells link)) d.links.items × (length d.hung.items ≤ d.room) × (d.room ≤ vec_capacity d.hung) };
+    ghost invariant = { λ d. All (λ link. IsUnusedLink (link_tells link)) d.links.items × (length d.hung.items ≤ d.room) × (d.room ≤ vec_capacity d.hung) };
 }
 
 /// A dial in memory, some of whose calls fail.
@@ -66,7 +66,7 @@ impl DialUnder<Numbered> {
         mut links: Vec<LinkUnder<Numbered>>,
         failing: Vec<u64>,
     ) -> Result<MemDial, AllocError>
-        requires { All (λ link. IsUnused (link_tells link)) links.items }
+        requires { All (λ link. IsUnusedLink (link_tells link)) links.items }
         ensures { IfOk result (λ dial. dial ≡ record { links = links.items; asked = []; hung = Some []; room = vec_len links; plan = Some (fresh_plan failing.items); faults = 0 }) }
     {
         let room = links.len();
@@ -159,7 +159,7 @@ impl<F: Faults + Drop> Dial for DialUnder<F> {
     ghost hung = { λ dial. dial.hung };
 
     fn dial(&mut self, host: &str, port: u16) -> Result<LinkUnder<F>, DialFault>
-        ensures unused { IfOk result (λ link. IsUnused (link_tells link)) }
+        ensures unused { IfOk result (λ link. IsUnusedLink (link_tells link)) }
         ensures asked { HasAsked (record { host = host.now; port = port }) result (Some self.old.asked) (Some self.new.asked) }
         ensures hung { self.new.hung ≡ self.old.hung }
         ensures cause { HasCause result self.old.faults self.new.faults }

@@ -2,7 +2,7 @@
 
 ghost use Rattle.std.specs.Prelude.{◌≡◌, All, Some, None, IfOk, true};
 ghost use Rattle.ss_outside.specs.Plans.{fresh_plan, is_failing};
-ghost use Rattle.ss_links.specs.Links.{IsUnused, link_tells};
+ghost use Rattle.ss_links.specs.Links.{IsUnusedLink, link_tells};
 ghost use Rattle.ss_links.specs.Ports.{HasAccepted, IfLink, fresh_port, given_by, passed_by, port_counts};
 
 use crate::memory_link::LinkUnder;
@@ -25,7 +25,7 @@ pub struct PortUnder<F: Faults + Drop> {
 
 impl<F: Faults + Drop> Model for PortUnder<F> {
     ghost use Rattle.std.specs.Prelude.{All, reverse};
-    ghost use Rattle.ss_links.specs.Links.{IsUnused, link_tells};
+    ghost use Rattle.ss_links.specs.Links.{IsUnusedLink, link_tells};
     ghost use Rattle.ss_links.specs.Ports.{Waiting};
 
     ghost Value = { Waiting };
@@ -40,7 +40,7 @@ impl<F: Faults + Drop> Model for PortUnder<F> {
       rests = p.rests;
     } };
 
-    ghost invariant = { λ p. All (λ link. IsUnused (link_tells link)) p.links.items };
+    ghost invariant = { λ p. All (λ link. IsUnusedLink (link_tells link)) p.links.items };
 }
 
 /// A port in memory, some of whose calls fail.
@@ -52,7 +52,7 @@ pub type SurePort = PortUnder<Never>;
 impl PortUnder<Numbered> {
     /// A port that gives these links. The calls with the numbers `failing` fail, counted from 1.
     pub fn new(mut links: Vec<LinkUnder<Numbered>>, failing: Vec<u64>) -> MemPort
-        requires { All (λ link. IsUnused (link_tells link)) links.items }
+        requires { All (λ link. IsUnusedLink (link_tells link)) links.items }
         ensures { result ≡ fresh_port links.items (Some (fresh_plan failing.items)) }
     {
         links.reverse();
@@ -81,7 +81,7 @@ impl<F: Faults + Drop> PortUnder<F> {
 impl PortUnder<Never> {
     /// A port that gives these links.
     pub fn new(mut links: Vec<LinkUnder<Never>>) -> SurePort
-        requires { All (λ link. IsUnused (link_tells link)) links.items }
+        requires { All (λ link. IsUnusedLink (link_tells link)) links.items }
         ensures { result ≡ fresh_port links.items None }
     {
         links.reverse();
@@ -104,7 +104,7 @@ impl<F: Faults + Drop> Port for PortUnder<F> {
 
     fn accept(&mut self) -> Result<Accepted<LinkUnder<F>>, PortFault>
         ensures counted { HasAccepted result (port_counts self.old) (port_counts self.new) }
-        ensures unused { IfOk result (λ given. IfLink given (λ link. IsUnused (link_tells link))) }
+        ensures unused { IfOk result (λ given. IfLink given (λ link. IsUnusedLink (link_tells link))) }
         ensures answer { result ≡ given_by (is_failing self.old.plan) self.old.is_to_rest self.old.links }
         ensures after { self.new ≡ passed_by (is_failing self.old.plan) self.old.is_to_rest self.old.links self.old }
     {

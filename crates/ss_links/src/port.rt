@@ -1,7 +1,7 @@
 //! Ports.
 
 ghost use Rattle.std.specs.Prelude.{◌≡◌, OnOk, IfOk};
-ghost use Rattle.ss_links.specs.Links.{IsUnused};
+ghost use Rattle.ss_links.specs.Links.{IsUnusedLink};
 ghost use Rattle.ss_links.specs.Ports.{Accepts, HasAccepted, IfLink};
 
 use crate::link::Closable;
@@ -36,5 +36,5 @@ pub trait Port {
     /// Waits for the next link.
     fn accept(&mut self) -> Result<Accepted<Self::Link>, PortFault>
         ensures counted { HasAccepted result (counts self.old) (counts self.new) }
-        ensures unused { IfOk result (λ given. IfLink given (λ link. IsUnused (Self.Link.Told.told link))) };
+        ensures unused { IfOk result (λ given. IfLink given (λ link. IsUnusedLink (Self.Link.Told.told link))) };
 }

@@ -219,10 +219,10 @@ abbrev pub tag_of : List ℕ → Tag
 tag_of word = if bytes_eq word (codes "log") then tag.Log else (if bytes_eq word (codes "call") then tag.Call else tag.Account)
 
 -- the line of a kind that a list is
-abbrev pub tagged : Tag → Data → Option LogLine
-tagged tag.Log d = log_from d
-tagged tag.Call d = option_map (λ entry. Call entry) (entry_from d)
-tagged tag.Account d = option_map (λ line. Account line) (line_from d)
+abbrev pub log_line_of_tag : Tag → Data → Option LogLine
+log_line_of_tag tag.Log d = log_from d
+log_line_of_tag tag.Call d = option_map (λ entry. Call entry) (entry_from d)
+log_line_of_tag tag.Account d = option_map (λ line. Account line) (line_from d)
 
 unfoldable pub log_line_from : Data → Option LogLine
-log_line_from d = option_and_then (λ kind. tagged kind d) (option_map tag_of (text_at 0 d))
+log_line_from d = option_and_then (λ kind. log_line_of_tag kind d) (option_map tag_of (text_at 0 d))

@@ -3,7 +3,7 @@
 ghost use Rattle.std.specs.Prelude.{◌≡◌, IfOk, option_map, option_and_then};
 ghost use Rattle.serde_json.specs.View.{view};
 ghost use Rattle.ss_lines.specs.Values.{line_from, text_at};
-ghost use Rattle.ss_log_lines.specs.Values.{entry_from, log_from, log_line_from, mark_of, tag_of, tagged};
+ghost use Rattle.ss_log_lines.specs.Values.{entry_from, log_from, log_line_from, mark_of, tag_of, log_line_of_tag};
 ghost use Rattle.ss_log_lines.specs.declared.lines.LogLine.TheVariants.{Account, Call};
 
 use crate::lines::LogLine;
@@ -107,7 +107,7 @@ fn tag_in(list: &Value) -> Option<Tag>
 }
 
 fn tagged(alloc: Global, tag: Tag, list: Value) -> Result<Option<LogLine>, AllocError>
-    ensures { IfOk result (λ line. line ≡ tagged tag (view list)) }
+    ensures { IfOk result (λ line. line ≡ log_line_of_tag tag (view list)) }
 {
     match tag {
         Tag::Log => Ok(log_from(&list)),

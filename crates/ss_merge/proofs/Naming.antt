@@ -14,7 +14,7 @@ use Rattle.ss_tree.specs.Trees.{IsValidTree, PlacedItem, node}
 use Rattle.ss_dupe.specs.Looks.{Id, Look, look, is_in}
 use Rattle.ss_dupe.specs.Sides.{sides}
 use Rattle.ss_dupe.specs.Pairs.{ArePairs}
-use Rattle.ss_dupe.specs.Renaming.{named, tree_renamed, renamed_item}
+use Rattle.ss_dupe.specs.Renaming.{renamed_id, tree_renamed, renamed_item}
 use Rattle.ss_dupe.specs.Plains.{placed_at}
 use Rattle.ss_dupe.specs.declared.plain.Seat.{Seat}
 use Rattle.ss_dupe.proofs.Basics.{false_from, has-cases}
@@ -288,19 +288,19 @@ are_names m l r x y pairs t g vl vr a looks names =
     (record { apart = names_apart (sides m l r x y) (shape l vl) (shape r vr) pairs a; own = λ z n e. node_own l z n e }))
 
 pub renamed_look : (l : List PlacedItem) (pairs : List (Id × Id)) (t u : Look) (g : Id → Option Id) → ((z : Id) → t z ≡ look l z) → ((z : Id) → g z ≡ lookup (bytes_eq z) pairs) → AreNames t (by_map g)
-    → NamesAnew t (by_map g) u → (q : Id) → u q ≡ look (tree_renamed (named pairs) l) q
+    → NamesAnew t (by_map g) u → (q : Id) → u q ≡ look (tree_renamed (renamed_id pairs) l) q
 renamed_look l pairs t u g looks names are is q = by_parts (subst (λ f. AreNames f (by_map g)) (λ i z. looks z i) are) (subst (λ f. NamesAnew f (by_map g) u) (λ i z. looks z i) is)
   where
-    by_parts : AreNames (look l) (by_map g) → NamesAnew (look l) (by_map g) u → u q ≡ look (tree_renamed (named pairs) l) q
+    by_parts : AreNames (look l) (by_map g) → NamesAnew (look l) (by_map g) u → u q ≡ look (tree_renamed (renamed_id pairs) l) q
     by_parts a s = by_names (subst (λ h. AreNames (look l) (by_map h)) (λ i z. names z i) a) (subst (λ h. NamesAnew (look l) (by_map h) u) (λ i z. names z i) s)
       where
-        by_names : AreNames (look l) (named pairs) → NamesAnew (look l) (named pairs) u → u q ≡ look (tree_renamed (named pairs) l) q
-        by_names b w = cases (cases_Bool (is_in u q)) (cases_Bool (is_in (look (tree_renamed (named pairs) l)) q))
+        by_names : AreNames (look l) (renamed_id pairs) → NamesAnew (look l) (renamed_id pairs) u → u q ≡ look (tree_renamed (renamed_id pairs) l) q
+        by_names b w = cases (cases_Bool (is_in u q)) (cases_Bool (is_in (look (tree_renamed (renamed_id pairs) l)) q))
           where
-            both : (x : Id) → is_in (look l) x ≡ true → q ≡ named pairs x → u q ≡ look (tree_renamed (named pairs) l) q
-            both x h e = ap u e ∙ w.named x h ∙ sym (look-renamed l (named pairs) b.apart x h) ∙ sym (ap (look (tree_renamed (named pairs) l)) e)
+            both : (x : Id) → is_in (look l) x ≡ true → q ≡ renamed_id pairs x → u q ≡ look (tree_renamed (renamed_id pairs) l) q
+            both x h e = ap u e ∙ w.named x h ∙ sym (look-renamed l (renamed_id pairs) b.apart x h) ∙ sym (ap (look (tree_renamed (renamed_id pairs) l)) e)
 
-            cases : (is_in u q ≡ true) ⊎ (is_in u q ≡ false) → (is_in (look (tree_renamed (named pairs) l)) q ≡ true) ⊎ (is_in (look (tree_renamed (named pairs) l)) q ≡ false) → u q ≡ look (tree_renamed (named pairs) l) q
+            cases : (is_in u q ≡ true) ⊎ (is_in u q ≡ false) → (is_in (look (tree_renamed (renamed_id pairs) l)) q ≡ true) ⊎ (is_in (look (tree_renamed (renamed_id pairs) l)) q ≡ false) → u q ≡ look (tree_renamed (renamed_id pairs) l) q
             cases (inl h) _ = let f = w.from q h in both f.0 f.1 f.2
-            cases (inr h) (inl k) = let f = from-renamed l (named pairs) b.apart q k in both f.0 f.1 f.2
-            cases (inr h) (inr k) = is_none u q h ∙ sym (is_none (look (tree_renamed (named pairs) l)) q k)
+            cases (inr h) (inl k) = let f = from-renamed l (renamed_id pairs) b.apart q k in both f.0 f.1 f.2
+            cases (inr h) (inr k) = is_none u q h ∙ sym (is_none (look (tree_renamed (renamed_id pairs) l)) q k)

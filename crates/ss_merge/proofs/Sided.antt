@@ -8,7 +8,7 @@ use Rattle.ss_dupe.specs.declared.sides.Side.{Side}
 use Rattle.ss_dupe.specs.declared.sides.Side.TheVariants.{Local, Remote}
 use Rattle.ss_dupe.specs.Looks.{Id, is_in, at, parent_of, is_places, is_root}
 use Rattle.ss_dupe.specs.Walks.{meets, Meets}
-use Rattle.ss_dupe.specs.Shapes.{AreShaped}
+use Rattle.ss_dupe.specs.Shapes.{HaveShapes}
 use Rattle.ss_dupe.specs.Sides.{Sides, tree_of}
 use Rattle.ss_dupe.proofs.Basics.{or_rest, some_from_passes, same-tells}
 use Rattle.ss_dupe.proofs.Bounds.{meets_within}
@@ -65,7 +65,7 @@ survivor_places s x h = elim (cases_Bool (is_root x)) [
 ]
 
 -- a survivor is in a tree
-pub survivor_in : (s : Sides) → AreShaped s → (x : Id) → survives s x ≡ true → (is_in s.local x ≡ true) ⊎ (is_in s.remote x ≡ true)
+pub survivor_in : (s : Sides) → HaveShapes s → (x : Id) → survives s x ≡ true → (is_in s.local x ≡ true) ⊎ (is_in s.remote x ≡ true)
 unfolding survives
 survivor_in s shaped x h = cases (cases_Bool (is_root x))
   where
@@ -74,7 +74,7 @@ survivor_in s shaped x h = cases (cases_Bool (is_root x))
     cases (inr miss) = one_of_two _ _ _ _ (both_right (not (is_places x)) _ (or_rest (is_root x) _ h miss))
 
 -- a root has the content of a folder
-pub root_content : (s : Sides) → AreShaped s → (x : Id) → is_root x ≡ true → is_folder (content_of s x).kind ≡ true
+pub root_content : (s : Sides) → HaveShapes s → (x : Id) → is_root x ≡ true → is_folder (content_of s x).kind ≡ true
 unfolding content_of
 root_content s shaped x r = ap is_folder (root_kind (side_of s same_content x))
   where

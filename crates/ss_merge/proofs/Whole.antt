@@ -12,8 +12,8 @@ use Rattle.ss_build.specs.Places.{AreItems}
 use Rattle.ss_dupe.specs.Looks.{Id, is_in, is_root}
 use Rattle.ss_dupe.specs.Walks.{passes}
 use Rattle.ss_dupe.specs.Sides.{Sides}
-use Rattle.ss_dupe.specs.Renaming.{named, paired, tree_renamed}
-use Rattle.ss_dupe.specs.Shapes.{AreShaped}
+use Rattle.ss_dupe.specs.Renaming.{renamed_id, renamed_sides, tree_renamed}
+use Rattle.ss_dupe.specs.Shapes.{HaveShapes}
 use Rattle.ss_dupe.proofs.Renamed.{node_ids-has}
 use Rattle.ss_merge.specs.Survivors.{content_of, survives}
 use Rattle.ss_merge.specs.Parents.{final}
@@ -61,23 +61,23 @@ module _ (s : Sides) (ids : List Id) (m : AreMerging s ids) (g : Id → Option I
 -- ---- all ids
 
 either : List (Id × Id) → Asked → List Id
-either pairs s = firsts (node_ids (tree_renamed (named pairs) (tree s.local.now)) ++ node_ids (tree s.remote.now))
+either pairs s = firsts (node_ids (tree_renamed (renamed_id pairs) (tree s.local.now)) ++ node_ids (tree s.remote.now))
 
-has-either : (pairs : List (Id × Id)) (s : Asked) (x : Id) → has x (either pairs s) ≡ (is_in (paired pairs s).local x || is_in (paired pairs s).remote x)
+has-either : (pairs : List (Id × Id)) (s : Asked) (x : Id) → has x (either pairs s) ≡ (is_in (renamed_sides pairs s).local x || is_in (renamed_sides pairs s).remote x)
 unfolding either
 has-either pairs s x =
-    has-firsts x _ ∙ has-append x (node_ids (tree_renamed (named pairs) (tree s.local.now))) (node_ids (tree s.remote.now))
-    ∙ ap₂ (λ a b. a || b) (sym (node_ids-has (tree_renamed (named pairs) (tree s.local.now)) x)) (sym (node_ids-has (tree s.remote.now) x))
+    has-firsts x _ ∙ has-append x (node_ids (tree_renamed (renamed_id pairs) (tree s.local.now))) (node_ids (tree s.remote.now))
+    ∙ ap₂ (λ a b. a || b) (sym (node_ids-has (tree_renamed (renamed_id pairs) (tree s.local.now)) x)) (sym (node_ids-has (tree s.remote.now) x))
 
-pub gathered : (pairs : List (Id × Id)) (s : Asked) (v : Sides) (ids : List Id) → v ≡ paired pairs s → ((all : List Id) → Apart all → ((x : Id) → has x all ≡ (is_in v.local x || is_in v.remote x)) → ids ≡ by_id all) → ids ≡ all_ids pairs s
+pub gathered : (pairs : List (Id × Id)) (s : Asked) (v : Sides) (ids : List Id) → v ≡ renamed_sides pairs s → ((all : List Id) → Apart all → ((x : Id) → has x all ≡ (is_in v.local x || is_in v.remote x)) → ids ≡ by_id all) → ids ≡ all_ids pairs s
 unfolding all_ids either
 gathered pairs s v ids same is = is (either pairs s) (Apart-firsts _) (λ x. has-either pairs s x ∙ sym (ap (λ (w : Sides). is_in w.local x || is_in w.remote x) same))
 
-pub are_merging : (pairs : List (Id × Id)) (s : Asked) (v : Sides) (ids : List Id) → v ≡ paired pairs s → AreShaped v → ids ≡ all_ids pairs s → AreMerging v ids
+pub are_merging : (pairs : List (Id × Id)) (s : Asked) (v : Sides) (ids : List Id) → v ≡ renamed_sides pairs s → HaveShapes v → ids ≡ all_ids pairs s → AreMerging v ids
 unfolding all_ids either
 are_merging pairs s v ids same shaped is = record {
   shaped = shaped;
-  apart = subst Apart (sym is) (Apart-by_id (either pairs s) (Apart-firsts (node_ids (tree_renamed (named pairs) (tree s.local.now)) ++ node_ids (tree s.remote.now))));
+  apart = subst Apart (sym is) (Apart-by_id (either pairs s) (Apart-firsts (node_ids (tree_renamed (renamed_id pairs) (tree s.local.now)) ++ node_ids (tree s.remote.now))));
   all = λ x. ap (has x) is ∙ has-by_id x (either pairs s) ∙ has-either pairs s x ∙ sym (ap (λ (w : Sides). is_in w.local x || is_in w.remote x) same);
 }
 

@@ -3,7 +3,7 @@ use Rattle.std.specs.Prelude.{◌≡◌, ◌||◌, ℕ, List, None, if◌then◌
 use Rattle.ss_record.specs.Ids.{Apart, has}
 use Rattle.ss_build.specs.declared.claims.Claim.{Claim}
 use Rattle.ss_dupe.specs.Looks.{Id, is_in, is_root}
-use Rattle.ss_dupe.specs.Shapes.{AreShaped}
+use Rattle.ss_dupe.specs.Shapes.{HaveShapes}
 use Rattle.ss_dupe.specs.Sides.{Sides}
 use Rattle.ss_merge.specs.Survivors.{content_of, survives}
 use Rattle.ss_merge.specs.Parents.{final}
@@ -11,7 +11,7 @@ use Rattle.ss_merge.specs.Merged.{is_child, merged_children}
 
 -- ids are those of the two trees, which are valid
 pub record AreMerging (s : Sides) (ids : List Id) : Type 0 where
-  pub shaped : AreShaped s
+  pub shaped : HaveShapes s
   pub apart : Apart ids
   pub all : (x : Id) → has x ids ≡ (is_in s.local x || is_in s.remote x)
 

@@ -12,7 +12,7 @@ use Rattle.ss_dupe.specs.Looks.{Id, is_in, children_of, is_places, is_root}
 use Rattle.ss_dupe.specs.Walks.{passes}
 use Rattle.ss_dupe.specs.Sides.{Sides, other, tree_of}
 use Rattle.ss_dupe.specs.Reading.{ids_at}
-use Rattle.ss_dupe.specs.Renaming.{named, paired, tree_renamed}
+use Rattle.ss_dupe.specs.Renaming.{renamed_id, renamed_sides, tree_renamed}
 use Rattle.ss_merge.specs.declared.merging.Origin.{Origin}
 use Rattle.ss_merge.specs.declared.merging.Origin.TheVariants.{Local as FromLocal, Remote as FromRemote, Same}
 use Rattle.ss_merge.specs.Survivors.{content_of, same_children, same_content, side_of, survives, taken}
@@ -76,7 +76,7 @@ origins s es = map (λ x. (x, origin_of (taken s same_content x))) (walk_ids es)
 
 -- all ids of the two trees, by id
 unfoldable pub all_ids : List (Id × Id) → Asked → List Id
-all_ids pairs s = by_id (firsts (node_ids (tree_renamed (named pairs) (tree s.local.now)) ++ node_ids (tree s.remote.now)))
+all_ids pairs s = by_id (firsts (node_ids (tree_renamed (renamed_id pairs) (tree s.local.now)) ++ node_ids (tree s.remote.now)))
 
 abbrev pub merged_tree : List (Id × Id) → Asked → List PlacedItem
-merged_tree pairs s = entries_merged (paired pairs s) (all_ids pairs s)
+merged_tree pairs s = entries_merged (renamed_sides pairs s) (all_ids pairs s)

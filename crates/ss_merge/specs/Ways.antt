@@ -4,7 +4,7 @@ use Rattle.std.specs.HashMap.{get}
 use Rattle.ss_record.specs.Ids.{has}
 use Rattle.ss_dupe.specs.Looks.{Id, is_root, parent_of}
 use Rattle.ss_dupe.specs.Plains.{view}
-use Rattle.ss_dupe.specs.Shapes.{AreShaped}
+use Rattle.ss_dupe.specs.Shapes.{HaveShapes}
 use Rattle.ss_dupe.specs.Sides.{tree_of}
 use Rattle.ss_merge.specs.declared.ways.Way.{Way}
 use Rattle.ss_merge.specs.declared.ways.Way.TheVariants.{Up, Chosen}
@@ -23,7 +23,7 @@ is_goal_on (Chosen chosen) x = is_root x
 
 -- the trees of the way are those of a merge
 abbrev pub HasShape : Way → Type 0
-HasShape (Up plains side) = AreShaped (view plains.now)
+HasShape (Up plains side) = HaveShapes (view plains.now)
 HasShape (Chosen chosen) = Unit {0}
 
 -- the nearest goal after an id, within n steps

@@ -4,7 +4,7 @@ ghost use Rattle.std.specs.Prelude.{◌≡◌, ◌++◌, true, None, map, filter
 ghost use Rattle.std.specs.HashMap.{get};
 ghost use Rattle.ss_dupe.specs.Looks.{children_of, is_root};
 ghost use Rattle.ss_dupe.specs.Plains.{view};
-ghost use Rattle.ss_dupe.specs.Shapes.{AreShaped};
+ghost use Rattle.ss_dupe.specs.Shapes.{HaveShapes};
 ghost use Rattle.ss_dupe.specs.Sides.{tree_of};
 ghost use Rattle.ss_merge.specs.Survivors.{content_of, survives};
 ghost use Rattle.ss_merge.specs.Merged.{merged_children};
@@ -100,7 +100,7 @@ fn children_of(
 
 /// The item with the taken kind and content.
 fn item_of(alloc: Global, plains: &Plains, id: &Id) -> Result<Item, AllocError>
-    requires shaped { AreShaped (view plains.now) }
+    requires shaped { HaveShapes (view plains.now) }
     requires survives { survives (view plains.now) id.now ≡ true }
     ensures { IfOk result (λ item. item ≡ record {
       id = id.now;
@@ -143,7 +143,7 @@ fn claim_of(
     finals: &HashMap<Id, Id, Seed>,
     id: &Id,
 ) -> Result<Claim, AllocError>
-    requires shaped { AreShaped (view plains.now) }
+    requires shaped { HaveShapes (view plains.now) }
     requires survives { survives (view plains.now) id.now ≡ true }
     ensures { IfOk result (λ claim. claim ≡ claim_by (view plains.now) (get bytes_eq finals.now) id.now) }
 {
@@ -162,7 +162,7 @@ pub(crate) fn claims_of(
     finals: &HashMap<Id, Id, Seed>,
     ids: &[Id],
 ) -> Result<Vec<Claim>, AllocError>
-    requires { AreShaped (view plains.now) }
+    requires { HaveShapes (view plains.now) }
     ensures { IfOk result (λ claims. claims.items ≡ map (claim_by (view plains.now) (get bytes_eq finals.now))
         (filter (survives (view plains.now)) ids.now)) }
 {

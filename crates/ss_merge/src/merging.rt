@@ -7,7 +7,7 @@ ghost use Rattle.ss_tree.specs.Trees.{IsSame, IsValidTree, node_ids};
 ghost use Rattle.ss_dupe.specs.Looks.{Id as Text, is_places};
 ghost use Rattle.ss_dupe.specs.Pairs.{ArePairs};
 ghost use Rattle.ss_dupe.specs.Plains.{view};
-ghost use Rattle.ss_dupe.specs.Renaming.{paired};
+ghost use Rattle.ss_dupe.specs.Renaming.{renamed_sides};
 ghost use Rattle.ss_dupe.specs.Sides.{sides_asked};
 ghost use Rattle.ss_merge.specs.Survivors.{survives};
 ghost use Rattle.ss_merge.specs.Merged.{all_ids, gone_of, entries_merged, merged_tree, origins};
@@ -62,12 +62,12 @@ pub fn merge(alloc: Global, sides: &Sides) -> Result<Merged, AllocError>
     ensures tree { IfOk result (λ m. IsSame (tree m.tree) (merged_tree m.renamed.items sides.now)) }
     ensures valid { IfOk result (λ m. IsValidTree (tree m.tree)) }
     ensures survivors { IfOk result (λ m. (x : Text) → (has x (node_ids (tree m.tree)) ≡ true) ↔ ((x ≡ places)
-        ⊎ (survives (paired m.renamed.items sides.now) x ≡ true))) }
-    ensures from { IfOk result (λ m. m.from.items ≡ origins (paired m.renamed.items sides.now) m.tree) }
+        ⊎ (survives (renamed_sides m.renamed.items sides.now) x ≡ true))) }
+    ensures from { IfOk result (λ m. m.from.items ≡ origins (renamed_sides m.renamed.items sides.now) m.tree) }
     ensures from_once { IfOk result (λ m. Apart (map (λ p. p.0) m.from.items)) }
     ensures from_all { IfOk result (λ m. (x : Text) → has x (map (λ p. p.0) m.from.items)
         ≡ (has x (node_ids (tree m.tree)) && not (is_places x))) }
-    ensures gone { IfOk result (λ m. m.gone ≡ gone_of (paired m.renamed.items sides.now)
+    ensures gone { IfOk result (λ m. m.gone ≡ gone_of (renamed_sides m.renamed.items sides.now)
         (all_ids m.renamed.items sides.now)) }
     ensures renamed { IfOk result (λ m. ArePairs (sides_asked sides.now) m.renamed.items) }
 {

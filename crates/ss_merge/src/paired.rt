@@ -7,8 +7,8 @@ ghost use Rattle.ss_record.specs.Ids.{Apart, has};
 ghost use Rattle.ss_dupe.specs.Looks.{Id as Text, is_in};
 ghost use Rattle.ss_dupe.specs.Pairs.{ArePairs};
 ghost use Rattle.ss_dupe.specs.Plains.{AreIds, look_of, placed_at, view};
-ghost use Rattle.ss_dupe.specs.Renaming.{paired, renamed_item};
-ghost use Rattle.ss_dupe.specs.Shapes.{AreShaped};
+ghost use Rattle.ss_dupe.specs.Renaming.{renamed_sides, renamed_item};
+ghost use Rattle.ss_dupe.specs.Shapes.{HaveShapes};
 ghost use Rattle.ss_dupe.specs.Sides.{sides_asked};
 ghost use Rattle.ss_merge.specs.Links.{AreNames, NamesAnew, TakesIn, by_map, look_by};
 
@@ -169,10 +169,10 @@ pub(crate) struct Paired<'a> {
 /// Reads the trees out, once, pairs the duplicates, and gives the local items of the pairs the remote ids.
 pub(crate) fn read_paired<'a>(alloc: Global, sides: &Sides<'a>) -> Result<Paired<'a>, AllocError>
     ensures renamed { IfOk result (λ p. ArePairs (sides_asked sides.now) p.renamed.items) }
-    ensures same { IfOk result (λ p. view p.plains ≡ paired p.renamed.items sides.now) }
+    ensures same { IfOk result (λ p. view p.plains ≡ renamed_sides p.renamed.items sides.now) }
     ensures local_ids { IfOk result (λ p. AreIds p.plains.local) }
     ensures remote_ids { IfOk result (λ p. AreIds p.plains.remote) }
-    ensures shaped { IfOk result (λ p. AreShaped (view p.plains)) }
+    ensures shaped { IfOk result (λ p. HaveShapes (view p.plains)) }
 {
     let read = Plains::read(alloc, sides)?;
     let renamed = pair_read(alloc, &read)?;

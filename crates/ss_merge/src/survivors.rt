@@ -5,7 +5,7 @@ ghost use Rattle.ss_record.specs.Kinds.{is_folder};
 ghost use Rattle.ss_dupe.specs.Looks.{at, is_in};
 ghost use Rattle.ss_dupe.specs.Plains.{placed_at, view};
 ghost use Rattle.ss_dupe.specs.Sides.{tree_of};
-ghost use Rattle.ss_dupe.specs.Shapes.{AreShaped};
+ghost use Rattle.ss_dupe.specs.Shapes.{HaveShapes};
 ghost use Rattle.ss_merge.specs.Survivors.{content_of, differs, is_changed, is_merged_folder, newer, side_of, stays};
 ghost use Rattle.ss_merge.specs.Survivors.{survives, taken};
 ghost use Rattle.ss_merge.specs.Parts.{alike};
@@ -145,7 +145,7 @@ pub(crate) fn survives(plains: &Plains, id: &Id) -> bool
 /// The item with the taken kind and content.
 #[tactic(auto, unfolding(crate::specs::Survivors::content_of))]
 pub(crate) fn content_of<'p, 'a>(plains: &'p Plains<'a>, id: &Id) -> &'p Seat<'a>
-    requires shaped { AreShaped (view plains.now) }
+    requires shaped { HaveShapes (view plains.now) }
     requires survives { survives (view plains.now) id.now ≡ true }
     ensures { placed_at result.now ≡ content_of (view plains.now) id.now }
 {
@@ -155,7 +155,7 @@ pub(crate) fn content_of<'p, 'a>(plains: &'p Plains<'a>, id: &Id) -> &'p Seat<'a
 /// Whether an item survives as a folder.
 #[tactic(auto, unfolding(crate::specs::Survivors::is_merged_folder))]
 pub(crate) fn is_merged_folder(plains: &Plains, id: &Id) -> bool
-    requires { AreShaped (view plains.now) }
+    requires { HaveShapes (view plains.now) }
     ensures { result ≡ is_merged_folder (view plains.now) id.now }
 {
     survives(plains, id) && content_of(plains, id).item.kind().is_folder()

@@ -8,7 +8,7 @@ use Rattle.ss_bso.specs.declared.parts.Records.{Records}
 use Rattle.ss_bso.specs.declared.rows.Row.{Row}
 use Rattle.ss_bso.specs.Account.{row_at}
 use Rattle.ss_bso.specs.Batches.{batches_without}
-use Rattle.ss_bso.specs.Write.{ids_of, parts_of, put_all, rows_without, stamped, write}
+use Rattle.ss_bso.specs.Write.{ids_of, parts_of, put_all, rows_without, account_after_write, write}
 use Rattle.ss_query.specs.declared.requests.Request.TheVariants.{Post}
 use Rattle.ss_query.specs.declared.requests.Mode.TheVariants.{Commit}
 use Rattle.ss_query.specs.Refused.{staged_parts}
@@ -31,11 +31,11 @@ module _ (account : Plain) (collection : List ℕ) (records : Records) (conditio
 pub written : (account : Plain) (collection : List ℕ) (all given : List Part) (rows : List Row) (gone ids : List (List ℕ)) (made : List Row) (stamp : ℕ)
     → given ≡ all → stamp ≡ stamp_in account → rows ≡ account.rows → gone ≡ ids_of all → ids ≡ ids_of all
     → made ≡ filter_map (λ id. put_all collection (parts_of id given) stamp (row_at collection id rows)) ids
-    → stamped account collection stamp (rows_without collection gone account.rows ++ made) ≡ write account collection all (stamp_in account)
+    → account_after_write account collection stamp (rows_without collection gone account.rows ++ made) ≡ write account collection all (stamp_in account)
 written account collection all given rows gone ids made stamp g s r h i m =
     let rows_made : made ≡ filter_map (λ id. put_all collection (parts_of id all) (stamp_in account) (row_at collection id account.rows)) (ids_of all) =
     m ∙ (λ j. filter_map (λ id. put_all collection (parts_of id (g j)) (s j) (row_at collection id (r j))) (i j)) in
-    λ j. stamped account collection (s j) (rows_without collection (h j) account.rows ++ rows_made j)
+    λ j. account_after_write account collection (s j) (rows_without collection (h j) account.rows ++ rows_made j)
 
 -- a write that keeps the limits, and one that would pass them
 pub within-kept : (before after : Plain) (over : Bool) → over ≡ is_over after → over ≡ false → after ≡ within before after

@@ -4,7 +4,7 @@ ghost use Rattle.std.specs.Prelude.{◌≡◌, ◌+◌, ◌-◌, ◌^◌, ◌++�
 ghost use Rattle.ss_bso.specs.Batches.{fit};
 ghost use Rattle.ss_bso.specs.Limits.{part_bytes, payload_size};
 ghost use Rattle.ss_query.specs.Api.{condition_cause, lacks_room, misses_batch, misses_item, overfills_batch};
-ghost use Rattle.ss_query.specs.Refused.{continued};
+ghost use Rattle.ss_query.specs.Refused.{continued_batch};
 ghost use Rattle.ss_plain.specs.Steps.{is_stopped};
 
 use crate::finding::{condition_of, find_batch, is_there, staged_parts, target_time};
@@ -50,7 +50,7 @@ fn lacks_room(account: &Plain, request: &Request) -> bool
 
 /// The batch that a POST continues, if it does.
 fn continued(mode: Mode) -> Option<u64>
-    ensures { result ≡ continued mode }
+    ensures { result ≡ continued_batch mode }
 {
     match mode {
         Mode::Plain | Mode::Begin => None,

@@ -3,7 +3,7 @@
 ghost use Rattle.std.specs.Prelude.{◌≡◌, ◌++◌, ℕ, List, length, not, filter, bytes_eq};
 ghost use Rattle.ss_bso.specs.declared.rows.Row.{Row as RowValue};
 ghost use Rattle.ss_bso.specs.Limits.{is_too_much};
-ghost use Rattle.ss_bso.specs.Write.{rows_without, stamped, times_without};
+ghost use Rattle.ss_bso.specs.Write.{rows_without, account_after_write, times_without};
 ghost use Rattle.ss_query.specs.Effect.{is_over};
 ghost use Rattle.ss_writes.specs.Parts.{IsSize};
 
@@ -50,7 +50,7 @@ fn size_elsewhere(rows: &[Row], collection: &Name) -> Size
 
 /// Whether the account would pass its limits once rows take the place of those of these ids in a collection.
 pub(crate) fn would_be_over(account: &Plain, collection: &Name, ids: &[Id], made: &[Row]) -> bool
-    ensures { (time : ℕ) → result ≡ is_over (stamped account.now collection.now time
+    ensures { (time : ℕ) → result ≡ is_over (account_after_write account.now collection.now time
         (rows_without collection.now ids.now account.now.rows ++ made.now)) }
 {
     let left = size_without(account.rows.as_slice(), collection, ids);

@@ -2,7 +2,7 @@
 
 ghost use Rattle.std.specs.Prelude.{◌≡◌, ◌<◌, ◌≤◌, ◌++◌, ◌∷◌, [], ℕ, not, true, false, filter, bytes_eq, IfOk};
 ghost use Rattle.ss_bso.specs.Batches.{batches_elsewhere, batches_without};
-ghost use Rattle.ss_bso.specs.Write.{ids_of, rows_without, stamped, times_with, times_without, write};
+ghost use Rattle.ss_bso.specs.Write.{ids_of, rows_without, account_after_write, times_with, times_without, write};
 ghost use Rattle.ss_query.specs.Effect.{effect, is_empty, is_write, stamp_in};
 ghost use Rattle.ss_query.specs.Refused.{staged_parts};
 ghost use Rattle.ss_plain.specs.Steps.{within};
@@ -90,7 +90,7 @@ fn replace(
     mut made: Vec<Row>,
     stamp: Stamp,
 ) -> Result<Plain, AllocError>
-    ensures { IfOk result (λ after. after ≡ stamped account collection.now stamp
+    ensures { IfOk result (λ after. after ≡ account_after_write account collection.now stamp
         (rows_without collection.now ids.now account.rows ++ made.items)) }
 {
     let mut rows = rows_without(account.rows.into_vec(), collection, ids);
@@ -206,7 +206,7 @@ fn commit(
 /// Takes the rows of these ids out of a collection, where the account keeps its limits.
 fn delete(alloc: Global, account: Plain, collection: &Name, ids: &[Id]) -> Result<Plain, AllocError>
     requires { account.store < 999999999999 }
-    ensures { IfOk result (λ after. after ≡ within account (stamped account collection.now (stamp_in account)
+    ensures { IfOk result (λ after. after ≡ within account (account_after_write account collection.now (stamp_in account)
         (rows_without collection.now ids.now account.rows))) }
 {
     if would_be_over(&account, collection, ids, &[]) {

@@ -7,9 +7,9 @@ use Rattle.ss_bso.specs.declared.parts.Part.{Part}
 use Rattle.ss_bso.specs.declared.account.Plain.{Plain}
 use Rattle.ss_bso.specs.Account.{is_alive, is_at, row_at, tick, time_of}
 use Rattle.ss_bso.specs.Lists.{Apart, Pairs}
-use Rattle.ss_bso.specs.Put.{put}
+use Rattle.ss_bso.specs.Put.{row_after_put}
 use Rattle.ss_bso.specs.Validity.{IsValid, SameAccount}
-use Rattle.ss_bso.specs.Write.{is_among, parts_of, put_all, rows_without, rows_written, stamped}
+use Rattle.ss_bso.specs.Write.{is_among, parts_of, put_all, rows_without, rows_written, account_after_write}
 use Rattle.ss_bso.proofs.Lists.{Each-filter, Each-find, Pairs-filter, Pairs-from_AllPairs}
 use Rattle.ss_bso.proofs.Places.{apart_flip}
 use Rattle.ss_bso.proofs.Reordering.{NotBoth, Pairs-reordered, reordered-sym}
@@ -97,8 +97,8 @@ no_rows a b later is = record { store = later; rows = λ collection id row e. le
 -- a row after parts is the old one, or has their stamp
 put-aged : (collection : List ℕ) (parts : List Part) (time : ℕ) (old : Option Row) (row : Row) → put_all collection parts time old ≡ Some row → (old ≡ Some row) ⊎ (row.modified ≡ time)
 put-aged collection [] time old row e = inl e
-put-aged collection (part ∷ parts) time old row e = elim (put-aged collection parts time (Some (put old collection part time)) row e) [
-  | inl same ↦ inr (renewed (put old collection part time) refl same)
+put-aged collection (part ∷ parts) time old row e = elim (put-aged collection parts time (Some (row_after_put old collection part time)) row e) [
+  | inl same ↦ inr (renewed (row_after_put old collection part time) refl same)
   | inr new ↦ inr new
 ]
   where
@@ -138,7 +138,7 @@ effect-aged a (Post collection records mode x) places = post-aged a (effect a (P
 effect-aged a (DeleteCollection collection x) places = fewer a (effect a (DeleteCollection collection x)) (λ row. not (bytes_eq row.collection collection)) places (omega arith) refl
 effect-aged a (DeleteIds collection ids x) places = by (is_some (time_of collection a.collections)) (effect a (DeleteIds collection ids x)) refl
   where
-    by : (there : Bool) (b : Plain) → b ≡ cond there (stamped a collection (stamp_in a) (rows_without collection ids a.rows)) a → RowsAge a b
+    by : (there : Bool) (b : Plain) → b ≡ cond there (account_after_write a collection (stamp_in a) (rows_without collection ids a.rows)) a → RowsAge a b
     by true b is =
         let store : b.store ≡ stamp_in a = ap (λ (p : Plain). p.store) is in
         fewer a b (λ row. not (bytes_eq row.collection collection && is_among ids row.id)) places (let up = stamp_later a in omega (arith, store, up)) (ap (λ (p : Plain). p.rows) is)

@@ -12,7 +12,7 @@ use Rattle.ss_text.specs.declared.stamps.Cond.TheVariants.{Free}
 use Rattle.ss_route.specs.declared.manner.Manner.{Manner}
 use Rattle.ss_route.specs.declared.routed.Routed.{Routed}
 use Rattle.ss_route.specs.declared.routed.Routed.TheVariants.{Ask, Local, Memory}
-use Rattle.ss_route.specs.Routing.{routed}
+use Rattle.ss_route.specs.Routing.{routing_of_message}
 use Rattle.ss_route.specs.Sending.{request_meant}
 use Rattle.ss_route.specs.Wire.{wire}
 use Rattle.ss_hearing.specs.Hearing.{answer_of}
@@ -23,7 +23,7 @@ use Rattle.ss_serving.specs.Asking.{told_by}
 use Rattle.ss_serving.specs.Bookmarks.{Server}
 use Rattle.ss_serving.specs.Steps.{Answers}
 use Rattle.ss_world.specs.declared.events.Event.TheVariants.{Deliver, LoseReply}
-use Rattle.ss_world.specs.Happening.{Happens, IsDelivered, IsLost}
+use Rattle.ss_world.specs.Happening.{Happens, DeliversAtSeat, IsLost}
 use Rattle.ss_world.specs.Seats.{after}
 use Rattle.ss_world.specs.declared.seats.Seat.TheVariants.{Idle, Syncs}
 use Rattle.ss_world.specs.Worlds.{WorldView, world_with_seat}
@@ -58,7 +58,7 @@ written_alike output account now request mark newlines last is e = is ∙ ap (λ
 
 -- a server's answer to bytes that are routed to this request of this account
 module _ (manner : Manner) (input output : List ℕ) (before server : Server) (now uid : ℕ) (request : Request) (alike : Alike before.account now (request_meant manner request) request)
-    (r : Responds manner input before now server output) (goes : routed manner r.message ≡ Ask uid (request_meant manner request) false) where
+    (r : Responds manner input before now server output) (goes : routing_of_message manner r.message ≡ Ask uid (request_meant manner request) false) where
   same : Ask r.uid r.request r.newlines ≡ Ask uid (request_meant manner request) false
   same = sym r.routes ∙ goes
 
@@ -89,7 +89,7 @@ pub delivered : (world : WorldView) (n now : ℕ) (machine : MachineView) (serve
     → Happens world (Deliver n now) (world_with_seat world server n (after machine next))
 delivered world n now machine server next there answers follows =
     let v : WorldView = world_with_seat world server n (after machine next) in
-    subst (λ o. MatchOption o (v ≡ world) (IsDelivered world n now v)) (sym there) (record { server = server; answers = answers; next = next; follows = follows; is = refl })
+    subst (λ o. MatchOption o (v ≡ world) (DeliversAtSeat world n now v)) (sym there) (record { server = server; answers = answers; next = next; follows = follows; is = refl })
 
 -- the device doesn't
 pub lost : (world : WorldView) (n now : ℕ) (machine : MachineView) (server : Server) → slice_get world.seats n ≡ Some (Syncs machine) → Answers world.server now (ask machine) server

@@ -28,7 +28,7 @@ use Rattle.ss_device.specs.Device.{DeviceView}
 use Rattle.ss_serving.specs.Asking.{told_by}
 use Rattle.ss_serving.specs.Bookmarks.{Server}
 use Rattle.ss_serving.specs.Steps.{Ticks}
-use Rattle.ss_serving.specs.Typed.{IsOfKind, IsTyped}
+use Rattle.ss_serving.specs.Typed.{IsOfKind, IsTypedReply}
 use Rattle.ss_world.specs.declared.events.Event.TheVariants.{LoseRequest, Tick}
 use Rattle.ss_world.specs.declared.seats.Seat.{Seat}
 use Rattle.ss_world.specs.declared.seats.Seat.TheVariants.{Idle, Syncs}
@@ -42,7 +42,7 @@ use Rattle.ss_promises.specs.Exchanges.{Proceeds}
 -- what is known of the reply to a request that isn't done: it can be heard, and refuses the request
 pub record IsFailure (reply : Reply) : Type 0 where
   pub numbers : IsReply reply
-  pub values : IsTyped reply
+  pub values : IsTypedReply reply
   pub reason : HasReason reply.status
   pub whole : IsHeardWhole reply false
   pub kind : (awaited : Awaited) → reply.status ≡ status_of awaited → IsOfKind awaited reply.body
@@ -117,7 +117,7 @@ stops d run stage status next f = f
 
 -- a machine that hears the reply stops: its device is as it was started
 pub stopped : (machine : MachineView) (reply : Reply) (last : Bool) (output more : List ℕ) (next : Next) → IsFailure reply → output ≡ wire reply false last → (p : Proceeds machine (output ++ more) next)
-    → ((awaited : Awaited) (reply : Reply) (last : Bool) → IsTyped reply → (reply.status ≡ status_of awaited → IsOfKind awaited reply.body) → answer_of awaited (heard_of reply false last) ≡ told_by awaited reply)
+    → ((awaited : Awaited) (reply : Reply) (last : Bool) → IsTypedReply reply → (reply.status ≡ status_of awaited → IsOfKind awaited reply.body) → answer_of awaited (heard_of reply false last) ≡ told_by awaited reply)
     → ((reply : Reply) (newlines last : Bool) (rest : List ℕ) → IsReply reply → HasReason reply.status → IsHeardWhole reply newlines → Hears (wire reply newlines last ++ rest) (heard_of reply newlines last) rest)
     → (Hears (wire reply false last ++ more) p.heard p.left → Hears (wire reply false last ++ more) (heard_of reply false last) more → (p.heard ≡ heard_of reply false last) × (p.left ≡ more))
     → (after machine next ≡ Idle machine.device) × (p.left ≡ more)

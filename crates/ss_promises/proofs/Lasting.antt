@@ -16,9 +16,9 @@ use Rattle.ss_bso.specs.declared.parts.Part.{Part}
 use Rattle.ss_bso.specs.Account.{row_at, tick, time_of}
 use Rattle.ss_bso.specs.Batches.{batch_in, grown}
 use Rattle.ss_bso.specs.Lists.{Each}
-use Rattle.ss_bso.specs.Put.{field_value, put}
+use Rattle.ss_bso.specs.Put.{field_value, row_after_put}
 use Rattle.ss_bso.specs.Validity.{IsValid}
-use Rattle.ss_bso.specs.Write.{ids_of, parts_of, put_all, rows_without, rows_written, stamped}
+use Rattle.ss_bso.specs.Write.{ids_of, parts_of, put_all, rows_without, rows_written, account_after_write}
 use Rattle.ss_bso.proofs.Lists.{All-from_Each, Each-and, Each-any, Each-append, Each-filter, Each-filter_map, Each-find}
 use Rattle.ss_bso.proofs.Lists.{Each-from_All, Each-imp, Each-map}
 use Rattle.ss_query.specs.declared.requests.Mode.{Mode}
@@ -64,13 +64,13 @@ index_put Keep old o new = o
 index_put Clear old o new = tt
 index_put (Set index) old o new = new
 
-put_text : (collection : List ℕ) (time : ℕ) (part : Part) (old : Option Row) → IsTypedRecord part → OnText old → OnText (Some (put old collection part time))
+put_text : (collection : List ℕ) (time : ℕ) (part : Part) (old : Option Row) → IsTypedRecord part → OnText old → OnText (Some (row_after_put old collection part time))
 put_text collection time part None p o = record { id = p.form; payload = payload_put part.fields.payload [] ([], (refl, refl)) p.text; sortindex = index_put part.fields.sortindex None tt p.index }
 put_text collection time part (Some row) p o = record { id = p.form; payload = payload_put part.fields.payload row.payload o.payload p.text; sortindex = index_put part.fields.sortindex row.sortindex o.sortindex p.index }
 
 put_all_text : (collection : List ℕ) (time : ℕ) (parts : List Part) (old : Option Row) → Each IsTypedRecord parts → OnText old → OnText (put_all collection parts time old)
 put_all_text collection time [] old p o = o
-put_all_text collection time (part ∷ parts) old p o = put_all_text collection time parts (Some (put old collection part time)) p.1 (put_text collection time part old p.0 o)
+put_all_text collection time (part ∷ parts) old p o = put_all_text collection time parts (Some (row_after_put old collection part time)) p.1 (put_text collection time part old p.0 o)
 
 at_text : (collection id : List ℕ) (rows : List Row) → Each IsText rows → OnText (row_at collection id rows)
 at_text collection id rows all = by (row_at collection id rows) refl
@@ -142,7 +142,7 @@ effect_held account (Post collection records mode x) h a =
 effect_held account (DeleteCollection collection x) h a = record { rows = Each-filter IsText _ account.rows h.rows; batches = Each-filter EachTyped _ account.batches h.batches }
 effect_held account (DeleteIds collection ids x) h a = by (is_some (time_of collection account.collections)) (effect account (DeleteIds collection ids x)) refl
   where
-    by : (there : Bool) (b : Plain) → b ≡ cond there (stamped account collection (stamp_in account) (rows_without collection ids account.rows)) account → IsHeld b
+    by : (there : Bool) (b : Plain) → b ≡ cond there (account_after_write account collection (stamp_in account) (rows_without collection ids account.rows)) account → IsHeld b
     by true b e = subst IsHeld (sym e) (record { rows = Each-filter IsText _ account.rows h.rows; batches = h.batches })
     by false b e = subst IsHeld (sym e) h
 effect_held account (GetItem collection id x) h a = h
@@ -168,7 +168,7 @@ deleted_low account (Post collection records mode x) low store = by (parts_to_pu
 deleted_low account (DeleteCollection collection x) low store = store
 deleted_low account (DeleteIds collection ids x) low store = by (is_some (time_of collection account.collections))
   where
-    by : (there : Bool) → (cond there (stamped account collection (stamp_in account) (rows_without collection ids account.rows)) account).last_delete ≤ last_stamp
+    by : (there : Bool) → (cond there (account_after_write account collection (stamp_in account) (rows_without collection ids account.rows)) account).last_delete ≤ last_stamp
     by true = low
     by false = low
 deleted_low account (GetItem collection id x) low store = low

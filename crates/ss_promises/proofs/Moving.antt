@@ -6,7 +6,7 @@ use Rattle.std.proofs.Common.{sym, ap, ap₂, subst, ◌∙◌}
 use Rattle.ss_bso.specs.declared.account.Plain.{Plain}
 use Rattle.ss_bso.specs.declared.changes.Kept.{Kept}
 use Rattle.ss_bso.specs.Account.{tick}
-use Rattle.ss_bso.specs.Changes.{opened}
+use Rattle.ss_bso.specs.Changes.{account_at_opening}
 use Rattle.ss_bso.specs.Validity.{IsValid, SameAccount}
 use Rattle.ss_bso.proofs.Reordering.{same-back, same-through}
 use Rattle.ss_query.specs.declared.requests.Request.{Request}
@@ -75,22 +75,22 @@ alike_from account again valid g = record {
 -- ---- a move
 
 -- what is read of a dump opens as what was dumped
-read_opens : (kept read : Kept) (again : Plain) → IsGood kept → AllByRecursion IsLine (account_lines kept) → IsDumpOf (dump_text kept) read → SameAccount (opened read) again → SameAccount (opened kept) again
+read_opens : (kept read : Kept) (again : Plain) → IsGood kept → AllByRecursion IsLine (account_lines kept) → IsDumpOf (dump_text kept) read → SameAccount (account_at_opening read) again → SameAccount (account_at_opening kept) again
 read_opens kept read again good formed h s =
     let is : read ≡ in_order kept = dump_of_one kept read formed good h in
-    same-through (opened kept) (opened (in_order kept)) again (opened_same kept (in_order kept) (same_in_order kept)) (subst (λ k. SameAccount (opened k) again) is s)
+    same-through (account_at_opening kept) (account_at_opening (in_order kept)) again (opened_same kept (in_order kept) (same_in_order kept)) (subst (λ k. SameAccount (account_at_opening k) again) is s)
 
 pub moves : (kept read : Kept) (account again : Plain) → IsValid account → IsKeptAccount kept account → IsGood kept → AllByRecursion IsLine (account_lines kept) → IsDumpOf (dump_text kept) read
-    → SameAccount (opened read) again → GoesOn account again × AnswerAlikeFrom account.moment account again
+    → SameAccount (account_at_opening read) again → GoesOn account again × AnswerAlikeFrom account.moment account again
 moves kept read account again valid k good formed h s =
     let g = goes_on kept account again valid k (read_opens kept read again good formed h s) in
     (g, alike_from account again valid g)
 
 -- what is opened from what a keeper tells that was filled
-pub refilled_alike : (told : Option Kept) (kept : Kept) (account other : Plain) → IsValid account → IfSome told (λ held. held ≡ kept) → IfSome told (λ held. SameAccount (opened held) account)
-    → SameAccount (opened kept) other → IfSome told (λ held. SameAccount account other × AnswerAlike account other)
+pub refilled_alike : (told : Option Kept) (kept : Kept) (account other : Plain) → IsValid account → IfSome told (λ held. held ≡ kept) → IfSome told (λ held. SameAccount (account_at_opening held) account)
+    → SameAccount (account_at_opening kept) other → IfSome told (λ held. SameAccount account other × AnswerAlike account other)
 refilled_alike None kept account other valid is o s = tt
 refilled_alike (Some held) kept account other valid is o s =
     let same : SameAccount account other =
-    same-through account (opened held) other (same-back (opened held) account o) (subst (λ k. SameAccount (opened k) other) (sym is) s) in
+    same-through account (account_at_opening held) other (same-back (account_at_opening held) account o) (subst (λ k. SameAccount (account_at_opening k) other) (sym is) s) in
     (same, answer_alike account other valid same)

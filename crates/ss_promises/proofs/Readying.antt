@@ -29,7 +29,7 @@ use Rattle.ss_query.specs.Refused.{ClockEnded, AccountFull, said_by as why_said}
 use Rattle.ss_query.specs.Told.{body_of, info_body, post_body, rows_body}
 use Rattle.ss_query.specs.Api.{api, outcome, refusal, time_told}
 use Rattle.ss_laws.proofs.Commit.{passes}
-use Rattle.ss_route.specs.Sending.{IsReadable, IsSent}
+use Rattle.ss_route.specs.Sending.{IsReadable, IsSentRequest}
 use Rattle.ss_hearing.specs.declared.answer.Answer.{Answer}
 use Rattle.ss_hearing.specs.declared.answer.Answer.TheVariants.{Paged, Held, Written, Changed, Refused, Unread}
 use Rattle.ss_hearing.specs.declared.answer.Awaited.{Awaited}
@@ -54,10 +54,11 @@ use Rattle.ss_world.specs.declared.events.Event.TheVariants.{Start, Deliver, Los
 use Rattle.ss_world.specs.declared.events.Event.TheVariants.{Other, Tick, Reopen}
 use Rattle.ss_world.specs.declared.seats.Seat.{Seat}
 use Rattle.ss_world.specs.declared.seats.Seat.TheVariants.{Idle, Syncs}
-use Rattle.ss_world.specs.Happening.{Asked, Edits, Happens, IsDelivered, IsEdited, IsGivenUp, IsLost, Runs, Starts}
+use Rattle.ss_world.specs.Happening.{AsksElsewhere, Edits, Happens, DeliversAtSeat, EditsAtSeat, IsGivenUp, IsLost}
+use Rattle.ss_world.specs.Happening.{Runs, Starts}
 use Rattle.ss_world.specs.Happening.{Step, edit_fault, last}
 use Rattle.ss_world.specs.Promises.{IsOpening}
-use Rattle.ss_world.specs.Reaching.{IsReached}
+use Rattle.ss_world.specs.Reaching.{IsReachedWorld}
 use Rattle.ss_world.specs.Seats.{after}
 use Rattle.ss_world.specs.Worlds.{WorldView}
 use Rattle.ss_world.proofs.Lists.{at_set}
@@ -171,7 +172,7 @@ post_given t collection records Begin x r e time = counted t.counter (nat_le mos
 post_given t collection records (Append number) x r e time = r.0
 post_given t collection records (Commit number) x r e time = tt
 
-body_given : (t : Plain) (q : Request) → IsSent q → IsReadable q → refusal t q ≡ None → (time : ℕ) → IsGiven (body_of t q time)
+body_given : (t : Plain) (q : Request) → IsSentRequest q → IsReadable q → refusal t q ≡ None → (time : ℕ) → IsGiven (body_of t q time)
 body_given t (Info what x) s r e time = info_given t what s.0
 body_given t (ListOf collection query x) s r e time = list_given query.full _
 body_given t (Post collection records mode x) s r e time = post_given t collection records mode x r e time
@@ -182,11 +183,11 @@ body_given t (GetItem collection id x) s r e time = absurd s
 body_given t (Put collection id fields x) s r e time = absurd s
 body_given t (DeleteItem collection id x) s r e time = absurd s
 
-outcome_given : (t : Plain) (q : Request) → IsSent q → IsReadable q → (why : Option Refusal) → refusal t q ≡ why → IsGiven (outcome t q why).reply.body
+outcome_given : (t : Plain) (q : Request) → IsSentRequest q → IsReadable q → (why : Option Refusal) → refusal t q ≡ why → IsGiven (outcome t q why).reply.body
 outcome_given t q s r (Some why) e = why_given why
 outcome_given t q s r None e = body_given t q s r e (time_told t q)
 
-api_given : (account : Plain) (now : ℕ) (q : Request) → IsSent q → IsReadable q → IsGiven (api account now q).reply.body
+api_given : (account : Plain) (now : ℕ) (q : Request) → IsSentRequest q → IsReadable q → IsGiven (api account now q).reply.body
 api_given account now q s r = outcome_given (tick account now) q s r (refusal (tick account now) q) refl
 
 -- ---- the seats of a world
@@ -229,7 +230,7 @@ starts w v n fetch all (Idle d) e =
     ((record { records = omega arith; bytes = omega arith; payload = omega arith; total = omega arith }, tt), (omega arith, tt)))
 starts w v n fetch all (Syncs m) e = same_seats w v w e all
 
-delivers : (w v : WorldView) (n now : ℕ) → AllSend w.seats → (s : Seat) → slice_get w.seats n ≡ Some s → IsDelivered w n now v s → AllSend v.seats
+delivers : (w v : WorldView) (n now : ℕ) → AllSend w.seats → (s : Seat) → slice_get w.seats n ≡ Some s → DeliversAtSeat w n now v s → AllSend v.seats
 delivers w v n now all (Idle d) there e = same_seats w v w e all
 delivers w v n now all (Syncs m) there e =
     let here : IsSendable m = all n m there in
@@ -248,7 +249,7 @@ loses : (w v : WorldView) (n now : ℕ) → AllSend w.seats → (s : Seat) → I
 loses w v n now all (Idle d) e = same_seats w v w e all
 loses w v n now all (Syncs m) e = same_seats w v _ e.is (set_sends w.seats n (Idle m.device) all tt)
 
-edits : (w v : WorldView) (n now : ℕ) (edit : Edit) → AllSend w.seats → (s : Seat) → IsEdited w n now edit v s → AllSend v.seats
+edits : (w v : WorldView) (n now : ℕ) (edit : Edit) → AllSend w.seats → (s : Seat) → EditsAtSeat w n now edit v s → AllSend v.seats
 edits w v n now edit all (Syncs m) e = same_seats w v w e all
 edits w v n now edit all (Idle d) e = by (edit_fault d edit) e
   where
@@ -256,17 +257,17 @@ edits w v n now edit all (Idle d) e = by (edit_fault d edit) e
     by None h = same_seats w v _ h.is (set_sends w.seats n (Idle h.device) all tt)
     by (Some fault) h = same_seats w v w h all
 
-asks : (w v : WorldView) (now : ℕ) (request : Request) (b : Bool) → AllSend w.seats → MatchBool b (v ≡ w) (Asked w now request v) → AllSend v.seats
+asks : (w v : WorldView) (now : ℕ) (request : Request) (b : Bool) → AllSend w.seats → MatchBool b (v ≡ w) (AsksElsewhere w now request v) → AllSend v.seats
 asks w v now request true all e = same_seats w v w e all
 asks w v now request false all e = same_seats w v _ e.is all
 
 pub send_on : (w v : WorldView) (event : Event) → Happens w event v → AllSend w.seats → AllSend v.seats
 send_on w v (Start n fetch) e all = at_seat w v n (Starts w n fetch v) all (λ s _ h. starts w v n fetch all s h) e
-send_on w v (Deliver n now) e all = at_seat w v n (IsDelivered w n now v) all (delivers w v n now all) e
+send_on w v (Deliver n now) e all = at_seat w v n (DeliversAtSeat w n now v) all (delivers w v n now all) e
 send_on w v (LoseRequest n) e all = at_seat w v n (IsGivenUp w n v) all (λ s _ h. gives_up w v n all s h) e
 send_on w v (LoseReply n now) e all = at_seat w v n (IsLost w n now v) all (λ s _ h. loses w v n now all s h) e
 send_on w v (Anew n) e all = at_seat w v n (IsGivenUp w n v) all (λ s _ h. gives_up w v n all s h) e
-send_on w v (Change n now edit) e all = at_seat w v n (IsEdited w n now edit v) all (λ s _ h. edits w v n now edit all s h) e
+send_on w v (Change n now edit) e all = at_seat w v n (EditsAtSeat w n now edit v) all (λ s _ h. edits w v n now edit all s h) e
 send_on w v (Other now request) e all = asks w v now request (touches request) all e
 send_on w v (Tick now) e all = same_seats w v _ e.is all
 send_on w v Reopen e all = same_seats w v _ e.is all
@@ -283,5 +284,5 @@ Syncing (Syncs m) = Unit {0}
 none_yet : (trusts : ℕ → Bool) (w : WorldView) → IsOpening trusts w → AllSend w.seats
 none_yet trusts w o n m e = absurd (subst Syncing (o.idle n (Syncs m) e).1 tt)
 
-pub reached_send : (trusts : ℕ → Bool) (w : WorldView) → IsReached trusts w → AreReady w
+pub reached_send : (trusts : ℕ → Bool) (w : WorldView) → IsReachedWorld trusts w → AreReady w
 reached_send trusts w r = subst (λ (x : WorldView). AllSend x.seats) r.here (all_on r.opening r.steps r.runs (none_yet trusts r.opening r.opens))

@@ -5,12 +5,12 @@ use Rattle.std.proofs.Common.{sym, ap, subst, inl, inr, ◌∙◌, arith}
 use Rattle.std.proofs.lemmas.Bool.Decides.{nat_tests}
 use Rattle.std.proofs.lemmas.Option.{none-some}
 use Rattle.ss_text.specs.Time.{after, last_stamp}
-use Rattle.ss_text.specs.Texts.{Reordered, chain}
+use Rattle.ss_text.specs.Texts.{IsReordering, chain}
 use Rattle.ss_bso.specs.declared.account.Plain.{Plain}
 use Rattle.ss_bso.specs.declared.account.Staged.{Staged}
 use Rattle.ss_bso.specs.declared.changes.Kept.{Kept}
 use Rattle.ss_bso.specs.Account.{is_alive, is_open, tick}
-use Rattle.ss_bso.specs.Changes.{latest, opened}
+use Rattle.ss_bso.specs.Changes.{latest, account_at_opening}
 use Rattle.ss_bso.specs.Lists.{Each}
 use Rattle.ss_bso.specs.Validity.{IsValid, IsValidBatch, SameAccount}
 use Rattle.ss_bso.proofs.Lists.{Each-filter, Each-from_All, Each-imp}
@@ -105,20 +105,20 @@ alike account again now request valid same =
 
 -- ---- the account that is opened again
 
-module _ (kept : Kept) (account again : Plain) (valid : IsValid account) (k : IsKeptAccount kept account) (s : SameAccount (opened kept) again) where
+module _ (kept : Kept) (account again : Plain) (valid : IsValid account) (k : IsKeptAccount kept account) (s : SameAccount (account_at_opening kept) again) where
   below : after (latest kept.store kept.batches) 0 ≤ account.moment
   below = omega (arith, opened_before kept account valid k)
 
-  rows_on : (moment : ℕ) → account.moment ≤ moment → Reordered (filter (is_alive moment) account.rows) (filter (is_alive moment) again.rows)
+  rows_on : (moment : ℕ) → account.moment ≤ moment → IsReordering (filter (is_alive moment) account.rows) (filter (is_alive moment) again.rows)
   rows_on moment le =
       chain (k.rows moment le)
-      (subst (λ rows. Reordered rows (filter (is_alive moment) again.rows)) (alive-again (after (latest kept.store kept.batches) 0) moment kept.rows (omega (arith, below, le)))
+      (subst (λ rows. IsReordering rows (filter (is_alive moment) again.rows)) (alive-again (after (latest kept.store kept.batches) 0) moment kept.rows (omega (arith, below, le)))
       (reordered-filter (is_alive moment) s.rows))
 
-  batches_on : (moment : ℕ) → account.moment ≤ moment → Reordered (filter (is_open moment) account.batches) (filter (is_open moment) again.batches)
+  batches_on : (moment : ℕ) → account.moment ≤ moment → IsReordering (filter (is_open moment) account.batches) (filter (is_open moment) again.batches)
   batches_on moment le =
       chain (k.batches moment le)
-      (subst (λ batches. Reordered batches (filter (is_open moment) again.batches)) (open-again (after (latest kept.store kept.batches) 0) moment kept.batches (omega (arith, below, le)))
+      (subst (λ batches. IsReordering batches (filter (is_open moment) again.batches)) (open-again (after (latest kept.store kept.batches) 0) moment kept.batches (omega (arith, below, le)))
       (reordered-filter (is_open moment) s.batches))
 
   moment_on : again.moment ≤ account.moment
@@ -130,9 +130,9 @@ module _ (kept : Kept) (account again : Plain) (valid : IsValid account) (k : Is
       let same : after account.moment now ≡ after again.moment now = omega (arith, le, last, moment_on) in
       let up : account.moment ≤ after account.moment now = omega arith in
       record {
-        rows = subst (λ moment. Reordered (filter (is_alive (after account.moment now)) account.rows) (filter (is_alive moment) again.rows)) same (rows_on (after account.moment now) up);
+        rows = subst (λ moment. IsReordering (filter (is_alive (after account.moment now)) account.rows) (filter (is_alive moment) again.rows)) same (rows_on (after account.moment now) up);
         collections = chain k.collections s.collections;
-        batches = subst (λ moment. Reordered (filter (is_open (after account.moment now)) account.batches) (filter (is_open moment) again.batches)) same (batches_on (after account.moment now) up);
+        batches = subst (λ moment. IsReordering (filter (is_open (after account.moment now)) account.batches) (filter (is_open moment) again.batches)) same (batches_on (after account.moment now) up);
         store = k.store ∙ s.store;
         last_delete = k.last_delete ∙ s.last_delete;
         moment = same;
@@ -163,8 +163,8 @@ goes_on-before account again g =
       last_delete = g.last_delete;
       counter = g.counter;
       moment = subst (λ moment. again.moment ≤ moment) is g.moment;
-      rows = λ moment le. subst (λ rows. Reordered rows (filter (is_alive moment) again.rows)) (alive-again (after account.moment 0) moment account.rows (up moment le)) (g.rows moment (up moment le));
-      batches = λ moment le. subst (λ batches. Reordered batches (filter (is_open moment) again.batches)) (open-again (after account.moment 0) moment account.batches (up moment le)) (g.batches moment (up moment le));
+      rows = λ moment le. subst (λ rows. IsReordering rows (filter (is_alive moment) again.rows)) (alive-again (after account.moment 0) moment account.rows (up moment le)) (g.rows moment (up moment le));
+      batches = λ moment le. subst (λ batches. IsReordering batches (filter (is_open moment) again.batches)) (open-again (after account.moment 0) moment account.batches (up moment le)) (g.batches moment (up moment le));
       ticks = λ now le. subst (λ ticked. SameAccount ticked (tick again now)) (tick-twice account 0 now (omega arith)) (g.ticks now (up now le));
       answers = λ now request le. subst (λ o. SameOutcome o (api again now request)) (api-ticked account 0 now request (omega arith)) (g.answers now request (up now le));
     }
@@ -180,7 +180,7 @@ refused_by kept (BadRow n) good h = absurd (none-some n (sym good.rows ∙ h.1))
 refused_by kept (BadBatch n) good h = absurd (none-some n (sym good.batches ∙ h.2))
 
 pub told_on : (told : Option Kept) (before account again : Plain) → account ≡ tick before 0 → IsValid account → IfSome told (λ kept. IsKeptAccount kept account)
-    → IfSome told (λ kept. SameAccount (opened kept) again) → IfSome told (λ kept. GoesOn before again)
+    → IfSome told (λ kept. SameAccount (account_at_opening kept) again) → IfSome told (λ kept. GoesOn before again)
 told_on None before account again is valid k s = tt
 told_on (Some kept) before account again is valid k s = goes_on-before before again (subst (λ a. GoesOn a again) is (goes_on kept account again valid k s))
 
@@ -191,7 +191,7 @@ told_refused (Some kept) fault good h = refused_by kept fault good h
 
 -- of what an opening answers
 pub opened_on : {A E : Type 0} (plain : A → Plain) (r : Result A E) (told now : Option Kept) (before account : Plain) → now ≡ told → account ≡ tick before 0 → IsValid account → IfSome told (λ kept. IsKeptAccount kept account)
-    → IfOk r (λ again. IfSome now (λ kept. SameAccount (opened kept) (plain again))) → IfOk r (λ again. IfSome told (λ kept. GoesOn before (plain again)))
+    → IfOk r (λ again. IfSome now (λ kept. SameAccount (account_at_opening kept) (plain again))) → IfOk r (λ again. IfSome told (λ kept. GoesOn before (plain again)))
 opened_on plain (Ok again) told now before account same is valid k s =
-    told_on told before account (plain again) is valid k (subst (λ (t : Option Kept). IfSome t (λ kept. SameAccount (opened kept) (plain again))) same s)
+    told_on told before account (plain again) is valid k (subst (λ (t : Option Kept). IfSome t (λ kept. SameAccount (account_at_opening kept) (plain again))) same s)
 opened_on plain (Err e) told now before account same is valid k s = tt

@@ -40,10 +40,10 @@ use Rattle.ss_laws.proofs.Commit.{Passes, passes}
 use Rattle.ss_laws.proofs.CommitLaw.{clock_from}
 use Rattle.ss_laws.proofs.InOrder.{reordered-sorted}
 use Rattle.ss_laws.proofs.Valid.{valid-api, valid-tick}
-use Rattle.ss_route.specs.Sending.{IsReadable, IsSent, IsTyped as HasTypes}
+use Rattle.ss_route.specs.Sending.{IsReadable, IsSentRequest, HasTypes}
 use Rattle.ss_route.specs.Wire.{IsReply}
 use Rattle.ss_serving.specs.Bookmarks.{bookmarks}
-use Rattle.ss_serving.specs.Typed.{AreIds, HaveIds, IsTyped, IsTypedBody, IsTypedRow}
+use Rattle.ss_serving.specs.Typed.{AreIds, HaveIds, IsTypedReply, IsTypedBody, IsTypedRow}
 use Rattle.ss_serving.proofs.Posting.{room_in}
 use Rattle.ss_promises.specs.Values.{IsTypedAccount, IsTypedPart}
 
@@ -104,7 +104,7 @@ module _ (t : Plain) (a : IsTypedAccount t) where
   store_low : t.store ≤ last_stamp
   store_low = let one : t.store ≤ t.moment = a.valid.store in let two : t.moment ≤ last_stamp = a.valid.moment in omega (arith, one, two)
 
-  target_low : (q : Request) → IsSent q → target_time t q ≤ last_stamp
+  target_low : (q : Request) → IsSentRequest q → target_time t q ≤ last_stamp
   target_low (Info what x) s = store_low
   target_low (ListOf collection query x) s = subst (λ c. collection_time t c ≤ last_stamp) (sym s.0) a.time
   target_low (Post collection records mode x) s = subst (λ c. collection_time t c ≤ last_stamp) (sym s.0) a.time
@@ -115,7 +115,7 @@ module _ (t : Plain) (a : IsTypedAccount t) where
   target_low (Put collection id fields x) s = absurd s
   target_low (DeleteItem collection id x) s = absurd s
 
-  time_low : (q : Request) → IsSent q → Passes t q → time_told t q ≤ last_stamp
+  time_low : (q : Request) → IsSentRequest q → Passes t q → time_told t q ≤ last_stamp
   time_low q s p = by (is_write t q) refl
     where
       by : (b : Bool) → is_write t q ≡ b → cond b (stamp_in t) (target_time t q) ≤ last_stamp
@@ -164,7 +164,7 @@ module _ (t : Plain) (a : IsTypedAccount t) where
   counted : (few full : Bool) → (true && (few || full)) ≡ false → full ≡ nat_le last_stamp t.counter → (1 ≤ t.counter + 1) × (t.counter + 1 ≤ last_stamp)
   counted few full e is = let f : nat_le last_stamp t.counter ≡ false = sym is ∙ neither_right few full e in let low : t.counter < last_stamp = grind (arith, nat_tests) in (omega arith, omega (arith, low))
 
-  post_typed : (collection : List ℕ) (records : Records) (mode : Mode) (x : Cond) → IsSent (Post collection records mode x) → HasTypes (Post collection records mode x) → IsReadable (Post collection records mode x) → Passes t (Post collection records mode x)
+  post_typed : (collection : List ℕ) (records : Records) (mode : Mode) (x : Cond) → IsSentRequest (Post collection records mode x) → HasTypes (Post collection records mode x) → IsReadable (Post collection records mode x) → Passes t (Post collection records mode x)
       → (time : ℕ) → time ≤ last_stamp → IsTypedBody (post_body t records mode time)
   post_typed collection records PlainPost x s h r p time low = (low, ids_typed records.parts h.0, none_failed records.failed s.1)
   post_typed collection records Begin x s h r p time low =
@@ -178,7 +178,7 @@ module _ (t : Plain) (a : IsTypedAccount t) where
   info_typed : (what : InfoKind) → what ≡ Configuration → IsTypedBody (info_body t what)
   info_typed what e = subst (λ (w : InfoKind). IsTypedBody (info_body t w)) (sym e) tt
 
-  body_typed : (q : Request) → IsSent q → HasTypes q → IsReadable q → Passes t q → (time : ℕ) → time ≤ last_stamp → IsTypedBody (body_of t q time)
+  body_typed : (q : Request) → IsSentRequest q → HasTypes q → IsReadable q → Passes t q → (time : ℕ) → time ≤ last_stamp → IsTypedBody (body_of t q time)
   body_typed (Info what x) s h r p time low = info_typed what s.0
   body_typed (ListOf collection query x) s h r p time low = subst (λ c. IsTypedBody (rows_body query.full (answer (rows_of c t.rows) query).rows)) (sym s.0) (list_typed query query.full)
   body_typed (Post collection records mode x) s h r p time low = post_typed collection records mode x s h r p time low
@@ -189,7 +189,7 @@ module _ (t : Plain) (a : IsTypedAccount t) where
   body_typed (Put collection id fields x) s h r p time low = absurd s
   body_typed (DeleteItem collection id x) s h r p time low = absurd s
 
-  count_small : (q : Request) → IsSent q → IfSome (count_of t q) (λ n. n < 2 ^ 64)
+  count_small : (q : Request) → IsSentRequest q → IfSome (count_of t q) (λ n. n < 2 ^ 64)
   count_small (Info what x) s = tt
   count_small (ListOf collection query x) s = subst (λ c. length (answer (rows_of c t.rows) query).rows < 2 ^ 64) (sym s.0) (few_picked query)
   count_small (Post collection records mode x) s = tt
@@ -200,7 +200,7 @@ module _ (t : Plain) (a : IsTypedAccount t) where
   count_small (Put collection id fields x) s = tt
   count_small (DeleteItem collection id x) s = tt
 
-  offset_small : (q : Request) → IsSent q → IfSome (next_of t q) (λ n. n < 2 ^ 64)
+  offset_small : (q : Request) → IsSentRequest q → IfSome (next_of t q) (λ n. n < 2 ^ 64)
   offset_small (Info what x) s = tt
   offset_small (ListOf collection query x) s = subst (λ c. IfSome (answer (rows_of c t.rows) query).next (λ n. n < 2 ^ 64)) (sym s.0) (next_few query)
   offset_small (Post collection records mode x) s = tt
@@ -211,7 +211,7 @@ module _ (t : Plain) (a : IsTypedAccount t) where
   offset_small (Put collection id fields x) s = tt
   offset_small (DeleteItem collection id x) s = tt
 
-  told_typed : (q : Request) → IsSent q → HasTypes q → IsReadable q → (why : Option Refusal) → refusal t q ≡ why → (outcome t q why).account.moment ≤ last_stamp → IsReply (outcome t q why).reply × IsTyped (outcome t q why).reply
+  told_typed : (q : Request) → IsSentRequest q → HasTypes q → IsReadable q → (why : Option Refusal) → refusal t q ≡ why → (outcome t q why).account.moment ≤ last_stamp → IsReply (outcome t q why).reply × IsTypedReply (outcome t q why).reply
   told_typed q s h r (Some why) e moment = (
     record { moment = moment; modified = why_time why (target_time t q) (target_low q s); count = tt; next = tt },
     record { next = tt; body = why_typed why },
@@ -230,6 +230,6 @@ ticked account now a = record {
   rows = All-from_Each IsTypedRow (tick account now).rows (Each-filter IsTypedRow (is_alive (after account.moment now)) account.rows (Each-from_All IsTypedRow account.rows a.rows));
 }
 
-pub replies_typed : (account : Plain) (now : ℕ) (q : Request) → IsTypedAccount account → IsSent q → HasTypes q → IsReadable q → IsFitRequest q → IsReply (api account now q).reply × IsTyped (api account now q).reply
+pub replies_typed : (account : Plain) (now : ℕ) (q : Request) → IsTypedAccount account → IsSentRequest q → HasTypes q → IsReadable q → IsFitRequest q → IsReply (api account now q).reply × IsTypedReply (api account now q).reply
 replies_typed account now q a s h r fit =
     told_typed (tick account now) (ticked account now a) q s h r (refusal (tick account now) q) refl (valid-api account now q a.valid fit).moment

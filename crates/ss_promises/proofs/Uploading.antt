@@ -8,7 +8,7 @@ use Rattle.ss_bso.specs.declared.account.Staged.{Staged}
 use Rattle.ss_bso.specs.declared.changes.Kept.{Kept}
 use Rattle.ss_bso.specs.Account.{is_open, tick}
 use Rattle.ss_bso.specs.Batches.{batch_in}
-use Rattle.ss_bso.specs.Changes.{latest, opened}
+use Rattle.ss_bso.specs.Changes.{latest, account_at_opening}
 use Rattle.ss_bso.specs.Lists.{Each}
 use Rattle.ss_bso.specs.Validity.{IsValidBatch, SameAccount}
 use Rattle.ss_bso.proofs.Lists.{Each-from_All, Each-imp, Pairs-filter}
@@ -34,10 +34,11 @@ use Rattle.ss_device.specs.declared.faults.EditFault.{EditFault}
 use Rattle.ss_world.specs.declared.seats.Seat.{Seat}
 use Rattle.ss_world.specs.declared.seats.Seat.TheVariants.{Idle, Syncs}
 use Rattle.ss_world.specs.Worlds.{WorldView}
-use Rattle.ss_world.specs.Happening.{Asked, Edits, Happens, IsDelivered, IsEdited, IsGivenUp, IsLost, Runs, Starts}
+use Rattle.ss_world.specs.Happening.{AsksElsewhere, Edits, Happens, DeliversAtSeat, EditsAtSeat, IsGivenUp, IsLost}
+use Rattle.ss_world.specs.Happening.{Runs, Starts}
 use Rattle.ss_world.specs.Happening.{Step, edit_fault, last}
 use Rattle.ss_world.specs.Promises.{first_rows}
-use Rattle.ss_world.specs.Reaching.{IsReached}
+use Rattle.ss_world.specs.Reaching.{IsReachedWorld}
 use Rattle.ss_world.proofs.Fitting.{BatchFits, Fits, UploadFits}
 use Rattle.ss_world.proofs.Keeping.{IsSound}
 use Rattle.ss_world.proofs.Promised.{sound}
@@ -65,7 +66,7 @@ starts : (w v : WorldView) (n : ℕ) (fetch : Fetch) (s : Seat) → Starts w n f
 starts w v n fetch (Idle d) e = stays (ap (λ (x : WorldView). x.server) e)
 starts w v n fetch (Syncs m) e = world_stays w v e
 
-delivers : (w v : WorldView) (n now : ℕ) (s : Seat) → IsDelivered w n now v s → Moves w.server v.server
+delivers : (w v : WorldView) (n now : ℕ) (s : Seat) → DeliversAtSeat w n now v s → Moves w.server v.server
 delivers w v n now (Idle d) e = world_stays w v e
 delivers w v n now (Syncs m) e = server_is w v e.server (ap (λ (x : WorldView). x.server) e.is) (answers now _ e.answers)
 
@@ -77,7 +78,7 @@ loses : (w v : WorldView) (n now : ℕ) (s : Seat) → IsLost w n now v s → Mo
 loses w v n now (Idle d) e = world_stays w v e
 loses w v n now (Syncs m) e = server_is w v e.server (ap (λ (x : WorldView). x.server) e.is) (answers now _ e.answers)
 
-edits : (w v : WorldView) (n now : ℕ) (edit : Edit) (s : Seat) → IsEdited w n now edit v s → Moves w.server v.server
+edits : (w v : WorldView) (n now : ℕ) (edit : Edit) (s : Seat) → EditsAtSeat w n now edit v s → Moves w.server v.server
 edits w v n now edit (Syncs m) e = world_stays w v e
 edits w v n now edit (Idle d) e = by (edit_fault d edit) e
   where
@@ -85,17 +86,17 @@ edits w v n now edit (Idle d) e = by (edit_fault d edit) e
     by None h = stays (ap (λ (x : WorldView). x.server) h.is)
     by (Some fault) h = world_stays w v h
 
-asks : (w v : WorldView) (now : ℕ) (request : Request) (b : Bool) → MatchBool b (v ≡ w) (Asked w now request v) → Moves w.server v.server
+asks : (w v : WorldView) (now : ℕ) (request : Request) (b : Bool) → MatchBool b (v ≡ w) (AsksElsewhere w now request v) → Moves w.server v.server
 asks w v now request true e = world_stays w v e
 asks w v now request false e = server_is w v e.server (ap (λ (x : WorldView). x.server) e.is) (answers now request e.answers)
 
 moves : (w v : WorldView) (event : Event) → Happens w event v → Moves w.server v.server
 moves w v (Start n fetch) e = at_seat w v (Starts w n fetch v) (slice_get w.seats n) (starts w v n fetch) e
-moves w v (Deliver n now) e = at_seat w v (IsDelivered w n now v) (slice_get w.seats n) (delivers w v n now) e
+moves w v (Deliver n now) e = at_seat w v (DeliversAtSeat w n now v) (slice_get w.seats n) (delivers w v n now) e
 moves w v (LoseRequest n) e = at_seat w v (IsGivenUp w n v) (slice_get w.seats n) (gives_up w v n) e
 moves w v (LoseReply n now) e = at_seat w v (IsLost w n now v) (slice_get w.seats n) (loses w v n now) e
 moves w v (Anew n) e = at_seat w v (IsGivenUp w n v) (slice_get w.seats n) (gives_up w v n) e
-moves w v (Change n now edit) e = at_seat w v (IsEdited w n now edit v) (slice_get w.seats n) (edits w v n now edit) e
+moves w v (Change n now edit) e = at_seat w v (EditsAtSeat w n now edit v) (slice_get w.seats n) (edits w v n now edit) e
 moves w v (Other now request) e = asks w v now request (touches request) e
 moves w v (Tick now) e = server_is w v e.server (ap (λ (x : WorldView). x.server) e.is) (ticks now e.ticks)
 moves w v Reopen e = server_is w v e.server (ap (λ (x : WorldView). x.server) e.is) (reopens e.reopens)
@@ -125,7 +126,7 @@ each_latest time (batch ∷ batches) =
     (omega (arith, above), each_latest (max time batch.begun) batches)
 
 -- an account that is opened from what is kept
-begun_opened : (server : Server) (kept : Kept) → server.kept ≡ kept → SameAccount (opened kept) server.account → HaveBegun server
+begun_opened : (server : Server) (kept : Kept) → server.kept ≡ kept → SameAccount (account_at_opening kept) server.account → HaveBegun server
 begun_opened server kept is s =
     let moment : latest kept.store kept.batches ≤ server.account.moment = omega (arith, s.moment) in
     subst (λ (k : Kept). Each (Begun server.account.moment) k.batches) (sym is) (begun_later (latest kept.store kept.batches) server.account.moment kept.batches moment (each_latest kept.store kept.batches))
@@ -152,7 +153,7 @@ begun_on : (w : WorldView) (steps : List Step) → Runs w steps → HaveBegun w.
 begun_on w [] r h = h
 begun_on w (step ∷ steps) r h = begun_on step.world steps r.1 (begun_moved w.server step.world.server (moves w step.world step.event r.0) h)
 
-begun_reached : (trusts : ℕ → Bool) (w : WorldView) → IsReached trusts w → HaveBegun w.server
+begun_reached : (trusts : ℕ → Bool) (w : WorldView) → IsReachedWorld trusts w → HaveBegun w.server
 begun_reached trusts w r =
     subst (λ (x : WorldView). HaveBegun x.server) r.here (begun_on r.opening r.steps r.runs (begun_opened r.opening.server r.opening.server.kept refl r.opens.opened))
 
@@ -177,7 +178,7 @@ upload_sent : (first : ℕ) (a : Server) (u : UploadView) (number : ℕ) (batch 
 upload_sent first a u number batch fits is e =
     (subst (BatchFits first (shown_by a) u) is fits).2 batch.parts (ap (option_map (λ (b : Staged). b.parts)) e)
 
-pub goes_on_uploading : (trusts : ℕ → Bool) (w v : WorldView) (n number : ℕ) (m : MachineView) (u : UploadView) (batch : Staged) → IsReached trusts w → slice_get w.seats n ≡ Some (Syncs m)
+pub goes_on_uploading : (trusts : ℕ → Bool) (w v : WorldView) (n number : ℕ) (m : MachineView) (u : UploadView) (batch : Staged) → IsReachedWorld trusts w → slice_get w.seats n ≡ Some (Syncs m)
     → m.stage ≡ Uploads u → u.batch ≡ Some number → batch_in bookmarks number w.server.account.batches ≡ Some batch → is_open w.server.account.moment batch ≡ true → Happens w Reopen v
     → (batch_in bookmarks number w.server.kept.batches ≡ Some batch) × (batch.parts ≡ sent_of u) × (batch_in bookmarks number v.server.account.batches ≡ Some batch) × (slice_get v.seats n ≡ Some (Syncs m))
 goes_on_uploading trusts w v n number m u batch r there stage own live now h =

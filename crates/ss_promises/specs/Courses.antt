@@ -1,7 +1,7 @@
 -- Exchanges of a device, one after the other and between events of others, as steps of a world (this project).
 use Rattle.std.specs.Prelude.{◌≡◌, ℕ, List, [], ◌∷◌, ◌++◌, slice_get, Some, ⊤}
 use Rattle.ss_route.specs.declared.manner.Manner.{Manner}
-use Rattle.ss_route.specs.Sending.{IsTyped as HasTypes}
+use Rattle.ss_route.specs.Sending.{HasTypes}
 use Rattle.ss_client.specs.Asking.{ask}
 use Rattle.ss_client.specs.Machine.{Next}
 use Rattle.ss_client.specs.Runs.{MachineView}

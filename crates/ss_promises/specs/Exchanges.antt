@@ -16,8 +16,8 @@ use Rattle.ss_laws.specs.Journals.{marked_outcome}
 use Rattle.ss_route.specs.declared.manner.Manner.{Manner}
 use Rattle.ss_route.specs.declared.manner.Manner.TheVariants.{Profile, Browser}
 use Rattle.ss_route.specs.declared.routed.Routed.TheVariants.{Ask}
-use Rattle.ss_route.specs.Routing.{routed}
-use Rattle.ss_route.specs.Sending.{IsHost, IsTyped as HasTypes, request_sent}
+use Rattle.ss_route.specs.Routing.{routing_of_message}
+use Rattle.ss_route.specs.Sending.{IsHost, HasTypes, request_sent}
 use Rattle.ss_route.specs.Wire.{IsHeardWhole, wire}
 use Rattle.ss_hearing.specs.Hearing.{answer_of}
 use Rattle.ss_client.specs.Asking.{ask, awaits}
@@ -71,7 +71,7 @@ pub record Responds (manner : Manner) (input : List ℕ) (before : Server) (now 
   pub uid : ℕ
   pub request : Request
   pub newlines : Bool
-  pub routes : routed manner message ≡ Ask uid request newlines
+  pub routes : routing_of_message manner message ≡ Ask uid request newlines
   pub answers : Answers before now request after
   pub last : Bool
   pub writes : output ≡ wire (api before.account now request).reply newlines last
@@ -85,7 +85,7 @@ pub record Fails (manner : Manner) (input : List ℕ) (before : Server) (now : �
   pub uid : ℕ
   pub request : Request
   pub newlines : Bool
-  pub routes : routed manner message ≡ Ask uid request newlines
+  pub routes : routing_of_message manner message ≡ Ask uid request newlines
   pub fails : mark ≡ Done → ⊥
   pub ticks : Ticks before now after
   pub last : Bool

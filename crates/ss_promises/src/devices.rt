@@ -18,7 +18,7 @@ ghost use Rattle.ss_world.specs.declared.events.Event.TheVariants.{Reopen};
 ghost use Rattle.ss_world.specs.declared.seats.Seat.TheVariants.{Syncs};
 ghost use Rattle.ss_world.specs.Happening.{Happens};
 ghost use Rattle.ss_world.specs.Promises.{IsFaithful};
-ghost use Rattle.ss_world.specs.Reaching.{IsReached};
+ghost use Rattle.ss_world.specs.Reaching.{IsReachedWorld};
 ghost use Rattle.ss_world.specs.Worlds.{WorldView};
 
 /// A faithful device stays faithful, whoever asks whatever of the account, also one who writes or deletes bookmarks,
@@ -40,7 +40,7 @@ pub fn devices_stay_faithful_to_all()
 /// opening. The machine stands.
 pub fn uploads_go_on()
     ensures { (trusts : ℕ → Bool) (world new : WorldView) (n number : ℕ) (machine : MachineView) (upload : UploadView)
-        (batch : Staged) → IsReached trusts world → slice_get world.seats n ≡ Some (Syncs machine)
+        (batch : Staged) → IsReachedWorld trusts world → slice_get world.seats n ≡ Some (Syncs machine)
         → machine.stage ≡ Uploads upload → upload.batch ≡ Some number
         → batch_in bookmarks number world.server.account.batches ≡ Some batch
         → is_open world.server.account.moment batch ≡ true → Happens world Reopen new

@@ -15,7 +15,7 @@ ghost use Rattle.ss_query.specs.Refused.{condition_of, with_condition};
 ghost use Rattle.ss_route.specs.declared.manner.Manner.{Manner};
 ghost use Rattle.ss_route.specs.declared.manner.Manner.TheVariants.{Profile, Browser};
 ghost use Rattle.ss_route.specs.declared.routed.Routed.TheVariants.{Ask};
-ghost use Rattle.ss_route.specs.Routing.{routed};
+ghost use Rattle.ss_route.specs.Routing.{routing_of_message};
 ghost use Rattle.ss_route.specs.Sending.{message_of, request_meant};
 ghost use Rattle.ss_route.specs.Wire.{wire};
 ghost use Rattle.ss_hearing.specs.Hearing.{answer_of};
@@ -50,7 +50,7 @@ pub fn requests_come_in()
     ensures routed { (manner : Manner) (address : Address) (machine : MachineView) (rest : List ℕ) (message : Message)
         (left : List ℕ) → IsAddress address → IsReady machine
         → ReadsMessage (bytes_sent address machine ++ rest) message left
-        → (routed manner message ≡ Ask address.uid (request_meant manner (ask machine)) false) × (left ≡ rest) }
+        → (routing_of_message manner message ≡ Ask address.uid (request_meant manner (ask machine)) false) × (left ≡ rest) }
     ensures by_the_letter { (request : Request) → request_meant Profile request ≡ request }
     ensures as_browsers { (request : Request) → (condition_of request ≡ IfUnmodified 0 → ⊥)
         → request_meant Browser request ≡ request }

@@ -4,7 +4,7 @@ ghost use Rattle.std.specs.Prelude.{◌≡◌, Option, IfSome};
 ghost use Rattle.std.specs.List.{AllByRecursion};
 ghost use Rattle.ss_bso.specs.declared.account.Plain.{Plain};
 ghost use Rattle.ss_bso.specs.declared.changes.Kept.{Kept as KeptView};
-ghost use Rattle.ss_bso.specs.Changes.{opened};
+ghost use Rattle.ss_bso.specs.Changes.{account_at_opening};
 ghost use Rattle.ss_bso.specs.Validity.{IsValid, SameAccount};
 ghost use Rattle.ss_lines.specs.Lines.{IsLine};
 ghost use Rattle.ss_account.specs.Keeping.{IsKeptAccount};
@@ -27,7 +27,7 @@ pub fn replies_stay_equal()
 /// dump, and opened elsewhere, goes on as the account, and has its replies to whatever is asked from its moment on.
 pub fn accounts_move()
     ensures { (kept read : KeptView) (account again : Plain) → IsValid account → IsKeptAccount kept account → IsGood kept
-        → AllByRecursion IsLine (account_lines kept) → IsDumpOf (dump_text kept) read → SameAccount (opened read) again
+        → AllByRecursion IsLine (account_lines kept) → IsDumpOf (dump_text kept) read → SameAccount (account_at_opening read) again
         → GoesOn account again × AnswerAlikeFrom account.moment account again }
 {}
 
@@ -36,7 +36,7 @@ pub fn accounts_move()
 /// each account that is opened from what is kept, and has its replies.
 pub fn refilled_accounts_answer_alike()
     ensures { (told : Option KeptView) (kept : KeptView) (account other : Plain) → IsValid account
-        → IfSome told (λ held. held ≡ kept) → IfSome told (λ held. SameAccount (opened held) account)
-        → SameAccount (opened kept) other
+        → IfSome told (λ held. held ≡ kept) → IfSome told (λ held. SameAccount (account_at_opening held) account)
+        → SameAccount (account_at_opening kept) other
         → IfSome told (λ held. SameAccount account other × AnswerAlike account other) }
 {}

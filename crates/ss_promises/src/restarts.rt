@@ -4,7 +4,7 @@ ghost use Rattle.std.specs.Prelude.{◌≡◌, ◌⊎◌, IfErr, IfOk, IfSome};
 ghost use Rattle.ss_outside.specs.Causes.{Rose};
 ghost use Rattle.ss_bso.specs.declared.account.Plain.{Plain};
 ghost use Rattle.ss_bso.specs.declared.changes.Kept.{Kept};
-ghost use Rattle.ss_bso.specs.Changes.{opened};
+ghost use Rattle.ss_bso.specs.Changes.{account_at_opening};
 ghost use Rattle.ss_bso.specs.Validity.{IsValid, SameAccount};
 ghost use Rattle.ss_account.specs.declared.faults.OpenFault.TheVariants.{Keeper as KeeperFailed, Memory as NoMemory};
 ghost use Rattle.ss_account.specs.Keeping.{IsKeptAccount};
@@ -19,7 +19,7 @@ use std::alloc::Global;
 /// batches; so each upload goes on.
 pub fn accounts_go_on()
     ensures { (kept : Kept) (account again : Plain) → IsValid account → IsKeptAccount kept account
-        → SameAccount (opened kept) again → GoesOn account again }
+        → SameAccount (account_at_opening kept) again → GoesOn account again }
 {}
 
 /// The account of a keeper, given up and opened again: it goes on as it was. Where the keeper tells what it holds,

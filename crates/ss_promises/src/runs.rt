@@ -16,7 +16,7 @@ ghost use Rattle.ss_client.specs.Machine.{Follows, Next, Send};
 ghost use Rattle.ss_client.specs.Runs.{MachineView, first_run};
 ghost use Rattle.ss_client.specs.Sound.{IsSound};
 ghost use Rattle.ss_world.specs.Happening.{Runs, Step};
-ghost use Rattle.ss_world.specs.Reaching.{IsReached};
+ghost use Rattle.ss_world.specs.Reaching.{IsReachedWorld};
 ghost use Rattle.ss_world.specs.Worlds.{WorldView};
 ghost use Rattle.ss_promises.specs.Courses.{AreReady, AreTurns};
 ghost use Rattle.ss_promises.specs.Exchanges.{Address, IsAddress};
@@ -49,7 +49,7 @@ pub fn machines_stay_ready()
 
 /// So it is of each machine of a world that was reached: it can send its request, and a server can read it.
 pub fn machines_of_worlds_are_ready()
-    ensures { (trusts : ℕ → Bool) (world : WorldView) → IsReached trusts world → AreReady world }
+    ensures { (trusts : ℕ → Bool) (world : WorldView) → IsReachedWorld trusts world → AreReady world }
 {}
 
 /// Exchanges in bytes, of however many devices with servers of one account, and whatever else happens between them, are

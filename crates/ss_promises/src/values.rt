@@ -8,9 +8,9 @@ ghost use Rattle.ss_http.specs.Requests.{IsCond};
 ghost use Rattle.ss_query.specs.declared.requests.Request.{Request as Asked};
 ghost use Rattle.ss_query.specs.Api.{api};
 ghost use Rattle.ss_query.specs.Fit.{IsFitRequest};
-ghost use Rattle.ss_route.specs.Sending.{IsReadable, IsSent, IsTyped};
+ghost use Rattle.ss_route.specs.Sending.{IsReadable, IsSentRequest, HasTypes};
 ghost use Rattle.ss_route.specs.Wire.{IsReply};
-ghost use Rattle.ss_serving.specs.Typed.{IsTyped as IsTypedReply};
+ghost use Rattle.ss_serving.specs.Typed.{IsTypedReply};
 ghost use Rattle.ss_promises.specs.Values.{IsTypedAccount, IsTypedAsk, IsTypedPart, StaysTyped};
 
 use ss_bso::{Field, Part};
@@ -55,7 +55,7 @@ fn condition_is_typed(cond: Cond)
 /// Every request has the values of its types: the ids of a POST's records have the form of ids, their payloads are
 /// texts, and the times of a condition and of a page of newer records are times.
 pub fn requests_are_typed(request: &Request)
-    ensures { IsTyped request.now }
+    ensures { HasTypes request.now }
 {
     match request {
         Request::List { query, cond, .. } => {
@@ -76,7 +76,7 @@ pub fn requests_are_typed(request: &Request)
 /// nothing in it is greater than its type holds, its ids have the form of ids, its payloads are texts, and a batch's
 /// number is one that is given out.
 pub fn replies_are_typed()
-    ensures { (account : Plain) (now : ℕ) (request : Asked) → IsTypedAccount account → IsSent request → IsTyped request
+    ensures { (account : Plain) (now : ℕ) (request : Asked) → IsTypedAccount account → IsSentRequest request → HasTypes request
         → IsReadable request → IsFitRequest request → IsReply (api account now request).reply
         × IsTypedReply (api account now request).reply }
 {}

@@ -7,7 +7,7 @@ use Rattle.std.specs.declared.cmp.Ordering.TheVariants.{Less, Equal, Greater}
 use Rattle.std.specs.Ordering.{ordering_then, ordering_reverse, is_lt, is_eq}
 use Rattle.std.specs.Cmp.{IsTotalOrder, nat_cmp_total, int_cmp_total, then_total, on_total, back_total}
 use Rattle.std.specs.Cmp.Lexicographic.{nat_list_cmp_total, texts_ties}
-use Rattle.ss_text.specs.Texts.{Reordered, sorted, text_cmp}
+use Rattle.ss_text.specs.Texts.{IsReordering, sorted, text_cmp}
 use Rattle.ss_bso.specs.declared.rows.Row.{Row}
 use Rattle.ss_bso.specs.Limits.{rows_of}
 use Rattle.ss_query.specs.declared.requests.Query.{Query}
@@ -77,26 +77,26 @@ ranked_rows : (sort : Sort) (row other : Row) → OtherId row other → Ranked (
 ranked_rows sort row other e =
     ranked (row_cmp sort) (row_total sort) row other (λ h. untied other.id row.id (bytes_eq-flip other.id row.id e) (then_equal (sort_cmp sort row other) (text_cmp row.id other.id) h))
 
-pub sorted_rows-reordered : (sort : Sort) (rows others : List Row) → Reordered rows others → Pairs OtherId rows → sorted (comes_before sort) rows ≡ sorted (comes_before sort) others
+pub sorted_rows-reordered : (sort : Sort) (rows others : List Row) → IsReordering rows others → Pairs OtherId rows → sorted (comes_before sort) rows ≡ sorted (comes_before sort) others
 sorted_rows-reordered sort rows others r distinct =
     sorted-reordered (comes_before sort) (through (row_cmp sort) (row_total sort)) r
     (Pairs-imp OtherId (Ranked (comes_before sort)) (λ (row : Row). Unit {0}) (λ row other _ _ e. ranked_rows sort row other e) rows (Each-any rows) distinct)
 
 -- the answer over rows that a query asks for does not depend on their order
-pub answer_of-reordered : (rows others : List Row) (query : Query) → Reordered rows others → Pairs OtherId rows → answer_of rows query ≡ answer_of others query
+pub answer_of-reordered : (rows others : List Row) (query : Query) → IsReordering rows others → Pairs OtherId rows → answer_of rows query ≡ answer_of others query
 answer_of-reordered rows others query r distinct =
     ap (λ (found : List Row). let picked : Picked = record { rows = limited_list query.limit (drop query.offset found); next = next_offset query.limit query.offset (length found) } in picked)
     (sorted_rows-reordered query.sort rows others r distinct)
 
 -- nor does the answer over the rows of a collection
-pub answer-reordered : (rows others : List Row) (query : Query) → Reordered rows others → Pairs OtherId rows → answer rows query ≡ answer others query
+pub answer-reordered : (rows others : List Row) (query : Query) → IsReordering rows others → Pairs OtherId rows → answer rows query ≡ answer others query
 answer-reordered rows others query r distinct =
     answer_of-reordered (filter (is_asked query) rows) (filter (is_asked query) others) query (reordered-filter (is_asked query) r) (Pairs-filter OtherId (is_asked query) rows distinct)
 
 abbrev pub NamedApart : (List ℕ × ℕ) → (List ℕ × ℕ) → Type 0
 NamedApart entry other = IsFalse (bytes_eq other.0 entry.0)
 
-pub by_name-reordered : (times others : List (List ℕ × ℕ)) → Reordered times others → Pairs NamedApart times → by_name times ≡ by_name others
+pub by_name-reordered : (times others : List (List ℕ × ℕ)) → IsReordering times others → Pairs NamedApart times → by_name times ≡ by_name others
 by_name-reordered times others r distinct =
     let R : (List ℕ × ℕ) → (List ℕ × ℕ) → Ordering = λ a b. text_cmp a.0 b.0 in
     let total : IsTotalOrder R = on_total (λ (entry : List ℕ × ℕ). entry.0) nat_list_cmp_total in

@@ -12,7 +12,7 @@ use Rattle.ss_query.specs.declared.replies.Reply.{Reply}
 use Rattle.ss_bso.specs.Batches.{fit}
 use Rattle.ss_query.specs.Refused.{Refusal, NoItem, NotModified, WasModified, NoMoreBatches, NoBatch, BatchFull}
 use Rattle.ss_query.specs.Refused.{ClockEnded, AccountFull, status_of, said_by, time_shown, condition_of, is_there}
-use Rattle.ss_query.specs.Refused.{target_time, batch_of, staged_parts, continued, begins}
+use Rattle.ss_query.specs.Refused.{target_time, batch_of, staged_parts, continued_batch, begins}
 use Rattle.ss_query.specs.Effect.{stamp_in, effect, is_write, is_over}
 use Rattle.ss_query.specs.Told.{body_of, ok_status, count_of, next_of}
 
@@ -39,13 +39,13 @@ lacks_room account _ = false
 -- an append or a commit of a batch that isn't live for the collection
 abbrev pub misses_batch : Plain → Request → Bool
 misses_batch account (Post collection records mode cond) =
-    option_map_or (λ number. is_none (batch_of account collection number)) (continued mode) false
+    option_map_or (λ number. is_none (batch_of account collection number)) (continued_batch mode) false
 misses_batch account _ = false
 
 -- an append or a commit that would take the batch over its limits
 abbrev pub overfills_batch : Plain → Request → Bool
 overfills_batch account (Post collection records mode cond) =
-    option_map_or (λ number. not (fit (staged_parts account collection number ++ records.parts))) (continued mode) false
+    option_map_or (λ number. not (fit (staged_parts account collection number ++ records.parts))) (continued_batch mode) false
 overfills_batch account _ = false
 
 -- a cause, where its test holds

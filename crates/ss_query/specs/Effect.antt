@@ -8,7 +8,7 @@ use Rattle.ss_bso.specs.Account.{time_of}
 use Rattle.ss_bso.specs.Batches.{grown, batches_without, batches_elsewhere}
 use Rattle.ss_bso.specs.Limits.{is_too_much}
 use Rattle.ss_text.specs.Time.{write_stamp}
-use Rattle.ss_bso.specs.Write.{write, stamped, rows_without, times_without}
+use Rattle.ss_bso.specs.Write.{write, account_after_write, rows_without, times_without}
 use Rattle.ss_query.specs.declared.requests.Request.{Request}
 use Rattle.ss_query.specs.declared.requests.Request.TheVariants.{Info, DeleteAll, List as ListOf, Post}
 use Rattle.ss_query.specs.declared.requests.Request.TheVariants.{DeleteCollection, DeleteIds, Get, Put, Delete}
@@ -86,13 +86,13 @@ effect account (DeleteCollection collection cond) =
     }
 effect account (DeleteIds collection ids cond) =
     if is_some (time_of collection account.collections)
-    then stamped account collection (stamp_in account) (rows_without collection ids account.rows)
+    then account_after_write account collection (stamp_in account) (rows_without collection ids account.rows)
     else account
 effect account (Get collection id cond) = account
 effect account (Put collection id fields cond) =
     write account collection (record { id = id; fields = fields } ∷ []) (stamp_in account)
 effect account (Delete collection id cond) =
-    stamped account collection (stamp_in account) (rows_without collection (id ∷ []) account.rows)
+    account_after_write account collection (stamp_in account) (rows_without collection (id ∷ []) account.rows)
 
 -- whether rows and collections pass the limits of an account
 abbrev pub is_over : Plain → Bool

@@ -98,11 +98,11 @@ abbrev pub Fits : Plain → List ℕ → ℕ → List Part → Type 0
 Fits account collection number parts = IsTrue (fit (staged_parts account collection number ++ parts))
 
 -- the batch that a request continues, if it does
-abbrev pub continued : Mode → Option ℕ
-continued PlainPost = None
-continued Begin = None
-continued (Append number) = Some number
-continued (Commit number) = Some number
+abbrev pub continued_batch : Mode → Option ℕ
+continued_batch PlainPost = None
+continued_batch Begin = None
+continued_batch (Append number) = Some number
+continued_batch (Commit number) = Some number
 
 -- whether a POST begins a batch
 abbrev pub begins : Mode → Bool

@@ -2,7 +2,7 @@
 
 ghost use Rattle.std.specs.Prelude.{◌≡◌, [], Err, IfOk, None, OnOk, OnErr};
 ghost use Rattle.ss_site.specs.Counted.{faults_of};
-ghost use Rattle.ss_site.specs.Sites.{HasCause, HasKeeperCause, IsGiven, AddsTerm, RoseUnless};
+ghost use Rattle.ss_site.specs.Sites.{HasCause, HasKeeperCause, GivesOneMore, AddsTerm, RoseUnless};
 ghost use Rattle.ss_real_site.specs.Files.{counted_in};
 ghost use Rattle.ss_real_site.specs.Real.{no_entries, no_logs, no_terms};
 
@@ -200,7 +200,7 @@ impl<'a, N: Net + Clock> RealSite<'a, N> {
 
     // Counts a keeper, a port or a store that is given.
     fn lend(&mut self)
-        ensures given { IsGiven self.old.lent self.new.lent }
+        ensures given { GivesOneMore self.old.lent self.new.lent }
         ensures counts { self.new.counts ≡ self.old.counts }
     {
         self.given = self.given.saturating_add(1);

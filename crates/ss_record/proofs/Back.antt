@@ -9,7 +9,7 @@ use Rattle.serde_json.specs.Data.{Data, null, boolean, number, string, array, ob
 use Rattle.serde_json.specs.Data.{no_members, member}
 use Rattle.serde_json.specs.Written.{compact_text, items_text, members_text, number_text}
 use Rattle.ss_text.specs.Decimals.{Piece, run, text, byte, outside, pieces, bytes_of_piece, is_number_byte, is_decimal}
-use Rattle.ss_text.specs.Decimals.{marked}
+use Rattle.ss_text.specs.Decimals.{marked_text}
 use Rattle.ss_text.proofs.Pieces.{begins_run, Cut, recut}
 use Rattle.ss_text.proofs.Marks.{all_marked, all_unmarked, marked-unmarked}
 use Rattle.ss_text.proofs.Printed.{escape_raw}
@@ -159,7 +159,7 @@ nothing_ok = record { begin = record { whole = tt; cut = tt; back = refl }; fres
 pub plain_cuts : (d : Data) → is_plain d ≡ true → pieces outside (compact_text d) ≡ cuts d []
 plain_cuts d h = ap (pieces outside) (sym (cuts_spelled d [] ∙ append-nil (compact_text d))) ∙ recut (cuts d []) (value_ok d h [] nothing_ok).whole
 
-pub marked_plain : (d : Data) → is_plain d ≡ true → marked (plain_text d) ≡ compact_text d
+pub marked_plain : (d : Data) → is_plain d ≡ true → marked_text (plain_text d) ≡ compact_text d
 marked_plain d h =
     let ok = value_ok d h [] nothing_ok in
-    ap (λ ps. marked (flat_map bytes_of_piece (all_unmarked ps))) (plain_cuts d h) ∙ marked-unmarked (cuts d []) ok.cut ok.back ∙ cuts_spelled d [] ∙ append-nil (compact_text d)
+    ap (λ ps. marked_text (flat_map bytes_of_piece (all_unmarked ps))) (plain_cuts d h) ∙ marked-unmarked (cuts d []) ok.cut ok.back ∙ cuts_spelled d [] ∙ append-nil (compact_text d)

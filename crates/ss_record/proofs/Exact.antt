@@ -7,7 +7,7 @@ use Rattle.std.specs.Ordering.{match_ordering, is_eq}
 use Rattle.std.specs.Cmp.Lexicographic.{slice_cmp, nat_list_cmp_total}
 use Rattle.std.proofs.lemmas.Bool.{and_parts, and_from, false≢true, leb-true}
 use Rattle.std.proofs.lemmas.Map.Text.{is_eq-slice_cmp}
-use Rattle.ss_text.specs.Decimals.{marked}
+use Rattle.ss_text.specs.Decimals.{marked_text}
 use Rattle.serde_json.specs.Data.{unsigned, negative, float, Data, null, boolean, number, string, array, object, Items}
 use Rattle.serde_json.specs.Data.{no_items, item, Members, no_members, member, depth, members_depth}
 use Rattle.serde_json.specs.Read.{read}
@@ -31,7 +31,7 @@ use Rattle.ss_text.proofs.Basics.{same_text, and_then_some}
 
 -- ---- the parts of a reading that is an item
 
-pub payload_parts : (text : List ℕ) (ms : Members) → payload_members text ≡ Some ms → (read (marked text) ≡ Some (object ms)) × (depth (object ms) ≤ 126) × (members_plain ms ≡ true)
+pub payload_parts : (text : List ℕ) (ms : Members) → payload_members text ≡ Some ms → (read (marked_text text) ≡ Some (object ms)) × (depth (object ms) ≤ 126) × (members_plain ms ≡ true)
 unfolding payload_members
 payload_parts text ms e = (r.1 ∙ ap Some l.0, l.1, l.2)
   where
@@ -52,8 +52,8 @@ payload_parts text ms e = (r.1 ∙ ap Some l.0, l.1, l.2)
     tested true o f = f
     tested false o f = cc
 
-    r : (d : Data) × (read (marked text) ≡ Some d) × (cond (nat_le (depth d) 126 && is_plain d) (as_object d) None ≡ Some ms)
-    r = and_then_some (λ d. cond (nat_le (depth d) 126 && is_plain d) (as_object d) None) (read (marked text)) ms (tested (is_json text) _ e)
+    r : (d : Data) × (read (marked_text text) ≡ Some d) × (cond (nat_le (depth d) 126 && is_plain d) (as_object d) None ≡ Some ms)
+    r = and_then_some (λ d. cond (nat_le (depth d) 126 && is_plain d) (as_object d) None) (read (marked_text text)) ms (tested (is_json text) _ e)
 
     l : (r.0 ≡ object ms) × (depth (object ms) ≤ 126) × (members_plain ms ≡ true)
     l = low r.0 (nat_le (depth r.0) 126) (is_plain r.0) refl refl r.2

@@ -13,7 +13,7 @@ use Rattle.ss_record.specs.Items.{empty_folder, ItemView, names_of, are_content,
 use Rattle.ss_record.specs.declared.readings.Reading.TheVariants.{Item, Skipped}
 use Rattle.std.specs.Fmt.{digits}
 use Rattle.serde_json.proofs.OnLiterals.{serde_json_on_literals}
-use Rattle.ss_text.specs.Decimals.{pieces, is_decimal, marked}
+use Rattle.ss_text.specs.Decimals.{pieces, is_decimal, marked_text}
 use Rattle.ss_record.specs.Ids.{has, places, roots}
 use Rattle.ss_record.specs.Kinds.{is_folder, kind_name}
 use Rattle.ss_record.specs.Payloads.{without, lacks, is_true, payload_members}
@@ -165,8 +165,8 @@ content_fits i ms ne r h p cs =
     let shallow : depth (object ms) ≤ 126 = read_parts.1 in
     let low : members_depth all ≤ 125 = record_depth i.id i.kind ms p cs (omega arith) in
     let plain : members_plain ms ≡ true = read_parts.2 in
-    let payload : payload_members (plain_text (object all)) ≡ Some all = payload_back all (record_sorted i.id i.kind ms p cs (Sorted-read (marked i.content) (object ms) read_parts.0)) (record_plain i.id i.kind ms p cs plain) (omega arith) in
-    let text : unwrap_or (option_map (λ m. plain_text (object (record_members i.id i.kind m p cs))) (option_and_then as_object (read (marked i.content)))) [] ≡ plain_text (object all) = ap (λ o. unwrap_or (option_map (λ m. plain_text (object (record_members i.id i.kind m p cs))) (option_and_then as_object o)) []) read_parts.0 in
+    let payload : payload_members (plain_text (object all)) ≡ Some all = payload_back all (record_sorted i.id i.kind ms p cs (Sorted-read (marked_text i.content) (object ms) read_parts.0)) (record_plain i.id i.kind ms p cs plain) (omega arith) in
+    let text : unwrap_or (option_map (λ m. plain_text (object (record_members i.id i.kind m p cs))) (option_and_then as_object (read (marked_text i.content)))) [] ≡ plain_text (object all) = ap (λ o. unwrap_or (option_map (λ m. plain_text (object (record_members i.id i.kind m p cs))) (option_and_then as_object o)) []) read_parts.0 in
     let given = item_given i.id all i.kind p (cond (is_folder i.kind) cs [])
     (get-record (codes "id") i.id i.kind ms p cs (differ (codes "id") (codes "children") refl) ∙ get-id i.id i.kind ms p)
     (ap is_true (get-record (codes "deleted") i.id i.kind ms p cs (differ (codes "deleted") (codes "children") refl) ∙ get-deleted i.id i.kind ms p) ∙ parts.live)
@@ -204,7 +204,7 @@ read_is_content text ms i r l content root =
     let names : List (List ℕ) = names_of i.kind in
     let kept : Members = without names ms in
     let plain : members_plain kept ≡ true = without_plain names ms (payload_plain text ms r) in
-    let sorted : MembersSorted kept = without_sorted names ms (Sorted-read (marked text) (object ms) q.0) in
+    let sorted : MembersSorted kept = without_sorted names ms (Sorted-read (marked_text text) (object ms) q.0) in
     let shallow : members_depth kept ≤ 125 = without_depth names ms 125 (let d : depth (object ms) ≤ 126 = q.1 in omega arith) in
     let value : payload_members i.content ≡ Some kept = ap payload_members (sym content) ∙ payload_back kept sorted plain (omega arith) in
     let live : is_true (get_member (codes "deleted") kept) ≡ false = ap is_true (get-without names (codes "deleted") ms (deleted_kept i.kind)) ∙ l in

@@ -10,7 +10,7 @@ use Rattle.serde_json.specs.Data.{Data, object, Members, no_members, member, put
 use Rattle.serde_json.specs.Read.{read, max_depth}
 use Rattle.serde_json.specs.Find.{as_object}
 use Rattle.serde_json.specs.Written.{outline}
-use Rattle.ss_text.specs.Decimals.{marked}
+use Rattle.ss_text.specs.Decimals.{marked_text}
 use Rattle.ss_record.specs.Ids.{has}
 use Rattle.ss_record.specs.Marks.{said_text, is_plain, items_plain, members_plain, plain_text}
 use Rattle.ss_record.specs.Payloads.{without, lacks, strings, payload_members}
@@ -29,9 +29,9 @@ unfolding payload_members
 payload_back ms s h shallow =
     let numbers = HasNumbers-outline (object ms) h in
     let low : tree.depth (outline (object ms)) ≤ max_depth = let e : tree.depth (outline (object ms)) ≡ depth (object ms) = depth-outline (object ms) in omega arith in
-    let value : read (marked (plain_text (object ms))) ≡ Some (object ms) = ap read (marked_plain (object ms) h) ∙ read_compact (object ms) numbers low ∙ of_json-outline (object ms) s h in
+    let value : read (marked_text (plain_text (object ms))) ≡ Some (object ms) = ap read (marked_plain (object ms) h) ∙ read_compact (object ms) numbers low ∙ of_json-outline (object ms) s h in
     let few : nat_le (depth (object ms)) 126 ≡ true = le-leb (depth (object ms)) 126 shallow in
-    ap (λ b. cond b (option_and_then (λ d. cond (nat_le (depth d) 126 && is_plain d) (as_object d) None) (read (marked (plain_text (object ms))))) None) (plain_is_json (object ms) h shallow)
+    ap (λ b. cond b (option_and_then (λ d. cond (nat_le (depth d) 126 && is_plain d) (as_object d) None) (read (marked_text (plain_text (object ms))))) None) (plain_is_json (object ms) h shallow)
     ∙ ap (option_and_then (λ d. cond (nat_le (depth d) 126 && is_plain d) (as_object d) None)) value
     ∙ ap₂ (λ a b. cond (a && b) (Some ms) None) few h
 

@@ -6,7 +6,7 @@ use Rattle.serde_json.specs.Data.{Data, null, boolean, number, string, array, ob
 use Rattle.serde_json.specs.Data.{no_members, member, depth}
 use Rattle.serde_json.specs.Read.{read}
 use Rattle.serde_json.specs.Find.{as_object}
-use Rattle.ss_text.specs.Decimals.{marked}
+use Rattle.ss_text.specs.Decimals.{marked_text}
 use Rattle.ss_record.specs.Ids.{has}
 use Rattle.ss_record.specs.Marks.{string_of, is_plain}
 
@@ -18,7 +18,7 @@ is_json text = is_some (document text)
 -- rounded is kept as its characters, behind a mark
 unfoldable pub payload_members : List ℕ → Option Members
 payload_members text =
-    if is_json text then option_and_then (λ d. if nat_le (depth d) 126 && is_plain d then as_object d else None) (read (marked text))
+    if is_json text then option_and_then (λ d. if nat_le (depth d) 126 && is_plain d then as_object d else None) (read (marked_text text))
     else None
 
 -- ---- members

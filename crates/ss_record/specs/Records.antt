@@ -5,7 +5,7 @@ use Rattle.serde_json.specs.Data.{Data, boolean, string, array, object, Items, M
 use Rattle.serde_json.specs.Read.{read}
 use Rattle.serde_json.specs.View.{items_of}
 use Rattle.serde_json.specs.Find.{get_member, as_object}
-use Rattle.ss_text.specs.Decimals.{marked}
+use Rattle.ss_text.specs.Decimals.{marked_text}
 use Rattle.ss_record.specs.declared.kinds.Kind.{Kind}
 use Rattle.ss_record.specs.declared.kinds.Kind.TheVariants.{Folder}
 use Rattle.ss_record.specs.declared.readings.Reading.{Reading}
@@ -73,7 +73,7 @@ record_members id kind ms parent children =
 -- the record of an item under a parent and with children; empty where its content is no object
 unfoldable pub record_of : ItemView → List ℕ → List (List ℕ) → List ℕ
 record_of i parent children =
-    unwrap_or (option_map (λ ms. plain_text (object (record_members i.id i.kind ms parent children))) (option_and_then as_object (read (marked i.content)))) []
+    unwrap_or (option_map (λ ms. plain_text (object (record_members i.id i.kind ms parent children))) (option_and_then as_object (read (marked_text i.content)))) []
 
 -- the members of a deleted item's record
 unfoldable pub tombstone_members : List ℕ → Members

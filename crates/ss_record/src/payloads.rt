@@ -5,7 +5,7 @@ ghost use Rattle.serde_json.specs.Data.{depth, items_depth, members_depth};
 ghost use Rattle.serde_json.specs.Find.{get_member, as_object};
 ghost use Rattle.serde_json.specs.Read.{read};
 ghost use Rattle.serde_json.specs.View.{view, items_view, members_view};
-ghost use Rattle.ss_text.specs.Decimals.{marked};
+ghost use Rattle.ss_text.specs.Decimals.{marked_text};
 ghost use Rattle.ss_record.specs.Payloads.{is_json, payload_members, strings, string_list, is_string, is_true};
 
 use crate::marks::{is_plain, string_of};
@@ -63,7 +63,7 @@ fn is_json(alloc: Global, text: &str) -> Result<bool, AllocError>
 
 /// The value that a text is as JSON, its decimals marked first.
 pub fn read_value(alloc: Global, text: &str) -> Result<Option<Value>, AllocError>
-    ensures { IfOk result (λ found. option_map view found ≡ read (marked text.now)) }
+    ensures { IfOk result (λ found. option_map view found ≡ read (marked_text text.now)) }
 {
     let marked = mark_decimals(alloc, text.as_bytes())?;
     match Value::from_slice(alloc, marked.as_slice()) {

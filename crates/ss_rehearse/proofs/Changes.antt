@@ -14,9 +14,9 @@ use Rattle.ss_world.specs.declared.events.Event.TheVariants.{Change}
 use Rattle.ss_world.specs.Worlds.{WorldView, world_with_seat}
 use Rattle.ss_world.specs.declared.seats.Seat.{Seat}
 use Rattle.ss_world.specs.declared.seats.Seat.TheVariants.{Idle, Syncs}
-use Rattle.ss_world.specs.Happening.{Edits, Happens, IsEdited, Step, edit_fault}
+use Rattle.ss_world.specs.Happening.{Edits, Happens, EditsAtSeat, Step, edit_fault}
 use Rattle.ss_world.proofs.Lists.{at_set}
-use Rattle.ss_rehearse.specs.Draws.{drawn, drawn_after}
+use Rattle.ss_rehearse.specs.Draws.{drawn_number, drawn_after}
 use Rattle.ss_rehearse.specs.Scripts.{addition, additions, change_events, move, moves, numbers, renaming, renamings}
 use Rattle.ss_rehearse.specs.Plays.{PlaysChanges, Leads}
 use Rattle.ss_rehearse.specs.Syncing.{AreIdle}
@@ -57,8 +57,8 @@ as_before n now w es all v next q c = (c.0, subst (λ xs. PlaysChanges n now w x
 numbers_more : (n : ℕ) → numbers (n + 1) ≡ numbers n ++ (n + 1) ∷ []
 numbers_more n = let e : n + 1 ≡ suc n = omega arith in ap numbers e ∙ ap (λ k. numbers n ++ k ∷ []) (sym e)
 
-pub drawn_more : (seed n : ℕ) → drawn seed (n + 1) ≡ drawn_after (drawn seed n)
-drawn_more seed n = ap (drawn seed) (let e : n + 1 ≡ suc n = omega arith in e)
+pub drawn_more : (seed n : ℕ) → drawn_number seed (n + 1) ≡ drawn_after (drawn_number seed n)
+drawn_more seed n = ap (drawn_number seed) (let e : n + 1 ≡ suc n = omega arith in e)
 
 pub additions_more : (seed n : ℕ) → additions (n + 1) seed ≡ additions n seed ++ addition seed (n + 1) ∷ []
 additions_more seed n = ap (map (addition seed)) (numbers_more n) ∙ map-append (addition seed) (numbers n) ((n + 1) ∷ [])
@@ -99,11 +99,11 @@ change_idle w v n now e a h = go (slice_get w.seats n) h
     changed d None q = set_idle w.server q.device q.is
     changed d (Some f) q = subst AreIdle (sym q) a
 
-    by : (s : Seat) → IsEdited w n now e v s → AreIdle v
+    by : (s : Seat) → EditsAtSeat w n now e v s → AreIdle v
     by (Idle d) q = changed d (edit_fault d e) q
     by (Syncs m) q = subst AreIdle (sym q) a
 
-    go : (o : Option Seat) → MatchOption o (v ≡ w) (IsEdited w n now e v) → AreIdle v
+    go : (o : Option Seat) → MatchOption o (v ≡ w) (EditsAtSeat w n now e v) → AreIdle v
     go None q = subst AreIdle (sym q) a
     go (Some s) q = by s q
 

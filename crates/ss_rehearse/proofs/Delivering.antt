@@ -21,7 +21,7 @@ use Rattle.ss_device.specs.Device.{DeviceView}
 use Rattle.ss_client.specs.declared.summaries.Fetch.TheVariants.{Newer}
 use Rattle.ss_client.specs.declared.runs.Stage.TheVariants.{Asks as AsksStage}
 use Rattle.ss_client.specs.Asking.{ask, awaits}
-use Rattle.ss_client.specs.Bounds.{IsBounded, IsNearer, to_follow}
+use Rattle.ss_client.specs.Bounds.{IsBoundedRun, IsNearer, to_follow}
 use Rattle.ss_client.specs.Machine.{Next, Send, Done, Stop}
 use Rattle.ss_client.specs.Runs.{MachineView, first_run, is_newer}
 use Rattle.ss_client.specs.Sound.{AreOurs, TellsOurs}
@@ -33,7 +33,7 @@ use Rattle.ss_world.specs.Seats.{after}
 use Rattle.ss_world.specs.Worlds.{WorldView, world_with_seat}
 use Rattle.ss_world.specs.declared.seats.Seat.{Seat}
 use Rattle.ss_world.specs.declared.seats.Seat.TheVariants.{Idle, Syncs}
-use Rattle.ss_world.specs.Happening.{Delivers, Happens, IsDelivered, Starts, Step}
+use Rattle.ss_world.specs.Happening.{Delivers, Happens, DeliversAtSeat, Starts, Step}
 use Rattle.ss_world.proofs.Lists.{at_set}
 use Rattle.ss_rehearse.specs.Plays.{Asks, IsIdle, PlaysSync, is_post, once}
 use Rattle.ss_rehearse.specs.Syncing.{AreIdle, IsAsking, IsBoundedSeat, IsUnderWay, requests_left, left_at, post_at}
@@ -100,7 +100,7 @@ told_ours a r = go (r.status == status_of a) (is_conditional a && (r.status == 4
 -- ---- a delivery
 
 delivered : (w v : WorldView) (n now : ℕ) (m : MachineView) → slice_get w.seats n ≡ Some (Syncs m) → Happens w (Deliver n now) v → Delivers w n now m v
-delivered w v n now m there h = subst (λ (q : Option Seat). MatchOption q (v ≡ w) (IsDelivered w n now v)) there h
+delivered w v n now m there h = subst (λ (q : Option Seat). MatchOption q (v ≡ w) (DeliversAtSeat w n now v)) there h
 
 suc_below : (a b : ℕ) → a < b → 1 + a < 1 + b
 suc_below a b h = omega (arith, h)
@@ -118,7 +118,7 @@ record IsNext (w : WorldView) (n : ℕ) (m : MachineView) (v : WorldView) : Type
   bounded : IsBoundedSeat seat
   less : left_at (Some seat) < 1 + to_follow m.run m.stage
 
-next_of : (w v : WorldView) (n now : ℕ) (m : MachineView) → IsBounded m.run m.stage → slice_get w.seats n ≡ Some (Syncs m) → Happens w (Deliver n now) v → IsNext w n m v
+next_of : (w v : WorldView) (n now : ℕ) (m : MachineView) → IsBoundedRun m.run m.stage → slice_get w.seats n ≡ Some (Syncs m) → Happens w (Deliver n now) v → IsNext w n m v
 next_of w v n now m b there h =
     let e = delivered w v n now m there h in
     let answer : Answer = told_by (awaits m.stage) (api w.server.account now (ask m)).reply in

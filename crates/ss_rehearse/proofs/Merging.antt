@@ -15,7 +15,7 @@ use Rattle.ss_build.proofs.OfSheets.{sheets_built_valid}
 use Rattle.ss_dupe.specs.Looks.{Id, look}
 use Rattle.ss_dupe.specs.Sides.{Sides, sides}
 use Rattle.ss_dupe.specs.Pairs.{ArePairs}
-use Rattle.ss_dupe.specs.Renaming.{named, tree_renamed}
+use Rattle.ss_dupe.specs.Renaming.{renamed_id, tree_renamed}
 use Rattle.ss_dupe.proofs.Renamed.{from-renamed, look-renamed}
 use Rattle.ss_merge.specs.Merged.{entries_merged}
 use Rattle.ss_merge.specs.Links.{AreNames, NamesAnew}
@@ -47,15 +47,15 @@ same_pairs s ps qs a b l = go (lookup (bytes_eq l) ps) refl (lookup (bytes_eq l)
 
 -- ---- renamed trees
 
-same_renamed : (l l' : List PlacedItem) (ps : List (Id × Id)) → IsSame l l' → AreNames (look l) (named ps) → IsSame (tree_renamed (named ps) l) (tree_renamed (named ps) l')
-same_renamed l l' ps same names x = sym (renamed_look l ps (look l) (look (tree_renamed (named ps) l')) (λ z. lookup (bytes_eq z) ps) (λ z. refl) (λ z. refl) names is x)
+same_renamed : (l l' : List PlacedItem) (ps : List (Id × Id)) → IsSame l l' → AreNames (look l) (renamed_id ps) → IsSame (tree_renamed (renamed_id ps) l) (tree_renamed (renamed_id ps) l')
+same_renamed l l' ps same names x = sym (renamed_look l ps (look l) (look (tree_renamed (renamed_id ps) l')) (λ z. lookup (bytes_eq z) ps) (λ z. refl) (λ z. refl) names is x)
   where
-    others : AreNames (look l') (named ps)
-    others = subst (λ f. AreNames f (named ps)) (λ i z. same z i) names
+    others : AreNames (look l') (renamed_id ps)
+    others = subst (λ f. AreNames f (renamed_id ps)) (λ i z. same z i) names
 
-    is : NamesAnew (look l) (named ps) (look (tree_renamed (named ps) l'))
-    is = subst (λ f. NamesAnew f (named ps) (look (tree_renamed (named ps) l'))) (λ i z. sym (same z) i)
-        (record { named = look-renamed l' (named ps) others.apart; from = from-renamed l' (named ps) others.apart })
+    is : NamesAnew (look l) (renamed_id ps) (look (tree_renamed (renamed_id ps) l'))
+    is = subst (λ f. NamesAnew f (renamed_id ps) (look (tree_renamed (renamed_id ps) l'))) (λ i z. sym (same z) i)
+        (record { named = look-renamed l' (renamed_id ps) others.apart; from = from-renamed l' (renamed_id ps) others.apart })
 
 -- ---- merged trees
 
@@ -66,12 +66,12 @@ same_all l l' r r' a b =
     ∙ ap₂ (λ p q. p || q) (same_ids l l' a z) (same_ids r r' b z)
     ∙ sym (has-append z (node_ids l') (node_ids r')) ∙ sym (has-firsts z (node_ids l' ++ node_ids r')))
 
-same_merged : (m m' l l' r r' : List PlacedItem) (x x' y : List Id) (ps qs : List (Id × Id)) → IsSame m m' → IsSame l l' → IsSame r r' → Alike x x' → AreNames (look l) (named ps)
+same_merged : (m m' l l' r r' : List PlacedItem) (x x' y : List Id) (ps qs : List (Id × Id)) → IsSame m m' → IsSame l l' → IsSame r r' → Alike x x' → AreNames (look l) (renamed_id ps)
     → ((z : Id) → lookup (bytes_eq z) ps ≡ lookup (bytes_eq z) qs) → merged_of ps m l r x y ≡ merged_of qs m' l' r' x' y
 same_merged m m' l l' r r' x x' y ps qs a b c d names pairs =
-    let names_are : named ps ≡ named qs = λ i z. unwrap_or (pairs z i) z in
-    let local : IsSame (tree_renamed (named ps) l) (tree_renamed (named ps) l') = same_renamed l l' ps b names in
-    ap₂ entries_merged (same_sides m m' (tree_renamed (named ps) l) (tree_renamed (named ps) l') r r' x x' y a local c d) (same_all (tree_renamed (named ps) l) (tree_renamed (named ps) l') r r' local c)
+    let names_are : renamed_id ps ≡ renamed_id qs = λ i z. unwrap_or (pairs z i) z in
+    let local : IsSame (tree_renamed (renamed_id ps) l) (tree_renamed (renamed_id ps) l') = same_renamed l l' ps b names in
+    ap₂ entries_merged (same_sides m m' (tree_renamed (renamed_id ps) l) (tree_renamed (renamed_id ps) l') r r' x x' y a local c d) (same_all (tree_renamed (renamed_id ps) l) (tree_renamed (renamed_id ps) l') r r' local c)
     ∙ ap (λ (name : Id → Id). entries_merged (sides m' (tree_renamed name l') r' x' y) (by_id (firsts (node_ids (tree_renamed name l') ++ node_ids r')))) names_are
 
 one_result : (mirror : List Sheet) (local other : List Entry) (gone lost : List Id) (rows : List Sheet) (joined again : List Entry) → Apart (map (λ s. s.id) rows) → IsValidTree (tree local)
@@ -82,7 +82,7 @@ one_result mirror local other gone lost rows joined again apart valid same ids j
     let one = same_sides (tree j.before) (tree k.before) (tree local) (tree other) (tree j.remote) (tree k.remote) gone lost (dead (rows_of rows)) before same remote ids in
     let pairs = same_pairs (sides (tree j.before) (tree local) (tree j.remote) gone (dead (rows_of rows))) j.pairs k.pairs j.are_pairs (subst (λ s. ArePairs s k.pairs) (sym one) k.are_pairs) in
     let of_rows = same_sides (tree j.before) (tree j.before) (tree local) (tree local) (tree j.remote) (built (rows_of rows)) gone gone (dead (rows_of rows)) (λ z. refl) (λ z. refl) j.remote_is (λ z. refl) in
-    let names : AreNames (look (tree local)) (named j.pairs) =
+    let names : AreNames (look (tree local)) (renamed_id j.pairs) =
     are_names (tree j.before) (tree local) (built (rows_of rows)) gone (dead (rows_of rows)) j.pairs (look (tree local)) (λ z. lookup (bytes_eq z) j.pairs) valid (sheets_built_valid rows apart)
     (subst (λ s. ArePairs s j.pairs) of_rows j.are_pairs) (λ z. refl) (λ z. refl) in
     j.joined_is x

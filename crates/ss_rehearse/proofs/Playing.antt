@@ -15,26 +15,27 @@ use Rattle.ss_world.specs.Worlds.{WorldView}
 use Rattle.ss_world.specs.declared.seats.Seat.{Seat}
 use Rattle.ss_world.specs.declared.seats.Seat.TheVariants.{Idle, Syncs}
 use Rattle.ss_world.specs.Happening.{Happens, Runs, Step, last}
-use Rattle.ss_world.specs.Promises.{IsTrusted}
-use Rattle.ss_world.specs.Reaching.{IsReached, Promised}
+use Rattle.ss_world.specs.Promises.{IsTrustedEvent}
+use Rattle.ss_world.specs.Reaching.{IsReachedWorld, KeepsPromises}
 use Rattle.ss_world.proofs.Reaching as reaching
 use Rattle.ss_rehearse.specs.Summaries.{summary_of, summary_text}
 use Rattle.ss_rehearse.specs.Scripts.{Act, changes, sync, script}
 use Rattle.ss_rehearse.specs.Plays.{Acts, Asks, PlaysChanges, PlaysSync, Leads, PlayView, Plays}
-use Rattle.ss_rehearse.specs.Rehearsals.{ArePromised, IsFresh, IsOpen, IsPromised, IsSummary, all_trusted, tree_at}
-use Rattle.ss_rehearse.specs.Syncing.{AreIdle, ArePlayed}
+use Rattle.ss_rehearse.specs.Rehearsals.{ArePromisedSteps, IsFresh, IsOpen, IsPromisedStep, IsSummary, all_trusted}
+use Rattle.ss_rehearse.specs.Rehearsals.{tree_at}
+use Rattle.ss_rehearse.specs.Syncing.{AreIdle, LeadsByActs}
 use Rattle.ss_rehearse.proofs.Steps.{leads_on}
 
 -- ---- what the world promises
 
-all_ok : (event : Event) → IsTrusted all_trusted event
+all_ok : (event : Event) → IsTrustedEvent all_trusted event
 all_ok (Start n Newer) = refl
 all_ok event = tt
 
-promised_all : (w : WorldView) (steps : List Step) → IsReached all_trusted w → Runs w steps → ArePromised w steps
+promised_all : (w : WorldView) (steps : List Step) → IsReachedWorld all_trusted w → Runs w steps → ArePromisedSteps w steps
 promised_all w [] r h = tt
 promised_all w (s ∷ steps) r h =
-    let p : Promised all_trusted w s.event s.world = reaching.promised all_trusted w s.event s.world r (all_ok s.event) h.0 in (
+    let p : KeepsPromises all_trusted w s.event s.world = reaching.promised all_trusted w s.event s.world r (all_ok s.event) h.0 in (
       record { promised = p; understood = reaching.understood all_trusted w s.event s.world r; whole = λ q. reaching.whole all_trusted w q s.event s.world h.0 },
       promised_all s.world steps p.reached h.1,
     )
@@ -75,23 +76,23 @@ plays_append p (act ∷ acts) xs q more_acts ys r h k = (
   plays_append h.2 acts h.1 q more_acts ys r h.5 k,
 )
 
-pub played_on : (w v u : WorldView) (now mid next : ℕ) (acts more_acts : List Act) (sent more : List ℕ) → ArePlayed w now acts sent v mid → ArePlayed v mid more_acts more u next → ArePlayed w now (acts ++ more_acts) (sent ++ more) u next
+pub played_on : (w v u : WorldView) (now mid next : ℕ) (acts more_acts : List Act) (sent more : List ℕ) → LeadsByActs w now acts sent v mid → LeadsByActs v mid more_acts more u next → LeadsByActs w now (acts ++ more_acts) (sent ++ more) u next
 played_on w v u now mid next acts more_acts sent more h k posts =
     let x = h posts in
     let y = k (posts ++ sent) in
     let whole = plays_append (record { world = w; now = now; posts = posts }) acts x.0 (record { world = v; now = mid; posts = posts ++ sent }) more_acts y.0 (record { world = u; now = next; posts = (posts ++ sent) ++ more }) x.1 y.1 in
     (x.0 ++ y.0, subst (λ (ps : List ℕ). Plays (record { world = w; now = now; posts = posts }) (acts ++ more_acts) (x.0 ++ y.0) (record { world = u; now = next; posts = ps })) (append_assoc posts sent more) whole)
 
-pub changes_played : (n now : ℕ) (w : WorldView) (edits : List Edit) (v : WorldView) (next : ℕ) → ((steps : List Step) × PlaysChanges n now w edits steps v next) → ArePlayed w now (changes n edits ∷ []) [] v next
+pub changes_played : (n now : ℕ) (w : WorldView) (edits : List Edit) (v : WorldView) (next : ℕ) → ((steps : List Step) × PlaysChanges n now w edits steps v next) → LeadsByActs w now (changes n edits ∷ []) [] v next
 changes_played n now w edits v next h posts =
     (h.0 ++ [], (h.0, [], record { world = v; now = next; posts = posts ++ [] }, refl, (h.1, append-nil posts), (refl, refl)))
 
-pub sync_played : (n now : ℕ) (w : WorldView) (sent : ℕ) (v : WorldView) (next : ℕ) → ((steps : List Step) × PlaysSync n now w steps sent v next) → ArePlayed w now (sync n ∷ []) (sent ∷ []) v next
+pub sync_played : (n now : ℕ) (w : WorldView) (sent : ℕ) (v : WorldView) (next : ℕ) → ((steps : List Step) × PlaysSync n now w steps sent v next) → LeadsByActs w now (sync n ∷ []) (sent ∷ []) v next
 sync_played n now w sent v next h posts =
     (h.0 ++ [], (h.0, [], record { world = v; now = next; posts = posts ++ sent ∷ [] }, refl, (sent, h.1, refl), (refl, refl)))
 
 -- the summary of a script that was played from a fresh world
-pub summary_is : (items seed : ℕ) (w end : WorldView) (posts : List ℕ) (next : ℕ) (text : List ℕ) → IsFresh w → IsReached all_trusted w → ArePlayed w 100 (script items seed) posts end next
+pub summary_is : (items seed : ℕ) (w end : WorldView) (posts : List ℕ) (next : ℕ) (text : List ℕ) → IsFresh w → IsReachedWorld all_trusted w → LeadsByActs w 100 (script items seed) posts end next
     → text ≡ summary_text posts (summary_of (tree_at 0 end) (tree_at 1 end)) → IsSummary items seed text
 summary_is items seed w end posts next text fresh reached played e =
     let p = played [] in
@@ -108,7 +109,7 @@ summary_is items seed w end posts next text fresh reached played e =
       text_is = e;
     }
 
-pub summary_ends : {T E : Type 0} (items seed : ℕ) (w end : WorldView) (posts : List ℕ) (next : ℕ) (r : Result T E) (text : T → List ℕ) → IsFresh w → IsReached all_trusted w → ArePlayed w 100 (script items seed) posts end next
+pub summary_ends : {T E : Type 0} (items seed : ℕ) (w end : WorldView) (posts : List ℕ) (next : ℕ) (r : Result T E) (text : T → List ℕ) → IsFresh w → IsReachedWorld all_trusted w → LeadsByActs w 100 (script items seed) posts end next
     → IfOk r (λ t. text t ≡ summary_text posts (summary_of (tree_at 0 end) (tree_at 1 end))) → IfOk r (λ t. IsSummary items seed (text t))
 summary_ends items seed w end posts next (Ok t) text fresh reached played h = summary_is items seed w end posts next (text t) fresh reached played h
 summary_ends items seed w end posts next (Err e) text fresh reached played h = tt

@@ -7,10 +7,10 @@ use Rattle.ss_world.specs.declared.faults.WorldFault.TheVariants.{Memory}
 use Rattle.ss_world.specs.Worlds.{WorldView}
 use Rattle.ss_world.specs.Happening.{Happens, Runs, Step, last}
 use Rattle.ss_rehearse.specs.Plays.{Leads}
-use Rattle.ss_rehearse.specs.Syncing.{IsPassed}
+use Rattle.ss_rehearse.specs.Syncing.{HadMemory}
 
 -- what holds of an event that happened or was refused
-pub happened : (done : Result (Unit {0}) WorldFault) (H : Type 0) → OnOk done H → IfErr done (λ e. (e ≡ Memory → ⊥) → H) → IsPassed done → H
+pub happened : (done : Result (Unit {0}) WorldFault) (H : Type 0) → OnOk done H → IfErr done (λ e. (e ≡ Memory → ⊥) → H) → HadMemory done → H
 happened (Ok x) H h p i = h
 happened (Err e) H h p i = p i
 

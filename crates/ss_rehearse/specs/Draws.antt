@@ -6,6 +6,6 @@ unfoldable pub drawn_after : ℕ → ℕ
 drawn_after x = (x * 6364136223846793005 + 1442695040888963407) % 2 ^ 64
 
 -- the number of a place: the seed at place 0
-abbrev pub drawn : ℕ → ℕ → ℕ
-drawn seed zero = seed
-drawn seed (suc k) = drawn_after (drawn seed k)
+abbrev pub drawn_number : ℕ → ℕ → ℕ
+drawn_number seed zero = seed
+drawn_number seed (suc k) = drawn_after (drawn_number seed k)

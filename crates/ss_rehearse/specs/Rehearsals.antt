@@ -1,6 +1,6 @@
 -- A rehearsal: what is written of it, and what is promised of each of its steps (this project's).
 use Rattle.std.specs.Prelude.{◌≡◌, ℕ, ◌≤◌, List, [], ◌∷◌, Bool, true, slice_get, option_map, unwrap_or, ⊤}
-use Rattle.ss_bso.specs.Changes.{fresh_kept, opened}
+use Rattle.ss_bso.specs.Changes.{fresh_kept, account_at_opening}
 use Rattle.ss_bso.specs.Validity.{SameAccount}
 use Rattle.ss_tree.specs.declared.entries.Entry.{Entry}
 use Rattle.ss_device.specs.Device.{DeviceView, IsNew}
@@ -8,7 +8,7 @@ use Rattle.ss_world.specs.Seats.{device_of}
 use Rattle.ss_world.specs.Worlds.{WorldView}
 use Rattle.ss_world.specs.declared.seats.Seat.TheVariants.{Idle}
 use Rattle.ss_world.specs.Happening.{Step}
-use Rattle.ss_world.specs.Reaching.{IsReached, IsWellDelivered, IsWholeFetch, Promised}
+use Rattle.ss_world.specs.Reaching.{IsReachedWorld, IsWellDelivered, IsWholeFetch, KeepsPromises}
 use Rattle.ss_rehearse.specs.Summaries.{summary_of, summary_text}
 use Rattle.ss_rehearse.specs.Scripts.{script}
 use Rattle.ss_rehearse.specs.Plays.{PlayView, Plays}
@@ -21,7 +21,7 @@ all_trusted n = true
 
 -- an account that nothing was asked of, and two devices that were never synced
 pub record IsFresh (w : WorldView) : Type 0 where
-  pub account : SameAccount (opened fresh_kept) w.server.account
+  pub account : SameAccount (account_at_opening fresh_kept) w.server.account
   pub kept : w.server.kept ≡ fresh_kept
   pub first : DeviceView
   pub second : DeviceView
@@ -40,14 +40,14 @@ pub record IsOpen (p : PlayView) : Type 0 where
 -- What is promised of a world's steps holds of each: the bookmarks stand for one valid tree, which turns to the merged one alone; a
 -- delivery leads on, to the merged tree, or to a stop for another cause than a reply that isn't understood; and a fetch that it finishes
 -- is whole.
-pub record IsPromised (old : WorldView) (step : Step) : Type 0 where
-  pub promised : Promised all_trusted old step.event step.world
+pub record IsPromisedStep (old : WorldView) (step : Step) : Type 0 where
+  pub promised : KeepsPromises all_trusted old step.event step.world
   pub understood : IsWellDelivered old step.event step.world
-  pub whole : (r : IsReached all_trusted old) → IsWholeFetch all_trusted old r step.event step.world
+  pub whole : (r : IsReachedWorld all_trusted old) → IsWholeFetch all_trusted old r step.event step.world
 
-abbrev pub ArePromised : WorldView → List Step → Type 0
-ArePromised w [] = ⊤
-ArePromised w (step ∷ steps) = IsPromised w step × ArePromised step.world steps
+abbrev pub ArePromisedSteps : WorldView → List Step → Type 0
+ArePromisedSteps w [] = ⊤
+ArePromisedSteps w (step ∷ steps) = IsPromisedStep w step × ArePromisedSteps step.world steps
 
 -- ---- the rehearsal
 
@@ -58,9 +58,9 @@ tree_at n w = unwrap_or (option_map (λ s. (device_of s).tree) (slice_get w.seat
 -- a rehearsal: the script is played from the opening
 pub record IsRehearsal (items seed : ℕ) (opening : PlayView) (steps : List Step) (end : PlayView) : Type 0 where
   pub opens : IsOpen opening
-  pub reached : IsReached all_trusted opening.world
+  pub reached : IsReachedWorld all_trusted opening.world
   pub plays : Plays opening (script items seed) steps end
-  pub promised : ArePromised opening.world steps
+  pub promised : ArePromisedSteps opening.world steps
 
 -- the summary of a rehearsal with so many items: what became of the devices' trees, and the POSTs of each sync
 pub record IsSummary (items seed : ℕ) (text : List ℕ) : Type 0 where

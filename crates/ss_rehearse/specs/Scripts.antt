@@ -4,7 +4,7 @@ use Rattle.ss_world.specs.declared.events.Edit.{Edit}
 use Rattle.ss_world.specs.declared.events.Edit.TheVariants as edit
 use Rattle.ss_world.specs.declared.events.Event.{Event}
 use Rattle.ss_world.specs.declared.events.Event.TheVariants.{Change}
-use Rattle.ss_rehearse.specs.Draws.{drawn}
+use Rattle.ss_rehearse.specs.Draws.{drawn_number}
 use Rattle.ss_rehearse.specs.Bookmarks.{bookmark, bookmark_id, new_title, root_of}
 
 -- the numbers of the bookmarks, from 1 on
@@ -16,7 +16,7 @@ numbers (suc n) = numbers n ++ suc n ∷ []
 
 -- the bookmark of a number is put last under the root that was drawn for it
 abbrev pub addition : ℕ → ℕ → Edit
-addition seed k = edit.Add (root_of (drawn seed k)) (bookmark k (drawn seed k))
+addition seed k = edit.Add (root_of (drawn_number seed k)) (bookmark k (drawn_number seed k))
 
 abbrev pub additions : ℕ → ℕ → List Edit
 additions items seed = map (addition seed) (numbers items)

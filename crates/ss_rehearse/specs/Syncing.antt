@@ -3,7 +3,7 @@ use Rattle.std.specs.Prelude.{◌≡◌, ◌≢◌, ℕ, ◌+◌, ◌*◌, ◌�
 use Rattle.std.specs.Prelude.{Result, Ok, Err, ⊤}
 use Rattle.ss_device.specs.Device.{DeviceView}
 use Rattle.ss_client.specs.Asking.{awaits}
-use Rattle.ss_client.specs.Bounds.{IsBounded, to_follow}
+use Rattle.ss_client.specs.Bounds.{IsBoundedRun, to_follow}
 use Rattle.ss_world.specs.Worlds.{WorldView}
 use Rattle.ss_world.specs.declared.seats.Seat.{Seat}
 use Rattle.ss_world.specs.declared.seats.Seat.TheVariants.{Idle, Syncs}
@@ -14,9 +14,9 @@ use Rattle.ss_rehearse.specs.Scripts.{Act}
 use Rattle.ss_rehearse.specs.Plays.{Asks, IsIdle, Plays, is_post}
 
 -- memory was not wanting for an event
-abbrev pub IsPassed : Result (Unit {0}) WorldFault → Type 0
-IsPassed (Ok x) = ⊤
-IsPassed (Err e) = e ≡ Memory → ⊥
+abbrev pub HadMemory : Result (Unit {0}) WorldFault → Type 0
+HadMemory (Ok x) = ⊤
+HadMemory (Err e) = e ≡ Memory → ⊥
 
 -- whether the request under way is a POST
 abbrev pub post_at : Seat → Option Bool
@@ -35,7 +35,7 @@ requests_left n w = left_at (slice_get w.seats n)
 -- the run of a device that syncs ends
 abbrev pub IsBoundedSeat : Seat → Type 0
 IsBoundedSeat (Idle d) = ⊤
-IsBoundedSeat (Syncs m) = IsBounded m.run m.stage
+IsBoundedSeat (Syncs m) = IsBoundedRun m.run m.stage
 
 -- there are two devices, of which none syncs
 pub record AreIdle (w : WorldView) : Type 0 where
@@ -61,6 +61,6 @@ pub record IsAsking (n now : ℕ) (w : WorldView) (posts : ℕ) (v : WorldView) 
   pub bounded : (s : Seat) → slice_get v.seats n ≡ Some s → IsBoundedSeat s
 
 -- acts lead from a world to another one, in which they send so many POSTs, whatever was sent before
-abbrev pub ArePlayed : WorldView → ℕ → List Act → List ℕ → WorldView → ℕ → Type 0
-ArePlayed w now acts sent v next =
+abbrev pub LeadsByActs : WorldView → ℕ → List Act → List ℕ → WorldView → ℕ → Type 0
+LeadsByActs w now acts sent v next =
     (posts : List ℕ) → (steps : List Step) × Plays (record { world = w; now = now; posts = posts }) acts steps (record { world = v; now = next; posts = posts ++ sent })

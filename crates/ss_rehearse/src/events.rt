@@ -1,7 +1,7 @@
 //! The events of a rehearsal. One that the world refuses leaves it, and want of memory alone is a fault.
 
 ghost use Rattle.std.specs.Prelude.{OnOk};
-ghost use Rattle.ss_rehearse.specs.Syncing.{IsPassed};
+ghost use Rattle.ss_rehearse.specs.Syncing.{HadMemory};
 ghost use Rattle.ss_client.specs.declared.summaries.Fetch.TheVariants.{Newer};
 ghost use Rattle.ss_world.specs.declared.events.Event.TheVariants as event;
 ghost use Rattle.ss_world.specs.Happening.{Happens};
@@ -12,7 +12,7 @@ use std::alloc::{AllocError, Global};
 
 /// Whether an event is passed: it happened, or was refused, and memory wasn't wanting.
 fn passed(done: Result<(), WorldFault>) -> Result<(), AllocError>
-    ensures { OnOk result (IsPassed done) }
+    ensures { OnOk result (HadMemory done) }
 {
     match done {
         Ok(()) => Ok(()),

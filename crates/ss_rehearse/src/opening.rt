@@ -1,7 +1,7 @@
 //! The opening of a rehearsal.
 
 ghost use Rattle.std.specs.Prelude.{IfOk};
-ghost use Rattle.ss_world.specs.Reaching.{IsReached};
+ghost use Rattle.ss_world.specs.Reaching.{IsReachedWorld};
 ghost use Rattle.ss_rehearse.specs.Rehearsals.{IsFresh, all_trusted};
 ghost use Rattle.ss_rehearse.specs.Syncing.{AreIdle};
 
@@ -14,7 +14,7 @@ use std::alloc::{AllocError, Global};
 /// Two devices that were never synced, and an account that nothing was asked of.
 pub(crate) fn open(alloc: Global) -> Result<World, AllocError>
     ensures fresh { IfOk result IsFresh }
-    ensures reached { IfOk result (λ world. IsReached all_trusted world) }
+    ensures reached { IfOk result (λ world. IsReachedWorld all_trusted world) }
     ensures idle { IfOk result AreIdle }
 {
     let first = Device::new(alloc)?;

@@ -3,7 +3,7 @@
 ghost use Rattle.std.specs.Prelude.{◌≡◌, ◌≤◌, ◌<◌, ◌+◌, [], ◌∷◌, IfOk, OnOk};
 ghost use Rattle.ss_rehearse.specs.Summaries.{summary_of, summary_text};
 ghost use Rattle.ss_rehearse.specs.Scripts.{filling, parting, meeting};
-ghost use Rattle.ss_rehearse.specs.Syncing.{AreIdle, ArePlayed};
+ghost use Rattle.ss_rehearse.specs.Syncing.{AreIdle, LeadsByActs};
 ghost use Rattle.ss_rehearse.specs.Rehearsals.{IsSummary, tree_at};
 
 use crate::changing::{add_all, move_some, rename_some};
@@ -50,7 +50,7 @@ struct Filled {
 fn fill(alloc: Global, world: &mut World, items: u64, seed: u64) -> Result<Filled, AllocError>
     requires few { items ≤ 15000 }
     requires idle { AreIdle world.old }
-    ensures played { IfOk result (λ filled. ArePlayed world.old 100 (filling items seed) (filled.first ∷ filled.second
+    ensures played { IfOk result (λ filled. LeadsByActs world.old 100 (filling items seed) (filled.first ∷ filled.second
         ∷ []) world.new filled.next) }
     ensures early { IfOk result (λ filled. filled.next ≤ 30000000) }
     ensures idle { OnOk result (AreIdle world.new) }
@@ -70,7 +70,7 @@ fn part(alloc: Global, world: &mut World, now: u64, items: u64) -> Result<u64, A
     requires few { items ≤ 15000 }
     requires early { now ≤ 30000000 }
     requires idle { AreIdle world.old }
-    ensures played { IfOk result (λ next. ArePlayed world.old now (parting items) [] world.new next) }
+    ensures played { IfOk result (λ next. LeadsByActs world.old now (parting items) [] world.new next) }
     ensures early { IfOk result (λ next. next ≤ 40000000) }
     ensures idle { OnOk result (AreIdle world.new) }
 {
@@ -92,7 +92,7 @@ struct Met {
 fn meet(alloc: Global, world: &mut World, now: u64) -> Result<Met, AllocError>
     requires early { now ≤ 40000000 }
     requires idle { AreIdle world.old }
-    ensures played { IfOk result (λ met. ArePlayed world.old now meeting (met.first ∷ met.second ∷ met.third
+    ensures played { IfOk result (λ met. LeadsByActs world.old now meeting (met.first ∷ met.second ∷ met.third
         ∷ []) world.new met.next) }
     ensures idle { OnOk result (AreIdle world.new) }
 {

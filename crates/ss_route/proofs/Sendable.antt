@@ -23,7 +23,8 @@ use Rattle.ss_query.specs.declared.requests.Request.TheVariants.{Info, DeleteAll
 use Rattle.ss_query.specs.declared.requests.Request.TheVariants.{DeleteCollection, DeleteIds, Put, Get as GetItem}
 use Rattle.ss_query.specs.declared.requests.Request.TheVariants.{Delete as DeleteItem}
 use Rattle.ss_route.specs.Posts.{token}
-use Rattle.ss_route.specs.Sending.{IsSent, IsTyped, IsReadable, IsReadableBatch, IsPageAt, IsListed, IsUnmodified}
+use Rattle.ss_route.specs.Sending.{IsSentRequest, HasTypes, IsReadable, IsReadableBatch, IsPageAt, IsSentList}
+use Rattle.ss_route.specs.Sending.{IsIfUnmodified}
 use Rattle.ss_route.specs.Sending.{IsHost, page, all_ids, newer_text, account_path, mode_text, target_of, uploads_text}
 use Rattle.ss_route.specs.Sending.{method_of, body_sent, request_sent, message_of}
 use Rattle.ss_route.proofs.Composed.{Pair, ArePlainSegments, ArePlainPairs, target_text, target_uri, target_utf8}
@@ -161,7 +162,7 @@ page_sendable uid newer offset host (IfUnmodified time) below visible known at w
     composed (codes "GET") (target_of uid (ListOf (codes "bookmarks") (page newer offset) (IfUnmodified time))) host (IfUnmodified time) None (bookmarks uid) (later_pairs newer offset)
     get_name (later_target uid newer offset time) (bookmarks_plain uid (omega arith)) (later_plain newer offset known (omega arith)) (later_size uid newer offset time below known within) visible typed tt
 
-ids_sendable : (uid : ℕ) (host : List ℕ) (cond : Cond) → uid ≤ 4294967295 → IsHost host → IsUnmodified cond → IsCond cond → Sendable uid host (ListOf (codes "bookmarks") all_ids cond)
+ids_sendable : (uid : ℕ) (host : List ℕ) (cond : Cond) → uid ≤ 4294967295 → IsHost host → IsIfUnmodified cond → IsCond cond → Sendable uid host (ListOf (codes "bookmarks") all_ids cond)
 ids_sendable uid host Free below visible at typed = absurd at
 ids_sendable uid host (IfModified time) below visible at typed = absurd at
 ids_sendable uid host IfAbsent below visible at typed = absurd at
@@ -169,7 +170,7 @@ ids_sendable uid host (IfUnmodified time) below visible at typed =
     composed (codes "GET") (target_of uid (ListOf (codes "bookmarks") all_ids (IfUnmodified time))) host (IfUnmodified time) None (bookmarks uid) []
     get_name (ids_target uid time) (bookmarks_plain uid (omega arith)) tt (ids_size uid time below) visible typed tt
 
-list_sendable : (uid : ℕ) (host : List ℕ) (query : Query) (cond : Cond) → uid ≤ 4294967295 → IsHost host → IsTime query.newer → IsListed query cond → query.offset ≤ 999999999 → IsCond cond
+list_sendable : (uid : ℕ) (host : List ℕ) (query : Query) (cond : Cond) → uid ≤ 4294967295 → IsHost host → IsTime query.newer → IsSentList query cond → query.offset ≤ 999999999 → IsCond cond
     → Sendable uid host (ListOf (codes "bookmarks") query cond)
 list_sendable uid host query cond below visible known listed within typed =
     ⊎_elim
@@ -182,7 +183,7 @@ post_sendable uid host records mode cond below visible typed readable small =
     composed (codes "POST") (target_of uid (Post (codes "bookmarks") records mode cond)) host cond (Some (uploads_text records.parts)) (bookmarks uid) (mode_pairs mode)
     post_name (mode_target uid records mode cond) (bookmarks_plain uid (omega arith)) (mode_plain mode readable) (post_size uid records mode cond below readable) visible typed small
 
-sendable : (uid : ℕ) (host : List ℕ) (request : Request) → uid ≤ 4294967295 → IsHost host → IsTyped request → IsSent request → IsReadable request → Sendable uid host request
+sendable : (uid : ℕ) (host : List ℕ) (request : Request) → uid ≤ 4294967295 → IsHost host → HasTypes request → IsSentRequest request → IsReadable request → Sendable uid host request
 sendable uid host (Info what cond) below visible typed sent readable =
     subst (λ what. Sendable uid host (Info what cond)) (sym sent.0) (subst (λ cond. Sendable uid host (Info Configuration cond)) (sym sent.1) (limits_sendable uid host below visible))
 sendable uid host (DeleteAll cond) below visible typed sent readable = absurd sent
@@ -198,7 +199,7 @@ sendable uid host (GetItem collection id cond) below visible typed sent readable
 sendable uid host (Put collection id fields cond) below visible typed sent readable = absurd sent
 sendable uid host (DeleteItem collection id cond) below visible typed sent readable = absurd sent
 
-pub sent_is_read : (uid : ℕ) (host : List ℕ) (request : Request) (rest : List ℕ) → uid ≤ 4294967295 → IsHost host → IsTyped request → IsSent request → IsReadable request
+pub sent_is_read : (uid : ℕ) (host : List ℕ) (request : Request) (rest : List ℕ) → uid ≤ 4294967295 → IsHost host → HasTypes request → IsSentRequest request → IsReadable request
     → ReadsMessage (request_sent uid host request ++ rest) (message_of uid host request) rest
 sent_is_read uid host request rest below visible typed sent readable =
     request_read (method_of request) (target_of uid request) host (condition_of request) (body_sent request) rest (sendable uid host request below visible typed sent readable)

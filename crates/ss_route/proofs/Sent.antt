@@ -54,10 +54,11 @@ use Rattle.ss_route.specs.Bodies.{is_in_lines, lines_of_type, records_in, within
 use Rattle.ss_route.specs.Conditions.{condition_in, is_beyond_stamps, cond_meant, stamp_said, time_in}
 use Rattle.ss_route.specs.Fields.{wants_lines, without_parameters}
 use Rattle.ss_route.specs.Posts.{token, batch_of, mode_of, mode_in, batch_in, continues, names_batch, announced_in}
-use Rattle.ss_route.specs.Refusals.{said, code, or_refusal, query_refusal, body_refusal}
-use Rattle.ss_route.specs.Routing.{is_get, asking, settled_routing, routed, request_in, collection_request}
+use Rattle.ss_route.specs.Refusals.{local_with_word, code, or_refusal, query_refusal, body_refusal}
+use Rattle.ss_route.specs.Routing.{is_get, asking, settled_routing, routing_of_message, request_in, collection_request}
 use Rattle.ss_route.specs.Routing.{list_request, post_request}
-use Rattle.ss_route.specs.Sending.{IsSent, IsTyped, IsReadable, IsReadableBatch, IsPageAt, IsListed, IsUnmodified}
+use Rattle.ss_route.specs.Sending.{IsSentRequest, HasTypes, IsReadable, IsReadableBatch, IsPageAt, IsSentList}
+use Rattle.ss_route.specs.Sending.{IsIfUnmodified}
 use Rattle.ss_route.specs.Sending.{IsUpload, page, all_ids, account_path, target_of, uploads_text}
 use Rattle.ss_bso.specs.Put.{payload_set}
 use Rattle.ss_route.specs.Sending.{message_of, request_meant}
@@ -98,14 +99,14 @@ configuration_plain uid h =
 named_bookmarks : (uid : ℕ) (pairs : List Pair) → uid < 2 ^ 64 → ArePlainPairs pairs
     → named_in (target_text (bookmarks uid) pairs) ≡ Ok (record { uid = decimal uid; place = Collection (codes "bookmarks") })
 unfolding named_in named_by place_of
-named_bookmarks uid pairs h g = ap (λ s. ok_or (option_and_then named_by s) (said 404 words.Path)) (path_again (bookmarks uid) pairs (bookmarks_plain uid h) g)
+named_bookmarks uid pairs h g = ap (λ s. ok_or (option_and_then named_by s) (local_with_word 404 words.Path)) (path_again (bookmarks uid) pairs (bookmarks_plain uid h) g)
 
 named_configuration : (uid : ℕ) → uid < 2 ^ 64 → named_in (target_text (configuration uid) []) ≡ Ok (record { uid = decimal uid; place = About Configuration })
 unfolding named_in named_by place_of info_of
-named_configuration uid h = ap (λ s. ok_or (option_and_then named_by s) (said 404 words.Path)) (path_again (configuration uid) [] (configuration_plain uid h) tt)
+named_configuration uid h = ap (λ s. ok_or (option_and_then named_by s) (local_with_word 404 words.Path)) (path_again (configuration uid) [] (configuration_plain uid h) tt)
 
 account_back : (uid : ℕ) → 1 ≤ uid → uid ≤ 4294967295 → account_in (decimal uid) ≡ Ok uid
-account_back uid above below = ap (λ o. ok_or o (said 401 words.Account)) (uid_back uid above below)
+account_back uid above below = ap (λ o. ok_or o (local_with_word 401 words.Account)) (uid_back uid above below)
 
 -- ---- the rules
 
@@ -166,7 +167,7 @@ said_again Browser time h = ap (λ beyond. cond beyond (Some last_stamp) (stamp_
 
 time_back : (manner : Manner) (time : ℕ) → time ≤ last_stamp
     → (time_in manner (stamp_text time) >>= (λ time. Ok (cond_meant manner (IfUnmodified time)))) ≡ Ok (cond_meant manner (IfUnmodified time))
-time_back manner time h = ap (λ o. ok_or o (said 400 words.Condition) >>= (λ time. Ok (cond_meant manner (IfUnmodified time)))) (said_again manner time h)
+time_back manner time h = ap (λ o. ok_or o (local_with_word 400 words.Condition) >>= (λ time. Ok (cond_meant manner (IfUnmodified time)))) (said_again manner time h)
 
 unmodified_again : (manner : Manner) (gets : Bool) (host : List ℕ) (time : ℕ) (body : Option (List ℕ)) → time ≤ last_stamp
     → condition_in manner gets (request_fields host (IfUnmodified time) body) ≡ Ok (cond_meant manner (IfUnmodified time))
@@ -480,20 +481,20 @@ page_goes manner uid newer offset host (IfModified time) above below known at wi
 page_goes manner uid newer offset host IfAbsent above below known at within typed = absurd at
 page_goes manner uid newer offset host (IfUnmodified time) above below known at within typed = later_page manner uid newer offset time host above below known within typed
 
-ids_go : (manner : Manner) (uid : ℕ) (host : List ℕ) (cond : Cond) → 1 ≤ uid → uid ≤ 4294967295 → IsUnmodified cond → IsCond cond → Goes manner uid host (ListOf (codes "bookmarks") all_ids cond)
+ids_go : (manner : Manner) (uid : ℕ) (host : List ℕ) (cond : Cond) → 1 ≤ uid → uid ≤ 4294967295 → IsIfUnmodified cond → IsCond cond → Goes manner uid host (ListOf (codes "bookmarks") all_ids cond)
 ids_go manner uid host Free above below at typed = absurd at
 ids_go manner uid host (IfModified time) above below at typed = absurd at
 ids_go manner uid host IfAbsent above below at typed = absurd at
 ids_go manner uid host (IfUnmodified time) above below at typed = ids_listed manner uid time host above below typed
 
-lists_go : (manner : Manner) (uid : ℕ) (host : List ℕ) (query : Query) (cond : Cond) → 1 ≤ uid → uid ≤ 4294967295 → IsTime query.newer → IsListed query cond → query.offset ≤ 999999999 → IsCond cond
+lists_go : (manner : Manner) (uid : ℕ) (host : List ℕ) (query : Query) (cond : Cond) → 1 ≤ uid → uid ≤ 4294967295 → IsTime query.newer → IsSentList query cond → query.offset ≤ 999999999 → IsCond cond
     → Goes manner uid host (ListOf (codes "bookmarks") query cond)
 lists_go manner uid host query cond above below known listed within typed =
     ⊎_elim
     (λ is. subst (λ query. Goes manner uid host (ListOf (codes "bookmarks") query cond)) (sym is.0) (page_goes manner uid query.newer query.offset host cond above below known is.1 within typed))
     (λ is. subst (λ query. Goes manner uid host (ListOf (codes "bookmarks") query cond)) (sym is.0) (ids_go manner uid host cond above below is.1 typed)) listed
 
-post_goes : (manner : Manner) (uid : ℕ) (host : List ℕ) (parts : List Part) (mode : Mode) (cond : Cond) → 1 ≤ uid → uid ≤ 4294967295 → IsUnmodified cond → IsCond cond → IsReadableBatch mode
+post_goes : (manner : Manner) (uid : ℕ) (host : List ℕ) (parts : List Part) (mode : Mode) (cond : Cond) → 1 ≤ uid → uid ≤ 4294967295 → IsIfUnmodified cond → IsCond cond → IsReadableBatch mode
     → AllByRecursion IsPart parts → length parts + 0 ≤ most_post_records → part_bytes parts ≤ most_post_bytes
     → Goes manner uid host (Post (codes "bookmarks") (record { parts = parts; failed = [] }) mode cond)
 post_goes manner uid host parts mode Free above below at typed readable are number bytes = absurd at
@@ -501,7 +502,7 @@ post_goes manner uid host parts mode (IfModified time) above below at typed read
 post_goes manner uid host parts mode IfAbsent above below at typed readable are number bytes = absurd at
 post_goes manner uid host parts mode (IfUnmodified time) above below at typed readable are number bytes = upload manner uid time host parts mode above below typed readable are number bytes
 
-goes : (manner : Manner) (uid : ℕ) (host : List ℕ) (request : Request) → 1 ≤ uid → uid ≤ 4294967295 → IsTyped request → IsSent request → IsFitRequest request → IsReadable request → Goes manner uid host request
+goes : (manner : Manner) (uid : ℕ) (host : List ℕ) (request : Request) → 1 ≤ uid → uid ≤ 4294967295 → HasTypes request → IsSentRequest request → IsFitRequest request → IsReadable request → Goes manner uid host request
 goes manner uid host (Info what cond) above below typed sent fit readable =
     subst (λ what. Goes manner uid host (Info what cond)) (sym sent.0) (subst (λ cond. Goes manner uid host (Info Configuration cond)) (sym sent.1) (limits_meant manner uid host above below))
 goes manner uid host (DeleteAll cond) above below typed sent fit readable = absurd sent
@@ -521,8 +522,8 @@ goes manner uid host (GetItem collection id cond) above below typed sent fit rea
 goes manner uid host (Put collection id fields cond) above below typed sent fit readable = absurd sent
 goes manner uid host (DeleteItem collection id cond) above below typed sent fit readable = absurd sent
 
-pub sent_is_meant : (manner : Manner) (uid : ℕ) (host : List ℕ) (request : Request) → 1 ≤ uid → uid ≤ 4294967295 → IsTyped request → IsSent request → IsFitRequest request → IsReadable request
-    → routed manner (message_of uid host request) ≡ Ask uid (request_meant manner request) false
+pub sent_is_meant : (manner : Manner) (uid : ℕ) (host : List ℕ) (request : Request) → 1 ≤ uid → uid ≤ 4294967295 → HasTypes request → IsSentRequest request → IsFitRequest request → IsReadable request
+    → routing_of_message manner (message_of uid host request) ≡ Ask uid (request_meant manner request) false
 sent_is_meant manner uid host request above below typed sent fit readable = ap settled_routing (goes manner uid host request above below typed sent fit readable)
 
 -- by the profile a request is meant as it is
@@ -537,7 +538,7 @@ as_it_is (GetItem collection id cond) = refl
 as_it_is (Put collection id fields cond) = refl
 as_it_is (DeleteItem collection id cond) = refl
 
-pub sent_is_routed : (uid : ℕ) (host : List ℕ) (request : Request) → 1 ≤ uid → uid ≤ 4294967295 → IsTyped request → IsSent request → IsFitRequest request → IsReadable request
-    → routed Profile (message_of uid host request) ≡ Ask uid request false
+pub sent_is_routed : (uid : ℕ) (host : List ℕ) (request : Request) → 1 ≤ uid → uid ≤ 4294967295 → HasTypes request → IsSentRequest request → IsFitRequest request → IsReadable request
+    → routing_of_message Profile (message_of uid host request) ≡ Ask uid request false
 sent_is_routed uid host request above below typed sent fit readable =
     sent_is_meant Profile uid host request above below typed sent fit readable ∙ ap (λ asked. Ask uid asked false) (as_it_is request)

@@ -16,7 +16,7 @@ use Rattle.json.proofs.Printed.Tokens.{tokens-print}
 use Rattle.json.proofs.Printed.Trees.{ArePrintable-json_tokens, value-json_tokens}
 use Rattle.serde_json.specs.Read.{read, max_depth, of_json, of_items}
 use Rattle.ss_text.specs.Names.{is_id}
-use Rattle.ss_text.specs.Decimals.{is_number_byte, outside, pieces, bytes_of_piece, wrapped_pieces, wrapped}
+use Rattle.ss_text.specs.Decimals.{is_number_byte, outside, pieces, bytes_of_piece, wrapped_pieces, wrapped_text}
 use Rattle.ss_text.proofs.Pieces.{at_byte}
 use Rattle.ss_text.proofs.Printed.{quoted_there}
 use Rattle.ss_bso.specs.Bodies.{id_of, records_of_text, records_of, part_of, failed_of, first_fault, or_fault}
@@ -92,7 +92,7 @@ W_objects (u ∷ v ∷ us) r =
     ∙ ap (λ t. object_text u ++ t) (W_byte 44 (rest ++ r) refl refl ∙ ap (λ t. 44 ∷ t) (W_objects (v ∷ us) r))
     ∙ sym (append_assoc (object_text u) (44 ∷ rest) (W r))
 
-nothing_wrapped : (us : List Upload) → wrapped (objects_text us) ≡ objects_text us
+nothing_wrapped : (us : List Upload) → wrapped_text (objects_text us) ≡ objects_text us
 unfolding objects_text pieces
 nothing_wrapped us =
     let objects = join_with_byte 44 (map object_text us) in

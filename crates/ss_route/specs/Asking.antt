@@ -51,12 +51,12 @@ asked_of (Item collection id) Post = None
 asked_of (Item collection id) Delete = Some (OfItem items.Delete collection id)
 
 -- the names of the methods that may be asked of a place
-abbrev pub allowed : Place → List (List ℕ)
-allowed place = map name_of (filter (λ method. is_some (asked_of place method)) methods)
+abbrev pub allowed_methods : Place → List (List ℕ)
+allowed_methods place = map name_of (filter (λ method. is_some (asked_of place method)) methods)
 
 -- the method must be one that may be asked of the place
 unfoldable pub asked_in : Place → Method → Result Asked Local
-asked_in place method = ok_or (asked_of place method) (not_allowed (allowed place))
+asked_in place method = ok_or (asked_of place method) (not_allowed (allowed_methods place))
 
 -- a collection must be a name, and an item's id an id
 unfoldable pub name_in : List ℕ → Result (List ℕ) Local

@@ -14,7 +14,7 @@ use Rattle.ss_query.specs.Fit.{most_post_records, most_post_bytes}
 use Rattle.ss_route.specs.declared.routed.Local.{Local}
 use Rattle.ss_http.specs.Fields.{first_named}
 use Rattle.ss_route.specs.Fields.{without_parameters}
-use Rattle.ss_route.specs.Refusals.{said, code, or_refusal, fields_refusal, body_refusal}
+use Rattle.ss_route.specs.Refusals.{local_with_word, code, or_refusal, fields_refusal, body_refusal}
 
 -- a content coding other than `identity`
 abbrev pub is_coded : List (List ℕ × List ℕ) → Bool
@@ -34,8 +34,8 @@ lines_of_field posts (Some value) = lines_of_type posts (without_parameters valu
 -- whether a body is one object a line: it must have no coding, and a type that is read
 unfoldable pub is_in_lines : Bool → List (List ℕ × List ℕ) → Result Bool Local
 is_in_lines posts fields =
-    if is_coded fields then Err (said 415 words.Type)
-    else ok_or (lines_of_field posts (first_named (codes "Content-Type") fields)) (said 415 words.Type)
+    if is_coded fields then Err (local_with_word 415 words.Type)
+    else ok_or (lines_of_field posts (first_named (codes "Content-Type") fields)) (local_with_word 415 words.Type)
 
 -- the fields that the body of a PUT gives
 unfoldable pub fields_in : List ℕ → Result Fields Local

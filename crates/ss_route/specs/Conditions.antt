@@ -12,7 +12,7 @@ use Rattle.ss_route.specs.declared.manner.Manner.{Manner}
 use Rattle.ss_route.specs.declared.manner.Manner.TheVariants.{Profile, Browser}
 use Rattle.ss_route.specs.declared.routed.Local.{Local}
 use Rattle.ss_http.specs.Fields.{first_named}
-use Rattle.ss_route.specs.Refusals.{said}
+use Rattle.ss_route.specs.Refusals.{local_with_word}
 
 -- 11 to 18 digits: seconds beyond the last stamp, as browsers send that take thousandths for seconds
 abbrev pub is_beyond_stamps : List ℕ → Bool
@@ -25,7 +25,7 @@ stamp_said Browser value = if is_beyond_stamps value then Some last_stamp else s
 
 -- a value must be a time
 abbrev pub time_in : Manner → List ℕ → Result ℕ Local
-time_in manner value = ok_or (stamp_said manner value) (said 400 words.Condition)
+time_in manner value = ok_or (stamp_said manner value) (local_with_word 400 words.Condition)
 
 -- what a condition means: in the browser's manner, that nothing has changed since 0 is that the target isn't there
 abbrev pub cond_meant : Manner → Cond → Cond
@@ -44,7 +44,7 @@ condition_of manner gets None (Some unmodified) = do
 condition_of manner gets (Some modified) None = do
   time ← time_in manner modified
   Ok (if gets then IfModified time else Free)
-condition_of manner gets (Some modified) (Some unmodified) = Err (said 400 words.Condition)
+condition_of manner gets (Some modified) (Some unmodified) = Err (local_with_word 400 words.Condition)
 
 -- the condition of a message
 unfoldable pub condition_in : Manner → Bool → List (List ℕ × List ℕ) → Result Cond Local

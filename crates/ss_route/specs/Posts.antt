@@ -15,7 +15,7 @@ use Rattle.ss_bso.specs.Limits.{most_batch_records, most_batch_bytes}
 use Rattle.ss_query.specs.Fit.{most_post_records, most_post_bytes}
 use Rattle.ss_route.specs.declared.routed.Local.{Local}
 use Rattle.ss_http.specs.Fields.{first_named}
-use Rattle.ss_route.specs.Refusals.{said, code}
+use Rattle.ss_route.specs.Refusals.{local_with_word, code}
 use Rattle.ss_route.specs.Targets.{positive_of}
 
 -- the id of a batch: the base64 of RFC 4648 for URLs, without padding, of its number's decimal text
@@ -29,12 +29,12 @@ batch_of text = option_and_then (positive_of 12) (decoded_of url_safe_no_pad tex
 -- whether a POST commits: `commit` must be `true`, and stand beside `batch`
 abbrev pub commits_in : Option (List ℕ) → Option (List ℕ) → Result Bool Local
 commits_in batch None = Ok false
-commits_in None (Some commit) = Err (said 400 words.Commit)
-commits_in (Some batch) (Some commit) = if bytes_eq commit (codes "true") then Ok true else Err (said 400 words.Commit)
+commits_in None (Some commit) = Err (local_with_word 400 words.Commit)
+commits_in (Some batch) (Some commit) = if bytes_eq commit (codes "true") then Ok true else Err (local_with_word 400 words.Commit)
 
 -- a batch that goes on, or ends
 abbrev pub continues : Bool → Option ℕ → Result Mode Local
-continues commits None = Err (said 400 words.Batch)
+continues commits None = Err (local_with_word 400 words.Batch)
 continues false (Some number) = Ok (Append number)
 continues true (Some number) = Ok (Commit number)
 
@@ -77,4 +77,4 @@ unfoldable pub announced_in : Bool → List (List ℕ × List ℕ) → Result (U
 announced_in batch fields =
     if list_all (is_readable fields) (sizes batch)
     then (if list_all (is_within fields) (sizes batch) then Ok tt else Err (code 17))
-    else Err (said 400 words.Announce)
+    else Err (local_with_word 400 words.Announce)

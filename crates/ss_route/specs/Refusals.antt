@@ -16,8 +16,8 @@ use Rattle.ss_route.specs.declared.routed.Stop.{Stop}
 use Rattle.ss_route.specs.declared.routed.Stop.TheVariants.{Refused, Memory}
 
 -- a status with a word
-abbrev pub said : ℕ → Said → Local
-said status word = record { status = status; body = Word word; allow = None }
+abbrev pub local_with_word : ℕ → Said → Local
+local_with_word status word = record { status = status; body = Word word; allow = None }
 
 -- 400 with a code
 abbrev pub code : ℕ → Local
@@ -35,13 +35,13 @@ not_allowed names = record { status = 405; body = Empty; allow = Some (comma_lis
 
 -- what a query is told that is refused
 abbrev pub query_refusal : QueryFault → Local
-query_refusal of_query.BadIds = said 400 words.Ids
+query_refusal of_query.BadIds = local_with_word 400 words.Ids
 query_refusal (of_query.TooManyIds n) = code 17
-query_refusal of_query.BadStamp = said 400 words.Stamp
-query_refusal of_query.BadLimit = said 400 words.Limit
-query_refusal of_query.BadOffset = said 400 words.Offset
-query_refusal of_query.BadSort = said 400 words.Sort
-query_refusal of_query.Memory = said 507 words.Memory
+query_refusal of_query.BadStamp = local_with_word 400 words.Stamp
+query_refusal of_query.BadLimit = local_with_word 400 words.Limit
+query_refusal of_query.BadOffset = local_with_word 400 words.Offset
+query_refusal of_query.BadSort = local_with_word 400 words.Sort
+query_refusal of_query.Memory = local_with_word 507 words.Memory
 
 -- what a PUT is told whose body gives no fields: no JSON, no record, or a payload that is too large
 abbrev pub reason_refusal : Reason → Local
@@ -54,14 +54,14 @@ abbrev pub fields_refusal : FieldsFault → Local
 fields_refusal of_fields.NotJson = code 6
 fields_refusal of_fields.NotObject = code 8
 fields_refusal (of_fields.Bad reason) = reason_refusal reason
-fields_refusal of_fields.Memory = said 507 words.Memory
+fields_refusal of_fields.Memory = local_with_word 507 words.Memory
 
 -- what a POST is told whose body gives no records
 abbrev pub body_refusal : BodyFault → Local
 body_refusal of_body.NotJson = code 6
 body_refusal of_body.NotList = code 8
 body_refusal (of_body.NoId place) = code 8
-body_refusal of_body.Memory = said 507 words.Memory
+body_refusal of_body.Memory = local_with_word 507 words.Memory
 
 -- what was read, or what is told of the fault
 abbrev pub or_refusal : {A F : Type 0} → (F → Local) → Result A F → Result A Local

@@ -1,5 +1,5 @@
 -- Routing: what a message asks, and of which account, or the first rule that refuses it (SyncStorage API 1.5; the order of the
--- rules is this project's). A line of `routed`, and of the requests that it makes, is one rule.
+-- rules is this project's). A line of `routing_of_message`, and of the requests that it makes, is one rule.
 use Rattle.std.specs.Prelude.{◌≡◌, ℕ, Bool, true, false, List, Option, Some, None, Result, Ok, Err, ⊤}
 use Rattle.ss_text.specs.declared.stamps.Cond.{Cond}
 use Rattle.ss_http.specs.declared.message.Message.{Message}
@@ -110,14 +110,14 @@ settled_routing (Ok routed) = routed
 settled_routing (Err local) = Local local
 
 -- routing, in a manner of reading conditions
-abbrev pub routed : Manner → Message → Routed
-routed manner m = settled_routing (asking manner m)
+abbrev pub routing_of_message : Manner → Message → Routed
+routing_of_message manner m = settled_routing (asking manner m)
 
 -- a call's answer is that one, unless memory ran out
-abbrev pub IsRouted : Routed → Routed → Type 0
-IsRouted (Ask uid request newlines) answer = answer ≡ Ask uid request newlines
-IsRouted (Local local) answer = answer ≡ Local local
-IsRouted Memory answer = ⊤
+abbrev pub IsAnswerOfRouting : Routed → Routed → Type 0
+IsAnswerOfRouting (Ask uid request newlines) answer = answer ≡ Ask uid request newlines
+IsAnswerOfRouting (Local local) answer = answer ≡ Local local
+IsAnswerOfRouting Memory answer = ⊤
 
 -- a request that was routed is one that may be asked
 abbrev pub AsksFit : Routed → Type 0

@@ -43,15 +43,15 @@ IsPageAt offset (IfUnmodified time) = ⊤
 IsPageAt offset IfAbsent = ⊥
 
 -- a condition that nothing has changed
-abbrev pub IsUnmodified : Cond → Type 0
-IsUnmodified Free = ⊥
-IsUnmodified (IfModified time) = ⊥
-IsUnmodified (IfUnmodified time) = ⊤
-IsUnmodified IfAbsent = ⊥
+abbrev pub IsIfUnmodified : Cond → Type 0
+IsIfUnmodified Free = ⊥
+IsIfUnmodified (IfModified time) = ⊥
+IsIfUnmodified (IfUnmodified time) = ⊤
+IsIfUnmodified IfAbsent = ⊥
 
 -- the lists that are asked for: a page, or all ids where nothing has changed
-abbrev pub IsListed : Query → Cond → Type 0
-IsListed query cond = ((query ≡ page query.newer query.offset) × IsPageAt query.offset cond) ⊎ ((query ≡ all_ids) × IsUnmodified cond)
+abbrev pub IsSentList : Query → Cond → Type 0
+IsSentList query cond = ((query ≡ page query.newer query.offset) × IsPageAt query.offset cond) ⊎ ((query ≡ all_ids) × IsIfUnmodified cond)
 
 -- a record that sets its payload and says nothing of the other fields
 pub record IsUpload (part : Part) : Type 0 where
@@ -62,11 +62,11 @@ pub record IsUpload (part : Part) : Type 0 where
 
 -- the requests that are written: for the limits of the server, for a page of the bookmarks or the list of their ids, and to
 -- upload bookmarks
-abbrev pub IsSent : Request → Type 0
-IsSent (Info what cond) = (what ≡ Configuration) × (cond ≡ Free)
-IsSent (ListOf collection query cond) = (collection ≡ codes "bookmarks") × IsListed query cond
-IsSent (Post collection records mode cond) = (collection ≡ codes "bookmarks") × (records.failed ≡ []) × All IsUpload records.parts × IsUnmodified cond
-IsSent _ = ⊥
+abbrev pub IsSentRequest : Request → Type 0
+IsSentRequest (Info what cond) = (what ≡ Configuration) × (cond ≡ Free)
+IsSentRequest (ListOf collection query cond) = (collection ≡ codes "bookmarks") × IsSentList query cond
+IsSentRequest (Post collection records mode cond) = (collection ≡ codes "bookmarks") × (records.failed ≡ []) × All IsUpload records.parts × IsIfUnmodified cond
+IsSentRequest _ = ⊥
 
 -- a request with its condition as it is meant in a manner
 abbrev pub request_meant : Manner → Request → Request
@@ -145,10 +145,10 @@ IsReadableBatch (Commit batch) = (1 ≤ batch) × (batch ≤ 999999999999)
 
 -- the values of a request are those of its types: ids have the form of ids, payloads are texts, and a condition and a page of newer
 -- records have a time
-abbrev pub IsTyped : Request → Type 0
-IsTyped (ListOf collection query cond) = IfSome query.newer (λ since. since ≤ last_stamp) × IsCond cond
-IsTyped (Post collection records mode cond) = All (λ part. (is_id part.id ≡ true) × IsUtf8 (payload_set part.fields.payload)) records.parts × IsCond cond
-IsTyped _ = ⊤
+abbrev pub HasTypes : Request → Type 0
+HasTypes (ListOf collection query cond) = IfSome query.newer (λ since. since ≤ last_stamp) × IsCond cond
+HasTypes (Post collection records mode cond) = All (λ part. (is_id part.id ≡ true) × IsUtf8 (payload_set part.fields.payload)) records.parts × IsCond cond
+HasTypes _ = ⊤
 
 abbrev pub IsReadable : Request → Type 0
 IsReadable (ListOf collection query cond) = query.offset ≤ 999999999

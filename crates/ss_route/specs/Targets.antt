@@ -12,7 +12,7 @@ use Rattle.ss_route.specs.declared.routed.Local.{Local}
 use Rattle.ss_route.specs.declared.targets.Place.{Place}
 use Rattle.ss_route.specs.declared.targets.Place.TheVariants.{Everything, About, Collection, Item}
 use Rattle.ss_route.specs.declared.targets.Named.{Named}
-use Rattle.ss_route.specs.Refusals.{said}
+use Rattle.ss_route.specs.Refusals.{local_with_word}
 
 -- the target up to its first question mark, and what follows that
 abbrev pub path_of : List ℕ → List ℕ
@@ -64,7 +64,7 @@ named_by (version ∷ uid ∷ rest) =
 
 -- the path must name a place of an account
 unfoldable pub named_in : List ℕ → Result Named Local
-named_in target = ok_or (option_and_then named_by (segments_of (path_of target))) (said 404 words.Path)
+named_in target = ok_or (option_and_then named_by (segments_of (path_of target))) (local_with_word 404 words.Path)
 
 -- a number from 1 of at most so many digits, without a leading zero
 unfoldable pub positive_of : ℕ → List ℕ → Option ℕ
@@ -76,4 +76,4 @@ uid_of text = option_and_then (λ number. if nat_le number 4294967295 then Some 
 
 -- the account must be a number
 abbrev pub account_in : List ℕ → Result ℕ Local
-account_in text = ok_or (uid_of text) (said 401 words.Account)
+account_in text = ok_or (uid_of text) (local_with_word 401 words.Account)

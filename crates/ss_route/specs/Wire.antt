@@ -14,7 +14,7 @@ use Rattle.ss_http.specs.Limits.{most_heard_bytes}
 use Rattle.ss_http.specs.Hearing as hearing
 use Rattle.ss_http.specs.Responses.{response, reason_of}
 use Rattle.ss_route.specs.declared.routed.Local.{Local}
-use Rattle.ss_route.specs.Refusals.{said}
+use Rattle.ss_route.specs.Refusals.{local_with_word}
 use Rattle.ss_route.specs.Texts.{body_text}
 
 -- a list, which alone may be told an element a line
@@ -54,7 +54,7 @@ local_wire local moment last = response (local_head local moment last) (content 
 
 -- what a client hears of a reply
 abbrev pub heard_of : Reply → Bool → Bool → Heard
-heard_of reply newlines last = hearing.said (head_of reply newlines last) (content reply.status newlines reply.body)
+heard_of reply newlines last = hearing.heard_of_response (head_of reply newlines last) (content reply.status newlines reply.body)
 
 -- the numbers of a reply are within their types
 pub record IsReply (reply : Reply) : Type 0 where
@@ -73,16 +73,16 @@ IsHeardWhole reply newlines = length (content reply.status newlines reply.body) 
 
 -- what a message is told whose account isn't listed
 abbrev pub not_listed : Local
-not_listed = said 401 words.Account
+not_listed = local_with_word 401 words.Account
 
 -- what is told where bytes are no message; nothing where the input ended or failed, or memory did
 abbrev pub refusal_of : MsgFault → Option Local
 refusal_of faults.End = None
 refusal_of faults.Cut = None
-refusal_of faults.BadHead = Some (said 400 words.Head)
-refusal_of faults.HeadTooLong = Some (said 400 words.Head)
-refusal_of faults.Coded = Some (said 411 words.Length)
-refusal_of faults.BadLength = Some (said 400 words.Length)
-refusal_of (faults.TooLarge n) = Some (said 413 words.Size)
+refusal_of faults.BadHead = Some (local_with_word 400 words.Head)
+refusal_of faults.HeadTooLong = Some (local_with_word 400 words.Head)
+refusal_of faults.Coded = Some (local_with_word 411 words.Length)
+refusal_of faults.BadLength = Some (local_with_word 400 words.Length)
+refusal_of (faults.TooLarge n) = Some (local_with_word 413 words.Size)
 refusal_of faults.ReadFault = None
 refusal_of faults.Memory = None

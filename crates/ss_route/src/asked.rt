@@ -1,7 +1,7 @@
 //! Which method may be asked of which place.
 
 ghost use Rattle.std.specs.Prelude.{◌≡◌};
-ghost use Rattle.ss_route.specs.Asking.{asked_of, asked_in, allowed, name_in, id_in};
+ghost use Rattle.ss_route.specs.Asking.{asked_of, asked_in, allowed_methods, name_in, id_in};
 ghost use Rattle.ss_route.specs.Refusals.{Settles, comma_list};
 
 use crate::methods::{Method, not_allowed};
@@ -38,7 +38,7 @@ pub enum Asked {
 
 /// The methods that may be asked of a place.
 fn allowed(place: &Place) -> &'static str
-    ensures { result.now ≡ comma_list (allowed place.now) }
+    ensures { result.now ≡ comma_list (allowed_methods place.now) }
 {
     match place {
         Place::Everything => "DELETE",

@@ -8,8 +8,9 @@ ghost use Rattle.ss_query.specs.Fit.{IsFitRequest};
 ghost use Rattle.ss_query.specs.declared.replies.Reply.{Reply};
 ghost use Rattle.ss_query.specs.declared.requests.Request.{Request};
 ghost use Rattle.ss_route.specs.Posts.{batch_of, token};
-ghost use Rattle.ss_route.specs.Routing.{routed};
-ghost use Rattle.ss_route.specs.Sending.{IsHost, IsSent, IsTyped, IsReadable, message_of, request_meant, request_sent};
+ghost use Rattle.ss_route.specs.Routing.{routing_of_message};
+ghost use Rattle.ss_route.specs.Sending.{IsHost, IsSentRequest, HasTypes, IsReadable, message_of, request_meant};
+ghost use Rattle.ss_route.specs.Sending.{request_sent};
 ghost use Rattle.ss_route.specs.declared.manner.Manner.{Manner};
 ghost use Rattle.ss_route.specs.declared.manner.Manner.TheVariants.{Profile};
 ghost use Rattle.ss_route.specs.declared.routed.Routed.TheVariants.{Ask};
@@ -31,14 +32,14 @@ pub fn replies_are_heard()
 /// 2,101,248 bytes.
 pub fn requests_are_routed()
     ensures read { (uid : ℕ) (host : List ℕ) (request : Request) (rest : List ℕ) → uid ≤ 4294967295 → IsHost host
-        → IsTyped request → IsSent request
+        → HasTypes request → IsSentRequest request
         → IsReadable request → ReadsMessage (request_sent uid host request ++ rest) (message_of uid host request) rest }
-    ensures routed { (uid : ℕ) (host : List ℕ) (request : Request) → 1 ≤ uid → uid ≤ 4294967295 → IsTyped request
-        → IsSent request → IsFitRequest request
-        → IsReadable request → routed Profile (message_of uid host request) ≡ Ask uid request false }
+    ensures routed { (uid : ℕ) (host : List ℕ) (request : Request) → 1 ≤ uid → uid ≤ 4294967295 → HasTypes request
+        → IsSentRequest request → IsFitRequest request
+        → IsReadable request → routing_of_message Profile (message_of uid host request) ≡ Ask uid request false }
     ensures meant { (manner : Manner) (uid : ℕ) (host : List ℕ) (request : Request) → 1 ≤ uid → uid ≤ 4294967295
-        → IsTyped request → IsSent request → IsFitRequest request
-        → IsReadable request → routed manner (message_of uid host request) ≡ Ask uid (request_meant manner request) false }
+        → HasTypes request → IsSentRequest request → IsFitRequest request
+        → IsReadable request → routing_of_message manner (message_of uid host request) ≡ Ask uid (request_meant manner request) false }
 {}
 
 /// The text that is given out as the id of a batch is read as its number, and no other text is.

@@ -5,7 +5,8 @@ ghost use Rattle.ss_query.specs.Fit.{IsFitRequest};
 ghost use Rattle.ss_query.specs.Refused.{condition_of};
 ghost use Rattle.ss_text.specs.Time.{stamp_text};
 ghost use Rattle.ss_route.specs.Posts.{token};
-ghost use Rattle.ss_route.specs.Sending.{IsSent, IsHost, method_of, account_path, offset_text, newer_text, listed_text};
+ghost use Rattle.ss_route.specs.Sending.{IsSentRequest, IsHost, method_of, account_path, offset_text, newer_text};
+ghost use Rattle.ss_route.specs.Sending.{listed_text};
 ghost use Rattle.ss_route.specs.Sending.{mode_text, target_of, upload_text, uploads_text, body_sent};
 ghost use Rattle.ss_bso.specs.Put.{payload_set};
 ghost use Rattle.ss_route.specs.Sending.{request_sent};
@@ -145,7 +146,7 @@ fn push_mode(alloc: Global, target: &mut String, mode: Mode) -> Result<(), Alloc
 /// The target of a request.
 #[tactic(auto, unfolding(crate::specs::Sending::target_of))]
 fn target_of(alloc: Global, uid: u32, request: &Request) -> Result<String, AllocError>
-    requires { IsSent request.now }
+    requires { IsSentRequest request.now }
     ensures { IfOk result (λ text. string_bytes text ≡ target_of uid request.now) }
 {
     let mut target = account_path(alloc, uid)?;
@@ -184,7 +185,7 @@ fn body_sent(alloc: Global, request: &Request) -> Result<Option<Vec<u8>>, AllocE
 }
 
 fn condition_of(request: &Request) -> Cond
-    requires { IsSent request.now }
+    requires { IsSentRequest request.now }
     ensures { result ≡ condition_of request.now }
 {
     match request {
@@ -203,7 +204,7 @@ pub fn write_request(
     host: &str,
     request: &Request,
 ) -> Result<Vec<u8>, AllocError>
-    requires sent { IsSent request.now }
+    requires sent { IsSentRequest request.now }
     requires fit { IsFitRequest request.now }
     requires host { IsHost host.now }
     ensures text { IfOk result (λ bytes. bytes.items ≡ request_sent uid host.now request.now) }

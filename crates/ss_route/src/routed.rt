@@ -1,7 +1,7 @@
 //! What a message is routed to, and what it is told where a rule refuses it.
 
 ghost use Rattle.std.specs.Prelude.{◌≡◌};
-ghost use Rattle.ss_route.specs.Refusals.{said, code};
+ghost use Rattle.ss_route.specs.Refusals.{local_with_word, code};
 ghost use Rattle.ss_route.specs.declared.routed.Stop.TheVariants.{Memory};
 
 use ss_bso::{BodyFault, FieldsFault, Reason};
@@ -51,7 +51,7 @@ impl From<AllocError> for Stop {
 
 /// A status with a word.
 pub fn said(status: u16, word: Said) -> Local
-    ensures { result ≡ said status word }
+    ensures { result ≡ local_with_word status word }
 {
     Local {
         status,

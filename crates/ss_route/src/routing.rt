@@ -5,7 +5,8 @@ ghost use Rattle.ss_query.specs.Parameters.{query_of_text, ids_of_text};
 ghost use Rattle.ss_route.specs.Refusals.{Settles, or_refusal, query_refusal, stop_of};
 ghost use Rattle.ss_route.specs.Targets.{query_of};
 ghost use Rattle.ss_route.specs.Routing.{list_request, post_request, delete_request, put_request, collection_request};
-ghost use Rattle.ss_route.specs.Routing.{item_request, request_in, asking, routed, IsRouted, AsksFit};
+ghost use Rattle.ss_route.specs.Routing.{item_request, request_in, asking, routing_of_message, IsAnswerOfRouting};
+ghost use Rattle.ss_route.specs.Routing.{AsksFit};
 
 use crate::asked::{Asked, CollectionAct, ItemAct, asked_in, id_in, name_in};
 use crate::bodies::{fields_in, is_in_lines, records_in};
@@ -225,7 +226,7 @@ fn asking(alloc: Global, manner: Manner, message: &Message) -> Result<Routed, St
 /// What a message asks, in a manner of reading conditions, and of which account, or the reply of the first rule that
 /// refuses it (SyncStorage API 1.5).
 pub fn route(alloc: Global, manner: Manner, message: &Message) -> Routed
-    ensures routed { IsRouted result (routed manner message.now) }
+    ensures routed { IsAnswerOfRouting result (routing_of_message manner message.now) }
     ensures fit { AsksFit result }
 {
     match asking(alloc, manner, message) {

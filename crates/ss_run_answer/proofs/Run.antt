@@ -11,21 +11,22 @@ use Rattle.ss_bso.specs.Account.{fresh}
 use Rattle.ss_bso.specs.Validity.{IsValid, SameAccount}
 use Rattle.ss_query.specs.declared.replies.Reply.{Reply}
 use Rattle.ss_laws.proofs.JournalOrder.{marked-same}
-use Rattle.ss_text.specs.Texts.{Reordered}
+use Rattle.ss_text.specs.Texts.{IsReordering}
 use Rattle.ss_bso.proofs.Reordering.{length-reordered, same-self, same-back, same-through}
 use Rattle.ss_http.specs.declared.message.Message.{Message}
 use Rattle.ss_http.specs.declared.fault.MsgFault.{MsgFault}
 use Rattle.ss_http.specs.declared.fault.MsgFault.TheVariants as faults
 use Rattle.ss_http.specs.Messages.{ReadsMessage, Reads}
 use Rattle.ss_http.specs.Faults.{IsMessageFault}
-use Rattle.ss_http.specs.Buffers.{Kept}
+use Rattle.ss_http.specs.Buffers.{KeptBytes}
 use Rattle.ss_http.specs.Reading.{ReadsNext, EndsWith, RisesWith}
 use Rattle.ss_http.specs.Responses.{memory_response}
 use Rattle.ss_http.proofs.MessageLemmas.{reads_append, reads_further}
 use Rattle.ss_route.specs.Wire.{wire, refusal_of}
 use Rattle.ss_run_answer.specs.declared.endings.Ending.{Ending}
 use Rattle.ss_run_answer.specs.declared.endings.Ending.TheVariants as endings
-use Rattle.ss_run_answer.specs.Turns.{Asked, asks, told, asked_by_message, Course, entered, unread, IsCourseOf, left_by}
+use Rattle.ss_run_answer.specs.Turns.{RequestOrLocal, asks, told, asked_by_message, Course, entered, unread, IsCourseOf}
+use Rattle.ss_run_answer.specs.Turns.{left_by}
 use Rattle.ss_run_answer.specs.Turns.{response_to, Turn, AreTurns, closes, account_after, responses, RefusesBytes}
 use Rattle.ss_run_answer.specs.Turns.{refusal_response, IsReading, AreReadings, GoesOn, AnswersInput, IsTurn, WasSent}
 use Rattle.ss_run_answer.specs.Turns.{WasCut, Progress, ending_of, Refuses, refusal, Stops, most_messages}
@@ -93,13 +94,13 @@ split_further taken got turns t kept kept' split reads =
     (reads_further (taken ++ got) (map message_in turns) t.message (kept ++ got) kept' (reads_append taken got (map message_in turns) kept split) reads)
 
 -- accounts that are the same but for the order of their lists give one response, and are left the same
-pub same_left : (course : Course) (question : Asked) (account other : Plain) (now : ℕ) → IsValid account → SameAccount account other
+pub same_left : (course : Course) (question : RequestOrLocal) (account other : Plain) (now : ℕ) → IsValid account → SameAccount account other
     → SameAccount (left_by course question account now) (left_by course question other now)
 same_left (entered mark) (asks request newlines) account other now valid same = (marked-same account other now request mark valid same).account
 same_left (entered mark) (told local) account other now valid same = same
 same_left unread question account other now valid same = same
 
-pub same_response : (rendered : Bool) (course : Course) (question : Asked) (account other : Plain) (now : ℕ) (last : Bool) → IsValid account → SameAccount account other
+pub same_response : (rendered : Bool) (course : Course) (question : RequestOrLocal) (account other : Plain) (now : ℕ) (last : Bool) → IsValid account → SameAccount account other
     → response_to rendered course question account now last ≡ response_to rendered course question other now last
 same_response true (entered mark) (asks request newlines) account other now last valid same =
     ap (λ (reply : Reply). wire reply newlines last) (marked-same account other now request mark valid same).reply
@@ -109,7 +110,7 @@ same_response rendered (entered mark) (told local) account other now last valid 
 same_response rendered unread question account other now last valid same = refl
 
 -- the turn that was made for a message
-abbrev turn_for : Message → ℕ → {question : Asked} {now' : ℕ} {last : Bool} {old new : Plain} {bytes : List ℕ} → IsTurn question now' last old new bytes → Turn
+abbrev turn_for : Message → ℕ → {question : RequestOrLocal} {now' : ℕ} {last : Bool} {old new : Plain} {bytes : List ℕ} → IsTurn question now' last old new bytes → Turn
 turn_for m now is = record { message = m; now = now; course = is.course; rendered = is.rendered }
 
 -- the responses behind one more
@@ -179,7 +180,7 @@ plain_readings at rs coming coming' are =
     let P : List ℕ → Type 0 = λ xs. AreReadings at 0 xs coming coming' in subst P (sym (append-nil rs)) are
 
 -- a message was read, and its response was sent
-pub turned : (uid : ℕ) (at : Option ℕ) (input input' input2 output output' output2 : Meanings) (coming coming' coming2 : Option (List ℕ)) (kept kept' : Kept)
+pub turned : (uid : ℕ) (at : Option ℕ) (input input' input2 output output' output2 : Meanings) (coming coming' coming2 : Option (List ℕ)) (kept kept' : KeptBytes)
     (account account' : Plain) (count now : ℕ) (m : Message) (got bytes : List ℕ)
     → Progress uid at input input' output output' coming coming' kept account count → count < most_messages
     → HasRead got input' input2 → ReadsNext (Ok m) (kept.bytes ++ got) kept' → input2.read_faults ≡ input'.read_faults
@@ -216,7 +217,7 @@ no_more_turns : (turns : List Turn) (t : Turn) (count : ℕ) → count ≡ lengt
 no_more_turns turns t count is more = omega (arith, length-append turns (t ∷ []))
 
 -- a message asked to close, and its response was sent
-pub ended_asking : (uid : ℕ) (at : Option ℕ) (input input' input2 output output' output2 : Meanings) (coming coming' coming2 : Option (List ℕ)) (kept kept' : Kept)
+pub ended_asking : (uid : ℕ) (at : Option ℕ) (input input' input2 output output' output2 : Meanings) (coming coming' coming2 : Option (List ℕ)) (kept kept' : KeptBytes)
     (account account' : Plain) (count now : ℕ) (m : Message) (got bytes : List ℕ)
     → Progress uid at input input' output output' coming coming' kept account count → count < most_messages
     → HasRead got input' input2 → ReadsMessage (kept.bytes ++ got) m kept'.bytes → input2.read_faults ≡ input'.read_faults
@@ -244,7 +245,7 @@ ended_asking uid at input input' input2 output output' output2 coming coming' co
     }
 
 -- of a response only a front was sent
-pub ended_cut : (uid : ℕ) (at : Option ℕ) (input input' input2 output output' output2 : Meanings) (coming coming' coming2 : Option (List ℕ)) (kept kept' : Kept)
+pub ended_cut : (uid : ℕ) (at : Option ℕ) (input input' input2 output output' output2 : Meanings) (coming coming' coming2 : Option (List ℕ)) (kept kept' : KeptBytes)
     (account account' : Plain) (count now : ℕ) (m : Message) (got bytes : List ℕ)
     → Progress uid at input input' output output' coming coming' kept account count → count < most_messages
     → HasRead got input' input2 → ReadsMessage (kept.bytes ++ got) m kept'.bytes → input2.read_faults ≡ input'.read_faults
@@ -282,7 +283,7 @@ abbrev refused_for : {fault : MsgFault} {at : Option ℕ} {count : ℕ} {coming 
 refused_for refuses rest cause = record { cause = cause; local = refuses.local; answered = refuses.answered }
 
 -- the bytes behind the messages were refused, and the refusal was sent
-ended_refusing : (uid : ℕ) (at : Option ℕ) (input input' input2 output output' output2 : Meanings) (coming coming' coming2 : Option (List ℕ)) (kept : Kept) (account : Plain) (count : ℕ) (fault : MsgFault) (got : List ℕ)
+ended_refusing : (uid : ℕ) (at : Option ℕ) (input input' input2 output output' output2 : Meanings) (coming coming' coming2 : Option (List ℕ)) (kept : KeptBytes) (account : Plain) (count : ℕ) (fault : MsgFault) (got : List ℕ)
     → Progress uid at input input' output output' coming coming' kept account count → count < most_messages
     → HasRead got input' input2 → IsMessageFault fault (kept.bytes ++ got) → RisesWith fault input'.read_faults input2.read_faults
     → (refuses : Refuses fault at count coming' coming2) → WasSent (refusal_response (refusal refuses)) output' output2
@@ -305,7 +306,7 @@ ended_refusing uid at input input' input2 output output' output2 coming coming' 
 }
 
 -- the bytes behind the messages were refused, and of the refusal only a front was sent
-ended_refusing_in_part : (uid : ℕ) (at : Option ℕ) (input input' input2 output output' output2 : Meanings) (coming coming' coming2 : Option (List ℕ)) (kept : Kept) (account : Plain) (count : ℕ) (fault : MsgFault) (got : List ℕ)
+ended_refusing_in_part : (uid : ℕ) (at : Option ℕ) (input input' input2 output output' output2 : Meanings) (coming coming' coming2 : Option (List ℕ)) (kept : KeptBytes) (account : Plain) (count : ℕ) (fault : MsgFault) (got : List ℕ)
     → Progress uid at input input' output output' coming coming' kept account count → count < most_messages
     → HasRead got input' input2 → IsMessageFault fault (kept.bytes ++ got) → RisesWith fault input'.read_faults input2.read_faults
     → (refuses : Refuses fault at count coming' coming2) → WasCut (refusal_response (refusal refuses)) output' output2
@@ -333,7 +334,7 @@ ended_refusing_in_part uid at input input' input2 output output' output2 coming 
     }
 
 -- the input ended or failed, or no memory was found for the message
-ended_unanswered : (uid : ℕ) (at : Option ℕ) (input input' input2 output output' : Meanings) (coming coming' : Option (List ℕ)) (kept : Kept) (account : Plain) (count : ℕ) (fault : MsgFault) (got : List ℕ)
+ended_unanswered : (uid : ℕ) (at : Option ℕ) (input input' input2 output output' : Meanings) (coming coming' : Option (List ℕ)) (kept : KeptBytes) (account : Plain) (count : ℕ) (fault : MsgFault) (got : List ℕ)
     → Progress uid at input input' output output' coming coming' kept account count → count < most_messages
     → HasRead got input' input2 → IsMessageFault fault (kept.bytes ++ got) → EndsWith fault input2 → RisesWith fault input'.read_faults input2.read_faults
     → refusal_of fault ≡ None
@@ -409,7 +410,7 @@ ended_unanswered uid at input input' input2 output output' coming coming' kept a
 ended_unanswered uid at input input' input2 output output' coming coming' kept account count (faults.TooLarge n) got p more read cause ends rises none = cc
 
 -- nothing was written and read of the clock, and the ending is the fault's
-unanswered : (uid : ℕ) (at : Option ℕ) (input input' input2 output output' output2 : Meanings) (coming coming' coming2 : Option (List ℕ)) (kept : Kept) (account : Plain) (count : ℕ) (fault : MsgFault) (got : List ℕ) (ending : Ending)
+unanswered : (uid : ℕ) (at : Option ℕ) (input input' input2 output output' output2 : Meanings) (coming coming' coming2 : Option (List ℕ)) (kept : KeptBytes) (account : Plain) (count : ℕ) (fault : MsgFault) (got : List ℕ) (ending : Ending)
     → Progress uid at input input' output output' coming coming' kept account count → count < most_messages
     → HasRead got input' input2 → IsMessageFault fault (kept.bytes ++ got) → EndsWith fault input2 → RisesWith fault input'.read_faults input2.read_faults
     → (refusal_of fault ≡ None) × (ending ≡ ending_of fault) × (output2 ≡ output') × (coming2 ≡ coming')
@@ -422,7 +423,7 @@ unanswered uid at input input' input2 output output' output2 coming coming' comi
     (ended_unanswered uid at input input' input2 output output' coming coming' kept account count fault got p more read cause ends rises stops.0)))
 
 -- the run stopped as a message was to be read
-pub stopped : (uid : ℕ) (at : Option ℕ) (input input' input2 output output' output2 : Meanings) (coming coming' coming2 : Option (List ℕ)) (kept : Kept) (account : Plain) (count : ℕ) (fault : MsgFault) (got : List ℕ) (ending : Ending)
+pub stopped : (uid : ℕ) (at : Option ℕ) (input input' input2 output output' output2 : Meanings) (coming coming' coming2 : Option (List ℕ)) (kept : KeptBytes) (account : Plain) (count : ℕ) (fault : MsgFault) (got : List ℕ) (ending : Ending)
     → Progress uid at input input' output output' coming coming' kept account count → count < most_messages
     → HasRead got input' input2 → IsMessageFault fault (kept.bytes ++ got) → EndsWith fault input2 → RisesWith fault input'.read_faults input2.read_faults
     → Stops ending fault at count output' output2 coming' coming2
@@ -447,7 +448,7 @@ stopped uid at input input' input2 output output' output2 coming coming' coming2
     unanswered uid at input input' input2 output output' output2 coming coming' coming2 kept account count fault got endings.OtherWords p more read cause ends rises stops
 
 -- as many messages were answered as may be
-pub ended_counting : (uid : ℕ) (at : Option ℕ) (input input' output output' : Meanings) (coming coming' : Option (List ℕ)) (kept : Kept) (account : Plain) (count : ℕ)
+pub ended_counting : (uid : ℕ) (at : Option ℕ) (input input' output output' : Meanings) (coming coming' : Option (List ℕ)) (kept : KeptBytes) (account : Plain) (count : ℕ)
     → Progress uid at input input' output output' coming coming' kept account count → most_messages ≤ count
     → AnswersInput uid at endings.Count input input' output output' coming coming'
 ended_counting uid at input input' output output' coming coming' kept account count p full = record {
@@ -487,7 +488,7 @@ ended_early uid at input output coming = record {
 }
 
 -- an account that is the same as a fresh one is it
-none-left : {X : Type 0} (xs : List X) → Reordered [] xs → xs ≡ []
+none-left : {X : Type 0} (xs : List X) → IsReordering [] xs → xs ≡ []
 none-left [] r = refl
 none-left (x ∷ xs) r = absurd (omega (arith, length-reordered r))
 

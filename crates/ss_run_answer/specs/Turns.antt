@@ -18,14 +18,14 @@ use Rattle.ss_http.specs.declared.fault.MsgFault.{MsgFault}
 use Rattle.ss_http.specs.declared.fault.MsgFault.TheVariants as faults
 use Rattle.ss_http.specs.Messages.{Reads}
 use Rattle.ss_http.specs.Faults.{IsMessageFault}
-use Rattle.ss_http.specs.Buffers.{Kept}
+use Rattle.ss_http.specs.Buffers.{KeptBytes}
 use Rattle.ss_http.specs.Responses.{memory_response}
 use Rattle.ss_route.specs.declared.manner.Manner.TheVariants.{Profile}
 use Rattle.ss_route.specs.declared.routed.Local.{Local}
 use Rattle.ss_route.specs.declared.routed.Routed.{Routed}
 use Rattle.ss_route.specs.declared.routed.Routed.TheVariants as routes
-use Rattle.ss_route.specs.Refusals.{said}
-use Rattle.ss_route.specs.Routing.{routed}
+use Rattle.ss_route.specs.Refusals.{local_with_word}
+use Rattle.ss_route.specs.Routing.{routing_of_message}
 use Rattle.ss_route.specs.Wire.{wire, local_wire, not_listed, refusal_of}
 use Rattle.ss_run_answer.specs.declared.endings.Ending.{Ending}
 use Rattle.ss_run_answer.specs.declared.endings.Ending.TheVariants as endings
@@ -34,19 +34,19 @@ use Rattle.ss_run_answer.specs.declared.response.Response.TheVariants.{Whole, Sh
 use Rattle.ss_text.specs.Time.{clamped_reading}
 
 -- what a message asks of the account that is served, and whether lists are wanted in lines; or what it is told at once
-pub data Asked : Type 0 where
-  asks : Request → Bool → Asked
-  told : Local → Asked
+pub data RequestOrLocal : Type 0 where
+  asks : Request → Bool → RequestOrLocal
+  told : Local → RequestOrLocal
 
 -- what is routed to another account is refused, after all other rules
-abbrev pub asked_of : ℕ → Routed → Asked
+abbrev pub asked_of : ℕ → Routed → RequestOrLocal
 asked_of uid (routes.Ask other request newlines) = if nat_eq other uid then asks request newlines else told not_listed
 asked_of uid (routes.Local local) = told local
-asked_of uid routes.Memory = told (said 507 words.Memory)
+asked_of uid routes.Memory = told (local_with_word 507 words.Memory)
 
 -- what a message asks of the account `uid`, its condition by the letter of the API
-abbrev pub asked_by_message : ℕ → Message → Asked
-asked_by_message uid message = asked_of uid (routed Profile message)
+abbrev pub asked_by_message : ℕ → Message → RequestOrLocal
+asked_by_message uid message = asked_of uid (routing_of_message Profile message)
 
 -- how far a message came: its request was made and entered with this mark, or it was told; or no memory was found to read what it asks
 pub data Course : Type 0 where
@@ -54,31 +54,31 @@ pub data Course : Type 0 where
   unread : Course
 
 -- the account's keeper never fails, and what is told at once isn't entered: it counts as done
-abbrev pub IsCourseOf : Course → Asked → Type 0
+abbrev pub IsCourseOf : Course → RequestOrLocal → Type 0
 IsCourseOf (entered mark) (asks request newlines) = mark ≢ Keeper
 IsCourseOf (entered mark) (told local) = mark ≡ Done
 IsCourseOf unread question = ⊤
 
 -- the account after a message: only a request that was made changes it
-abbrev pub left_by : Course → Asked → Plain → ℕ → Plain
+abbrev pub left_by : Course → RequestOrLocal → Plain → ℕ → Plain
 left_by (entered mark) (asks request newlines) account now = (marked_outcome account now request mark).account
 left_by (entered mark) (told local) account now = account
 left_by unread question account now = account
 
 -- the time that a response tells: the account's moment, or where the account wasn't asked the clock's reading
-abbrev pub time_told : Course → Asked → Plain → ℕ → ℕ
+abbrev pub time_told : Course → RequestOrLocal → Plain → ℕ → ℕ
 time_told (entered mark) (asks request newlines) account now = (marked_outcome account now request mark).reply.moment
 time_told (entered mark) (told local) account now = clamped_reading now
 time_told unread question account now = clamped_reading now
 
 -- the response to a message, where there is memory for it; `last` closes the connection
-abbrev pub full_response : Course → Asked → Plain → ℕ → Bool → List ℕ
+abbrev pub full_response : Course → RequestOrLocal → Plain → ℕ → Bool → List ℕ
 full_response (entered mark) (asks request newlines) account now last = wire (marked_outcome account now request mark).reply newlines last
 full_response (entered mark) (told local) account now last = local_wire local (clamped_reading now) last
 full_response unread question account now last = memory_response (clamped_reading now) last
 
 -- the response to a message; the fixed 507 stands in its place where it could not be rendered
-abbrev pub response_to : Bool → Course → Asked → Plain → ℕ → Bool → List ℕ
+abbrev pub response_to : Bool → Course → RequestOrLocal → Plain → ℕ → Bool → List ℕ
 response_to rendered course question account now last =
     if rendered then full_response course question account now last else memory_response (time_told course question account now) last
 
@@ -115,29 +115,29 @@ responses uid account count (turn ∷ turns) =
     ++ responses uid (left_by turn.course (asked_by_message uid turn.message) account turn.now) (count + 1) turns
 
 -- bytes that are no message and were refused by a response: why, the reading of the clock then, and whether it could be rendered
-pub record Refused : Type 0 where
+pub record InputRefusal : Type 0 where
   pub fault : MsgFault
   pub now : ℕ
   pub rendered : Bool
 
 -- the response to bytes that were refused; it closes the connection
-abbrev pub refusal_response : Refused → List ℕ
+abbrev pub refusal_response : InputRefusal → List ℕ
 refusal_response refused =
     if refused.rendered then option_map_or (λ local. local_wire local (clamped_reading refused.now) true) (refusal_of refused.fault) []
     else memory_response (clamped_reading refused.now) true
 
 -- the bytes were refused as they are said to be, by a fault that is answered
-pub record RefusesBytes (rest : List ℕ) (refused : Refused) : Type 0 where
+pub record RefusesBytes (rest : List ℕ) (refused : InputRefusal) : Type 0 where
   pub cause : IsMessageFault refused.fault rest
   pub local : Local
   pub answered : refusal_of refused.fault ≡ Some local
 
 -- the responses of a run, the one to refused bytes at their end
-abbrev pub all_responses : ℕ → List Turn → Option Refused → List ℕ
+abbrev pub all_responses : ℕ → List Turn → Option InputRefusal → List ℕ
 all_responses uid turns refused = responses uid fresh 0 turns ++ option_map_or refusal_response refused []
 
 -- the readings of the clock in a run, one for each response
-abbrev pub readings : List Turn → Option Refused → List ℕ
+abbrev pub readings : List Turn → Option InputRefusal → List ℕ
 readings turns refused = map (λ turn. turn.now) turns ++ option_map_or (λ last. last.now ∷ []) refused []
 
 -- the next reading of a run, of which so many were taken: upwards from the first that is given, or the clock's
@@ -164,19 +164,19 @@ pub record EndsIn (turns : List Turn) : Type 0 where
   pub goes_on : GoesOn before
 
 -- the cause of an ending: the turns, the refused bytes, the bytes that were taken behind the messages, and what input and output tell
-abbrev pub Cause : Ending → List Turn → Option Refused → List ℕ → Meanings → Meanings → Meanings → Meanings → Type 0
+abbrev pub Cause : Ending → List Turn → Option InputRefusal → List ℕ → Meanings → Meanings → Meanings → Meanings → Type 0
 Cause endings.End turns refused rest input input' output output' = (rest ≡ []) × IsUsedUp input' × GoesOn turns × (refused ≡ None)
 Cause endings.Asked turns refused rest input input' output output' =
     (end : EndsIn turns) × IsTrue end.turn.message.last × (refused ≡ None)
 Cause endings.Cut turns refused rest input input' output output' = IsMessageFault faults.Cut rest × IsUsedUp input' × GoesOn turns × (refused ≡ None)
 Cause endings.Refused turns refused rest input input' output output' =
-    (last : Refused) × (refused ≡ Some last) × RefusesBytes rest last × GoesOn turns
+    (last : InputRefusal) × (refused ≡ Some last) × RefusesBytes rest last × GoesOn turns
 Cause endings.Count turns refused rest input input' output output' = (length turns ≡ most_messages) × GoesOn turns × (refused ≡ None)
 Cause endings.Input turns refused rest input input' output output' =
     IsMessageFault faults.ReadFault rest × Rose input.read_faults input'.read_faults × GoesOn turns × (refused ≡ None)
 Cause endings.Output turns refused rest input input' output output' =
     Rose output.write_faults output'.write_faults
-    × ((EndsIn turns × (refused ≡ None)) ⊎ ((last : Refused) × (refused ≡ Some last) × RefusesBytes rest last × GoesOn turns))
+    × ((EndsIn turns × (refused ≡ None)) ⊎ ((last : InputRefusal) × (refused ≡ Some last) × RefusesBytes rest last × GoesOn turns))
 Cause endings.Memory turns refused rest input input' output output' = GoesOn turns × (refused ≡ None)
 Cause endings.OtherWords turns refused rest input input' output output' = ⊥
 
@@ -210,7 +210,7 @@ pub record AnswersInput (uid : ℕ) (at : Option ℕ) (ending : Ending) (input i
   pub taken : List ℕ
   pub sent : List ℕ
   pub turns : List Turn
-  pub refused : Option Refused
+  pub refused : Option InputRefusal
   pub rest : List ℕ
   pub read : HasRead taken input input'
   pub write : HasWritten sent output output'
@@ -232,7 +232,7 @@ abbrev pub OrMemory : List ℕ → ℕ → Bool → List ℕ → Type 0
 OrMemory whole moment last bytes = (rendered : Bool) × (bytes ≡ (if rendered then whole else memory_response moment last))
 
 -- one turn for what a message asks, and its response
-pub record IsTurn (question : Asked) (now : ℕ) (last : Bool) (old new : Plain) (bytes : List ℕ) : Type 0 where
+pub record IsTurn (question : RequestOrLocal) (now : ℕ) (last : Bool) (old new : Plain) (bytes : List ℕ) : Type 0 where
   pub course : Course
   pub rendered : Bool
   pub is : IsCourseOf course question
@@ -273,7 +273,7 @@ pub record Refuses (fault : MsgFault) (at : Option ℕ) (count : ℕ) (coming co
   pub reading : IsReading at count now coming coming'
 
 -- the refusal of these bytes
-abbrev pub refusal : {fault : MsgFault} {at : Option ℕ} {count : ℕ} {coming coming' : Option (List ℕ)} → Refuses fault at count coming coming' → Refused
+abbrev pub refusal : {fault : MsgFault} {at : Option ℕ} {count : ℕ} {coming coming' : Option (List ℕ)} → Refuses fault at count coming coming' → InputRefusal
 refusal {fault} refuses = record { fault = fault; now = refuses.now; rendered = refuses.rendered }
 
 -- how a run stops whose next message has a fault: it is answered, at least in part; or nothing is read and written
@@ -286,7 +286,7 @@ Stops ending fault at count output output' coming coming' =
     (refusal_of fault ≡ None) × (ending ≡ ending_of fault) × (output' ≡ output) × (coming' ≡ coming)
 
 -- what stands after some turns, while the run goes on
-pub record Progress (uid : ℕ) (at : Option ℕ) (input input' output output' : Meanings) (coming coming' : Option (List ℕ)) (kept : Kept) (account : Plain) (count : ℕ) : Type 0 where
+pub record Progress (uid : ℕ) (at : Option ℕ) (input input' output output' : Meanings) (coming coming' : Option (List ℕ)) (kept : KeptBytes) (account : Plain) (count : ℕ) : Type 0 where
   pub taken : List ℕ
   pub sent : List ℕ
   pub turns : List Turn

@@ -8,7 +8,7 @@ use Rattle.ss_device_file.specs.Files.{IsFront, TellsDevice}
 use Rattle.ss_run_edit.specs.declared.endings.Ending.{Ending}
 use Rattle.ss_run_edit.specs.declared.endings.Ending.TheVariants as ending
 use Rattle.ss_run_edit.specs.Files.{IsUntold}
-use Rattle.ss_run_edit.specs.Remotes.{AreRead, IsStuckAt, Stops}
+use Rattle.ss_run_edit.specs.Remotes.{ReadsRemotes, IsStuckAt, Stops}
 use Rattle.ss_run_edit.specs.Merging.{HasBadRows, HasExcess, RefusesMerge}
 use Rattle.ss_run_edit.proofs.FrontOf.{begins, some_behind}
 
@@ -48,7 +48,7 @@ bad_rows text f d back n (ending.BadTree id) h t is count s = absurd s
 bad_rows text f d back n (ending.Refused r) h t is count s = absurd s
 bad_rows text f d back n ending.TooLong h t is count s = absurd s
 
-pub more_behind : (text : List ℕ) (f : Front) (d : DeviceView) (back : List ℕ) (rows : List Sheet) (used n : ℕ) → IsFront text f → TellsDevice f.lines.items d → back ≡ drop f.used text → AreRead back rows used → used < length back
+pub more_behind : (text : List ℕ) (f : Front) (d : DeviceView) (back : List ℕ) (rows : List Sheet) (used n : ℕ) → IsFront text f → TellsDevice f.lines.items d → back ≡ drop f.used text → ReadsRemotes back rows used → used < length back
     → n ≡ length f.lines.items + length rows + 2 → HasExcess text n
 more_behind text f d back rows used n h t is r less number = record {
   lines = f.lines.items;

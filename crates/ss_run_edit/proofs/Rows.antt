@@ -13,7 +13,8 @@ use Rattle.ss_device_file.proofs.Bodies.{has_break, line_body}
 use Rattle.ss_run_edit.specs.declared.endings.Ending.{Ending}
 use Rattle.ss_run_edit.specs.declared.endings.Ending.TheVariants as ending
 use Rattle.ss_run_edit.specs.declared.remotes.Found.TheVariants as found
-use Rattle.ss_run_edit.specs.Remotes.{AreRead, AreRemotes, IsNextRemote, IsRow, IsStuck, IsStuckAt, IsStuckBy, Stops}
+use Rattle.ss_run_edit.specs.Remotes.{ReadsRemotes, AreRemotes, IsNextRemote, IsRow, IsStuck, IsStuckAt, IsStuckBy}
+use Rattle.ss_run_edit.specs.Remotes.{Stops}
 use Rattle.ss_run_edit.specs.Remotes.{remote_line, remote_lines}
 use Rattle.ss_run_edit.proofs.RemoteLines.{goes_on_with, remote_body}
 use Rattle.ss_text.proofs.Basics.{some_same, none_some}
@@ -74,7 +75,7 @@ one_more text rows new used long r h f e = subst (λ rs. AreSoFar text rs (used 
   text_is = take-add used long text ∙ (ap₂ (λ a b. a ++ b) h.text_is f.4 ∙ sym (lines_more rows r));
 })
 
-pub all_read : (text : List ℕ) (rows : List Sheet) (used long : ℕ) → AreSoFar text rows used → IsNextRemote rows (drop used text) (found.End long) → AreRead text rows (used + long)
+pub all_read : (text : List ℕ) (rows : List Sheet) (used long : ℕ) → AreSoFar text rows used → IsNextRemote rows (drop used text) (found.End long) → ReadsRemotes text rows (used + long)
 all_read text rows used long h f = record {
   rows_are = h.rows_are;
   inside = further text used long h.inside f.0;

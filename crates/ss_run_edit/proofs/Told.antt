@@ -8,10 +8,10 @@ use Rattle.ss_build.specs.Rows.{dead, readings, rows_of}
 use Rattle.ss_build.specs.Built.{built}
 use Rattle.ss_plan.specs.Plan.{Readings}
 use Rattle.ss_device.specs.Device.{DeviceView, dead_ids}
-use Rattle.ss_run_edit.specs.Merging.{IsMerged, IsTelling}
+use Rattle.ss_run_edit.specs.Merging.{TellsMerging, IsTelling}
 
 pub merged_of : (d : DeviceView) (rows : List Sheet) (sides : Asked) (read : Readings) (out : List ℕ) → sides.local.now ≡ d.tree → IsSame (tree sides.mirror.now) (built (rows_of d.mirror))
-    → IsSame (tree sides.remote.now) (built (rows_of rows)) → sides.local_dead.now ≡ dead_ids d.dead → sides.remote_dead.now ≡ dead (rows_of rows) → read ≡ readings (rows_of rows) → IsTelling sides read out → IsMerged d rows out
+    → IsSame (tree sides.remote.now) (built (rows_of rows)) → sides.local_dead.now ≡ dead_ids d.dead → sides.remote_dead.now ≡ dead (rows_of rows) → read ≡ readings (rows_of rows) → IsTelling sides read out → TellsMerging d rows out
 merged_of d rows sides read out l m r x y e t = record {
   sides = sides;
   local_is = l;

@@ -3,7 +3,7 @@ use Rattle.std.specs.Prelude.{◌≡◌, ◌≢◌, ◌⊎◌, ◌+◌, ℕ, Lis
 use Rattle.ss_device_file.specs.declared.lines.Line.{Line}
 use Rattle.ss_device_file.specs.declared.faults.LinesFault.TheVariants as lines
 use Rattle.ss_device_file.specs.Lines.{AreLines, is_ended, text_of}
-use Rattle.ss_device_file.specs.Files.{IsBadTree, IsWhyNoFront, IsUnseated}
+use Rattle.ss_device_file.specs.Files.{IsBadTree, IsWhyNoFront, HasUnseatedItem}
 use Rattle.ss_run_edit.specs.declared.endings.Ending.{Ending}
 use Rattle.ss_run_edit.specs.declared.endings.Ending.TheVariants.{Cut, BadLine, BadTree, Memory}
 
@@ -22,7 +22,7 @@ IsNoFront text ending = ⊥
 
 -- the lines tell no device: an item has not its place, or the mirror has lost one
 abbrev pub IsUntold : List Line → Ending → Type 0
-IsUntold ls (BadTree id) = IsUnseated ls id
+IsUntold ls (BadTree id) = HasUnseatedItem ls id
 IsUntold ls Memory = ⊤
 IsUntold ls ending = ⊥
 

@@ -8,7 +8,7 @@ use Rattle.ss_tree.specs.Entries.{tree}
 use Rattle.ss_build.specs.Rows.{dead, readings, rows_of}
 use Rattle.ss_build.specs.Built.{built}
 use Rattle.ss_dupe.specs.Pairs.{ArePairs}
-use Rattle.ss_dupe.specs.Renaming.{paired}
+use Rattle.ss_dupe.specs.Renaming.{renamed_sides}
 use Rattle.ss_dupe.specs.Sides.{sides_asked}
 use Rattle.ss_merge.specs.Merged.{all_ids, gone_of, merged_tree, origins}
 use Rattle.ss_plan.specs.Plan.{Readings, plan}
@@ -16,7 +16,7 @@ use Rattle.ss_device.specs.Device.{DeviceView, dead_ids}
 use Rattle.ss_device.specs.Writing.{end_line}
 use Rattle.ss_device_file.specs.declared.lines.Line.{Line}
 use Rattle.ss_device_file.specs.declared.faults.LinesFault.TheVariants as lines
-use Rattle.ss_device_file.specs.Files.{IsWhyNoFront, TellsDevice, IsUnseated}
+use Rattle.ss_device_file.specs.Files.{IsWhyNoFront, TellsDevice, HasUnseatedItem}
 use Rattle.ss_run_edit.specs.declared.endings.Ending.{Ending}
 use Rattle.ss_run_edit.specs.declared.endings.Ending.TheVariants.{Cut, BadLine, BadTree, Memory}
 use Rattle.ss_run_edit.specs.Files.{BeginsWith}
@@ -62,7 +62,7 @@ pub record HasBadTree (text id : List ℕ) : Type 0 where
   pub lines : List Line
   pub back : List ℕ
   pub begins : BeginsWith text lines back
-  pub unseated : IsUnseated lines id
+  pub unseated : HasUnseatedItem lines id
 
 -- Why nothing is made of a text: the first cause from its front. Where a line is still awaited at its end it is cut
 abbrev pub RefusesMerge : List ℕ → Ending → Type 0
@@ -82,11 +82,11 @@ pub record IsTelling (sides : Asked) (read : Readings) (out : List ℕ) : Type 0
   pub are_pairs : ArePairs (sides_asked sides) pairs
   pub joined_is : IsSame (tree joined) (merged_tree pairs sides)
   pub valid : IsValidTree (tree joined)
-  pub out_is : out ≡ merge_text (tree joined) (origins (paired pairs sides) joined) pairs (gone_of (paired pairs sides) (all_ids pairs sides)) (length (plan joined read))
+  pub out_is : out ≡ merge_text (tree joined) (origins (renamed_sides pairs sides) joined) pairs (gone_of (renamed_sides pairs sides) (all_ids pairs sides)) (length (plan joined read))
 
 -- What is told of merging a device with remote rows: the sides are the tree of the device and the one that the rows are built to,
 -- both against the one that the mirror is built to, with what either side deleted
-pub record IsMerged (d : DeviceView) (rows : List Sheet) (out : List ℕ) : Type 0 where
+pub record TellsMerging (d : DeviceView) (rows : List Sheet) (out : List ℕ) : Type 0 where
   pub sides : Asked
   pub local_is : sides.local.now ≡ d.tree
   pub mirror_is : IsSame (tree sides.mirror.now) (built (rows_of d.mirror))
@@ -100,4 +100,4 @@ pub record IsMergeOf (text out : List ℕ) : Type 0 where
   pub device : DeviceView
   pub rows : List Sheet
   pub file : IsMergeFile text device rows
-  pub merged : IsMerged device rows out
+  pub merged : TellsMerging device rows out

@@ -47,7 +47,7 @@ IsStuckBy rows rest n Memory = ⊤
 IsStuckBy rows rest n ending = ⊥
 
 -- so many bytes of the text are the lines of these rows, and an end
-pub record AreRead (text : List ℕ) (rows : List Sheet) (used : ℕ) : Type 0 where
+pub record ReadsRemotes (text : List ℕ) (rows : List Sheet) (used : ℕ) : Type 0 where
   pub rows_are : AreRemotes rows
   pub inside : used ≤ length text
   pub text_is : take used text ≡ remote_lines rows ++ end_line

@@ -7,7 +7,7 @@ ghost use Rattle.serde_json.specs.Written.{compact_text, members_have_float};
 ghost use Rattle.ss_record.specs.Items.{is_fit};
 ghost use Rattle.ss_record.specs.declared.kinds.Kind.TheVariants.{Bookmark, Folder, Separator};
 ghost use Rattle.ss_run_edit.specs.Changes.{new_bookmark, new_folder, new_separator};
-ghost use Rattle.ss_run_edit.specs.Items.{IsMade};
+ghost use Rattle.ss_run_edit.specs.Items.{MakesItem};
 
 use crate::endings::Ending;
 use serde_json::{Map, Value};
@@ -55,7 +55,7 @@ fn folder_content(alloc: Global, title: &str) -> Result<Word, AllocError>
 
 /// The item with this content, where it is fit.
 fn item_with(alloc: Global, id: Id, kind: Kind, content: Word) -> Result<Item, Ending>
-    ensures { IsMade (record { id = id; kind = kind; content = content }) result }
+    ensures { MakesItem (record { id = id; kind = kind; content = content }) result }
 {
     match Item::new(alloc, id, kind, content) {
         Ok(item) => Ok(item),
@@ -66,7 +66,7 @@ fn item_with(alloc: Global, id: Id, kind: Kind, content: Word) -> Result<Item, E
 
 /// A new bookmark.
 pub(crate) fn new_bookmark(alloc: Global, id: Id, title: &str, uri: &str) -> Result<Item, Ending>
-    ensures { IsMade (new_bookmark id title.now uri.now) result }
+    ensures { MakesItem (new_bookmark id title.now uri.now) result }
 {
     let content = bookmark_content(alloc, title, uri)?;
     item_with(alloc, id, Kind::Bookmark, content)
@@ -74,7 +74,7 @@ pub(crate) fn new_bookmark(alloc: Global, id: Id, title: &str, uri: &str) -> Res
 
 /// A new folder.
 pub(crate) fn new_folder(alloc: Global, id: Id, title: &str) -> Result<Item, Ending>
-    ensures { IsMade (new_folder id title.now) result }
+    ensures { MakesItem (new_folder id title.now) result }
 {
     let content = folder_content(alloc, title)?;
     item_with(alloc, id, Kind::Folder, content)
@@ -82,7 +82,7 @@ pub(crate) fn new_folder(alloc: Global, id: Id, title: &str) -> Result<Item, End
 
 /// A new separator.
 pub(crate) fn new_separator(alloc: Global, id: Id) -> Result<Item, Ending>
-    ensures { IsMade (new_separator id) result }
+    ensures { MakesItem (new_separator id) result }
 {
     let content = Word::new(String::from_str(alloc, "{}")?);
     item_with(alloc, id, Kind::Separator, content)

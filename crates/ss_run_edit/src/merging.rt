@@ -2,7 +2,7 @@
 
 ghost use Rattle.std.specs.Prelude.{IfOk, IfErr};
 ghost use Rattle.ss_device.specs.Device.{AreById, row_ids};
-ghost use Rattle.ss_run_edit.specs.Merging.{IsMergeFile, IsMergeOf, IsMerged, IsTelling, RefusesMerge};
+ghost use Rattle.ss_run_edit.specs.Merging.{IsMergeFile, IsMergeOf, TellsMerging, IsTelling, RefusesMerge};
 ghost use Rattle.ss_run_edit.specs.Runs.{Merges};
 
 use crate::endings::Ending;
@@ -41,7 +41,7 @@ fn telling(alloc: Global, sides: &Sides, readings: &[(Id, Reading)]) -> Result<V
 /// What is told of merging a device with remote rows.
 fn merged_text(alloc: Global, device: &Device, rows: &[Sheet]) -> Result<Vec<u8>, AllocError>
     requires { AreById (row_ids rows.now) }
-    ensures { IfOk result (λ out. IsMerged device.now rows.now out.items) }
+    ensures { IfOk result (λ out. TellsMerging device.now rows.now out.items) }
 {
     let mirror = build(alloc, device.mirror())?;
     let remote = build(alloc, rows)?;

@@ -6,7 +6,7 @@ ghost use Rattle.ss_device.specs.Device.{AreById, row_ids};
 ghost use Rattle.ss_record.specs.declared.readings.Sheet.{Sheet as SheetView};
 ghost use Rattle.ss_device.specs.Writing.{end_line};
 ghost use Rattle.ss_device_file.specs.Files.{row_in};
-ghost use Rattle.ss_run_edit.specs.Remotes.{AreRead, IsNextRemote, IsRow, IsStuckBy, Stops, remote_line};
+ghost use Rattle.ss_run_edit.specs.Remotes.{ReadsRemotes, IsNextRemote, IsRow, IsStuckBy, Stops, remote_line};
 
 use crate::endings::Ending;
 use ss_device_file::{Line, read_line};
@@ -133,7 +133,7 @@ fn keep(rows: &mut Vec<Sheet>, row: Sheet) -> Result<(), AllocError>
 /// Reads the remote rows at the front of a text, up to their end, behind so many lines.
 pub(crate) fn read_remotes(alloc: Global, text: &[u8], before: usize) -> Result<Remotes, Ending>
     requires { before < 2 ^ 62 }
-    ensures read { IfOk result (λ r. AreRead text.now r.rows.items r.used) }
+    ensures read { IfOk result (λ r. ReadsRemotes text.now r.rows.items r.used) }
     ensures stuck { IfErr result (λ ending. Stops text.now before ending) }
 {
     let mut rows = Vec::new(alloc);

@@ -6,7 +6,7 @@ use Rattle.ss_flat.specs.declared.kinds.FlatKind.{FlatKind}
 use Rattle.ss_flat.specs.Laws.{SameSet}
 use Rattle.ss_flat.proofs.Contained.{contains_cases, contains_here, contains_nothing, contains_there}
 use Rattle.ss_flat.proofs.SameSets.{same_gone, same_shown, same_skipped}
-use Rattle.ss_run_flat.specs.Files.{IsFile, SameRows, stored, stored_rows}
+use Rattle.ss_run_flat.specs.Files.{IsFile, SameRows, stored_row, stored_rows}
 use Rattle.ss_run_flat.specs.Tellings.{IsTelling, flat_text}
 use Rattle.ss_run_flat.specs.Runs.{IsFlatOf}
 use Rattle.ss_run_flat.proofs.Unique.{one_file}
@@ -24,8 +24,8 @@ to_mapped {X} {Y} f (z ∷ xs) x c =
 
 stored_within : (kind : FlatKind) (rows others : List Sheet) → ((r : Sheet) → Contains rows r → Contains others r) → (s : Stored) → Contains (stored_rows kind rows) s → Contains (stored_rows kind others) s
 stored_within kind rows others within s c =
-    let m = from_mapped (stored kind) rows s c in
-    subst (λ (w : Stored). Contains (stored_rows kind others) w) m.2 (to_mapped (stored kind) others m.0 (within m.0 m.1))
+    let m = from_mapped (stored_row kind) rows s c in
+    subst (λ (w : Stored). Contains (stored_rows kind others) w) m.2 (to_mapped (stored_row kind) others m.0 (within m.0 m.1))
 
 stored_same : (kind : FlatKind) (rows others : List Sheet) → SameRows rows others → SameSet (stored_rows kind rows) (stored_rows kind others)
 stored_same kind rows others same = record { there = stored_within kind rows others same.there; back = stored_within kind others rows same.back }

@@ -14,8 +14,9 @@ use Rattle.ss_run_flat.specs.declared.endings.Ending.{Ending}
 use Rattle.ss_run_flat.specs.declared.endings.Ending.TheVariants as ending
 use Rattle.ss_run_flat.specs.declared.files.Found.TheVariants as found
 use Rattle.ss_run_flat.specs.declared.files.Seen.{Seen}
-use Rattle.ss_run_flat.specs.Files.{AreSeen, IsExcess, IsFile, IsNextFound, IsNoFile, IsRow, IsStateOfFile, IsWhyNoRows}
-use Rattle.ss_run_flat.specs.Files.{IsStuck, IsStuckAt, IsStuckBy, row_lines, stored, stored_rows}
+use Rattle.ss_run_flat.specs.Files.{BeginsWithFile, IsExcess, IsFile, IsNextFound, IsNoFile, IsRow, IsStateOfFile}
+use Rattle.ss_run_flat.specs.Files.{IsWhyNoRows}
+use Rattle.ss_run_flat.specs.Files.{IsStuck, IsStuckAt, IsStuckBy, row_lines, stored_row, stored_rows}
 
 -- so many bytes of the text are the lines of rows, and the state is that of these
 pub record AreSoFar (kind : FlatKind) (text : List ℕ) (flat : State) (line used : ℕ) : Type 0 where
@@ -39,9 +40,9 @@ lines_more : (rows : List Sheet) (r : Sheet) → row_lines (rows ++ r ∷ []) �
 lines_more [] r = append-nil (row_line r)
 lines_more (q ∷ rows) r = ap (λ t. row_line q ++ t) (lines_more rows r) ∙ sym (append_assoc (row_line q) (row_lines rows) (row_line r))
 
-stored_more : (kind : FlatKind) (rows : List Sheet) (r : Sheet) → stored_rows kind (rows ++ r ∷ []) ≡ stored_rows kind rows ++ stored kind r ∷ []
+stored_more : (kind : FlatKind) (rows : List Sheet) (r : Sheet) → stored_rows kind (rows ++ r ∷ []) ≡ stored_rows kind rows ++ stored_row kind r ∷ []
 stored_more kind [] r = refl
-stored_more kind (q ∷ rows) r = ap (λ (rs : List Stored). stored kind q ∷ rs) (stored_more kind rows r)
+stored_more kind (q ∷ rows) r = ap (λ (rs : List Stored). stored_row kind q ∷ rs) (stored_more kind rows r)
 
 further : (text : List ℕ) (used long : ℕ) → used ≤ length text → long ≤ length (drop used text) → used + long ≤ length text
 further text used long i l = let d : length (drop used text) ≡ length text - used = length-drop used text in omega arith
@@ -50,7 +51,7 @@ one_longer : (rows : List Sheet) (r : Sheet) → length (rows ++ r ∷ []) ≡ l
 one_longer rows r = length-append rows (r ∷ [])
 
 pub one_more : (kind : FlatKind) (text : List ℕ) (flat new : State) (line used long : ℕ) (r : Sheet) → AreSoFar kind text flat line used → IsNextFound (drop used text) (found.Row r long)
-    → new.kind ≡ flat.kind → ((rows : List Stored) → IsFlatState rows flat → IsFlatState (rows ++ stored flat.kind r ∷ []) new) → AreSoFar kind text new (line + 1) (used + long)
+    → new.kind ≡ flat.kind → ((rows : List Stored) → IsFlatState rows flat → IsFlatState (rows ++ stored_row flat.kind r ∷ []) new) → AreSoFar kind text new (line + 1) (used + long)
 one_more kind text flat new line used long r h f k s =
     let one = one_longer h.rows r in
     let number = h.number in
@@ -62,13 +63,13 @@ one_more kind text flat new line used long r h f k s =
       inside = further text used long h.inside f.2;
       text_is = take-add used long text ∙ (ap₂ (λ a b. a ++ b) h.text_is f.3 ∙ sym (lines_more h.rows r));
       kind_is = k ∙ h.kind_is;
-      state = subst (λ (rs : List Stored). IsFlatState rs new) (sym (stored_more kind h.rows r)) (subst (λ (q : FlatKind). IsFlatState (stored_rows kind h.rows ++ stored q r ∷ []) new) h.kind_is (s (stored_rows kind h.rows) h.state));
+      state = subst (λ (rs : List Stored). IsFlatState rs new) (sym (stored_more kind h.rows r)) (subst (λ (q : FlatKind). IsFlatState (stored_rows kind h.rows ++ stored_row q r ∷ []) new) h.kind_is (s (stored_rows kind h.rows) h.state));
       number = omega arith;
       few = omega arith;
     }
 
 pub all_seen : (kind : FlatKind) (text : List ℕ) (flat : State) (line used long : ℕ) → AreSoFar kind text flat line used → IsNextFound (drop used text) (found.End long)
-    → AreSeen kind text (record { flat = flat; line = line; used = used + long })
+    → BeginsWithFile kind text (record { flat = flat; line = line; used = used + long })
 all_seen kind text flat line used long h f = record {
   rows = h.rows;
   inside = further text used long h.inside f.0;
@@ -114,7 +115,7 @@ no_file text ending.OtherWords s = absurd s
 some_behind : (text : List ℕ) (used : ℕ) → used < length text → drop used text ≢ []
 some_behind text used less nil = let l : length text - used ≡ 0 = sym (length-drop used text) ∙ ap length nil in absurd (omega arith)
 
-pub excess : (kind : FlatKind) (text : List ℕ) (s : Seen) → AreSeen kind text s → s.used < length text → IsExcess text (s.line + 1)
+pub excess : (kind : FlatKind) (text : List ℕ) (s : Seen) → BeginsWithFile kind text s → s.used < length text → IsExcess text (s.line + 1)
 excess kind text s h less =
     let number = h.number in
     record {
@@ -127,7 +128,7 @@ excess kind text s h less =
       number = omega arith;
     }
 
-pub whole : (kind : FlatKind) (text : List ℕ) (s : Seen) → AreSeen kind text s → length text ≤ s.used → IsStateOfFile kind text s.flat
+pub whole : (kind : FlatKind) (text : List ℕ) (s : Seen) → BeginsWithFile kind text s → length text ≤ s.used → IsStateOfFile kind text s.flat
 whole kind text s h all = record {
   rows = h.rows;
   is_file = subst (λ t. IsFile t h.rows) (take_all s.used text all) h.is_file;

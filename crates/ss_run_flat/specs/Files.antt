@@ -41,11 +41,11 @@ name_of History = codes "history"
 name_of Forms = codes "forms"
 
 -- the row of a line, as the collection of this kind stores it
-abbrev pub stored : FlatKind → Sheet → Stored
-stored kind r = record { collection = name_of kind; id = r.id; modified = r.modified; sortindex = None; payload = r.payload; expires = None }
+abbrev pub stored_row : FlatKind → Sheet → Stored
+stored_row kind r = record { collection = name_of kind; id = r.id; modified = r.modified; sortindex = None; payload = r.payload; expires = None }
 
 abbrev pub stored_rows : FlatKind → List Sheet → List Stored
-stored_rows kind rows = map (stored kind) rows
+stored_rows kind rows = map (stored_row kind) rows
 
 -- two lists of rows have the same rows, in whatever order and however often
 pub record SameRows (rows others : List Sheet) : Type 0 where
@@ -105,7 +105,7 @@ IsStuckBy rest n Memory = ⊤
 IsStuckBy rest n ending = ⊥
 
 -- the text begins with a file of so many bytes, whose end is this line, and the state is that of its rows
-pub record AreSeen (kind : FlatKind) (text : List ℕ) (s : Seen) : Type 0 where
+pub record BeginsWithFile (kind : FlatKind) (text : List ℕ) (s : Seen) : Type 0 where
   pub rows : List Sheet
   pub inside : s.used ≤ length text
   pub is_file : IsFile (take s.used text) rows

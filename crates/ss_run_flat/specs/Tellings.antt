@@ -6,7 +6,7 @@ use Rattle.ss_bso.specs.declared.rows.Row.{Row}
 use Rattle.ss_device.specs.Writing.{end_line, quoted_string}
 use Rattle.ss_flat.specs.declared.kinds.FlatKind.{FlatKind}
 use Rattle.ss_flat.specs.declared.lists.Shown.{Shown}
-use Rattle.ss_flat.specs.Lists.{AreGone, AreShown, AreSkipped}
+use Rattle.ss_flat.specs.Lists.{AreGoneIds, AreShownRecords, AreSkippedIds}
 
 -- an item with its record
 unfoldable pub item_line : Shown → List ℕ
@@ -28,7 +28,7 @@ pub record IsTelling (kind : FlatKind) (rows : List Row) (out : List ℕ) : Type
   pub shown : List Shown
   pub gone : List (List ℕ × ℕ)
   pub skipped : List (List ℕ)
-  pub are_shown : AreShown kind rows shown
-  pub are_gone : AreGone kind rows gone
-  pub are_skipped : AreSkipped kind rows skipped
+  pub are_shown : AreShownRecords kind rows shown
+  pub are_gone : AreGoneIds kind rows gone
+  pub are_skipped : AreSkippedIds kind rows skipped
   pub out_is : out ≡ flat_text shown gone skipped

@@ -1,7 +1,7 @@
 //! The rows of a text, and what they come to.
 
 ghost use Rattle.std.specs.Prelude.{◌≡◌, ◌==◌, IfOk, IfErr, position};
-ghost use Rattle.ss_run_flat.specs.Files.{AreSeen, IsNextFound, IsNoFile, IsStateOfFile, IsWhyNoRows, IsStuckBy};
+ghost use Rattle.ss_run_flat.specs.Files.{BeginsWithFile, IsNextFound, IsNoFile, IsStateOfFile, IsWhyNoRows, IsStuckBy};
 ghost use Rattle.ss_run_flat.specs.Files.{found_in};
 
 use crate::endings::Ending;
@@ -64,7 +64,7 @@ fn next_found(alloc: Global, rest: &[u8], number: u64) -> Result<Found, Ending>
 
 /// Sees the rows at the front of a text, up to their end.
 fn see_rows(alloc: Global, kind: FlatKind, text: &[u8]) -> Result<Seen, Ending>
-    ensures seen { IfOk result (λ seen. AreSeen kind text.now seen) }
+    ensures seen { IfOk result (λ seen. BeginsWithFile kind text.now seen) }
     ensures stopped { IfErr result (λ ending. IsWhyNoRows text.now ending) }
 {
     let mut flat = Flat::new(alloc, kind);

@@ -3,7 +3,7 @@
 ghost use Rattle.std.specs.Prelude.{◌≡◌, ◌∷◌, ◌++◌, [], List, IfOk, OnOk};
 ghost use Rattle.ss_bso.specs.declared.rows.Row.{Row as Stored};
 ghost use Rattle.ss_flat.specs.States.{IsFlatState};
-ghost use Rattle.ss_run_flat.specs.Files.{name_of, stored};
+ghost use Rattle.ss_run_flat.specs.Files.{name_of, stored_row};
 
 use ss_bso::Row;
 use ss_flat::{Flat, FlatKind};
@@ -28,7 +28,7 @@ fn collection_of(alloc: Global, kind: FlatKind) -> Result<Name, AllocError>
 
 /// The row of a line, as the collection of this kind stores it.
 pub(crate) fn stored(alloc: Global, kind: FlatKind, sheet: Sheet) -> Result<Row, AllocError>
-    ensures { IfOk result (λ row. row ≡ stored kind sheet) }
+    ensures { IfOk result (λ row. row ≡ stored_row kind sheet) }
 {
     let Sheet {
         id,
@@ -49,7 +49,7 @@ pub(crate) fn stored(alloc: Global, kind: FlatKind, sheet: Sheet) -> Result<Row,
 pub(crate) fn see(alloc: Global, flat: &mut Flat, sheet: Sheet) -> Result<(), AllocError>
     ensures kind { flat.new.kind ≡ flat.old.kind }
     ensures seen { OnOk result ((rows : List Stored) → IsFlatState rows flat.old
-        → IsFlatState (rows ++ stored flat.old.kind sheet ∷ []) flat.new) }
+        → IsFlatState (rows ++ stored_row flat.old.kind sheet ∷ []) flat.new) }
 {
     let row = stored(alloc, flat.kind(), sheet)?;
     flat.see(alloc, &row)?;

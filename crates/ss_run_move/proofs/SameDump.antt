@@ -7,13 +7,13 @@ use Rattle.std.specs.declared.cmp.Ordering.TheVariants.{Less, Equal, Greater}
 use Rattle.std.specs.Ordering.{is_eq, nat_cmp, ordering_then}
 use Rattle.std.specs.Cmp.{IsTotalOrder, nat_cmp_total, on_total, then_total}
 use Rattle.std.specs.Cmp.Lexicographic.{nat_list_cmp_total, texts_ties}
-use Rattle.ss_text.specs.Texts.{Reordered, sorted, text_cmp}
+use Rattle.ss_text.specs.Texts.{IsReordering, sorted, text_cmp}
 use Rattle.ss_text.proofs.Basics.{bytes_eq-same, same_text}
 use Rattle.ss_bso.specs.declared.rows.Row.{Row}
 use Rattle.ss_bso.specs.declared.account.Plain.{Plain}
 use Rattle.ss_bso.specs.declared.account.Staged.{Staged}
 use Rattle.ss_bso.specs.declared.changes.Kept.{Kept}
-use Rattle.ss_bso.specs.Changes.{kept_of, opened}
+use Rattle.ss_bso.specs.Changes.{kept_of, account_at_opening}
 use Rattle.ss_bso.specs.Lists.{Apart, Pairs}
 use Rattle.ss_bso.specs.Validity.{IsValid, SameAccount}
 use Rattle.ss_bso.proofs.Lists.{Each-any, Pairs-from_AllPairs, Pairs-imp}
@@ -51,7 +51,7 @@ places_untied row other apart h =
     back : (x y : List ℕ) → bytes_eq x y ≡ true → bytes_eq y x ≡ true
     back x y e = bytes_eq-same y x (sym (same_text x y e))
 
-rows_in_order : (rows others : List Row) → Reordered rows others → Pairs Apart rows → sorted (comes_before place_cmp) rows ≡ sorted (comes_before place_cmp) others
+rows_in_order : (rows others : List Row) → IsReordering rows others → Pairs Apart rows → sorted (comes_before place_cmp) rows ≡ sorted (comes_before place_cmp) others
 rows_in_order rows others r apart =
     sorted-reordered (comes_before place_cmp) (through place_cmp place_total) r
     (Pairs-imp Apart (Ranked (comes_before place_cmp)) (λ (row : Row). Unit {0}) (λ row other _ _ e. ranked place_cmp place_total row other (places_untied row other e)) rows (Each-any rows) apart)
@@ -67,7 +67,7 @@ number_total = on_total (λ (batch : Staged). batch.number) nat_cmp_total
 numbers_tie : (m n : ℕ) → nat_cmp m n ≡ Equal → m ≡ n
 numbers_tie m n e = exact_unsigned m n e
 
-batches_in_order : (batches others : List Staged) → Reordered batches others → Pairs OtherNumber batches → sorted (comes_before number_cmp) batches ≡ sorted (comes_before number_cmp) others
+batches_in_order : (batches others : List Staged) → IsReordering batches others → Pairs OtherNumber batches → sorted (comes_before number_cmp) batches ≡ sorted (comes_before number_cmp) others
 batches_in_order batches others r apart =
     sorted-reordered (comes_before number_cmp) (through number_cmp number_total) r
     (Pairs-imp OtherNumber (Ranked (comes_before number_cmp)) (λ (batch : Staged). Unit {0})
@@ -91,5 +91,5 @@ same_dump one other valid same =
     ap (λ (kept : Kept). closed_by (digest_of (text_of (account_lines kept))) (text_of (account_lines kept))) (one_order one other valid same)
 
 -- an account that was opened, and a copy of it
-pub opened_dump : (kept : Kept) (account copied : Plain) → SameAccount (opened kept) account → IsValid account → SameAccount account copied → dump_text (kept_of copied) ≡ dump_text (kept_of (opened kept))
-opened_dump kept account copied opens valid same = sym (same_dump account copied valid same) ∙ same_dump account (opened kept) valid (same-back (opened kept) account opens)
+pub opened_dump : (kept : Kept) (account copied : Plain) → SameAccount (account_at_opening kept) account → IsValid account → SameAccount account copied → dump_text (kept_of copied) ≡ dump_text (kept_of (account_at_opening kept))
+opened_dump kept account copied opens valid same = sym (same_dump account copied valid same) ∙ same_dump account (account_at_opening kept) valid (same-back (account_at_opening kept) account opens)

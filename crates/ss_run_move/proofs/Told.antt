@@ -11,7 +11,8 @@ use Rattle.ss_run_move.specs.declared.words.Verb.{Verb}
 use Rattle.ss_run_move.specs.declared.words.Verb.TheVariants.{Restore}
 use Rattle.ss_run_move.specs.Endings.{Wrote, at_dump}
 use Rattle.ss_run_move.specs.Inputs.{IsWhole}
-use Rattle.ss_run_move.specs.Moves.{CameBack, Dumps, IsCounted, IsDumpAt, Leaves, Restores, MoveSite, refused, unread}
+use Rattle.ss_run_move.specs.Moves.{CameBack, Dumps, CountsEnding, IsDumpAt, Leaves, Restores, MoveSite, refused}
+use Rattle.ss_run_move.specs.Moves.{unread}
 use Rattle.ss_run_move.specs.Moves.{written}
 use Rattle.ss_run_move.specs.Runs.{Does}
 use Rattle.ss_run_move.specs.Steps.{IsUntold, not_whole, no_dump}
@@ -31,7 +32,7 @@ does_restore verb folder uid ending site site' input input' output is restores =
     subst (λ (v : Verb). Does v folder uid ending site site' input input' output output) (sym is) (restores, refl)
 
 -- where a dump was written nothing more is counted
-quiet_ending : (text : List ℕ) (ending : Ending) (output output' : Meanings) (old new : Counts) → Wrote text ending output output' → new ≡ old → IsCounted ending old new
+quiet_ending : (text : List ℕ) (ending : Ending) (output output' : Meanings) (old new : Counts) → Wrote text ending output output' → new ≡ old → CountsEnding ending old new
 quiet_ending text Done output output' old new wrote same = same
 quiet_ending text Output output output' old new wrote same = same
 quiet_ending text Site output output' old new wrote same = absurd wrote

@@ -14,12 +14,12 @@ use Rattle.ss_run_move.specs.declared.endings.Ending.{Ending}
 use Rattle.ss_run_move.specs.declared.endings.Ending.TheVariants.{Keeper, NoAccount, Memory}
 use Rattle.ss_run_move.specs.Endings.{at_dump}
 use Rattle.ss_run_move.specs.Inputs.{IsUnread, IsWhole}
-use Rattle.ss_run_move.specs.Moves.{IsCounted}
+use Rattle.ss_run_move.specs.Moves.{CountsEnding}
 
 -- what a site counts while a value is found, or a run ends so
 abbrev pub CountsResult : {T : Type 0} → Result T Ending → Counts → Counts → Type 0
 CountsResult (Ok value) old new = new ≡ old
-CountsResult (Err ending) old new = IsCounted ending old new
+CountsResult (Err ending) old new = CountsEnding ending old new
 
 -- a keeper failed where that is why no value is found, and else not
 abbrev pub KeeperCounts : {T : Type 0} → Result T Ending → ℕ → ℕ → Type 0

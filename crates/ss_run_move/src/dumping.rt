@@ -6,7 +6,7 @@ ghost use Rattle.ss_dump.specs.Dumps.{dump_text};
 ghost use Rattle.ss_site.specs.Sites.{TellsStill};
 ghost use Rattle.ss_run_move.specs.declared.endings.Ending.TheVariants.{Memory};
 ghost use Rattle.ss_run_move.specs.Endings.{Wrote};
-ghost use Rattle.ss_run_move.specs.Moves.{CameBack, Dumps, IsDumpAt, IsDumpFrom, IsUndumped, Leaves};
+ghost use Rattle.ss_run_move.specs.Moves.{CameBack, Dumps, IsDumpAt, IsDumpFrom, IsEndWithoutDump, Leaves};
 ghost use Rattle.ss_run_move.specs.Steps.{CountsResult, HoldsNone, KeeperCounts};
 
 use crate::endings::Ending;
@@ -71,7 +71,7 @@ fn text_of(alloc: Global, account: Plain) -> Result<Vec<u8>, Ending>
 /// The dump of an account of a site, whose keeper comes back to it.
 fn dump_at<X: Site>(alloc: Global, site: &mut X, folder: &str, uid: u32) -> Result<Vec<u8>, Ending>
     ensures text { IfOk result (λ text. IsDumpAt folder.now uid (X.kept site.old) text.items) }
-    ensures none { IfErr result (λ ending. IsUndumped folder.now uid (X.kept site.old) ending) }
+    ensures none { IfErr result (λ ending. IsEndWithoutDump folder.now uid (X.kept site.old) ending) }
     ensures counted { CountsResult result (X.counts site.old) (X.counts site.new) }
     ensures back { CameBack folder.now uid (X.lent site.old) (X.lent site.new) }
     ensures leaves { Leaves folder.now uid (X.kept site.old) (X.kept site.new) }

@@ -35,16 +35,17 @@ use Rattle.ss_serve.specs.declared.report.LinkReport.{LinkReport}
 use Rattle.ss_serve.specs.declared.report.TermStop.{TermStop}
 use Rattle.ss_serve.specs.declared.report.TermStop.TheVariants as ended
 use Rattle.ss_serve.specs.Reports.{AreAllGated}
-use Rattle.ss_serve.specs.Terms.{HasEnded, IsRefused, IsTerm, TermSays}
+use Rattle.ss_serve.specs.Terms.{HasEnded, IsRefusedTerm, IsTerm, TermSays}
 use Rattle.ss_run_serve.specs.declared.stop.Stop.{Stop}
 use Rattle.ss_run_serve.specs.declared.stop.Stop.TheVariants as stops
-use Rattle.ss_run_serve.specs.Hosted.{Hosted, IsBegun, hosted, hosted_at, journal_in, left_by}
+use Rattle.ss_run_serve.specs.Hosted.{HostedAccount, HasEmptyJournal, hosted_account, hosted_at, journal_in, left_by}
 use Rattle.ss_run_serve.specs.Retiring.{uids_in}
 use Rattle.ss_run_serve.specs.Terms.{IsOneLeft}
-use Rattle.ss_run_serve.specs.Once.{Follows, TermsGoOn, HasFailed, IsDone, IsLast, IsLost, IsOnce, IsUnheard, IsUntold}
+use Rattle.ss_run_serve.specs.Once.{Follows, TermsGoOn, HasFailed, IsToldTerm, IsLast, IsLost, IsOnce, IsUnheard}
+use Rattle.ss_run_serve.specs.Once.{IsUntold}
 use Rattle.ss_run_serve.specs.Once.{stand}
 use Rattle.ss_run_serve.specs.Once.{TookPlace}
-use Rattle.ss_run_serve.specs.Logs.{logs_of_term, ArePartlySaved, AreSaved, AreLoggedOnce, HasCut, IsCut}
+use Rattle.ss_run_serve.specs.Logs.{logs_of_term, ArePartlySaved, AreSavedLogs, AreLoggedOnce, HasCut, IsWhyUnsaved}
 use Rattle.ss_run_serve.proofs.Saving.{cut_logged, logged_once}
 use Rattle.ss_run_serve.proofs.Handed.{all_at, at_seen, contains_at, seen, seen_at, term_seen}
 use Rattle.ss_run_serve.proofs.Anew.{left_moved, left_themselves, left_zip}
@@ -69,7 +70,7 @@ last_is (ended.Full uid) connections old new next town (inr (inr all)) (inl on) 
 last_is (ended.Full uid) connections old new next town why (inr over) = subst (λ (n : Option Stop). IsLast connections old new n) (sym over.0) over.1
 
 -- a log wasn't saved: no term follows
-cut_last : (faults connections : ℕ) (old new : Accepts) (last : Stop) → IsCut faults last → IsLast connections old new (Some last)
+cut_last : (faults connections : ℕ) (old new : Accepts) (last : Stop) → IsWhyUnsaved faults last → IsLast connections old new (Some last)
 cut_last faults connections old new stops.Logs cut = tt
 cut_last faults connections old new stops.Memory cut = tt
 cut_last faults connections old new stops.PortEnded cut = absurd cut
@@ -95,23 +96,23 @@ follows_has faults ended.Rested port next follows = goes_on_has faults port next
 follows_has faults (ended.Full uid) port next follows = goes_on_has faults port next follows
 
 -- of accounts that begin, one whose keeper had failed has failed
-begun_faulty : (given : List (ℕ × Hosted)) → All (λ (a : ℕ × Hosted). IsBegun a.1) given → Any HasFailed given → Any IsFaulty given
+begun_faulty : (given : List (ℕ × HostedAccount)) → All (λ (a : ℕ × HostedAccount). HasEmptyJournal a.1) given → Any HasFailed given → Any IsFaulty given
 begun_faulty given begun any =
     let there : Contains given any.1 = (any.0, any.2, any.3) in
-    any_of IsFaulty given any.1 there (now any.1.1 (All-contains (λ (a : ℕ × Hosted). IsBegun a.1) given any.1 begun there) any.4)
+    any_of IsFaulty given any.1 there (now any.1.1 (All-contains (λ (a : ℕ × HostedAccount). HasEmptyJournal a.1) given any.1 begun there) any.4)
   where
-    now : (h : Hosted) → IsBegun h → (h.fixed.faults ≢ 0) ⊎ (h.faults ≢ 0) → h.faults ≢ 0
+    now : (h : HostedAccount) → HasEmptyJournal h → (h.fixed.faults ≢ 0) ⊎ (h.faults ≢ 0) → h.faults ≢ 0
     now h begun (inl before) = λ none. before (begun.counted ∙ none)
     now h begun (inr faults) = faults
 
 -- an account that has begun, and the same one again, without entries
-record Again (before after : ℕ × Hosted) : Type 0 where
-  pub begun : IsBegun before.1
+record Again (before after : ℕ × HostedAccount) : Type 0 where
+  pub begun : HasEmptyJournal before.1
   pub uid : after.0 ≡ before.0
   pub fixed : after.1.fixed ≡ before.1.fixed
   pub entries : after.1.entries ≡ []
 
-left_again : (before after : ℕ × Hosted) → Again before after → SameAccount (left_by before.1) (left_by after.1)
+left_again : (before after : ℕ × HostedAccount) → Again before after → SameAccount (left_by before.1) (left_by after.1)
 left_again before after again =
     let first : left_by before.1 ≡ before.1.fixed.opening = ap (λ (entries : List Entry). account_after before.1.fixed.opening entries) again.begun.entries in
     let then : left_by after.1 ≡ before.1.fixed.opening = ap (λ (entries : List Entry). account_after after.1.fixed.opening entries) again.entries ∙ ap (λ (t : Terms). t.opening) again.fixed in
@@ -127,12 +128,12 @@ module _ {K : Type 0} {G : Ghosts K} (told : K → Option Kept) (faults : K → 
   abbrev failures : Booked K G → ℕ
   failures b = faults (account_of b).keeper
 
-  abbrev hosted_all : List (ℕ × Booked K G) → List (ℕ × Hosted)
+  abbrev hosted_all : List (ℕ × Booked K G) → List (ℕ × HostedAccount)
   hosted_all accounts = map (hosted_at told faults) accounts
 
   -- accounts whose journals have no entries
-  pub are_bare : (accounts : List (ℕ × Booked K G)) → All (λ (a : ℕ × Hosted). IsBegun a.1) (hosted_all accounts) → AreBare (λ (b : Booked K G). (journal_of b).entries) accounts
-  are_bare accounts begun = λ i uid b at. (all_at (λ (a : ℕ × Hosted). IsBegun a.1) (hosted_all accounts) i (uid, hosted told faults b) begun (at_seen (hosted told faults) accounts i uid b at)).entries
+  pub are_bare : (accounts : List (ℕ × Booked K G)) → All (λ (a : ℕ × HostedAccount). HasEmptyJournal a.1) (hosted_all accounts) → AreBare (λ (b : Booked K G). (journal_of b).entries) accounts
+  are_bare accounts begun = λ i uid b at. (all_at (λ (a : ℕ × HostedAccount). HasEmptyJournal a.1) (hosted_all accounts) i (uid, hosted_account told faults b) begun (at_seen (hosted_account told faults) accounts i uid b at)).entries
 
   module _ {L : Type 0} (manner : Manner) (tells : L → Meanings) (closed : L → Bool) (says : ℕ → ℕ → Bool → Type 0) where
     abbrev Term_of : List (ℕ × Booked K G) → List (ℕ × Booked K G) → List (LinkReport L) → List (Option (List ℕ)) → List (Option (List ℕ)) → Type 0
@@ -150,10 +151,10 @@ module _ {K : Type 0} {G : Ghosts K} (told : K → Option Kept) (faults : K → 
     term_of given handed reports coming coming' (ended.Town fault) town so = absurd (town fault refl)
 
     seen_term : (given handed : List (ℕ × Booked K G)) (reports : List (LinkReport L)) (coming coming' : List (Option (List ℕ))) → Term_of given handed reports coming coming'
-        → IsTerm (λ (h : Hosted). h.fixed) (λ (h : Hosted). h.entries) (λ (h : Hosted). h.faults) manner tells closed (hosted_all given) (hosted_all handed) reports coming coming'
-    seen_term given handed reports coming coming' term = term_seen (hosted told faults) (λ (h : Hosted). h.fixed) (λ (h : Hosted). h.entries) (λ (h : Hosted). h.faults) manner tells closed given handed reports coming coming' term
+        → IsTerm (λ (h : HostedAccount). h.fixed) (λ (h : HostedAccount). h.entries) (λ (h : HostedAccount). h.faults) manner tells closed (hosted_all given) (hosted_all handed) reports coming coming'
+    seen_term given handed reports coming coming' term = term_seen (hosted_account told faults) (λ (h : HostedAccount). h.fixed) (λ (h : HostedAccount). h.entries) (λ (h : HostedAccount). h.faults) manner tells closed given handed reports coming coming' term
 
-    journals : (accounts : List (ℕ × Booked K G)) → map {B = ℕ × Journal} (λ (a : ℕ × Booked K G). (a.0, journal_of a.1)) accounts ≡ map {B = ℕ × Journal} (λ (a : ℕ × Hosted). (a.0, journal_in a.1)) (hosted_all accounts)
+    journals : (accounts : List (ℕ × Booked K G)) → map {B = ℕ × Journal} (λ (a : ℕ × Booked K G). (a.0, journal_of a.1)) accounts ≡ map {B = ℕ × Journal} (λ (a : ℕ × HostedAccount). (a.0, journal_in a.1)) (hosted_all accounts)
     journals [] = refl
     journals (a ∷ accounts) = ap (λ (js : List (ℕ × Journal)). (a.0, journal_of a.1) ∷ js) (journals accounts)
 
@@ -194,7 +195,7 @@ module _ {K : Type 0} {G : Ghosts K} (told : K → Option Kept) (faults : K → 
         → TermSays fixed entries_in failures manner tells closed given handed reports coming coming' stop
         → HasAdded (record { reports = reports; journals = map {B = ℕ × Journal} (λ (a : ℕ × Booked K G). (a.0, journal_of a.1)) handed }) terms terms'
         → new ≡ old → RoseBy (length reports) port.links port'.links → length reports ≤ connections → AreAllGated says reports → HasEnded stop connections port port' → Follows stop port' next
-        → AreSaved (logs_of_term number (map {B = ℕ × Journal} (λ (a : ℕ × Booked K G). (a.0, journal_of a.1)) handed)) logs logs'
+        → AreSavedLogs (logs_of_term number (map {B = ℕ × Journal} (λ (a : ℕ × Booked K G). (a.0, journal_of a.1)) handed)) logs logs'
         → IsOnce manner tells closed says connections number next (stand (hosted_all given) coming terms old port logs) (stand (hosted_all handed) coming' terms' new port' logs')
     once_done given handed reports coming coming' stop terms terms' old new connections port port' next number logs logs' town so added counts links few gated why follows saved =
         once_told given handed reports coming coming' stop terms terms' old new connections port port' next number logs logs' town so added counts links few gated (last_is stop connections port port' next town why follows)
@@ -205,7 +206,7 @@ module _ {K : Type 0} {G : Ghosts K} (told : K → Option Kept) (faults : K → 
         (old new : Counts) (connections : ℕ) (port port' : Accepts) (faults : ℕ) (last : Stop) (number : ℕ) (logs logs' : Option Files) → ((fault : TownFault) → stop ≡ ended.Town fault → ⊥)
         → TermSays fixed entries_in failures manner tells closed given handed reports coming coming' stop
         → HasAdded (record { reports = reports; journals = map {B = ℕ × Journal} (λ (a : ℕ × Booked K G). (a.0, journal_of a.1)) handed }) terms terms'
-        → new ≡ old → RoseBy (length reports) port.links port'.links → length reports ≤ connections → AreAllGated says reports → IsCut faults last
+        → new ≡ old → RoseBy (length reports) port.links port'.links → length reports ≤ connections → AreAllGated says reports → IsWhyUnsaved faults last
         → ArePartlySaved (logs_of_term number (map {B = ℕ × Journal} (λ (a : ℕ × Booked K G). (a.0, journal_of a.1)) handed)) logs logs'
         → IsOnce manner tells closed says connections number (Some last) (stand (hosted_all given) coming terms old port logs) (stand (hosted_all handed) coming' terms' new port' logs')
     once_cut given handed reports coming coming' stop terms terms' old new connections port port' faults last number logs logs' town so added counts links few gated cut partly =
@@ -234,20 +235,20 @@ module _ {K : Type 0} {G : Ghosts K} (told : K → Option Kept) (faults : K → 
       pub failed : Any HasFailed (hosted_all given) → Any HasFailed (hosted_all handed)
 
     -- the accounts come back as what no call changes
-    come_back : (given handed : List (ℕ × Booked K G)) → All (λ (a : ℕ × Hosted). IsBegun a.1) (hosted_all given) → ComeBack fixed entries_in given handed → Back given handed
+    come_back : (given handed : List (ℕ × Booked K G)) → All (λ (a : ℕ × HostedAccount). HasEmptyJournal a.1) (hosted_all given) → ComeBack fixed entries_in given handed → Back given handed
     come_back given handed begun back = record { left = left; uids = moved; failed = failed }
       where
-        each : (i uid : ℕ) (h : Hosted) → get_elem? (hosted_all back.order) i ≡ some (uid, h) → (h' : Hosted) × (get_elem? (hosted_all handed) i ≡ some (uid, h')) × (h'.fixed ≡ h.fixed)
+        each : (i uid : ℕ) (h : HostedAccount) → get_elem? (hosted_all back.order) i ≡ some (uid, h) → (h' : HostedAccount) × (get_elem? (hosted_all handed) i ≡ some (uid, h')) × (h'.fixed ≡ h.fixed)
         each i uid h at =
-            let b = seen_at (hosted told faults) back.order i uid h at in
+            let b = seen_at (hosted_account told faults) back.order i uid h at in
             let r = back.returned.each i uid b.0 b.1 in
-            (hosted told faults r.0, at_seen (hosted told faults) handed i uid r.0 r.1, r.2 ∙ ap (λ (x : Hosted). x.fixed) b.2)
+            (hosted_account told faults r.0, at_seen (hosted_account told faults) handed i uid r.0 r.1, r.2 ∙ ap (λ (x : HostedAccount). x.fixed) b.2)
 
-        each_bare : (i uid : ℕ) (h : Hosted) → get_elem? (hosted_all back.order) i ≡ some (uid, h) → (h' : Hosted) × (get_elem? (hosted_all handed) i ≡ some (uid, h')) × (h'.fixed ≡ h.fixed) × (h'.entries ≡ [])
+        each_bare : (i uid : ℕ) (h : HostedAccount) → get_elem? (hosted_all back.order) i ≡ some (uid, h) → (h' : HostedAccount) × (get_elem? (hosted_all handed) i ≡ some (uid, h')) × (h'.fixed ≡ h.fixed) × (h'.entries ≡ [])
         each_bare i uid h at =
-            let b = seen_at (hosted told faults) back.order i uid h at in
+            let b = seen_at (hosted_account told faults) back.order i uid h at in
             let r = back.returned.each i uid b.0 b.1 in
-            (hosted told faults r.0, at_seen (hosted told faults) handed i uid r.0 r.1, r.2 ∙ ap (λ (x : Hosted). x.fixed) b.2, r.3)
+            (hosted_account told faults r.0, at_seen (hosted_account told faults) handed i uid r.0 r.1, r.2 ∙ ap (λ (x : HostedAccount). x.fixed) b.2, r.3)
 
         order_moved : IsPermutation (hosted_all given) (hosted_all back.order)
         order_moved = IsPermutation-map (hosted_at told faults) given back.order back.moved
@@ -255,33 +256,33 @@ module _ {K : Type 0} {G : Ghosts K} (told : K → Option Kept) (faults : K → 
         long : length (hosted_all handed) ≡ length (hosted_all back.order)
         long = length-map handed (hosted_at told faults) ∙ back.returned.count ∙ sym (length-map back.order (hosted_at told faults))
 
-        bare : (order handed : List (ℕ × Hosted)) → All (λ (a : ℕ × Hosted). IsBegun a.1) order → length handed ≡ length order
-            → ((i uid : ℕ) (h : Hosted) → get_elem? order i ≡ some (uid, h) → (h' : Hosted) × (get_elem? handed i ≡ some (uid, h')) × (h'.fixed ≡ h.fixed) × (h'.entries ≡ [])) → AllZip Again order handed
+        bare : (order handed : List (ℕ × HostedAccount)) → All (λ (a : ℕ × HostedAccount). HasEmptyJournal a.1) order → length handed ≡ length order
+            → ((i uid : ℕ) (h : HostedAccount) → get_elem? order i ≡ some (uid, h) → (h' : HostedAccount) × (get_elem? handed i ≡ some (uid, h')) × (h'.fixed ≡ h.fixed) × (h'.entries ≡ [])) → AllZip Again order handed
         bare [] [] begun long each = tt
         bare [] (y ∷ handed) begun long each = absurd (omega (arith, long))
         bare (x ∷ order) [] begun long each = absurd (omega (arith, long))
         bare (x ∷ order) (y ∷ handed) begun long each =
             let first = each 0 x.0 x.1 refl in
             let same : y ≡ (x.0, first.0) = cc in (
-              subst (λ (a : ℕ × Hosted). Again x a) (sym same) (record { begun = All-head (λ (a : ℕ × Hosted). IsBegun a.1) x order begun; uid = refl; fixed = first.2; entries = first.3 }),
-              bare order handed (All-tail (λ (a : ℕ × Hosted). IsBegun a.1) x order begun) (omega (arith, long)) (λ i uid h at. each (suc i) uid h at),
+              subst (λ (a : ℕ × HostedAccount). Again x a) (sym same) (record { begun = All-head (λ (a : ℕ × HostedAccount). HasEmptyJournal a.1) x order begun; uid = refl; fixed = first.2; entries = first.3 }),
+              bare order handed (All-tail (λ (a : ℕ × HostedAccount). HasEmptyJournal a.1) x order begun) (omega (arith, long)) (λ i uid h at. each (suc i) uid h at),
             )
 
-        order_begun : All (λ (a : ℕ × Hosted). IsBegun a.1) (hosted_all back.order)
-        order_begun = All-permutation (λ (a : ℕ × Hosted). IsBegun a.1) (hosted_all given) (hosted_all back.order) order_moved begun
+        order_begun : All (λ (a : ℕ × HostedAccount). HasEmptyJournal a.1) (hosted_all back.order)
+        order_begun = All-permutation (λ (a : ℕ × HostedAccount). HasEmptyJournal a.1) (hosted_all given) (hosted_all back.order) order_moved begun
 
         left : All (IsOneLeft (hosted_all given)) (hosted_all handed)
         left = left_moved (hosted_all given) (hosted_all back.order) (hosted_all handed) order_moved (left_zip Again (λ x y again. (again.uid, left_again x y again)) (hosted_all back.order) (hosted_all handed) (bare (hosted_all back.order) (hosted_all handed) order_begun long each_bare))
 
         moved : IsPermutation (uids_in (hosted_all given)) (uids_in (hosted_all handed))
-        moved = subst (λ (us : List ℕ). IsPermutation (uids_in (hosted_all given)) us) (sym (same_uids {R = λ (h h' : Hosted). h'.fixed ≡ h.fixed} (hosted_all back.order) (hosted_all handed) long each))
-            (IsPermutation-map (λ (a : ℕ × Hosted). a.0) (hosted_all given) (hosted_all back.order) order_moved)
+        moved = subst (λ (us : List ℕ). IsPermutation (uids_in (hosted_all given)) us) (sym (same_uids {R = λ (h h' : HostedAccount). h'.fixed ≡ h.fixed} (hosted_all back.order) (hosted_all handed) long each))
+            (IsPermutation-map (λ (a : ℕ × HostedAccount). a.0) (hosted_all given) (hosted_all back.order) order_moved)
 
         failed : Any HasFailed (hosted_all given) → Any HasFailed (hosted_all handed)
         failed any =
             let faulty = begun_faulty (hosted_all given) begun any in
             let there : Contains (hosted_all given) faulty.1 = (faulty.0, faulty.2, faulty.3) in
-            let counted = (All-contains (λ (a : ℕ × Hosted). IsBegun a.1) (hosted_all given) faulty.1 begun there).counted in
+            let counted = (All-contains (λ (a : ℕ × HostedAccount). HasEmptyJournal a.1) (hosted_all given) faulty.1 begun there).counted in
             let place = Contains-permutation (hosted_all given) (hosted_all back.order) faulty.1 order_moved there in
             let at : get_elem? (hosted_all back.order) place.0 ≡ some faulty.1 = at_get (hosted_all back.order) place.0 faulty.1 place.1 ∙ ap some place.2 in
             let other = each place.0 faulty.1.0 faulty.1.1 at in
@@ -295,7 +296,7 @@ module _ {K : Type 0} {G : Ghosts K} (told : K → Option Kept) (faults : K → 
       failed = λ any. any;
     })
 
-    back_after : (given handed : List (ℕ × Booked K G)) (fault : TownFault) → All (λ (a : ℕ × Hosted). IsBegun a.1) (hosted_all given) → BackAfter fixed entries_in given handed fault → Back given handed
+    back_after : (given handed : List (ℕ × Booked K G)) (fault : TownFault) → All (λ (a : ℕ × HostedAccount). HasEmptyJournal a.1) (hosted_all given) → BackAfter fixed entries_in given handed fault → Back given handed
     back_after given handed Memory begun back = come_back given handed begun back
     back_after given handed Empty begun same = as_given given handed same
     back_after given handed (TooMany n) begun same = as_given given handed same
@@ -304,11 +305,11 @@ module _ {K : Type 0} {G : Ghosts K} (told : K → Option Kept) (faults : K → 
 
     -- no term took place
     pub once_refused : (given handed : List (ℕ × Booked K G)) (reports : List (LinkReport L)) (coming coming' : List (Option (List ℕ))) (stop : TermStop) (fault : TownFault)
-        (terms : Option (List (Term (LinkReport L)))) (old : Counts) (connections : ℕ) (port port' : Accepts) (number : ℕ) (logs : Option Files) → stop ≡ ended.Town fault → All (λ (a : ℕ × Hosted). IsBegun a.1) (hosted_all given)
+        (terms : Option (List (Term (LinkReport L)))) (old : Counts) (connections : ℕ) (port port' : Accepts) (number : ℕ) (logs : Option Files) → stop ≡ ended.Town fault → All (λ (a : ℕ × HostedAccount). HasEmptyJournal a.1) (hosted_all given)
         → TermSays fixed entries_in failures manner tells closed given handed reports coming coming' stop → HasEnded stop connections port port'
         → IsOnce manner tells closed says connections number (Some stops.Memory) (stand (hosted_all given) coming terms old port logs) (stand (hosted_all handed) coming' terms old port' logs)
     once_refused given handed reports coming coming' stop fault terms old connections port port' number logs town begun so why =
-        let refused : IsRefused fixed entries_in fault given handed reports coming coming' =
+        let refused : IsRefusedTerm fixed entries_in fault given handed reports coming coming' =
         (let P : TermStop → Type 0 = λ (s : TermStop). TermSays fixed entries_in failures manner tells closed given handed reports coming coming' s in subst P town so) in
         let back = back_after given handed fault begun refused.back in
         let same : port' ≡ port = (let P : TermStop → Type 0 = λ (s : TermStop). HasEnded s connections port port' in subst P town why) in

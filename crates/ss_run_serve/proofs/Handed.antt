@@ -16,10 +16,10 @@ use Rattle.ss_laws.specs.declared.journal.Entry.{Entry}
 use Rattle.ss_booked.specs.declared.booked.Terms.{Terms}
 use Rattle.ss_booked.specs.Sound.{RoseBy, keeper_marks}
 use Rattle.ss_booked.specs.Turns.{IsLegalOn}
-use Rattle.ss_connection.specs.Known.{Known}
+use Rattle.ss_connection.specs.Known.{KnownAccount}
 use Rattle.ss_serve.specs.declared.report.LinkReport.{LinkReport}
 use Rattle.ss_serve.specs.Reports.{AreReports, all_calls_to, reports_by}
-use Rattle.ss_serve.specs.Terms.{known_after, uids_in, AreServed, IsTerm, SameNumbers}
+use Rattle.ss_serve.specs.Terms.{known_after, uids_in, AreServedAccounts, IsTerm, SameNumbers}
 use Rattle.ss_serve.specs.Workers.{number_of}
 
 pub all_at : {X : Type 0} (P : X → Type 0) (xs : List X) (i : ℕ) (x : X) → All P xs → get_elem? xs i ≡ some x → P x
@@ -78,11 +78,11 @@ module _ {B C : Type 0} (view : B → C) where
       reported_seen handed number reports before after told =
           let known : known_after (λ b. terms (view b)) (λ b. entries (view b)) number handed ≡ known_after terms entries number (map seen handed) = λ k i. known_seen number handed i k in
           subst (λ (us : List ℕ). AreReports manner tells closed us (known_after terms entries number (map seen handed)) reports before after) (sym (uids_seen handed))
-          (subst (λ (n : ℕ → Known). AreReports manner tells closed (uids_in handed) n reports before after) known told)
+          (subst (λ (n : ℕ → KnownAccount). AreReports manner tells closed (uids_in handed) n reports before after) known told)
 
       served_seen : (handed : List (ℕ × B)) (reports : List (LinkReport L)) (coming coming' : List (Option (List ℕ)))
-          → AreServed (λ b. terms (view b)) (λ b. entries (view b)) (λ b. faults (view b)) manner tells closed handed reports coming coming'
-          → AreServed terms entries faults manner tells closed (map seen handed) reports coming coming'
+          → AreServedAccounts (λ b. terms (view b)) (λ b. entries (view b)) (λ b. faults (view b)) manner tells closed handed reports coming coming'
+          → AreServedAccounts terms entries faults manner tells closed (map seen handed) reports coming coming'
       served_seen handed reports coming coming' served = record {
         lawful = λ i uid c at.
             (let b = seen_at handed i uid c at in

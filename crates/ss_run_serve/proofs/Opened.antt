@@ -8,41 +8,41 @@ use Rattle.std.proofs.Math.Seq.{take-append_seam}
 use Rattle.ss_keeper.specs.declared.keeper.Keeper.{Ghosts}
 use Rattle.ss_bso.specs.declared.changes.Kept.{Kept}
 use Rattle.ss_bso.specs.declared.account.Plain.{Plain}
-use Rattle.ss_bso.specs.Changes.{opened}
+use Rattle.ss_bso.specs.Changes.{account_at_opening}
 use Rattle.ss_bso.specs.Validity.{SameAccount}
 use Rattle.ss_bso.proofs.Reordering.{same-through, same-self}
 use Rattle.ss_laws.specs.Journal.{Journal}
-use Rattle.ss_laws.specs.Journals.{account_after, begun}
-use Rattle.ss_account.specs.Held.{Held}
+use Rattle.ss_laws.specs.Journals.{account_after, empty_journal}
+use Rattle.ss_account.specs.Held.{AccountWithKeeper}
 use Rattle.ss_booked.specs.declared.booked.Booked.{Booked}
 use Rattle.ss_booked.specs.Booked.{uid_of, account_of, journal_of, keeper_before}
 use Rattle.ss_booked.specs.Sizes.{most_entries}
 use Rattle.ss_site.specs.Sites.{Entries, IsEntry}
-use Rattle.ss_run_serve.specs.Hosted.{Hosted, IsBegun, hosted, hosted_at, left_by}
+use Rattle.ss_run_serve.specs.Hosted.{HostedAccount, HasEmptyJournal, hosted_account, hosted_at, left_by}
 use Rattle.ss_run_serve.specs.Opening.{OpensAccount}
 use Rattle.ss_run_serve.specs.Terms.{BeginsAnew}
 use Rattle.ss_run_serve.specs.Course.{SameKeeper}
 use Rattle.ss_run_serve.proofs.Anew.{left_anew}
 
 module _ {K : Type 0} {G : Ghosts K} (told : K → Option Kept) (faults : K → ℕ) where
-  pub opened_account : {E : Type 0} (folder : List ℕ) (uid : ℕ) (kept kept' : Option Entries) (account : Held K) (r : Result (Booked K G) E) → kept' ≡ kept
-      → ((entries : Entries) → kept' ≡ Some entries → SameAccount (opened (entries folder uid)) account.plain) → IsEntry folder uid (told account.keeper) kept' → faults account.keeper ≡ 0
-      → IfOk r (λ b. uid_of b ≡ uid) → IfOk r (λ b. account_of b ≡ account) → IfOk r (λ b. SameAccount account.plain (journal_of b).opening) → IfOk r (λ b. IsBegun (hosted told faults b))
+  pub opened_account : {E : Type 0} (folder : List ℕ) (uid : ℕ) (kept kept' : Option Entries) (account : AccountWithKeeper K) (r : Result (Booked K G) E) → kept' ≡ kept
+      → ((entries : Entries) → kept' ≡ Some entries → SameAccount (account_at_opening (entries folder uid)) account.plain) → IsEntry folder uid (told account.keeper) kept' → faults account.keeper ≡ 0
+      → IfOk r (λ b. uid_of b ≡ uid) → IfOk r (λ b. account_of b ≡ account) → IfOk r (λ b. SameAccount account.plain (journal_of b).opening) → IfOk r (λ b. HasEmptyJournal (hosted_account told faults b))
       → IfOk r (λ b. (journal_of b).most ≡ most_entries)
-      → IfOk r (λ b. OpensAccount folder kept (uid, hosted told faults b))
+      → IfOk r (λ b. OpensAccount folder kept (uid, hosted_account told faults b))
   opened_account folder uid kept kept' account (Err e) same opens entry fresh own is opening begun most = is
   opened_account folder uid kept kept' account (Ok b) same opens entry fresh own is opening begun most = record {
     own = own;
-    opening = λ entries there. same-through (opened (entries folder uid)) account.plain (journal_of b).opening (opens entries (same ∙ there)) opening;
-    entry = subst (λ (k : Option Entries). IsEntry folder uid (told (account_of b).keeper) k) same (subst (λ (a : Held K). IsEntry folder uid (told a.keeper) kept') (sym is) entry);
+    opening = λ entries there. same-through (account_at_opening (entries folder uid)) account.plain (journal_of b).opening (opens entries (same ∙ there)) opening;
+    entry = subst (λ (k : Option Entries). IsEntry folder uid (told (account_of b).keeper) k) same (subst (λ (a : AccountWithKeeper K). IsEntry folder uid (told a.keeper) kept') (sym is) entry);
     begun = begun;
     most = most;
-    faults = ap (λ (a : Held K). faults a.keeper) is ∙ fresh;
+    faults = ap (λ (a : AccountWithKeeper K). faults a.keeper) is ∙ fresh;
   }
 
   pub folded_anew : {E : Type 0} (uid : ℕ) (old new : Booked K G) (r : Result (Unit {0}) E) → uid_of new ≡ uid_of old → account_of new ≡ account_of old
       → OnOk r (SameAccount (account_after (journal_of old).opening (journal_of old).entries) (journal_of new).opening)
-      → OnOk r (journal_of new ≡ begun (journal_of new).opening (journal_of old).most) → OnOk r (keeper_before new ≡ (account_of old).keeper)
+      → OnOk r (journal_of new ≡ empty_journal (journal_of new).opening (journal_of old).most) → OnOk r (keeper_before new ≡ (account_of old).keeper)
       → OnOk r (BeginsAnew (hosted_at told faults (uid, old)) (hosted_at told faults (uid, new)))
   folded_anew uid old new (Err e) own same follows is before = follows
   folded_anew uid old new (Ok done) own same follows is before = record {
@@ -51,10 +51,10 @@ module _ {K : Type 0} {G : Ghosts K} (told : K → Option Kept) (faults : K → 
     opening = follows;
     begun = record {
       entries = ap (λ (j : Journal). j.entries) is;
-      counted = ap faults before ∙ sym (ap (λ (a : Held K). faults a.keeper) same);
+      counted = ap faults before ∙ sym (ap (λ (a : AccountWithKeeper K). faults a.keeper) same);
     };
     most = ap (λ (j : Journal). j.most) is;
-    faults = ap (λ (a : Held K). faults a.keeper) same;
+    faults = ap (λ (a : AccountWithKeeper K). faults a.keeper) same;
   }
 
   -- the account itself, folded or not
@@ -63,7 +63,7 @@ module _ {K : Type 0} {G : Ghosts K} (told : K → Option Kept) (faults : K → 
   folded_same uid old new (Ok done) same anew unfolded = record { uid = refl; faults = anew.faults; left = left_anew (hosted_at told faults (uid, old)) (hosted_at told faults (uid, new)) anew }
   folded_same uid old new (Err e) same anew unfolded = record {
     uid = refl;
-    faults = ap (λ (a : Held K). faults a.keeper) same;
+    faults = ap (λ (a : AccountWithKeeper K). faults a.keeper) same;
     left = subst (λ (j : Journal). SameAccount (account_after (journal_of old).opening (journal_of old).entries) (account_after j.opening j.entries)) (sym unfolded) (same-self (account_after (journal_of old).opening (journal_of old).entries));
   }
 
@@ -129,10 +129,10 @@ zip_weaker R S weaker [] (y ∷ ys) zip = absurd zip
 zip_weaker R S weaker (x ∷ xs) [] zip = absurd zip
 zip_weaker R S weaker (x ∷ xs) (y ∷ ys) zip = (weaker x y zip.0, zip_weaker R S weaker xs ys zip.1)
 
-pub keeper_anew : (before after : ℕ × Hosted) → BeginsAnew before after → SameKeeper before after
+pub keeper_anew : (before after : ℕ × HostedAccount) → BeginsAnew before after → SameKeeper before after
 keeper_anew before after anew = record { uid = anew.uid; faults = anew.faults; left = left_anew before after anew }
 
-pub keeper_self : (account : ℕ × Hosted) → SameKeeper account account
+pub keeper_self : (account : ℕ × HostedAccount) → SameKeeper account account
 keeper_self account = record { uid = refl; faults = refl; left = same-self (left_by account.1) }
 
 zip_long : {X Y : Type 0} (R : X → Y → Type 0) (xs : List X) (ys : List Y) → AllZip R xs ys → length ys ≡ length xs

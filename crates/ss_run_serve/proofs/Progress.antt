@@ -31,16 +31,17 @@ use Rattle.ss_serve.specs.declared.report.LinkReport.{LinkReport}
 use Rattle.ss_serve.specs.Terms.{IsTerm}
 use Rattle.ss_run_serve.specs.declared.stop.Stop.{Stop}
 use Rattle.ss_run_serve.specs.declared.stop.Stop.TheVariants as stops
-use Rattle.ss_run_serve.specs.Hosted.{Hosted, IsBegun, Stands, journal_in, left_by}
+use Rattle.ss_run_serve.specs.Hosted.{HostedAccount, HasEmptyJournal, Stands, journal_in, left_by}
 use Rattle.ss_run_serve.specs.Opening.{CountsFaults}
 use Rattle.ss_run_serve.specs.Refusals.{IsRefusedAs}
 use Rattle.ss_run_serve.proofs.Retired.{untold_refused}
 use Rattle.ss_run_serve.specs.Retiring.{uids_in}
-use Rattle.ss_run_serve.specs.Terms.{BeginsAnew, links_of, short_of, AreTerms, AreTold, IsOneLeft, IsTermOf}
+use Rattle.ss_run_serve.specs.Terms.{BeginsAnew, links_of, short_of, AreTerms, AreToldTerms, IsOneLeft, IsTermOf}
 use Rattle.ss_run_serve.specs.Terms.{KeeperFailed}
-use Rattle.ss_run_serve.specs.Once.{HasFailed, IsDone, IsLast, IsLost, IsOnce, IsUnheard, IsUntold, TookPlace, stand}
+use Rattle.ss_run_serve.specs.Once.{HasFailed, IsToldTerm, IsLast, IsLost, IsOnce, IsUnheard, IsUntold, TookPlace}
+use Rattle.ss_run_serve.specs.Once.{stand}
 use Rattle.ss_run_serve.specs.Course.{AreWithin, Course, IsToldOf, SameKeeper, Stops}
-use Rattle.ss_run_serve.specs.Logs.{Named, logs_of, logs_of_term, AreLogged, AreSaved}
+use Rattle.ss_run_serve.specs.Logs.{NamedLog, logs_of, logs_of_term, AreLoggedUntil, AreSavedLogs}
 use Rattle.ss_run_serve.proofs.Saving.{all_partly, logged_of, logged_then, logs_more, none_saved, number_after}
 use Rattle.ss_run_serve.proofs.Saving.{number_more, saved_then}
 use Rattle.ss_run_serve.proofs.Handed.{contains_at}
@@ -48,7 +49,7 @@ use Rattle.ss_run_serve.proofs.Rising.{rose_less, rose_none, rose_then, rose_onc
 use Rattle.ss_run_serve.proofs.Anew.{begin_themselves, left_anew, left_themselves, left_through, left_zip}
 
 -- the keeper of an account has failed
-abbrev pub IsFaulty : ℕ × Hosted → Type 0
+abbrev pub IsFaulty : ℕ × HostedAccount → Type 0
 IsFaulty account = account.1.faults ≢ 0
 
 pub any_of : {X : Type 0} (P : X → Type 0) (xs : List X) (x : X) → Contains xs x → P x → Any P xs
@@ -63,23 +64,23 @@ zip_there R (a ∷ xs) (b ∷ ys) x zip (suc k, lt, is) =
     let t = zip_there R xs ys x zip.1 (k, omega (arith, lt), is) in
     (t.0, (suc t.1.0, omega (arith, t.1.1), t.1.2), t.2)
 
-anew_uids : (left anew : List (ℕ × Hosted)) → AllZip BeginsAnew left anew → uids_in anew ≡ uids_in left
+anew_uids : (left anew : List (ℕ × HostedAccount)) → AllZip BeginsAnew left anew → uids_in anew ≡ uids_in left
 anew_uids [] [] zip = refl
 anew_uids [] (b ∷ anew) zip = absurd zip
 anew_uids (a ∷ left) [] zip = absurd zip
 anew_uids (a ∷ left) (b ∷ anew) zip = ap (λ (u : ℕ). u ∷ uids_in anew) zip.0.uid ∙ ap (λ (us : List ℕ). a.0 ∷ us) (anew_uids left anew zip.1)
 
-pub keeper_uids : (before after : List (ℕ × Hosted)) → AllZip SameKeeper before after → uids_in after ≡ uids_in before
+pub keeper_uids : (before after : List (ℕ × HostedAccount)) → AllZip SameKeeper before after → uids_in after ≡ uids_in before
 keeper_uids [] [] zip = refl
 keeper_uids [] (b ∷ after) zip = absurd zip
 keeper_uids (a ∷ before) [] zip = absurd zip
 keeper_uids (a ∷ before) (b ∷ after) zip = ap (λ (u : ℕ). u ∷ uids_in after) zip.0.uid ∙ ap (λ (us : List ℕ). a.0 ∷ us) (keeper_uids before after zip.1)
 
-pub all_begun : (left anew : List (ℕ × Hosted)) → AllZip BeginsAnew left anew → All (λ (a : ℕ × Hosted). IsBegun a.1) anew
-all_begun [] [] zip = All-nil (λ (a : ℕ × Hosted). IsBegun a.1)
+pub all_begun : (left anew : List (ℕ × HostedAccount)) → AllZip BeginsAnew left anew → All (λ (a : ℕ × HostedAccount). HasEmptyJournal a.1) anew
+all_begun [] [] zip = All-nil (λ (a : ℕ × HostedAccount). HasEmptyJournal a.1)
 all_begun [] (b ∷ anew) zip = absurd zip
 all_begun (a ∷ left) [] zip = absurd zip
-all_begun (a ∷ left) (b ∷ anew) zip = All-cons (λ (a : ℕ × Hosted). IsBegun a.1) b anew zip.0.begun (all_begun left anew zip.1)
+all_begun (a ∷ left) (b ∷ anew) zip = All-cons (λ (a : ℕ × HostedAccount). HasEmptyJournal a.1) b anew zip.0.begun (all_begun left anew zip.1)
 
 pub map_there : {X Y : Type 0} (f : X → Y) (xs : List X) (y : Y) → Contains (map f xs) y → (x : X) × Contains xs x × (f x ≡ y)
 map_there f [] y there = absurd (omega (arith, there.1))
@@ -89,54 +90,54 @@ map_there f (x ∷ xs) y (suc k, lt, is) =
     (t.0, (suc t.1.0, omega (arith, t.1.1), t.1.2), t.2)
 
 -- accounts with the same uid at each place
-pub same_uids : {R : Hosted → Hosted → Type 0} (order handed : List (ℕ × Hosted)) → length handed ≡ length order
-    → ((i uid : ℕ) (b : Hosted) → get_elem? order i ≡ some (uid, b) → (b' : Hosted) × (get_elem? handed i ≡ some (uid, b')) × R b b') → uids_in handed ≡ uids_in order
+pub same_uids : {R : HostedAccount → HostedAccount → Type 0} (order handed : List (ℕ × HostedAccount)) → length handed ≡ length order
+    → ((i uid : ℕ) (b : HostedAccount) → get_elem? order i ≡ some (uid, b) → (b' : HostedAccount) × (get_elem? handed i ≡ some (uid, b')) × R b b') → uids_in handed ≡ uids_in order
 same_uids [] [] long back = refl
 same_uids [] (y ∷ handed) long back = absurd (omega (arith, long))
 same_uids (x ∷ order) [] long back = absurd (omega (arith, long))
 same_uids {R} (x ∷ order) (y ∷ handed) long back =
     let first = back 0 x.0 x.1 refl in
     let same : y ≡ (x.0, first.0) = cc in
-    ap (λ (a : ℕ × Hosted). a.0 ∷ uids_in handed) same ∙ ap (λ (us : List ℕ). x.0 ∷ us) (same_uids {R = R} order handed (omega (arith, long)) (λ i uid b at. back (suc i) uid b at))
+    ap (λ (a : ℕ × HostedAccount). a.0 ∷ uids_in handed) same ∙ ap (λ (us : List ℕ). x.0 ∷ us) (same_uids {R = R} order handed (omega (arith, long)) (λ i uid b at. back (suc i) uid b at))
 
-anew_faulty : (handed given : List (ℕ × Hosted)) → AllZip BeginsAnew handed given → Any IsFaulty handed → Any IsFaulty given
+anew_faulty : (handed given : List (ℕ × HostedAccount)) → AllZip BeginsAnew handed given → Any IsFaulty handed → Any IsFaulty given
 anew_faulty handed given anew any =
     let there = zip_there BeginsAnew handed given any.1 anew (any.0, any.2, any.3) in
     any_of IsFaulty given there.0 there.1 (λ none. any.4 (sym there.2.faults ∙ none))
 
-keeper_faulty : (before after : List (ℕ × Hosted)) → AllZip SameKeeper before after → Any IsFaulty before → Any IsFaulty after
+keeper_faulty : (before after : List (ℕ × HostedAccount)) → AllZip SameKeeper before after → Any IsFaulty before → Any IsFaulty after
 keeper_faulty before after same any =
     let there = zip_there SameKeeper before after any.1 same (any.0, any.2, any.3) in
     any_of IsFaulty after there.0 there.1 (λ none. any.4 (sym there.2.faults ∙ none))
 
 module _ {L : Type 0} (manner : Manner) (tells : L → Meanings) (closed : L → Bool) (says : ℕ → ℕ → Bool → Type 0) where
-  abbrev Term_of : List (ℕ × Hosted) → List (ℕ × Hosted) → List (LinkReport L) → List (Option (List ℕ)) → List (Option (List ℕ)) → Type 0
+  abbrev Term_of : List (ℕ × HostedAccount) → List (ℕ × HostedAccount) → List (LinkReport L) → List (Option (List ℕ)) → List (Option (List ℕ)) → Type 0
   Term_of given handed reports coming coming' = IsTerm (λ account. account.fixed) (λ account. account.entries) (λ account. account.faults) manner tells closed given handed reports coming coming'
 
-  pub term_uids : (given handed : List (ℕ × Hosted)) (reports : List (LinkReport L)) (coming coming' : List (Option (List ℕ))) → Term_of given handed reports coming coming' → IsPermutation (uids_in given) (uids_in handed)
+  pub term_uids : (given handed : List (ℕ × HostedAccount)) (reports : List (LinkReport L)) (coming coming' : List (Option (List ℕ))) → Term_of given handed reports coming coming' → IsPermutation (uids_in given) (uids_in handed)
   term_uids given handed reports coming coming' term =
-      subst (λ (us : List ℕ). IsPermutation (uids_in given) us) (sym (same_uids {R = λ (b b' : Hosted). b'.fixed ≡ b.fixed} term.order handed term.count term.back))
-      (IsPermutation-map (λ (a : ℕ × Hosted). a.0) given term.order term.moved)
+      subst (λ (us : List ℕ). IsPermutation (uids_in given) us) (sym (same_uids {R = λ (b b' : HostedAccount). b'.fixed ≡ b.fixed} term.order handed term.count term.back))
+      (IsPermutation-map (λ (a : ℕ × HostedAccount). a.0) given term.order term.moved)
 
   -- the keeper of an account that had failed when the account was given has failed when it is handed back
-  pub term_faulty : (given handed : List (ℕ × Hosted)) (reports : List (LinkReport L)) (coming coming' : List (Option (List ℕ))) → All (λ (a : ℕ × Hosted). IsBegun a.1) given → Term_of given handed reports coming coming'
+  pub term_faulty : (given handed : List (ℕ × HostedAccount)) (reports : List (LinkReport L)) (coming coming' : List (Option (List ℕ))) → All (λ (a : ℕ × HostedAccount). HasEmptyJournal a.1) given → Term_of given handed reports coming coming'
       → Any IsFaulty given → Any IsFaulty handed
   term_faulty given handed reports coming coming' begun term any =
       let there : Contains given any.1 = (any.0, any.2, any.3) in
       let moved = Contains-permutation given term.order any.1 term.moved there in
       let at : get_elem? term.order moved.0 ≡ some any.1 = at_get term.order moved.0 any.1 moved.1 ∙ ap some moved.2 in
       let back = term.back moved.0 any.1.0 any.1.1 at in
-      let counted = (All-contains (λ (a : ℕ × Hosted). IsBegun a.1) given any.1 begun there).counted in
+      let counted = (All-contains (λ (a : ℕ × HostedAccount). HasEmptyJournal a.1) given any.1 begun there).counted in
       let kept = term.served.kept moved.0 any.1.0 back.0 back.1 in
       let fixed : back.0.fixed.faults ≡ any.1.1.fixed.faults = ap (λ (t : _). t.faults) back.2 in
       let before : any.1.1.faults ≢ 0 = any.4 in
       any_of IsFaulty handed (any.1.0, back.0) (contains_at handed moved.0 (any.1.0, back.0) back.1) (λ none. before (omega (arith, none, kept.later, fixed, counted)))
 
   -- a journal that says that the keeper failed
-  term_marked : (given handed : List (ℕ × Hosted)) (reports : List (LinkReport L)) (coming coming' : List (Option (List ℕ))) → Term_of given handed reports coming coming'
-      → Any (λ (journal : ℕ × Journal). keeper_marks journal.1.entries ≢ 0) (map (λ (a : ℕ × Hosted). (a.0, journal_in a.1)) handed) → Any IsFaulty handed
+  term_marked : (given handed : List (ℕ × HostedAccount)) (reports : List (LinkReport L)) (coming coming' : List (Option (List ℕ))) → Term_of given handed reports coming coming'
+      → Any (λ (journal : ℕ × Journal). keeper_marks journal.1.entries ≢ 0) (map (λ (a : ℕ × HostedAccount). (a.0, journal_in a.1)) handed) → Any IsFaulty handed
   term_marked given handed reports coming coming' term any =
-      let f : ℕ × Hosted → ℕ × Journal = λ (a : ℕ × Hosted). (a.0, journal_in a.1) in
+      let f : ℕ × HostedAccount → ℕ × Journal = λ (a : ℕ × HostedAccount). (a.0, journal_in a.1) in
       let there = map_there f handed any.1 (any.0, any.2, any.3) in
       let at : get_elem? handed there.1.0 ≡ some there.0 = at_get handed there.1.0 there.0 there.1.1 ∙ ap some there.1.2 in
       let kept = term.served.kept there.1.0 there.0.0 there.0.1 at in
@@ -144,23 +145,23 @@ module _ {L : Type 0} (manner : Manner) (tells : L → Meanings) (closed : L →
       any_of IsFaulty handed there.0 there.1 (λ none. marks (omega (arith, none, kept.risen)))
 
   -- the terms so far
-  pub record Stage (opened : List (ℕ × Hosted)) (coming : List (Option (List ℕ))) (port : Accepts) (terms : List (Term (LinkReport L))) (handed : List (ℕ × Hosted)) (coming' : List (Option (List ℕ))) : Type 0 where
+  pub record Stage (opened : List (ℕ × HostedAccount)) (coming : List (Option (List ℕ))) (port : Accepts) (terms : List (Term (LinkReport L))) (handed : List (ℕ × HostedAccount)) (coming' : List (Option (List ℕ))) : Type 0 where
     pub are : AreTerms manner tells closed says opened coming terms handed coming'
     pub failed : KeeperFailed terms → Any IsFaulty handed
     pub uids : IsPermutation (uids_in opened) (uids_in handed)
     pub links : RoseBy (links_of terms) 0 port.links
     pub few : links_of terms ≤ 1000 * length terms
 
-  told_more : (terms : List (Term (LinkReport L))) (term : Term (LinkReport L)) (old mid new : Option (List (Term (LinkReport L)))) → AreTold terms old mid → HasAdded term mid new → AreTold (terms ++ term ∷ []) old new
+  told_more : (terms : List (Term (LinkReport L))) (term : Term (LinkReport L)) (old mid new : Option (List (Term (LinkReport L)))) → AreToldTerms terms old mid → HasAdded term mid new → AreToldTerms (terms ++ term ∷ []) old new
   told_more terms term None mid new are added = subst (λ (m : Option (List (Term (LinkReport L)))). HasAdded term m new) are added
   told_more terms term (Some before) mid new are added =
       let last : new ≡ Some ((before ++ terms) ++ term ∷ []) = subst (λ (m : Option (List (Term (LinkReport L)))). HasAdded term m new) are added in
       last ∙ ap (λ (ts : List (Term (LinkReport L))). Some ts) (append_assoc before terms (term ∷ []))
 
-  are_more : (left : List (ℕ × Hosted)) (coming : List (Option (List ℕ))) (terms : List (Term (LinkReport L))) (term : Term (LinkReport L)) (handed handed' : List (ℕ × Hosted)) (coming' coming'' : List (Option (List ℕ)))
+  are_more : (left : List (ℕ × HostedAccount)) (coming : List (Option (List ℕ))) (terms : List (Term (LinkReport L))) (term : Term (LinkReport L)) (handed handed' : List (ℕ × HostedAccount)) (coming' coming'' : List (Option (List ℕ)))
       → AreTerms manner tells closed says left coming terms handed coming' → IsTermOf manner tells closed says handed coming' term handed' coming'' → AreTerms manner tells closed says left coming (terms ++ term ∷ []) handed' coming''
   are_more left coming [] term handed handed' coming' coming'' are of =
-      (handed', coming'', subst (λ (c : List (Option (List ℕ))). IsTermOf manner tells closed says left c term handed' coming'') are.1 (subst (λ (h : List (ℕ × Hosted)). IsTermOf manner tells closed says h coming' term handed' coming'') are.0 of), (refl, refl))
+      (handed', coming'', subst (λ (c : List (Option (List ℕ))). IsTermOf manner tells closed says left c term handed' coming'') are.1 (subst (λ (h : List (ℕ × HostedAccount)). IsTermOf manner tells closed says h coming' term handed' coming'') are.0 of), (refl, refl))
   are_more left coming (first ∷ terms) term handed handed' coming' coming'' are of = (are.0, are.1, are.2, are_more are.0 are.1 terms term handed handed' coming' coming'' are.3 of)
 
   links_more : (terms : List (Term (LinkReport L))) (term : Term (LinkReport L)) → links_of (terms ++ term ∷ []) ≡ links_of terms + length term.reports
@@ -182,7 +183,7 @@ module _ {L : Type 0} (manner : Manner) (tells : L → Meanings) (closed : L →
   one_more terms term = λ none. absurd (omega (arith, length-append terms (term ∷ []), ap length none))
 
   -- one term more
-  stage_more : (opened : List (ℕ × Hosted)) (coming : List (Option (List ℕ))) (port port' : Accepts) (terms : List (Term (LinkReport L))) (handed given handed' : List (ℕ × Hosted)) (coming' coming'' : List (Option (List ℕ)))
+  stage_more : (opened : List (ℕ × HostedAccount)) (coming : List (Option (List ℕ))) (port port' : Accepts) (terms : List (Term (LinkReport L))) (handed given handed' : List (ℕ × HostedAccount)) (coming' coming'' : List (Option (List ℕ)))
       (connections : ℕ) (term : Term (LinkReport L)) → connections ≤ 1000 → Stage opened coming port terms handed coming' → AllZip BeginsAnew handed given
       → TookPlace manner tells closed says given handed' coming' coming'' connections port port' term → Stage opened coming port' (terms ++ term ∷ []) handed' coming''
   stage_more opened coming port port' terms handed given handed' coming' coming'' connections term small stage anew took = record {
@@ -205,13 +206,13 @@ module _ {L : Type 0} (manner : Manner) (tells : L → Meanings) (closed : L →
     pub some : asked ≢ 0 → (left + count ≡ asked) × (0 < left)
 
   -- the terms of a server so far, before the next one begins
-  pub record Progress (opened : List (ℕ × Hosted)) (coming : List (Option (List ℕ))) (connections asked : ℕ) (told told' : Option (List (Term (LinkReport L)))) (old new : Counts) (port : Accepts) (left : ℕ)
-      (accounts : List (ℕ × Hosted)) (coming' : List (Option (List ℕ))) (number number' : ℕ) (logs logs' : Option Files) : Type 0 where
+  pub record Progress (opened : List (ℕ × HostedAccount)) (coming : List (Option (List ℕ))) (connections asked : ℕ) (told told' : Option (List (Term (LinkReport L)))) (old new : Counts) (port : Accepts) (left : ℕ)
+      (accounts : List (ℕ × HostedAccount)) (coming' : List (Option (List ℕ))) (number number' : ℕ) (logs logs' : Option Files) : Type 0 where
     pub terms : List (Term (LinkReport L))
-    pub handed : List (ℕ × Hosted)
-    pub are_told : AreTold terms told told'
+    pub handed : List (ℕ × HostedAccount)
+    pub are_told : AreToldTerms terms told told'
     pub numbered : number' ≡ number_after number terms
-    pub saved : AreSaved (logs_of number terms) logs logs'
+    pub saved : AreSavedLogs (logs_of number terms) logs logs'
     pub stage : Stage opened coming port terms handed coming'
     pub anew : AllZip BeginsAnew handed accounts
     pub few : All (λ (term : Term (LinkReport L)). length term.reports ≤ connections) terms
@@ -219,12 +220,12 @@ module _ {L : Type 0} (manner : Manner) (tells : L → Meanings) (closed : L →
     pub remaining : Remaining asked left (length terms)
     pub counts : new ≡ old
 
-  pub told_none : (told : Option (List (Term (LinkReport L)))) → AreTold [] told told
+  pub told_none : (told : Option (List (Term (LinkReport L)))) → AreToldTerms [] told told
   told_none None = refl
   told_none (Some terms) = ap (λ (ts : List (Term (LinkReport L))). Some ts) (sym (append-nil terms))
 
-  pub progress_first : (opened : List (ℕ × Hosted)) (coming : List (Option (List ℕ))) (connections asked : ℕ) (told : Option (List (Term (LinkReport L)))) (old : Counts) (port : Accepts) (number : ℕ) (logs : Option Files)
-      → All (λ (a : ℕ × Hosted). IsBegun a.1) opened → port ≡ idle_port → Progress opened coming connections asked told told old old port asked opened coming number number logs logs
+  pub progress_first : (opened : List (ℕ × HostedAccount)) (coming : List (Option (List ℕ))) (connections asked : ℕ) (told : Option (List (Term (LinkReport L)))) (old : Counts) (port : Accepts) (number : ℕ) (logs : Option Files)
+      → All (λ (a : ℕ × HostedAccount). HasEmptyJournal a.1) opened → port ≡ idle_port → Progress opened coming connections asked told told old old port asked opened coming number number logs logs
   progress_first opened coming connections asked told old port number logs begun idle = record {
     terms = [];
     handed = opened;
@@ -245,7 +246,7 @@ module _ {L : Type 0} (manner : Manner) (tells : L → Meanings) (closed : L →
     counts = refl;
   }
 
-  pub failed_of : (accounts : List (ℕ × Hosted)) → Any IsFaulty accounts → Any HasFailed accounts
+  pub failed_of : (accounts : List (ℕ × HostedAccount)) → Any IsFaulty accounts → Any HasFailed accounts
   failed_of accounts any = (any.0, any.1, any.2, any.3, inr any.4)
 
   -- all terms were told
@@ -263,8 +264,8 @@ module _ {L : Type 0} (manner : Manner) (tells : L → Meanings) (closed : L →
   no_faults : (old : Counts) → CountsFaults old old
   no_faults old = record { faults = omega arith; links = refl; ends = refl; rests = refl }
 
-  module _ (opened : List (ℕ × Hosted)) (coming : List (Option (List ℕ))) (connections asked : ℕ) (told told' told'' : Option (List (Term (LinkReport L)))) (old mid new : Counts) (port port' : Accepts) (left : ℕ)
-      (given handed : List (ℕ × Hosted)) (coming' coming'' : List (Option (List ℕ))) (number number' : ℕ) (logs logs' logs'' : Option Files) where
+  module _ (opened : List (ℕ × HostedAccount)) (coming : List (Option (List ℕ))) (connections asked : ℕ) (told told' told'' : Option (List (Term (LinkReport L)))) (old mid new : Counts) (port port' : Accepts) (left : ℕ)
+      (given handed : List (ℕ × HostedAccount)) (coming' coming'' : List (Option (List ℕ))) (number number' : ℕ) (logs logs' logs'' : Option Files) where
     within : (progress : Progress opened coming connections asked told told' old mid port left given coming' number number' logs logs') → AreWithin connections asked progress.terms
     within progress = record { few = progress.few; most = λ asks. (let counted = progress.remaining.some asks in omega (arith, counted.0, counted.1)) }
 
@@ -280,8 +281,8 @@ module _ {L : Type 0} (manner : Manner) (tells : L → Meanings) (closed : L →
     }
 
     -- no log was saved since
-    logged_left : (progress : Progress opened coming connections asked told told' old mid port left given coming' number number' logs logs') (stop : Stop) → logs'' ≡ logs' → AreLogged stop (logs_of number progress.terms) logs logs''
-    logged_left progress stop same = logged_of stop (logs_of number progress.terms) logs logs'' (subst (λ (l : Option Files). AreSaved (logs_of number progress.terms) logs l) (sym same) progress.saved)
+    logged_left : (progress : Progress opened coming connections asked told told' old mid port left given coming' number number' logs logs') (stop : Stop) → logs'' ≡ logs' → AreLoggedUntil stop (logs_of number progress.terms) logs logs''
+    logged_left progress stop same = logged_of stop (logs_of number progress.terms) logs logs'' (subst (λ (l : Option Files). AreSavedLogs (logs_of number progress.terms) logs l) (sym same) progress.saved)
 
     -- the logs of the terms so far, and those of one more
     more_logs : (progress : Progress opened coming connections asked told told' old mid port left given coming' number number' logs logs') (term : Term (LinkReport L))
@@ -289,18 +290,18 @@ module _ {L : Type 0} (manner : Manner) (tells : L → Meanings) (closed : L →
     more_logs progress term = ap (λ (n : ℕ). logs_of number progress.terms ++ logs_of_term n term.journals) progress.numbered ∙ sym (logs_more number progress.terms term)
 
     logged_more : (progress : Progress opened coming connections asked told told' old mid port left given coming' number number' logs logs') (stop : Stop) (term : Term (LinkReport L))
-        → AreLogged stop (logs_of_term number' term.journals) logs' logs'' → AreLogged stop (logs_of number (progress.terms ++ term ∷ [])) logs logs''
-    logged_more progress stop term logged = subst (λ (all : List Named). AreLogged stop all logs logs'') (more_logs progress term)
+        → AreLoggedUntil stop (logs_of_term number' term.journals) logs' logs'' → AreLoggedUntil stop (logs_of number (progress.terms ++ term ∷ [])) logs logs''
+    logged_more progress stop term logged = subst (λ (all : List NamedLog). AreLoggedUntil stop all logs logs'') (more_logs progress term)
         (logged_then stop (logs_of number progress.terms) (logs_of_term number' term.journals) logs logs' logs'' progress.saved logged)
 
     saved_more : (progress : Progress opened coming connections asked told told' old mid port left given coming' number number' logs logs')
-        → (done : IsDone manner tells closed says connections number' None (stand given coming' told' mid port logs') (stand handed coming'' told'' new port' logs'')) → AreSaved (logs_of number (progress.terms ++ done.term ∷ [])) logs logs''
-    saved_more progress done = subst (λ (all : List Named). AreSaved all logs logs'') (more_logs progress done.term)
+        → (done : IsToldTerm manner tells closed says connections number' None (stand given coming' told' mid port logs') (stand handed coming'' told'' new port' logs'')) → AreSavedLogs (logs_of number (progress.terms ++ done.term ∷ [])) logs logs''
+    saved_more progress done = subst (λ (all : List NamedLog). AreSavedLogs all logs logs'') (more_logs progress done.term)
         (saved_then (logs_of number progress.terms) (logs_of_term number' done.term.journals) logs logs' logs'' progress.saved done.logged)
 
     -- a term took place, after which no further one begins
     pub progress_done : (stop : Stop) → connections ≤ 1000 → Progress opened coming connections asked told told' old mid port left given coming' number number' logs logs'
-        → IsDone manner tells closed says connections number' (Some stop) (stand given coming' told' mid port logs') (stand handed coming'' told'' new port' logs'')
+        → IsToldTerm manner tells closed says connections number' (Some stop) (stand given coming' told' mid port logs') (stand handed coming'' told'' new port' logs'')
         → Course manner tells closed says opened coming connections asked told told'' old new port' handed stop number logs logs''
     progress_done stop small progress done =
         let stage = stage_more opened coming port port' progress.terms progress.handed given handed coming' coming'' connections done.term small progress.stage progress.anew done.took in
@@ -378,7 +379,7 @@ module _ {L : Type 0} (manner : Manner) (tells : L → Meanings) (closed : L →
         record {
           terms = progress.terms;
           told = progress.terms;
-          are_told = subst (λ (t : Option (List (Term (LinkReport L)))). AreTold progress.terms told t) (sym lost.untold) progress.are_told;
+          are_told = subst (λ (t : Option (List (Term (LinkReport L)))). AreToldTerms progress.terms told t) (sym lost.untold) progress.are_told;
           of = all_of progress.terms stop;
           logged = logged_left progress stop lost.unlogged;
           handed = progress.handed;
@@ -407,7 +408,7 @@ module _ {L : Type 0} (manner : Manner) (tells : L → Meanings) (closed : L →
         record {
           terms = progress.terms ++ unheard.term ∷ [];
           told = progress.terms;
-          are_told = subst (λ (t : Option (List (Term (LinkReport L)))). AreTold progress.terms told t) (sym unheard.untold) progress.are_told;
+          are_told = subst (λ (t : Option (List (Term (LinkReport L)))). AreToldTerms progress.terms told t) (sym unheard.untold) progress.are_told;
           of = but_last progress.terms unheard.term stop why';
           logged = logged_left progress stop unheard.unlogged;
           handed = handed;
@@ -437,7 +438,7 @@ module _ {L : Type 0} (manner : Manner) (tells : L → Meanings) (closed : L →
 
     -- of the terms so far as many were short as the port rested times
     rested_more : connections ≤ 1000 → asked ≤ 999999999999 → (progress : Progress opened coming connections asked told told' old mid port left given coming' number number' logs logs')
-        → (done : IsDone manner tells closed says connections number' None (stand given coming' told' mid port logs') (stand handed coming'' told'' new port' logs'')) → asked ≢ 0
+        → (done : IsToldTerm manner tells closed says connections number' None (stand given coming' told' mid port logs') (stand handed coming'' told'' new port' logs'')) → asked ≢ 0
         → RoseBy (short_of connections (progress.terms ++ done.term ∷ [])) 0 port'.rests
     rested_more small most progress done asks =
         let counted = progress.remaining.some asks in
@@ -456,7 +457,7 @@ module _ {L : Type 0} (manner : Manner) (tells : L → Meanings) (closed : L →
 
     -- the last term that was asked took place
     pub progress_terms : connections ≤ 1000 → asked ≤ 999999999999 → left ≡ 1 → Progress opened coming connections asked told told' old mid port left given coming' number number' logs logs'
-        → IsDone manner tells closed says connections number' None (stand given coming' told' mid port logs') (stand handed coming'' told'' new port' logs'')
+        → IsToldTerm manner tells closed says connections number' None (stand given coming' told' mid port logs') (stand handed coming'' told'' new port' logs'')
         → Course manner tells closed says opened coming connections asked told told'' old new port' handed stops.Terms number logs logs''
     progress_terms small most last progress done =
         let stage = stage_more opened coming port port' progress.terms progress.handed given handed coming' coming'' connections done.term small progress.stage progress.anew done.took in
@@ -483,8 +484,8 @@ module _ {L : Type 0} (manner : Manner) (tells : L → Meanings) (closed : L →
         }
 
     -- a term took place, and the accounts couldn't all begin anew
-    pub progress_short : (accounts : List (ℕ × Hosted)) → connections ≤ 1000 → Progress opened coming connections asked told told' old mid port left given coming' number number' logs logs'
-        → IsDone manner tells closed says connections number' None (stand given coming' told' mid port logs') (stand handed coming'' told'' new port' logs'') → AllZip SameKeeper handed accounts
+    pub progress_short : (accounts : List (ℕ × HostedAccount)) → connections ≤ 1000 → Progress opened coming connections asked told told' old mid port left given coming' number number' logs logs'
+        → IsToldTerm manner tells closed says connections number' None (stand given coming' told' mid port logs') (stand handed coming'' told'' new port' logs'') → AllZip SameKeeper handed accounts
         → Course manner tells closed says opened coming connections asked told told'' old new port' accounts stops.Memory number logs logs''
     progress_short accounts small progress done keepers =
         let stage = stage_more opened coming port port' progress.terms progress.handed given handed coming' coming'' connections done.term small progress.stage progress.anew done.took in
@@ -509,8 +510,8 @@ module _ {L : Type 0} (manner : Manner) (tells : L → Meanings) (closed : L →
         }
 
     -- a term took place, and the accounts begin anew
-    pub progress_on : (accounts : List (ℕ × Hosted)) (number'' : ℕ) → connections ≤ 1000 → asked ≤ 999999999999 → left ≢ 1 → Progress opened coming connections asked told told' old mid port left given coming' number number' logs logs'
-        → IsDone manner tells closed says connections number' None (stand given coming' told' mid port logs') (stand handed coming'' told'' new port' logs'') → AllZip BeginsAnew handed accounts
+    pub progress_on : (accounts : List (ℕ × HostedAccount)) (number'' : ℕ) → connections ≤ 1000 → asked ≤ 999999999999 → left ≢ 1 → Progress opened coming connections asked told told' old mid port left given coming' number number' logs logs'
+        → IsToldTerm manner tells closed says connections number' None (stand given coming' told' mid port logs') (stand handed coming'' told'' new port' logs'') → AllZip BeginsAnew handed accounts
         → number'' ≡ raised_count number' → Progress opened coming connections asked told told'' old new port' (left - 1) accounts coming'' number number'' logs logs''
     progress_on accounts number'' small most more progress done anew next = record {
       terms = progress.terms ++ done.term ∷ [];
@@ -541,11 +542,11 @@ module _ {L : Type 0} (manner : Manner) (tells : L → Meanings) (closed : L →
 
     -- a term after which a further one may begin
     pub once_on : (last : Option Stop) → IsOnce manner tells closed says connections number' last (stand given coming' told' mid port logs') (stand handed coming'' told'' new port' logs'') → last ≡ None
-        → IsDone manner tells closed says connections number' None (stand given coming' told' mid port logs') (stand handed coming'' told'' new port' logs'')
+        → IsToldTerm manner tells closed says connections number' None (stand given coming' told' mid port logs') (stand handed coming'' told'' new port' logs'')
     once_on last once is =
         let now : IsOnce manner tells closed says connections number' None (stand given coming' told' mid port logs') (stand handed coming'' told'' new port' logs'') =
         subst (λ (l : Option Stop). IsOnce manner tells closed says connections number' l (stand given coming' told' mid port logs') (stand handed coming'' told'' new port' logs'')) is once in
         elim now [ inl lost ↦ impossible lost.stop lost.is | inr took ↦ elim took [ inl unheard ↦ impossible unheard.stop unheard.is | inr done ↦ done ] ]
       where
-        impossible : (stop : Stop) → None ≡ Some stop → IsDone manner tells closed says connections number' None (stand given coming' told' mid port logs') (stand handed coming'' told'' new port' logs'')
+        impossible : (stop : Stop) → None ≡ Some stop → IsToldTerm manner tells closed says connections number' None (stand given coming' told' mid port logs') (stand handed coming'' told'' new port' logs'')
         impossible stop is = absurd cc

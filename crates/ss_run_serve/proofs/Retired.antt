@@ -8,14 +8,14 @@ use Rattle.std.proofs.lemmas.List.Elements.{All-contains, All-cons, All-head, Al
 use Rattle.std.proofs.lemmas.List.Elements.{Contains-append_right, Contains-push, Contains-push_cases}
 use Rattle.ss_outside.specs.Causes.{Rose}
 use Rattle.ss_bso.specs.declared.changes.Kept.{Kept}
-use Rattle.ss_site.specs.Sites.{Counts, Entries, IsEntry, IsWith, HasRetired, CountsKeeper, Refused, RoseUnless}
+use Rattle.ss_site.specs.Sites.{Counts, Entries, IsEntry, IsWith, HasRetired, CountsKeeper, RefusedCalls, RoseUnless}
 use Rattle.ss_site.specs.Sites.{TellsStill}
 use Rattle.ss_account.specs.declared.faults.OpenFault.{OpenFault}
 use Rattle.ss_account.specs.declared.faults.OpenFault.TheVariants as opening
-use Rattle.ss_run_serve.specs.Hosted.{Hosted}
+use Rattle.ss_run_serve.specs.Hosted.{HostedAccount}
 use Rattle.ss_run_serve.specs.declared.stop.Stop.{Stop}
 use Rattle.ss_run_serve.specs.declared.stop.Stop.TheVariants as stops
-use Rattle.ss_run_serve.specs.Opening.{AreAsBefore, CountsFaults, IsUnopened, RefusesOne, stop_at}
+use Rattle.ss_run_serve.specs.Opening.{AreAsBefore, CountsFaults, IsWhyUnopened, RefusesOne, stop_at}
 use Rattle.ss_run_serve.specs.Once.{IsUntold}
 use Rattle.ss_run_serve.specs.Refusals.{IsRefusedAs}
 use Rattle.ss_run_serve.specs.Retiring.{uids_in, ComeBack, HaveRetired, CountsKeepers}
@@ -79,7 +79,7 @@ counts_one n old new counted = record { faults = later n old.faults new.faults c
     later (suc n) before now rose = (rose.some (omega arith)).later
 
 -- one keeper more came back
-come_back_more : (folder : List ℕ) (done : List (ℕ × Hosted)) (account : ℕ × Hosted) (kept : Kept) (before mid after : Entries) → account.1.told ≡ Some kept → ComeBack folder done before mid
+come_back_more : (folder : List ℕ) (done : List (ℕ × HostedAccount)) (account : ℕ × HostedAccount) (kept : Kept) (before mid after : Entries) → account.1.told ≡ Some kept → ComeBack folder done before mid
     → IsWith folder account.0 kept mid after → ComeBack folder (done ++ account ∷ []) before after
 come_back_more folder done account kept before mid after told back now = record {
   listed = λ uid c. elim (number_cases (account.0 == uid) account.0 uid refl) [
@@ -94,19 +94,19 @@ come_back_more folder done account kept before mid after told back now = record 
 }
   where
     uids : uids_in (done ++ account ∷ []) ≡ uids_in done ++ account.0 ∷ []
-    uids = map-append (λ (a : ℕ × Hosted). a.0) done (account ∷ [])
+    uids = map-append (λ (a : ℕ × HostedAccount). a.0) done (account ∷ [])
 
-    last : (uid : ℕ) → account.0 ≡ uid → Any (λ (a : ℕ × Hosted). (a.0 ≡ uid) × (a.1.told ≡ Some (after folder uid))) (done ++ account ∷ [])
+    last : (uid : ℕ) → account.0 ≡ uid → Any (λ (a : ℕ × HostedAccount). (a.0 ≡ uid) × (a.1.told ≡ Some (after folder uid))) (done ++ account ∷ [])
     last uid same = let c = Contains-push done account in
         (c.0, account, c.1, c.2, (same, told ∙ ap Some (sym now.here ∙ ap (after folder) same)))
 
-    earlier : (uid : ℕ) → account.0 ≢ uid → Any (λ (a : ℕ × Hosted). (a.0 ≡ uid) × (a.1.told ≡ Some (mid folder uid))) done
-        → Any (λ (a : ℕ × Hosted). (a.0 ≡ uid) × (a.1.told ≡ Some (after folder uid))) (done ++ account ∷ [])
+    earlier : (uid : ℕ) → account.0 ≢ uid → Any (λ (a : ℕ × HostedAccount). (a.0 ≡ uid) × (a.1.told ≡ Some (mid folder uid))) done
+        → Any (λ (a : ℕ × HostedAccount). (a.0 ≡ uid) × (a.1.told ≡ Some (after folder uid))) (done ++ account ∷ [])
     earlier uid apart any =
         let c = Contains-append_left done (account ∷ []) any.1 (any.0, any.2, any.3) in
         (c.0, any.1, c.1, c.2, (any.4.0, any.4.1 ∙ ap Some (sym (now.others folder uid (inr (λ s. apart (sym s)))))))
 
-pub have_retired_more : (folder : List ℕ) (done : List (ℕ × Hosted)) (account : ℕ × Hosted) (old mid new : Option Entries) → HaveRetired folder done old mid → HasRetired folder account.0 account.1.told mid new
+pub have_retired_more : (folder : List ℕ) (done : List (ℕ × HostedAccount)) (account : ℕ × HostedAccount) (old mid new : Option Entries) → HaveRetired folder done old mid → HasRetired folder account.0 account.1.told mid new
     → HaveRetired folder (done ++ account ∷ []) old new
 have_retired_more folder done account old mid new first now = λ after is.
     let r = now after is in
@@ -128,14 +128,14 @@ entry_as_before folder uid told old (Some after) before entry =
     there ∙ ap Some (sym (b.2 folder uid))
 
 -- why an account isn't opened, once the keepers of others came back
-pub refused_then : (folder : List ℕ) (kept : Option Entries) (old mid new : Counts) (accounts : List (ℕ × Hosted)) (uids : List ℕ) (uid : ℕ) (stop : Stop) → IsUnopened folder kept old mid uid stop → CountsKeepers accounts mid new → Contains uids uid
+pub refused_then : (folder : List ℕ) (kept : Option Entries) (old mid new : Counts) (accounts : List (ℕ × HostedAccount)) (uids : List ℕ) (uid : ℕ) (stop : Stop) → IsWhyUnopened folder kept old mid uid stop → CountsKeepers accounts mid new → Contains uids uid
     → RefusesOne folder kept old new uids stop
 refused_then folder kept old mid new accounts uids uid stop why counted there = inr (there.0, uid, there.1, there.2, later stop why)
   where
     rose : Rose old.faults mid.faults → Rose old.faults new.faults
     rose r = record { later = omega (arith, r.later, counted.later); risen = omega (arith, r.risen, counted.later) }
 
-    later : (s : Stop) → IsUnopened folder kept old mid uid s → IsUnopened folder kept old new uid s
+    later : (s : Stop) → IsWhyUnopened folder kept old mid uid s → IsWhyUnopened folder kept old new uid s
     later stops.Site why = rose why
     later (stops.Damaged u) why = (why.0, rose why.1)
     later (stops.Keeper u) why = (why.0, rose why.1)
@@ -146,7 +146,7 @@ refused_then folder kept old mid new accounts uids uid stop why counted there = 
     later stops.Port why = absurd why
     later stops.Logs why = absurd why
 
-pub counts_then : (old mid new : Counts) (accounts : List (ℕ × Hosted)) → CountsFaults old mid → CountsKeepers accounts mid new → CountsFaults old new
+pub counts_then : (old mid new : Counts) (accounts : List (ℕ × HostedAccount)) → CountsFaults old mid → CountsKeepers accounts mid new → CountsFaults old new
 counts_then old mid new accounts first then = record { faults = omega (arith, first.faults, then.later); links = then.links ∙ first.links; ends = then.ends ∙ first.ends; rests = then.rests ∙ first.rests }
 
 pub counts_unchanged : (old new : Counts) → new ≡ old → CountsFaults old new
@@ -158,14 +158,14 @@ counts_unchanged old new same = record {
 }
 
 -- all keepers told their entries: each entry is as it was
-pub all_as_before : (folder : List ℕ) (accounts : List (ℕ × Hosted)) (old new : Option Entries) → All (λ (a : ℕ × Hosted). IsEntry folder a.0 a.1.told old) accounts → HaveRetired folder accounts old new → AreAsBefore old new
+pub all_as_before : (folder : List ℕ) (accounts : List (ℕ × HostedAccount)) (old new : Option Entries) → All (λ (a : ℕ × HostedAccount). IsEntry folder a.0 a.1.told old) accounts → HaveRetired folder accounts old new → AreAsBefore old new
 all_as_before folder accounts old new entries retired = λ after is.
     let r = retired after is in
     (r.0, r.1, λ f u. each f u after r.0 r.1 r.2 (text_cases (bytes_eq f folder) f folder refl) (listed_cases (uids_in accounts) u))
   where
-    told : (u : ℕ) (after before : Entries) → old ≡ Some before → Any (λ (a : ℕ × Hosted). (a.0 ≡ u) × (a.1.told ≡ Some (after folder u))) accounts → after folder u ≡ before folder u
+    told : (u : ℕ) (after before : Entries) → old ≡ Some before → Any (λ (a : ℕ × HostedAccount). (a.0 ≡ u) × (a.1.told ≡ Some (after folder u))) accounts → after folder u ≡ before folder u
     told u after before was any =
-        let entry : IsEntry folder any.1.0 any.1.1.told (Some before) = subst (λ (o : Option Entries). IsEntry folder any.1.0 any.1.1.told o) was (All-contains (λ (a : ℕ × Hosted). IsEntry folder a.0 a.1.told old) accounts any.1 entries (any.0, any.2, any.3)) in
+        let entry : IsEntry folder any.1.0 any.1.1.told (Some before) = subst (λ (o : Option Entries). IsEntry folder any.1.0 any.1.1.told o) was (All-contains (λ (a : ℕ × HostedAccount). IsEntry folder a.0 a.1.told old) accounts any.1 entries (any.0, any.2, any.3)) in
         let there : any.1.1.told ≡ Some (before folder u) = entry ∙ ap (λ (v : ℕ). Some (before folder v)) any.4.0 in
         let same : Some (after folder u) ≡ Some (before folder u) = sym any.4.1 ∙ there in cc
 
@@ -180,7 +180,7 @@ all_front P [] ys all = All-nil P
 all_front P (x ∷ xs) ys all = All-cons P x xs (All-head P x (xs ++ ys) all) (all_front P xs ys (All-tail P x (xs ++ ys) all))
 
 -- the counts once one keeper more came back
-pub counts_more : (done : List (ℕ × Hosted)) (account : ℕ × Hosted) (old mid new : Counts) → CountsKeepers done old mid → CountsKeeper account.1.faults mid new → CountsKeepers (done ++ account ∷ []) old new
+pub counts_more : (done : List (ℕ × HostedAccount)) (account : ℕ × HostedAccount) (old mid new : Counts) → CountsKeepers done old mid → CountsKeeper account.1.faults mid new → CountsKeepers (done ++ account ∷ []) old new
 counts_more done account old mid new first now = record {
   some = λ any. rises any (Contains-push_cases done account any.1 (any.0, any.2, any.3));
   none = λ all. now.faults.none (last all) ∙ first.none (front all);
@@ -194,20 +194,20 @@ counts_more done account old mid new first now = record {
     later : mid.faults ≤ new.faults
     later = (counts_one account.1.faults mid new now).faults
 
-    last : All (λ (a : ℕ × Hosted). a.1.faults ≡ 0) (done ++ account ∷ []) → account.1.faults ≡ 0
-    last all = All-contains (λ (a : ℕ × Hosted). a.1.faults ≡ 0) (done ++ account ∷ []) account all (Contains-push done account)
+    last : All (λ (a : ℕ × HostedAccount). a.1.faults ≡ 0) (done ++ account ∷ []) → account.1.faults ≡ 0
+    last all = All-contains (λ (a : ℕ × HostedAccount). a.1.faults ≡ 0) (done ++ account ∷ []) account all (Contains-push done account)
 
-    front : All (λ (a : ℕ × Hosted). a.1.faults ≡ 0) (done ++ account ∷ []) → All (λ (a : ℕ × Hosted). a.1.faults ≡ 0) done
-    front all = all_front (λ (a : ℕ × Hosted). a.1.faults ≡ 0) done (account ∷ []) all
+    front : All (λ (a : ℕ × HostedAccount). a.1.faults ≡ 0) (done ++ account ∷ []) → All (λ (a : ℕ × HostedAccount). a.1.faults ≡ 0) done
+    front all = all_front (λ (a : ℕ × HostedAccount). a.1.faults ≡ 0) done (account ∷ []) all
 
-    rises : (any : Any (λ (a : ℕ × Hosted). a.1.faults ≢ 0) (done ++ account ∷ [])) → (Contains done any.1 ⊎ (account ≡ any.1)) → Rose old.faults new.faults
+    rises : (any : Any (λ (a : ℕ × HostedAccount). a.1.faults ≢ 0) (done ++ account ∷ [])) → (Contains done any.1 ⊎ (account ≡ any.1)) → Rose old.faults new.faults
     rises any (inl there) = let r = first.some (there.0, any.1, there.1, there.2, any.4) in record { later = omega (arith, r.later, later); risen = omega (arith, r.risen, later) }
-    rises any (inr same) = let r = now.faults.some (subst (λ (a : ℕ × Hosted). a.1.faults ≢ 0) (sym same) any.4) in record { later = omega (arith, r.later, first.later); risen = omega (arith, r.risen, first.later) }
+    rises any (inr same) = let r = now.faults.some (subst (λ (a : ℕ × HostedAccount). a.1.faults ≢ 0) (sym same) any.4) in record { later = omega (arith, r.later, first.later); risen = omega (arith, r.risen, first.later) }
 
 -- ---- the site's own calls
 
 -- what becomes of an account that isn't opened is no call of the site
-pub kept_refused : (uid : ℕ) (fault : OpenFault) (old new : Refused) → new ≡ old → IsRefusedAs (stop_at uid fault) old new
+pub kept_refused : (uid : ℕ) (fault : OpenFault) (old new : RefusedCalls) → new ≡ old → IsRefusedAs (stop_at uid fault) old new
 kept_refused uid opening.Keeper old new same = same
 kept_refused uid opening.Memory old new same = same
 kept_refused uid (opening.BadCollection n) old new same = same
@@ -215,11 +215,11 @@ kept_refused uid (opening.BadRow n) old new same = same
 kept_refused uid (opening.BadBatch n) old new same = same
 
 -- the same stop, by counts that are the same
-pub refused_on : (stop : Stop) (old mid new : Refused) → new ≡ mid → IsRefusedAs stop old mid → IsRefusedAs stop old new
-refused_on stop old mid new same is = subst (λ (r : Refused). IsRefusedAs stop old r) (sym same) is
+pub refused_on : (stop : Stop) (old mid new : RefusedCalls) → new ≡ mid → IsRefusedAs stop old mid → IsRefusedAs stop old new
+refused_on stop old mid new same is = subst (λ (r : RefusedCalls). IsRefusedAs stop old r) (sym same) is
 
-pub refused_from : (stop : Stop) (old mid new : Refused) → mid ≡ old → IsRefusedAs stop mid new → IsRefusedAs stop old new
-refused_from stop old mid new same is = subst (λ (r : Refused). IsRefusedAs stop r new) same is
+pub refused_from : (stop : Stop) (old mid new : RefusedCalls) → mid ≡ old → IsRefusedAs stop mid new → IsRefusedAs stop old new
+refused_from stop old mid new same is = subst (λ (r : RefusedCalls). IsRefusedAs stop r new) same is
 
 pub untold_refused : (stop : Stop) (old new : Counts) → IsUntold old new stop → IsRefusedAs stop old.refused new.refused
 untold_refused stops.Site old new why = (why.failed, why.damaged)

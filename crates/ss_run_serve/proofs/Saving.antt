@@ -13,8 +13,8 @@ use Rattle.ss_site.specs.Sites.{Counts, Term}
 use Rattle.ss_words.specs.declared.commands.LogFolder.{LogFolder}
 use Rattle.ss_run_serve.specs.declared.stop.Stop.{Stop}
 use Rattle.ss_run_serve.specs.declared.stop.Stop.TheVariants as stops
-use Rattle.ss_run_serve.specs.Logs.{Named, saved_of, logs_of_term, logs_of, last_named, AreSaved, ArePartlySaved}
-use Rattle.ss_run_serve.specs.Logs.{AreLogged, AreLoggedAt, AreLoggedOnce, IsCut, HasCut}
+use Rattle.ss_run_serve.specs.Logs.{NamedLog, saved_of, logs_of_term, logs_of, last_named, AreSavedLogs, ArePartlySaved}
+use Rattle.ss_run_serve.specs.Logs.{AreLoggedUntil, AreLoggedAt, AreLoggedOnce, IsWhyUnsaved, HasCut}
 use Rattle.ss_run_serve.specs.Once.{IsUntold}
 use Rattle.ss_text.proofs.Basics.{same_text, bytes_eq-same}
 
@@ -28,7 +28,7 @@ or_assoc : {X : Type 0} (o p q : Option X) → option_or (option_or o p) q ≡ o
 or_assoc None p q = refl
 or_assoc (Some x) p q = refl
 
-last_append : (name : List ℕ) (xs ys : List Named) → last_named name (xs ++ ys) ≡ option_or (last_named name ys) (last_named name xs)
+last_append : (name : List ℕ) (xs ys : List NamedLog) → last_named name (xs ++ ys) ≡ option_or (last_named name ys) (last_named name xs)
 last_append name [] ys = sym (or_none (last_named name ys))
 last_append name (log ∷ xs) ys =
     ap (λ (o : Option (List ℕ)). option_or o (cond (bytes_eq log.0 name) (Some log.1) None)) (last_append name xs ys)
@@ -36,17 +36,17 @@ last_append name (log ∷ xs) ys =
 
 -- ---- saves one after the other
 
-pub none_saved : (files : Option Files) → AreSaved [] files files
+pub none_saved : (files : Option Files) → AreSavedLogs [] files files
 none_saved None = refl
 none_saved (Some files) = (files, refl, λ name. refl)
 
-pub untold_saved : (logs : List Named) → AreSaved logs None None
+pub untold_saved : (logs : List NamedLog) → AreSavedLogs logs None None
 untold_saved logs = refl
 
-pub saved_then : (xs ys : List Named) (old mid new : Option Files) → AreSaved xs old mid → AreSaved ys mid new → AreSaved (xs ++ ys) old new
-saved_then xs ys None mid new first then = subst (λ (m : Option Files). AreSaved ys m new) first then
+pub saved_then : (xs ys : List NamedLog) (old mid new : Option Files) → AreSavedLogs xs old mid → AreSavedLogs ys mid new → AreSavedLogs (xs ++ ys) old new
+saved_then xs ys None mid new first then = subst (λ (m : Option Files). AreSavedLogs ys m new) first then
 saved_then xs ys (Some old) mid new first then =
-    let later : AreSaved ys (Some first.0) new = subst (λ (m : Option Files). AreSaved ys m new) first.1 then in (
+    let later : AreSavedLogs ys (Some first.0) new = subst (λ (m : Option Files). AreSavedLogs ys m new) first.1 then in (
       later.0,
       later.1,
       λ name. later.2 name ∙ ap (λ (o : Option (List ℕ)). option_or (last_named name ys) o) (first.2 name)
@@ -58,39 +58,39 @@ one_there : (name bytes : List ℕ) (old files : Files) (other : List ℕ) (b : 
 one_there name bytes old files other true is here others = ap files (sym (same_text name other is)) ∙ here
 one_there name bytes old files other false is here others = others (λ same. false≢true (sym is ∙ bytes_eq-same name other (sym same)))
 
-pub one_saved : (name bytes : List ℕ) (old new : Option Files) → HasSaved name bytes old new → AreSaved ((name, bytes) ∷ []) old new
+pub one_saved : (name bytes : List ℕ) (old new : Option Files) → HasSaved name bytes old new → AreSavedLogs ((name, bytes) ∷ []) old new
 one_saved name bytes None new saved = saved
 one_saved name bytes (Some old) new saved =
     (saved.0, saved.1, λ other. one_there name bytes old saved.0 other (bytes_eq name other) refl saved.2.0 (λ apart. saved.2.1 other apart))
 
 -- ---- some of them
 
-pub all_partly : (logs : List Named) (old new : Option Files) → AreSaved logs old new → ArePartlySaved logs old new
+pub all_partly : (logs : List NamedLog) (old new : Option Files) → AreSavedLogs logs old new → ArePartlySaved logs old new
 all_partly logs old new saved = record { saved = logs; rest = []; are = append-nil logs; files = saved }
 
-pub none_partly : (logs : List Named) (files : Option Files) → ArePartlySaved logs files files
+pub none_partly : (logs : List NamedLog) (files : Option Files) → ArePartlySaved logs files files
 none_partly logs files = record { saved = []; rest = logs; are = refl; files = none_saved files }
 
-pub partly_then : (xs ys : List Named) (old mid new : Option Files) → AreSaved xs old mid → ArePartlySaved ys mid new → ArePartlySaved (xs ++ ys) old new
+pub partly_then : (xs ys : List NamedLog) (old mid new : Option Files) → AreSavedLogs xs old mid → ArePartlySaved ys mid new → ArePartlySaved (xs ++ ys) old new
 partly_then xs ys old mid new first then = record {
   saved = xs ++ then.saved;
   rest = then.rest;
-  are = append_assoc xs then.saved then.rest ∙ ap (λ (logs : List Named). xs ++ logs) then.are;
+  are = append_assoc xs then.saved then.rest ∙ ap (λ (logs : List NamedLog). xs ++ logs) then.are;
   files = saved_then xs then.saved old mid new first then.files;
 }
 
 -- those behind weren't
-pub partly_more : (xs ys : List Named) (old new : Option Files) → ArePartlySaved xs old new → ArePartlySaved (xs ++ ys) old new
+pub partly_more : (xs ys : List NamedLog) (old new : Option Files) → ArePartlySaved xs old new → ArePartlySaved (xs ++ ys) old new
 partly_more xs ys old new partly = record {
   saved = partly.saved;
   rest = partly.rest ++ ys;
-  are = sym (append_assoc partly.saved partly.rest ys) ∙ ap (λ (logs : List Named). logs ++ ys) partly.are;
+  are = sym (append_assoc partly.saved partly.rest ys) ∙ ap (λ (logs : List NamedLog). logs ++ ys) partly.are;
   files = partly.files;
 }
 
 -- ---- whatever the stop
 
-pub logged_of : (stop : Stop) (logs : List Named) (old new : Option Files) → AreSaved logs old new → AreLogged stop logs old new
+pub logged_of : (stop : Stop) (logs : List NamedLog) (old new : Option Files) → AreSavedLogs logs old new → AreLoggedUntil stop logs old new
 logged_of stops.PortEnded logs old new saved = saved
 logged_of stops.Terms logs old new saved = saved
 logged_of stops.Site logs old new saved = saved
@@ -101,7 +101,7 @@ logged_of (stops.Account uid fault) logs old new saved = saved
 logged_of stops.Memory logs old new saved = all_partly logs old new saved
 logged_of stops.Logs logs old new saved = all_partly logs old new saved
 
-pub logged_then : (stop : Stop) (xs ys : List Named) (old mid new : Option Files) → AreSaved xs old mid → AreLogged stop ys mid new → AreLogged stop (xs ++ ys) old new
+pub logged_then : (stop : Stop) (xs ys : List NamedLog) (old mid new : Option Files) → AreSavedLogs xs old mid → AreLoggedUntil stop ys mid new → AreLoggedUntil stop (xs ++ ys) old new
 logged_then stops.PortEnded xs ys old mid new first then = saved_then xs ys old mid new first then
 logged_then stops.Terms xs ys old mid new first then = saved_then xs ys old mid new first then
 logged_then stops.Site xs ys old mid new first then = saved_then xs ys old mid new first then
@@ -112,11 +112,11 @@ logged_then (stops.Account uid fault) xs ys old mid new first then = saved_then 
 logged_then stops.Memory xs ys old mid new first then = partly_then xs ys old mid new first then
 logged_then stops.Logs xs ys old mid new first then = partly_then xs ys old mid new first then
 
-pub logged_once : (last : Option Stop) (logs : List Named) (old new : Option Files) → AreSaved logs old new → AreLoggedOnce last logs old new
+pub logged_once : (last : Option Stop) (logs : List NamedLog) (old new : Option Files) → AreSavedLogs logs old new → AreLoggedOnce last logs old new
 logged_once None logs old new saved = saved
 logged_once (Some stop) logs old new saved = logged_of stop logs old new saved
 
-pub cut_logged : (faults : ℕ) (stop : Stop) (logs : List Named) (old new : Option Files) → IsCut faults stop → ArePartlySaved logs old new → AreLogged stop logs old new
+pub cut_logged : (faults : ℕ) (stop : Stop) (logs : List NamedLog) (old new : Option Files) → IsWhyUnsaved faults stop → ArePartlySaved logs old new → AreLoggedUntil stop logs old new
 cut_logged faults stops.Logs logs old new cut partly = partly
 cut_logged faults stops.Memory logs old new cut partly = partly
 cut_logged faults stops.PortEnded logs old new cut partly = absurd cut
@@ -127,7 +127,7 @@ cut_logged faults (stops.Keeper uid) logs old new cut partly = absurd cut
 cut_logged faults stops.Port logs old new cut partly = absurd cut
 cut_logged faults (stops.Account uid fault) logs old new cut partly = absurd cut
 
-pub cut_has : (faults : ℕ) (stop : Stop) → IsCut faults stop → HasCut faults stop
+pub cut_has : (faults : ℕ) (stop : Stop) → IsWhyUnsaved faults stop → HasCut faults stop
 cut_has faults stops.Logs cut = cut
 cut_has faults stops.Memory cut = tt
 cut_has faults stops.PortEnded cut = absurd cut
@@ -181,7 +181,7 @@ number_more number (first ∷ terms) term = number_more (raised_count number) te
 pub logs_more : {R : Type 0} (number : ℕ) (terms : List (Term R)) (term : Term R) → logs_of number (terms ++ term ∷ []) ≡ logs_of number terms ++ logs_of_term (number_after number terms) term.journals
 logs_more number [] term = append-nil (logs_of_term number term.journals)
 logs_more number (first ∷ terms) term =
-    ap (λ (logs : List Named). logs_of_term number first.journals ++ logs) (logs_more (raised_count number) terms term)
+    ap (λ (logs : List NamedLog). logs_of_term number first.journals ++ logs) (logs_more (raised_count number) terms term)
     ∙ sym (append_assoc (logs_of_term number first.journals) (logs_of (raised_count number) terms) (logs_of_term (number_after (raised_count number) terms) term.journals))
 
 -- ---- the accounts of a term
@@ -193,22 +193,22 @@ logs_split f number xs zero = refl
 logs_split f number [] (suc i) = refl
 logs_split f number (x ∷ xs) (suc i) =
     append_assoc (saved_of number (f x)) (logs_of_term number (map f (take i xs))) (logs_of_term number (map f (drop i xs)))
-    ∙ ap (λ (logs : List Named). saved_of number (f x) ++ logs) (logs_split f number xs i)
+    ∙ ap (λ (logs : List NamedLog). saved_of number (f x) ++ logs) (logs_split f number xs i)
 
 -- one account more
 pub logs_push : {X : Type 0} (f : X → ℕ × Journal) (number : ℕ) (xs : List X) (x : X) → logs_of_term number (map f (xs ++ x ∷ [])) ≡ logs_of_term number (map f xs) ++ saved_of number (f x)
 logs_push f number [] x = append-nil (saved_of number (f x))
 logs_push f number (y ∷ xs) x =
-    ap (λ (logs : List Named). saved_of number (f y) ++ logs) (logs_push f number xs x)
+    ap (λ (logs : List NamedLog). saved_of number (f y) ++ logs) (logs_push f number xs x)
     ∙ sym (append_assoc (saved_of number (f y)) (logs_of_term number (map f xs)) (saved_of number (f x)))
 
-pub saved_at : {X : Type 0} (f : X → ℕ × Journal) (number : ℕ) (xs : List X) (i : ℕ) (x : X) (old mid new : Option Files) → i < length xs → x ≡ get_or xs i x → AreSaved (logs_of_term number (map f (take i xs))) old mid
-    → AreSaved (saved_of number (f x)) mid new → AreSaved (logs_of_term number (map f (take (i + 1) xs))) old new
+pub saved_at : {X : Type 0} (f : X → ℕ × Journal) (number : ℕ) (xs : List X) (i : ℕ) (x : X) (old mid new : Option Files) → i < length xs → x ≡ get_or xs i x → AreSavedLogs (logs_of_term number (map f (take i xs))) old mid
+    → AreSavedLogs (saved_of number (f x)) mid new → AreSavedLogs (logs_of_term number (map f (take (i + 1) xs))) old new
 saved_at f number xs i x old mid new inside here first then =
     let more : take (i + 1) xs ≡ take i xs ++ x ∷ [] = take_more xs i x inside ∙ ap (λ (y : _). take i xs ++ y ∷ []) (sym here) in
-    subst (λ (logs : List Named). AreSaved logs old new) (sym (logs_push f number (take i xs) x) ∙ ap (λ (ys : _). logs_of_term number (map f ys)) (sym more))
+    subst (λ (logs : List NamedLog). AreSavedLogs logs old new) (sym (logs_push f number (take i xs) x) ∙ ap (λ (ys : _). logs_of_term number (map f ys)) (sym more))
     (saved_then (logs_of_term number (map f (take i xs))) (saved_of number (f x)) old mid new first then)
 
 -- some of the logs of the accounts up to a place
-pub partly_at : {X : Type 0} (f : X → ℕ × Journal) (number : ℕ) (xs : List X) (i : ℕ) (old new : Option Files) → AreSaved (logs_of_term number (map f (take i xs))) old new → ArePartlySaved (logs_of_term number (map f xs)) old new
+pub partly_at : {X : Type 0} (f : X → ℕ × Journal) (number : ℕ) (xs : List X) (i : ℕ) (old new : Option Files) → AreSavedLogs (logs_of_term number (map f (take i xs))) old new → ArePartlySaved (logs_of_term number (map f xs)) old new
 partly_at f number xs i old new saved = record { saved = logs_of_term number (map f (take i xs)); rest = logs_of_term number (map f (drop i xs)); are = logs_split f number xs i; files = saved }

@@ -15,12 +15,12 @@ use Rattle.ss_site.specs.Sites.{Counts, CountsPort, RoseUnless, Term}
 use Rattle.ss_serve.specs.declared.report.LinkReport.{LinkReport}
 use Rattle.ss_run_serve.specs.declared.stop.Stop.{Stop}
 use Rattle.ss_run_serve.specs.declared.stop.Stop.TheVariants as stops
-use Rattle.ss_run_serve.specs.Hosted.{Hosted}
+use Rattle.ss_run_serve.specs.Hosted.{HostedAccount}
 use Rattle.ss_run_serve.specs.Retiring.{uids_in}
-use Rattle.ss_run_serve.specs.Terms.{links_of, short_of, AreTerms, AreTold, KeeperFailed}
+use Rattle.ss_run_serve.specs.Terms.{links_of, short_of, AreTerms, AreToldTerms, KeeperFailed}
 use Rattle.ss_run_serve.specs.Once.{IsUntold}
 use Rattle.ss_run_serve.specs.Course.{CameTo, Course, ServedUntil, Stops}
-use Rattle.ss_run_serve.specs.Logs.{logs_of, AreLogged}
+use Rattle.ss_run_serve.specs.Logs.{logs_of, AreLoggedUntil}
 use Rattle.ss_run_serve.proofs.Anew.{left_themselves}
 use Rattle.ss_run_serve.proofs.Progress.{all_of, told_none}
 use Rattle.ss_run_serve.proofs.Retired.{refused_on, untold_refused}
@@ -33,12 +33,12 @@ port_faults (suc n) before now rose = (rose.some (omega arith)).later
 module _ {L : Type 0} where
   -- the logs of terms were saved, from this number on
   abbrev pub Kept : Stop → ℕ → Option Files → Option Files → List (Term (LinkReport L)) → Type 0
-  Kept stop number logs logs' told = AreLogged stop (logs_of number told) logs logs'
+  Kept stop number logs logs' told = AreLoggedUntil stop (logs_of number told) logs logs'
 
 module _ {L : Type 0} (manner : Manner) (tells : L → Meanings) (closed : L → Bool) (says : ℕ → ℕ → Bool → Type 0) where
   -- accounts that were served until the port was shut
-  pub came_to : (opened : List (ℕ × Hosted)) (coming : List (Option (List ℕ))) (clocks : List (Option (List ℕ))) (connections asked : ℕ) (told told' : Option (List (Term (LinkReport L)))) (old mid new : Counts) (port : Accepts)
-      (accounts : List (ℕ × Hosted)) (stop : Stop) (number : ℕ) (logs logs' : Option Files) → coming ≡ clocks → Course manner tells closed says opened coming connections asked told told' old mid port accounts stop number logs logs'
+  pub came_to : (opened : List (ℕ × HostedAccount)) (coming : List (Option (List ℕ))) (clocks : List (Option (List ℕ))) (connections asked : ℕ) (told told' : Option (List (Term (LinkReport L)))) (old mid new : Counts) (port : Accepts)
+      (accounts : List (ℕ × HostedAccount)) (stop : Stop) (number : ℕ) (logs logs' : Option Files) → coming ≡ clocks → Course manner tells closed says opened coming connections asked told told' old mid port accounts stop number logs logs'
       → CountsPort port mid new → CameTo manner tells closed says opened clocks connections asked told told' old new accounts stop (Kept stop number logs logs')
   came_to opened coming clocks connections asked told told' old mid new port accounts stop number logs logs' long course shut = record {
     terms = course.terms;
@@ -81,7 +81,7 @@ module _ {L : Type 0} (manner : Manner) (tells : L → Meanings) (closed : L →
       stopped terms stops.Logs why = tt
 
   -- accounts that weren't served, since there were no clocks or no port
-  pub came_to_none : (opened : List (ℕ × Hosted)) (clocks : List (Option (List ℕ))) (connections asked : ℕ) (told : Option (List (Term (LinkReport L)))) (old new : Counts) (stop : Stop) (Logged : List (Term (LinkReport L)) → Type 0) → Logged [] → IsUntold old new stop
+  pub came_to_none : (opened : List (ℕ × HostedAccount)) (clocks : List (Option (List ℕ))) (connections asked : ℕ) (told : Option (List (Term (LinkReport L)))) (old new : Counts) (stop : Stop) (Logged : List (Term (LinkReport L)) → Type 0) → Logged [] → IsUntold old new stop
       → CameTo manner tells closed says opened clocks connections asked told told old new opened stop Logged
   came_to_none opened clocks connections asked told old new stop Logged none why = record {
     terms = [];
@@ -139,14 +139,14 @@ module _ {L : Type 0} (manner : Manner) (tells : L → Meanings) (closed : L →
       stopped stops.Logs why = absurd why
 
   -- the same after calls that told the site no term
-  pub came_to_unserved : (opened : List (ℕ × Hosted)) (clocks : List (Option (List ℕ))) (connections asked : ℕ) (told told' : Option (List (Term (LinkReport L)))) (old mid new : Counts) (stop : Stop) (Logged : List (Term (LinkReport L)) → Type 0) → Logged [] → told' ≡ told → mid ≡ old → IsUntold mid new stop
+  pub came_to_unserved : (opened : List (ℕ × HostedAccount)) (clocks : List (Option (List ℕ))) (connections asked : ℕ) (told told' : Option (List (Term (LinkReport L)))) (old mid new : Counts) (stop : Stop) (Logged : List (Term (LinkReport L)) → Type 0) → Logged [] → told' ≡ told → mid ≡ old → IsUntold mid new stop
       → CameTo manner tells closed says opened clocks connections asked told told' old new opened stop Logged
   came_to_unserved opened clocks connections asked told told' old mid new stop Logged none same first why =
       subst (λ (t : Option (List (Term (LinkReport L)))). CameTo manner tells closed says opened clocks connections asked told t old new opened stop Logged) (sym same)
       (came_to_none opened clocks connections asked told old new stop Logged none (subst (λ (c : Counts). IsUntold c new stop) first why))
 
-  pub came_to_shut : (opened : List (ℕ × Hosted)) (coming : List (Option (List ℕ))) (clocks : List (Option (List ℕ))) (connections asked : ℕ) (told first last told' : Option (List (Term (LinkReport L)))) (old begun mid new : Counts) (port : Accepts)
-      (accounts : List (ℕ × Hosted)) (stop : Stop) (number : ℕ) (logs logs' : Option Files) → first ≡ told → told' ≡ last → begun ≡ old → coming ≡ clocks
+  pub came_to_shut : (opened : List (ℕ × HostedAccount)) (coming : List (Option (List ℕ))) (clocks : List (Option (List ℕ))) (connections asked : ℕ) (told first last told' : Option (List (Term (LinkReport L)))) (old begun mid new : Counts) (port : Accepts)
+      (accounts : List (ℕ × HostedAccount)) (stop : Stop) (number : ℕ) (logs logs' : Option Files) → first ≡ told → told' ≡ last → begun ≡ old → coming ≡ clocks
       → Course manner tells closed says opened coming connections asked first last begun mid port accounts stop number logs logs'
       → CountsPort port mid new → CameTo manner tells closed says opened clocks connections asked told told' old new accounts stop (Kept stop number logs logs')
   came_to_shut opened coming clocks connections asked told first last told' old begun mid new port accounts stop number logs logs' same same' counts long course shut =

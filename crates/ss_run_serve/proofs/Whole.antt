@@ -17,15 +17,16 @@ use Rattle.ss_words.specs.declared.commands.ServeCommand.{ServeCommand}
 use Rattle.ss_serve.specs.declared.report.LinkReport.{LinkReport}
 use Rattle.ss_run_serve.specs.declared.stop.Stop.{Stop}
 use Rattle.ss_run_serve.specs.declared.stop.Stop.TheVariants as stops
-use Rattle.ss_run_serve.specs.Hosted.{Hosted, IsBegun, Stands, left_by}
-use Rattle.ss_run_serve.specs.Opening.{AreAsBefore, CountsFaults, OpensAccount, IsUnopened, RefusesOne}
+use Rattle.ss_run_serve.specs.Hosted.{HostedAccount, HasEmptyJournal, Stands, left_by}
+use Rattle.ss_run_serve.specs.Opening.{AreAsBefore, CountsFaults, OpensAccount, IsWhyUnopened, RefusesOne}
 use Rattle.ss_run_serve.specs.Refusals.{IsRefusedAs}
 use Rattle.ss_run_serve.specs.Retiring.{uids_in, ComeBack, CountsKeepers, HaveRetired}
-use Rattle.ss_run_serve.specs.Terms.{links_of, short_of, AreTerms, AreTold, IsOneLeft, KeeperFailed}
+use Rattle.ss_run_serve.specs.Terms.{links_of, short_of, AreTerms, AreToldTerms, IsOneLeft, KeeperFailed}
 use Rattle.ss_run_serve.specs.Once.{HasFailed}
 use Rattle.ss_run_serve.specs.Course.{CameTo, ServedUntil}
 use Rattle.ss_run_serve.specs.Logs.{AreLoggedAt, LogsFailed}
-use Rattle.ss_run_serve.specs.Serving.{AreServedBy, AreKept, HasStopped, IsServed, NoneServed, OthersStay, ServedSite}
+use Rattle.ss_run_serve.specs.Serving.{AreServedBy, AreKeptAccounts, HasStopped, IsServerRun, NoneServed, OthersStay}
+use Rattle.ss_run_serve.specs.Serving.{ServedSite}
 use Rattle.ss_run_serve.proofs.Anew.{kept_same}
 use Rattle.ss_run_serve.proofs.Retired.{all_as_before, refused_on}
 use Rattle.ss_run_serve.proofs.Progress.{all_of, any_of, told_none}
@@ -33,22 +34,22 @@ use Rattle.ss_run_serve.proofs.Rising.{rose_on, rose_after}
 use Rattle.ss_run_serve.proofs.Saving.{none_logged_at}
 
 -- an account whose keeper had failed before its journal began, or has failed now, has one that has failed
-failed_now : (h : Hosted) → Stands h → (h.fixed.faults ≢ 0) ⊎ (h.faults ≢ 0) → h.faults ≢ 0
+failed_now : (h : HostedAccount) → Stands h → (h.fixed.faults ≢ 0) ⊎ (h.faults ≢ 0) → h.faults ≢ 0
 failed_now h stands (inl before) = λ none. before (omega (arith, stands.rose.later, none))
 failed_now h stands (inr now) = now
 
 -- what the keeper of an account told is the account that its journal leaves
-kept_there : (h : Hosted) (kept : Kept) → Stands h → h.told ≡ Some kept → IsKeptAccount kept (left_by h)
+kept_there : (h : HostedAccount) (kept : Kept) → Stands h → h.told ≡ Some kept → IsKeptAccount kept (left_by h)
 kept_there h kept stands told =
     let is : IsKeptAccount kept h.plain = (let P : Option Kept → Type 0 = λ (t : Option Kept). IsKeptBy t h.plain in subst P told stands.kept) in
     kept_same kept (left_by h) h.plain stands.leaves is
 
-pub opened_begun : (folder : List ℕ) (kept : Option Entries) (opened : List (ℕ × Hosted)) → All (OpensAccount folder kept) opened → All (λ (a : ℕ × Hosted). IsBegun a.1) opened
-opened_begun folder kept [] all = All-nil (λ (a : ℕ × Hosted). IsBegun a.1)
+pub opened_begun : (folder : List ℕ) (kept : Option Entries) (opened : List (ℕ × HostedAccount)) → All (OpensAccount folder kept) opened → All (λ (a : ℕ × HostedAccount). HasEmptyJournal a.1) opened
+opened_begun folder kept [] all = All-nil (λ (a : ℕ × HostedAccount). HasEmptyJournal a.1)
 opened_begun folder kept (a ∷ opened) all =
-    All-cons (λ (a : ℕ × Hosted). IsBegun a.1) a opened (All-head (OpensAccount folder kept) a opened all).begun (opened_begun folder kept opened (All-tail (OpensAccount folder kept) a opened all))
+    All-cons (λ (a : ℕ × HostedAccount). HasEmptyJournal a.1) a opened (All-head (OpensAccount folder kept) a opened all).begun (opened_begun folder kept opened (All-tail (OpensAccount folder kept) a opened all))
 
-pub opened_uids : {B : Type 0} (view : B → Hosted) (uids : List ℕ) (xs : List (ℕ × B)) → map (λ (a : ℕ × B). a.0) xs ≡ uids → uids_in (map (λ (a : ℕ × B). (a.0, view a.1)) xs) ≡ uids
+pub opened_uids : {B : Type 0} (view : B → HostedAccount) (uids : List ℕ) (xs : List (ℕ × B)) → map (λ (a : ℕ × B). a.0) xs ≡ uids → uids_in (map (λ (a : ℕ × B). (a.0, view a.1)) xs) ≡ uids
 opened_uids {B} view uids xs is = same xs ∙ is
   where
     same : (xs : List (ℕ × B)) → uids_in (map (λ (a : ℕ × B). (a.0, view a.1)) xs) ≡ map (λ (a : ℕ × B). a.0) xs
@@ -62,11 +63,11 @@ refused_same kept old new folder folder' uids uids' stop one two refused =
 module _ {L : Type 0} (tells : L → Meanings) (closed : L → Bool) (says : ℕ → ℕ → Bool → Type 0) where
   -- an account wasn't opened
   pub refused_all : (command : ServeCommand) (stop : Stop) (old new : ServedSite (LinkReport L)) → RefusesOne command.folder old.kept old.counts new.counts command.uids stop → IsRefusedAs stop old.counts.refused new.counts.refused → AreAsBefore old.kept new.kept → TellsStill old.kept new.kept
-      → CountsFaults old.counts new.counts → new.terms ≡ old.terms → new.logs ≡ old.logs → IsServed tells closed says command stop old new
+      → CountsFaults old.counts new.counts → new.terms ≡ old.terms → new.logs ≡ old.logs → IsServerRun tells closed says command stop old new
   refused_all command stop old new refused by before stays counted same unlogged = record {
     terms = [];
     told = [];
-    are_told = subst (λ (t : Option (List (Term (LinkReport L)))). AreTold [] old.terms t) (sym same) (told_none command.manner tells closed says old.terms);
+    are_told = subst (λ (t : Option (List (Term (LinkReport L)))). AreToldTerms [] old.terms t) (sym same) (told_none command.manner tells closed says old.terms);
     of = all_of command.manner tells closed says [] stop;
     served = inl none;
     faults = λ any. absurd (omega (arith, any.2));
@@ -80,7 +81,7 @@ module _ {L : Type 0} (tells : L → Meanings) (closed : L → Bool) (says : ℕ
       none : NoneServed [] old new
       none = record { none = refl; links = counted.links; kept = before }
 
-      why : (s : Stop) (uid : ℕ) → Contains command.uids uid → IsUnopened command.folder old.kept old.counts new.counts uid s → HasStopped command [] old new s
+      why : (s : Stop) (uid : ℕ) → Contains command.uids uid → IsWhyUnopened command.folder old.kept old.counts new.counts uid s → HasStopped command [] old new s
       why stops.Site uid there is = is
       why (stops.Damaged u) uid there is = (subst (λ (v : ℕ). Contains command.uids v) (sym is.0) there, is.1, none)
       why (stops.Keeper u) uid there is = (subst (λ (v : ℕ). Contains command.uids v) (sym is.0) there, is.1, none)
@@ -91,19 +92,19 @@ module _ {L : Type 0} (tells : L → Meanings) (closed : L → Bool) (says : ℕ
       why stops.Port uid there is = absurd is
       why stops.Logs uid there is = absurd is
 
-      stopped : (stop ≡ stops.Memory) ⊎ Any (λ (uid : ℕ). IsUnopened command.folder old.kept old.counts new.counts uid stop) command.uids → HasStopped command [] old new stop
+      stopped : (stop ≡ stops.Memory) ⊎ Any (λ (uid : ℕ). IsWhyUnopened command.folder old.kept old.counts new.counts uid stop) command.uids → HasStopped command [] old new stop
       stopped (inl memory) = subst (λ (s : Stop). HasStopped command [] old new s) (sym memory) tt
       stopped (inr any) = why stop any.1 (any.0, any.2, any.3) any.4
 
   -- accounts were opened, served, and given back
-  pub served_all : (command : ServeCommand) (stop : Stop) (old mid new : ServedSite (LinkReport L)) (opened accounts : List (ℕ × Hosted)) → uids_in opened ≡ command.uids → All (OpensAccount command.folder old.kept) opened
+  pub served_all : (command : ServeCommand) (stop : Stop) (old mid new : ServedSite (LinkReport L)) (opened accounts : List (ℕ × HostedAccount)) → uids_in opened ≡ command.uids → All (OpensAccount command.folder old.kept) opened
       → CameTo command.manner tells closed says opened (replicate command.workers old.readings) command.connections command.terms old.terms mid.terms old.counts mid.counts accounts stop (λ told. AreLoggedAt command.logs stop told old.logs mid.logs)
       → LogsFailed old.counts mid.counts stop → mid.kept ≡ old.kept → new.terms ≡ mid.terms → new.logs ≡ mid.logs
-      → HaveRetired command.folder accounts mid.kept new.kept → TellsStill mid.kept new.kept → CountsKeepers accounts mid.counts new.counts → All (λ (a : ℕ × Hosted). Stands a.1) accounts → IsServed tells closed says command stop old new
+      → HaveRetired command.folder accounts mid.kept new.kept → TellsStill mid.kept new.kept → CountsKeepers accounts mid.counts new.counts → All (λ (a : ℕ × HostedAccount). Stands a.1) accounts → IsServerRun tells closed says command stop old new
   served_all command stop old mid new opened accounts uids from came failed unchanged same unlogged retired stays counted stand = record {
     terms = came.terms;
     told = came.told;
-    are_told = subst (λ (t : Option (List (Term (LinkReport L)))). AreTold came.told old.terms t) (sym same) came.are_told;
+    are_told = subst (λ (t : Option (List (Term (LinkReport L)))). AreToldTerms came.told old.terms t) (sym same) came.are_told;
     of = came.of;
     served = served came.served;
     faults = λ marked. rose_after old.counts.faults mid.counts.faults new.counts.faults came.faults (counted.some (faulty (came.failed marked)));
@@ -128,21 +129,21 @@ module _ {L : Type 0} (tells : L → Meanings) (closed : L → Bool) (says : ℕ
       -- accounts that weren't served: their keepers told the entries
       untouched : accounts ≡ opened → AreAsBefore old.kept new.kept
       untouched is =
-          let entries : All (λ (a : ℕ × Hosted). IsEntry command.folder a.0 a.1.told mid.kept) accounts = subst (λ (k : Option Entries). All (λ (a : ℕ × Hosted). IsEntry command.folder a.0 a.1.told k) accounts) (sym unchanged)
-          (subst (λ (accs : List (ℕ × Hosted)). All (λ (a : ℕ × Hosted). IsEntry command.folder a.0 a.1.told old.kept) accs) (sym is)
-          (All-weaker (OpensAccount command.folder old.kept) (λ (a : ℕ × Hosted). IsEntry command.folder a.0 a.1.told old.kept) (λ a o. o.entry) opened from)) in
+          let entries : All (λ (a : ℕ × HostedAccount). IsEntry command.folder a.0 a.1.told mid.kept) accounts = subst (λ (k : Option Entries). All (λ (a : ℕ × HostedAccount). IsEntry command.folder a.0 a.1.told k) accounts) (sym unchanged)
+          (subst (λ (accs : List (ℕ × HostedAccount)). All (λ (a : ℕ × HostedAccount). IsEntry command.folder a.0 a.1.told old.kept) accs) (sym is)
+          (All-weaker (OpensAccount command.folder old.kept) (λ (a : ℕ × HostedAccount). IsEntry command.folder a.0 a.1.told old.kept) (λ a o. o.entry) opened from)) in
           subst (λ (k : Option Entries). AreAsBefore k new.kept) unchanged (all_as_before command.folder accounts mid.kept new.kept entries retired)
 
       no_links : came.terms ≡ [] → new.counts.links ≡ old.counts.links
       no_links none = (let rose : RoseBy 0 old.counts.links new.counts.links = subst (λ (ts : List (Term (LinkReport L))). RoseBy (links_of ts) old.counts.links new.counts.links) none links in omega (arith, rose.later, rose.most))
 
       kept_of : (before entries : Entries) → ComeBack command.folder accounts before entries → (uid : ℕ) → Contains (uids_in accounts) uid
-          → Any (λ (a : ℕ × Hosted). (a.0 ≡ uid) × IsKeptAccount (entries command.folder uid) (left_by a.1)) came.handed
+          → Any (λ (a : ℕ × HostedAccount). (a.0 ≡ uid) × IsKeptAccount (entries command.folder uid) (left_by a.1)) came.handed
       kept_of before entries back uid listed =
           let any = back.listed uid listed in
           let there : Contains accounts any.1 = (any.0, any.2, any.3) in
           let left = All-contains (IsOneLeft came.handed) accounts any.1 came.left there in
-          let kept : IsKeptAccount (entries command.folder uid) (left_by any.1.1) = kept_there any.1.1 (entries command.folder uid) (All-contains (λ (a : ℕ × Hosted). Stands a.1) accounts any.1 stand there) any.4.1 in
+          let kept : IsKeptAccount (entries command.folder uid) (left_by any.1.1) = kept_there any.1.1 (entries command.folder uid) (All-contains (λ (a : ℕ × HostedAccount). Stands a.1) accounts any.1 stand there) any.4.1 in
           (left.0, left.1, left.2, left.3, (left.4.0 ∙ any.4.0, kept_same (entries command.folder uid) (left_by left.1.1) (left_by any.1.1) left.4.1 kept))
 
       served : (((came.terms ≡ []) × (accounts ≡ opened)) ⊎ ((coming' : List (Option (List ℕ))) × AreTerms command.manner tells closed says opened (replicate command.workers old.readings) came.terms came.handed coming'))
@@ -161,10 +162,10 @@ module _ {L : Type 0} (tells : L → Meanings) (closed : L → Bool) (says : ℕ
         kept = λ entries is uid listed. kept_of (retired entries is).0 entries (retired entries is).2 uid (Contains-permutation command.uids (uids_in accounts) uid moved listed);
       })
 
-      faulty : Any HasFailed accounts → Any (λ (a : ℕ × Hosted). a.1.faults ≢ 0) accounts
+      faulty : Any HasFailed accounts → Any (λ (a : ℕ × HostedAccount). a.1.faults ≢ 0) accounts
       faulty any =
           let there : Contains accounts any.1 = (any.0, any.2, any.3) in
-          any_of (λ (a : ℕ × Hosted). a.1.faults ≢ 0) accounts any.1 there (failed_now any.1.1 (All-contains (λ (a : ℕ × Hosted). Stands a.1) accounts any.1 stand there) any.4)
+          any_of (λ (a : ℕ × HostedAccount). a.1.faults ≢ 0) accounts any.1 there (failed_now any.1.1 (All-contains (λ (a : ℕ × HostedAccount). Stands a.1) accounts any.1 stand there) any.4)
 
       unlisted : (uid : ℕ) (f : List ℕ) → ((f ≢ command.folder) ⊎ ¬ Contains command.uids uid) → (f ≢ command.folder) ⊎ ¬ Contains (uids_in accounts) uid
       unlisted uid f (inl apart) = inl apart
@@ -185,11 +186,11 @@ module _ {L : Type 0} (tells : L → Meanings) (closed : L → Bool) (says : ℕ
       stopped stops.Logs why lost = rose lost
 
   -- the same by what the site told once the accounts were opened
-  pub served_open : (command : ServeCommand) (stop : Stop) (old first mid new : ServedSite (LinkReport L)) (opened accounts : List (ℕ × Hosted)) → uids_in opened ≡ command.uids → All (OpensAccount command.folder old.kept) opened
+  pub served_open : (command : ServeCommand) (stop : Stop) (old first mid new : ServedSite (LinkReport L)) (opened accounts : List (ℕ × HostedAccount)) → uids_in opened ≡ command.uids → All (OpensAccount command.folder old.kept) opened
       → first.counts ≡ old.counts → first.kept ≡ old.kept → first.terms ≡ old.terms → first.logs ≡ old.logs → first.readings ≡ old.readings
       → CameTo command.manner tells closed says opened (replicate command.workers first.readings) command.connections command.terms first.terms mid.terms first.counts mid.counts accounts stop (λ told. AreLoggedAt command.logs stop told first.logs mid.logs)
       → LogsFailed first.counts mid.counts stop → mid.kept ≡ first.kept → new.terms ≡ mid.terms → new.logs ≡ mid.logs
-      → HaveRetired command.folder accounts mid.kept new.kept → TellsStill mid.kept new.kept → CountsKeepers accounts mid.counts new.counts → All (λ (a : ℕ × Hosted). Stands a.1) accounts → IsServed tells closed says command stop old new
+      → HaveRetired command.folder accounts mid.kept new.kept → TellsStill mid.kept new.kept → CountsKeepers accounts mid.counts new.counts → All (λ (a : ℕ × HostedAccount). Stands a.1) accounts → IsServerRun tells closed says command stop old new
   served_open command stop old first mid new opened accounts uids from counts kept terms logs readings came failed unchanged same unlogged retired stays counted stand =
       let came : CameTo command.manner tells closed says opened (replicate command.workers old.readings) command.connections command.terms first.terms mid.terms first.counts mid.counts accounts stop (λ told. AreLoggedAt command.logs stop told first.logs mid.logs) =
       subst (λ (r : Option (List ℕ)). CameTo command.manner tells closed says opened (replicate command.workers r) command.connections command.terms first.terms mid.terms first.counts mid.counts accounts stop (λ told. AreLoggedAt command.logs stop told first.logs mid.logs)) readings came in

@@ -12,16 +12,16 @@ use Rattle.ss_route.specs.declared.manner.Manner.{Manner}
 use Rattle.ss_serve.specs.declared.report.LinkReport.{LinkReport}
 use Rattle.ss_run_serve.specs.declared.stop.Stop.{Stop}
 use Rattle.ss_run_serve.specs.declared.stop.Stop.TheVariants as stops
-use Rattle.ss_run_serve.specs.Hosted.{Hosted, left_by}
+use Rattle.ss_run_serve.specs.Hosted.{HostedAccount, left_by}
 use Rattle.ss_run_serve.specs.Refusals.{IsRefusedAs}
 use Rattle.ss_run_serve.specs.Opening.{CountsFaults}
 use Rattle.ss_run_serve.specs.Retiring.{uids_in}
-use Rattle.ss_run_serve.specs.Terms.{links_of, short_of, AreTerms, AreTold, IsOneLeft, KeeperFailed}
+use Rattle.ss_run_serve.specs.Terms.{links_of, short_of, AreTerms, AreToldTerms, IsOneLeft, KeeperFailed}
 use Rattle.ss_run_serve.specs.Once.{HasFailed}
-use Rattle.ss_run_serve.specs.Logs.{logs_of, AreLogged}
+use Rattle.ss_run_serve.specs.Logs.{logs_of, AreLoggedUntil}
 
 -- the same account, over a keeper that has not failed meanwhile
-pub record SameKeeper (before after : ℕ × Hosted) : Type 0 where
+pub record SameKeeper (before after : ℕ × HostedAccount) : Type 0 where
   pub uid : after.0 ≡ before.0
   pub faults : after.1.faults ≡ before.1.faults
   pub left : SameAccount (left_by before.1) (left_by after.1)
@@ -55,14 +55,14 @@ module _ {L : Type 0} where
   module _ (manner : Manner) (tells : L → Meanings) (closed : L → Bool) (says : ℕ → ℕ → Bool → Type 0) where
     -- the terms of accounts and clocks, in one manner, of so many connections each, and of these as many as were asked or without end; the logs of
     -- those that the site was told, from this number on; the accounts that come back then are those that the last one left; and why
-    pub record Course (opened : List (ℕ × Hosted)) (coming : List (Option (List ℕ))) (connections asked : ℕ) (before after : Option (List (Term (LinkReport L)))) (old new : Counts) (port : Accepts)
-        (accounts : List (ℕ × Hosted)) (stop : Stop) (number : ℕ) (logs logs' : Option Files) : Type 0 where
+    pub record Course (opened : List (ℕ × HostedAccount)) (coming : List (Option (List ℕ))) (connections asked : ℕ) (before after : Option (List (Term (LinkReport L)))) (old new : Counts) (port : Accepts)
+        (accounts : List (ℕ × HostedAccount)) (stop : Stop) (number : ℕ) (logs logs' : Option Files) : Type 0 where
       pub terms : List (Term (LinkReport L))
       pub told : List (Term (LinkReport L))
-      pub are_told : AreTold told before after
+      pub are_told : AreToldTerms told before after
       pub of : IsToldOf stop terms told
-      pub logged : AreLogged stop (logs_of number told) logs logs'
-      pub handed : List (ℕ × Hosted)
+      pub logged : AreLoggedUntil stop (logs_of number told) logs logs'
+      pub handed : List (ℕ × HostedAccount)
       pub coming' : List (Option (List ℕ))
       pub are : AreTerms manner tells closed says opened coming terms handed coming'
       pub within : AreWithin connections asked terms
@@ -97,14 +97,14 @@ module _ {L : Type 0} where
     -- what came of accounts that are open, once the port was shut: none were served, and they come back as they are, or these terms
     -- served them in this manner, with clocks of which this is to come; all links are counted that are reported; and what is said of the logs
     -- of the terms that the site was told
-    pub record CameTo (opened : List (ℕ × Hosted)) (coming : List (Option (List ℕ))) (connections asked : ℕ) (before after : Option (List (Term (LinkReport L)))) (old new : Counts) (accounts : List (ℕ × Hosted)) (stop : Stop)
+    pub record CameTo (opened : List (ℕ × HostedAccount)) (coming : List (Option (List ℕ))) (connections asked : ℕ) (before after : Option (List (Term (LinkReport L)))) (old new : Counts) (accounts : List (ℕ × HostedAccount)) (stop : Stop)
         (Logged : List (Term (LinkReport L)) → Type 0) : Type 0 where
       pub terms : List (Term (LinkReport L))
       pub told : List (Term (LinkReport L))
-      pub are_told : AreTold told before after
+      pub are_told : AreToldTerms told before after
       pub of : IsToldOf stop terms told
       pub logged : Logged told
-      pub handed : List (ℕ × Hosted)
+      pub handed : List (ℕ × HostedAccount)
       pub served : ((terms ≡ []) × (accounts ≡ opened)) ⊎ ((coming' : List (Option (List ℕ))) × AreTerms manner tells closed says opened coming terms handed coming')
       pub within : AreWithin connections asked terms
       pub links : RoseBy (links_of terms) old.links new.links

@@ -16,7 +16,7 @@ use Rattle.ss_booked.specs.Turns.{journal_on}
 
 -- an account with its journal and its keeper: what no call of its term changes, what was entered in the term, the account now,
 -- what its keeper tells, and how often that has failed
-pub record Hosted : Type 0 where
+pub record HostedAccount : Type 0 where
   pub fixed : Terms
   pub entries : List Entry
   pub plain : Plain
@@ -25,8 +25,8 @@ pub record Hosted : Type 0 where
 
 module _ {K : Type 0} {G : Ghosts K} (told : K → Option Kept) (faults : K → ℕ) where
   -- the same of a value of the program
-  abbrev pub hosted : Booked K G → Hosted
-  hosted b = record {
+  abbrev pub hosted_account : Booked K G → HostedAccount
+  hosted_account b = record {
     fixed = terms_of faults b;
     entries = (journal_of b).entries;
     plain = (account_of b).plain;
@@ -35,25 +35,25 @@ module _ {K : Type 0} {G : Ghosts K} (told : K → Option Kept) (faults : K → 
   }
 
   -- and with its uid
-  abbrev pub hosted_at : ℕ × Booked K G → ℕ × Hosted
-  hosted_at account = (account.0, hosted account.1)
+  abbrev pub hosted_at : ℕ × Booked K G → ℕ × HostedAccount
+  hosted_at account = (account.0, hosted_account account.1)
 
 -- its journal
-abbrev pub journal_in : Hosted → Journal
+abbrev pub journal_in : HostedAccount → Journal
 journal_in h = journal_on h.fixed h.entries
 
 -- the account that its journal leaves
-abbrev pub left_by : Hosted → Plain
+abbrev pub left_by : HostedAccount → Plain
 left_by h = account_after h.fixed.opening h.entries
 
 -- what always holds of it: its journal leaves the account, whatever the order of its rows, collections and batches; its keeper
 -- holds it, where that is told; and since the journal began the keeper failed at least as often as the journal says
-pub record Stands (h : Hosted) : Type 0 where
+pub record Stands (h : HostedAccount) : Type 0 where
   pub leaves : SameAccount (left_by h) h.plain
   pub kept : IsKeptBy h.told h.plain
   pub rose : RoseBy (keeper_marks h.entries) h.fixed.faults h.faults
 
 -- its journal has no entries yet
-pub record IsBegun (h : Hosted) : Type 0 where
+pub record HasEmptyJournal (h : HostedAccount) : Type 0 where
   pub entries : h.entries ≡ []
   pub counted : h.fixed.faults ≡ h.faults

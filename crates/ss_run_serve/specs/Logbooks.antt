@@ -2,7 +2,7 @@
 use Rattle.std.specs.Prelude.{◌≡◌, ℕ, Bool, true, false, Option, Some, None, is_some, option_and_then}
 use Rattle.std.specs.Option.{option_map_or}
 use Rattle.ss_links.specs.Stores.{Files}
-use Rattle.ss_site.specs.Sites.{Counts, CountsStore, IsBack, IsGiven, Lent}
+use Rattle.ss_site.specs.Sites.{Counts, CountsStore, IsBack, GivesOneMore, LentParts}
 use Rattle.ss_words.specs.declared.commands.LogFolder.{LogFolder}
 use Rattle.ss_run_serve.specs.declared.logbook.Logbook.{Logbook}
 
@@ -30,16 +30,16 @@ IsBookOf None kept number files logs = kept ≡ false
 IsBookOf (Some folder) kept number files logs = (kept ≡ true) × (number ≡ folder.from) × (files ≡ logs)
 
 -- what a site gave for a book: a store, where logs are kept
-abbrev pub IsLentFor : Bool → Lent → Lent → Type 0
+abbrev pub IsLentFor : Bool → LentParts → LentParts → Type 0
 IsLentFor false old new = new ≡ old
-IsLentFor true old new = IsGiven old new
+IsLentFor true old new = GivesOneMore old new
 
 -- what a site tells of logs while a book is open, where none are kept: what it told before
-abbrev pub AreLeft : Bool → Option Files → Option Files → Type 0
-AreLeft false old new = new ≡ old
-AreLeft true old new = Unit {0}
+abbrev pub LeavesLogs : Bool → Option Files → Option Files → Type 0
+LeavesLogs false old new = new ≡ old
+LeavesLogs true old new = Unit {0}
 
 -- what a site counts and tells once a book was closed, of these files, whose store failed so often
-abbrev pub ClosesBook : Bool → Option Files → ℕ → Counts → Counts → Option Files → Option Files → Lent → Lent → Type 0
+abbrev pub ClosesBook : Bool → Option Files → ℕ → Counts → Counts → Option Files → Option Files → LentParts → LentParts → Type 0
 ClosesBook false files faults counts counts' logs logs' lent lent' = (counts' ≡ counts) × (logs' ≡ logs) × (lent' ≡ lent)
 ClosesBook true files faults counts counts' logs logs' lent lent' = CountsStore faults counts counts' × (logs' ≡ files) × IsBack lent lent'

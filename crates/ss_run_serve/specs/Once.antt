@@ -15,7 +15,7 @@ use Rattle.ss_serve.specs.Reports.{AreAllGated}
 use Rattle.ss_serve.specs.Terms.{GaveAll, HasRested, IsTerm}
 use Rattle.ss_run_serve.specs.declared.stop.Stop.{Stop}
 use Rattle.ss_run_serve.specs.declared.stop.Stop.TheVariants as stops
-use Rattle.ss_run_serve.specs.Hosted.{Hosted, journal_in}
+use Rattle.ss_run_serve.specs.Hosted.{HostedAccount, journal_in}
 use Rattle.ss_run_serve.specs.Retiring.{uids_in}
 use Rattle.ss_run_serve.specs.Terms.{IsOneLeft}
 use Rattle.ss_run_serve.specs.Logs.{logs_of_term, AreLoggedOnce}
@@ -27,7 +27,7 @@ IsUntold old new stops.Memory = new ≡ old
 IsUntold old new _ = ⊥
 
 -- the keeper of an account had failed before its journal began, or has failed now
-abbrev pub HasFailed : ℕ × Hosted → Type 0
+abbrev pub HasFailed : ℕ × HostedAccount → Type 0
 HasFailed account = (account.1.fixed.faults ≢ 0) ⊎ (account.1.faults ≢ 0)
 
 -- a further term follows where the port has not ended
@@ -57,7 +57,7 @@ IsLast connections old new (Some _) = ⊥
 -- How things stand between two terms: the accounts, what each clock is to read, the terms that the site was told, its counts, what its
 -- port has given, and the files of logs.
 pub record Standing (L : Type 0) : Type 0 where
-  pub accounts : List (ℕ × Hosted)
+  pub accounts : List (ℕ × HostedAccount)
   pub coming : List (Option (List ℕ))
   pub terms : Option (List (Term (LinkReport L)))
   pub counts : Counts
@@ -65,7 +65,7 @@ pub record Standing (L : Type 0) : Type 0 where
   pub logs : Option Files
 
 module _ {L : Type 0} where
-  abbrev pub stand : List (ℕ × Hosted) → List (Option (List ℕ)) → Option (List (Term (LinkReport L))) → Counts → Accepts → Option Files → Standing L
+  abbrev pub stand : List (ℕ × HostedAccount) → List (Option (List ℕ)) → Option (List (Term (LinkReport L))) → Counts → Accepts → Option Files → Standing L
   stand accounts coming terms counts port logs = record { accounts = accounts; coming = coming; terms = terms; counts = counts; port = port; logs = logs }
 
   -- no term took place: the accounts come back as they were left, and the server stops
@@ -83,7 +83,7 @@ module _ {L : Type 0} where
   module _ (manner : Manner) (tells : L → Meanings) (closed : L → Bool) (says : ℕ → ℕ → Bool → Type 0) where
     -- a term took place in this manner: its reports are of all links that the port gave, and its journals those of the accounts that come back.
     -- Of each response the server's gate was asked
-    pub record TookPlace (given handed : List (ℕ × Hosted)) (coming coming' : List (Option (List ℕ))) (connections : ℕ) (port port' : Accepts) (term : Term (LinkReport L)) : Type 0 where
+    pub record TookPlace (given handed : List (ℕ × HostedAccount)) (coming coming' : List (Option (List ℕ))) (connections : ℕ) (port port' : Accepts) (term : Term (LinkReport L)) : Type 0 where
       pub journals : term.journals ≡ map (λ account. (account.0, journal_in account.1)) handed
       pub served : IsTerm (λ account. account.fixed) (λ account. account.entries) (λ account. account.faults) manner tells closed given handed term.reports coming coming'
       pub gated : AreAllGated says term.reports
@@ -101,7 +101,7 @@ module _ {L : Type 0} where
       pub took : TookPlace before.accounts after.accounts before.coming after.coming connections before.port after.port term
 
     -- a term took place, the site was told, and then the logs were saved
-    pub record IsDone (connections number : ℕ) (last : Option Stop) (before after : Standing L) : Type 0 where
+    pub record IsToldTerm (connections number : ℕ) (last : Option Stop) (before after : Standing L) : Type 0 where
       pub term : Term (LinkReport L)
       pub told : HasAdded term before.terms after.terms
       pub took : TookPlace before.accounts after.accounts before.coming after.coming connections before.port after.port term
@@ -111,4 +111,4 @@ module _ {L : Type 0} where
 
     -- one of the three: at most so many connections are served, the term has this number, and no further one follows for this cause
     abbrev pub IsOnce : ℕ → ℕ → Option Stop → Standing L → Standing L → Type 0
-    IsOnce connections number last before after = IsLost last before after ⊎ IsUnheard connections last before after ⊎ IsDone connections number last before after
+    IsOnce connections number last before after = IsLost last before after ⊎ IsUnheard connections last before after ⊎ IsToldTerm connections number last before after

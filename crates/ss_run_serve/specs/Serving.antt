@@ -17,11 +17,11 @@ use Rattle.ss_serve.specs.declared.report.LinkReport.{LinkReport}
 use Rattle.ss_run_serve.specs.declared.stop.Stop.{Stop}
 use Rattle.ss_run_serve.specs.declared.stop.Stop.TheVariants as stops
 use Rattle.ss_run_serve.specs.Statuses.{status_of}
-use Rattle.ss_run_serve.specs.Hosted.{Hosted, left_by}
-use Rattle.ss_run_serve.specs.Opening.{AreAsBefore, IsBad, OpensAccount, IsUnopened}
+use Rattle.ss_run_serve.specs.Hosted.{HostedAccount, left_by}
+use Rattle.ss_run_serve.specs.Opening.{AreAsBefore, IsBad, OpensAccount, IsWhyUnopened}
 use Rattle.ss_run_serve.specs.Refusals.{IsRefusedAs}
 use Rattle.ss_run_serve.specs.Retiring.{uids_in}
-use Rattle.ss_run_serve.specs.Terms.{links_of, AreTerms, AreTold, KeeperFailed}
+use Rattle.ss_run_serve.specs.Terms.{links_of, AreTerms, AreToldTerms, KeeperFailed}
 use Rattle.ss_run_serve.specs.Course.{AreWithin, IsServedOut, IsToldOf}
 use Rattle.ss_run_serve.specs.Logs.{AreLoggedAt}
 
@@ -39,8 +39,8 @@ OthersStay folder uids old new =
     (after : Entries) → new ≡ Some after → (before : Entries) × (old ≡ Some before) × ((f : List ℕ) (uid : ℕ) → ((f ≢ folder) ⊎ ¬ Contains uids uid) → after f uid ≡ before f uid)
 
 -- where the entries are told, what is kept under each of these uids is the account that the journal of its account leaves
-abbrev pub AreKept : List ℕ → List ℕ → List (ℕ × Hosted) → Option Entries → Type 0
-AreKept folder uids accounts kept =
+abbrev pub AreKeptAccounts : List ℕ → List ℕ → List (ℕ × HostedAccount) → Option Entries → Type 0
+AreKeptAccounts folder uids accounts kept =
     (entries : Entries) → kept ≡ Some entries → (uid : ℕ) → Contains uids uid → Any (λ account. (account.0 ≡ uid) × IsKeptAccount (entries folder uid) (left_by account.1)) accounts
 
 module _ {L : Type 0} where
@@ -68,24 +68,24 @@ module _ {L : Type 0} where
     -- served by these terms, in the command's manner of reading conditions, no more than were asked, each of at most so many connections.
     -- There are as many reports as the port gave links, and what is kept of each listed account is what the last term left of it
     pub record AreServedBy (command : ServeCommand) (terms : List (Term (LinkReport L))) (old new : ServedSite (LinkReport L)) : Type 0 where
-      pub opened : List (ℕ × Hosted)
+      pub opened : List (ℕ × HostedAccount)
       pub uids : uids_in opened ≡ command.uids
       pub from : All (OpensAccount command.folder old.kept) opened
-      pub handed : List (ℕ × Hosted)
+      pub handed : List (ℕ × HostedAccount)
       pub coming' : List (Option (List ℕ))
       pub are : AreTerms command.manner tells closed says opened (replicate command.workers old.readings) terms handed coming'
       pub within : AreWithin command.connections command.terms terms
       pub links : RoseBy (links_of terms) old.counts.links new.counts.links
       pub back : IsPermutation command.uids (uids_in handed)
-      pub kept : AreKept command.folder command.uids handed new.kept
+      pub kept : AreKeptAccounts command.folder command.uids handed new.kept
 
     -- What a server did that stopped so, by what its site tells before and after
-    pub record IsServed (command : ServeCommand) (stop : Stop) (old new : ServedSite (LinkReport L)) : Type 0 where
+    pub record IsServerRun (command : ServeCommand) (stop : Stop) (old new : ServedSite (LinkReport L)) : Type 0 where
       -- the terms that it served, and those of them that the site was told: all, or after a fault of the site or for want of memory
       -- perhaps all but the last
       pub terms : List (Term (LinkReport L))
       pub told : List (Term (LinkReport L))
-      pub are_told : AreTold told old.terms new.terms
+      pub are_told : AreToldTerms told old.terms new.terms
       pub of : IsToldOf stop terms told
       -- whatever the stop, all of them count: no account was served, or what is kept is what they left
       pub served : NoneServed terms old new ⊎ AreServedBy command terms old new
@@ -104,6 +104,6 @@ module _ {L : Type 0} where
     -- The words ask for a server, and it was one; or they ask none, and nothing was done. The same with 8, where no memory was found
     -- to read them
     pub data Runs (words : List (List ℕ)) (status : ℕ) (old new : ServedSite (LinkReport L)) : Type 0 where
-      serves : (command : ServeCommand) (stop : Stop) → Asks words (Serve command) → status ≡ status_of stop → IsServed command stop old new → Runs words status old new
+      serves : (command : ServeCommand) (stop : Stop) → Asks words (Serve command) → status ≡ status_of stop → IsServerRun command stop old new → Runs words status old new
       asks_nothing : ((command : ServeCommand) → Asks words (Serve command) → ⊥) → status ≡ 1 → new ≡ old → Runs words status old new
       out_of_memory : status ≡ 8 → new ≡ old → Runs words status old new

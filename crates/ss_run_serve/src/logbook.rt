@@ -5,9 +5,10 @@ ghost use Rattle.ss_outside.specs.Plans.{raised_count};
 ghost use Rattle.ss_laws.specs.Journal.{Journal as JournalView};
 ghost use Rattle.ss_booked.specs.Booked.{journal_of};
 ghost use Rattle.ss_site.specs.Sites.{Counts};
-ghost use Rattle.ss_run_serve.specs.Logs.{log_name, saved_of, logs_of_term, AreSaved, ArePartlySaved, IsCut};
+ghost use Rattle.ss_run_serve.specs.Logs.{log_name, saved_of, logs_of_term, AreSavedLogs, ArePartlySaved, IsWhyUnsaved};
 ghost use Rattle.ss_run_serve.specs.Once.{IsUntold};
-ghost use Rattle.ss_run_serve.specs.Logbooks.{number_in, is_kept, files_in, failures_in, IsBookOf, IsLentFor, AreLeft};
+ghost use Rattle.ss_run_serve.specs.Logbooks.{number_in, is_kept, files_in, failures_in, IsBookOf, IsLentFor};
+ghost use Rattle.ss_run_serve.specs.Logbooks.{LeavesLogs};
 ghost use Rattle.ss_run_serve.specs.Logbooks.{ClosesBook};
 
 use crate::lines;
@@ -41,10 +42,10 @@ fn log_name(alloc: Global, uid: u32, number: u64) -> Result<String, AllocError>
 impl<S: Store> Logbook<S> {
     // Saves a text under a name, where logs are kept.
     fn save_text(&mut self, alloc: Global, name: &str, text: &[u8]) -> Result<(), Stop>
-        ensures saved { OnOk result (AreSaved ((name.now, text.now) ∷ []) (files_in S.held self.old)
+        ensures saved { OnOk result (AreSavedLogs ((name.now, text.now) ∷ []) (files_in S.held self.old)
             (files_in S.held self.new)) }
         ensures refused { OnErr result (files_in S.held self.new ≡ files_in S.held self.old) }
-        ensures cause { IfErr result (λ stop. IsCut (failures_in S.store_faults self.new) stop) }
+        ensures cause { IfErr result (λ stop. IsWhyUnsaved (failures_in S.store_faults self.new) stop) }
         ensures number { number_in self.new ≡ number_in self.old }
         ensures same { is_kept self.new ≡ is_kept self.old }
     {
@@ -66,10 +67,10 @@ impl<S: Store> Logbook<S> {
         uid: u32,
         journal: &Journal,
     ) -> Result<(), Stop>
-        ensures saved { OnOk result (AreSaved (saved_of (number_in self.old) (uid, journal.now))
+        ensures saved { OnOk result (AreSavedLogs (saved_of (number_in self.old) (uid, journal.now))
             (files_in S.held self.old) (files_in S.held self.new)) }
         ensures refused { OnErr result (files_in S.held self.new ≡ files_in S.held self.old) }
-        ensures cause { IfErr result (λ stop. IsCut (failures_in S.store_faults self.new) stop) }
+        ensures cause { IfErr result (λ stop. IsWhyUnsaved (failures_in S.store_faults self.new) stop) }
         ensures number { number_in self.new ≡ number_in self.old }
         ensures same { is_kept self.new ≡ is_kept self.old }
     {
@@ -95,13 +96,13 @@ impl<S: Store> Logbook<S> {
         err: &mut T,
         accounts: &[(u32, Booked<K>)],
     ) -> Result<(), Stop>
-        ensures saved { OnOk result (AreSaved (logs_of_term (number_in self.old) (map {B = ℕ
+        ensures saved { OnOk result (AreSavedLogs (logs_of_term (number_in self.old) (map {B = ℕ
             × JournalView} (λ account. (account.0, journal_of account.1)) accounts.now)) (files_in S.held self.old)
             (files_in S.held self.new)) }
         ensures partly { OnErr result (ArePartlySaved (logs_of_term (number_in self.old) (map {B = ℕ
             × JournalView} (λ account. (account.0, journal_of account.1)) accounts.now)) (files_in S.held self.old)
             (files_in S.held self.new)) }
-        ensures cause { IfErr result (λ stop. IsCut (failures_in S.store_faults self.new) stop) }
+        ensures cause { IfErr result (λ stop. IsWhyUnsaved (failures_in S.store_faults self.new) stop) }
         ensures number { number_in self.new ≡ number_in self.old }
         ensures same { is_kept self.new ≡ is_kept self.old }
     {
@@ -121,13 +122,13 @@ impl<S: Store> Logbook<S> {
         err: &mut T,
         accounts: &[(u32, Booked<K>)],
     ) -> Result<(), Stop>
-        ensures saved { OnOk result (AreSaved (logs_of_term (number_in self.old) (map {B = ℕ
+        ensures saved { OnOk result (AreSavedLogs (logs_of_term (number_in self.old) (map {B = ℕ
             × JournalView} (λ account. (account.0, journal_of account.1)) accounts.now)) (files_in S.held self.old)
             (files_in S.held self.new)) }
         ensures partly { OnErr result (ArePartlySaved (logs_of_term (number_in self.old) (map {B = ℕ
             × JournalView} (λ account. (account.0, journal_of account.1)) accounts.now)) (files_in S.held self.old)
             (files_in S.held self.new)) }
-        ensures cause { IfErr result (λ stop. IsCut (failures_in S.store_faults self.new) stop) }
+        ensures cause { IfErr result (λ stop. IsWhyUnsaved (failures_in S.store_faults self.new) stop) }
         ensures number { OnOk result (number_in self.new ≡ raised_count (number_in self.old)) }
         ensures same { is_kept self.new ≡ is_kept self.old }
     {
@@ -151,7 +152,7 @@ pub(crate) fn open_book<X: Site>(
         (files_in X.Log.held book) (X.logs site.old)) }
     ensures fresh { IfOk result (λ book. failures_in X.Log.store_faults book ≡ 0) }
     ensures lent { IfOk result (λ book. IsLentFor (is_kept book) (X.lent site.old) (X.lent site.new)) }
-    ensures left { IfOk result (λ book. AreLeft (is_kept book) (X.logs site.old) (X.logs site.new)) }
+    ensures left { IfOk result (λ book. LeavesLogs (is_kept book) (X.logs site.old) (X.logs site.new)) }
     ensures counts { OnOk result (X.counts site.new ≡ X.counts site.old) }
     ensures refused { IfErr result (λ stop. IsUntold (X.counts site.old) (X.counts site.new) stop) }
     ensures unlent { OnErr result (X.lent site.new ≡ X.lent site.old) }

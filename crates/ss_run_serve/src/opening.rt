@@ -3,14 +3,15 @@
 ghost use Rattle.std.specs.Prelude.{◌≡◌, ◌≤◌, ◌⊎◌, ◌++◌, ◌∷◌, ℕ, [], map, length, vec_len, vec_capacity, All, Contains};
 ghost use Rattle.std.specs.Prelude.{Some, IfOk, IfErr, IfSome, OnOk, OnErr};
 ghost use Rattle.ss_outside.specs.Causes.{Rose};
-ghost use Rattle.ss_bso.specs.Changes.{opened};
+ghost use Rattle.ss_bso.specs.Changes.{account_at_opening};
 ghost use Rattle.ss_bso.specs.Validity.{SameAccount};
 ghost use Rattle.ss_booked.specs.Booked.{uid_of, account_of, journal_of};
 ghost use Rattle.ss_booked.specs.Sizes.{most_entries};
 ghost use Rattle.ss_site.specs.Sites.{Counts, Entries, IsBack, IsEntry, TellsStill};
-ghost use Rattle.ss_run_serve.specs.Hosted.{hosted, hosted_at, IsBegun};
+ghost use Rattle.ss_run_serve.specs.Hosted.{hosted_account, hosted_at, HasEmptyJournal};
 ghost use Rattle.ss_run_serve.specs.Lending.{keepers_at, AllAreBack, AreOut, OpensAt};
-ghost use Rattle.ss_run_serve.specs.Opening.{OpensAccount, IsUnopened, RefusesOne, CountsFaults, AreAsBefore, stop_at};
+ghost use Rattle.ss_run_serve.specs.Opening.{OpensAccount, IsWhyUnopened, RefusesOne, CountsFaults, AreAsBefore};
+ghost use Rattle.ss_run_serve.specs.Opening.{stop_at};
 ghost use Rattle.ss_run_serve.specs.Refusals.{IsRefusedAs};
 
 use crate::retiring::retire_all;
@@ -43,11 +44,11 @@ fn open_kept<X: Site>(
     requires fresh { X.Keeper.keep_faults keeper ≡ 0 }
     requires given { Contains (X.lent site.old).keepers (folder.now, uid) }
     ensures opened { IfOk result (λ account. (entries : Entries) → X.kept site.old ≡ Some entries
-        → SameAccount (opened (entries folder.now uid)) account.plain) }
+        → SameAccount (account_at_opening (entries folder.now uid)) account.plain) }
     ensures entry { IfOk result (λ account. IsEntry folder.now uid (X.Keeper.told account.keeper) (X.kept site.old)) }
     ensures fresh { IfOk result (λ account. X.Keeper.keep_faults account.keeper ≡ 0) }
     ensures unchanged { OnOk result ((X.counts site.new ≡ X.counts site.old) × (X.kept site.new ≡ X.kept site.old)) }
-    ensures refused { IfErr result (IsUnopened folder.now (X.kept site.old) (X.counts site.old) (X.counts site.new)
+    ensures refused { IfErr result (IsWhyUnopened folder.now (X.kept site.old) (X.counts site.old) (X.counts site.new)
         uid) }
     ensures refused_as { IfErr result (λ stop. IsRefusedAs stop (X.counts site.old).refused
         (X.counts site.new).refused) }
@@ -82,7 +83,7 @@ fn begin<X: Site>(
     ensures uid { IfOk result (λ b. uid_of b ≡ uid) }
     ensures account { IfOk result (λ b. account_of b ≡ account) }
     ensures opening { IfOk result (λ b. SameAccount account.plain (journal_of b).opening) }
-    ensures begun { IfOk result (λ b. IsBegun (hosted X.Keeper.told X.Keeper.keep_faults b)) }
+    ensures begun { IfOk result (λ b. HasEmptyJournal (hosted_account X.Keeper.told X.Keeper.keep_faults b)) }
     ensures most { IfOk result (λ b. (journal_of b).most ≡ most_entries) }
     ensures unchanged { OnOk result ((X.counts site.new ≡ X.counts site.old) × (X.kept site.new ≡ X.kept site.old)) }
     ensures refused { IfErr result (λ stop. stop ≡ Stop.Memory) }
@@ -114,9 +115,9 @@ fn open_account<X: Site>(
     uid: u32,
 ) -> Result<Booked<X::Keeper>, Stop>
     ensures opened { IfOk result (λ b. OpensAccount folder.now (X.kept site.old)
-        (uid, hosted X.Keeper.told X.Keeper.keep_faults b)) }
+        (uid, hosted_account X.Keeper.told X.Keeper.keep_faults b)) }
     ensures unchanged { OnOk result ((X.counts site.new ≡ X.counts site.old) × (X.kept site.new ≡ X.kept site.old)) }
-    ensures refused { IfErr result (IsUnopened folder.now (X.kept site.old) (X.counts site.old) (X.counts site.new)
+    ensures refused { IfErr result (IsWhyUnopened folder.now (X.kept site.old) (X.counts site.old) (X.counts site.new)
         uid) }
     ensures refused_as { IfErr result (λ stop. IsRefusedAs stop (X.counts site.old).refused
         (X.counts site.new).refused) }

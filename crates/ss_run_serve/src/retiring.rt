@@ -3,7 +3,7 @@
 ghost use Rattle.std.specs.Prelude.{◌≡◌, length, map, All, Contains};
 ghost use Rattle.ss_booked.specs.Booked.{account_of};
 ghost use Rattle.ss_site.specs.Sites.{HasRetired, CountsKeeper, IsBack, StaysTold, TellsStill};
-ghost use Rattle.ss_run_serve.specs.Hosted.{hosted, hosted_at, Stands};
+ghost use Rattle.ss_run_serve.specs.Hosted.{hosted_account, hosted_at, Stands};
 ghost use Rattle.ss_run_serve.specs.Lending.{HaveComeBack};
 ghost use Rattle.ss_run_serve.specs.Retiring.{uids_in, CountsKeepers, HaveRetired};
 
@@ -17,7 +17,7 @@ fn retire<X: Site>(site: &mut X, folder: &str, uid: u32, booked: Booked<X::Keepe
     ensures stays { StaysTold folder.now uid (X.lent site.old).keepers (X.kept site.old) (X.kept site.new) }
     ensures counted { CountsKeeper (X.Keeper.keep_faults (account_of booked).keeper) (X.counts site.old)
         (X.counts site.new) }
-    ensures stands { Stands (hosted X.Keeper.told X.Keeper.keep_faults booked) }
+    ensures stands { Stands (hosted_account X.Keeper.told X.Keeper.keep_faults booked) }
     ensures terms { X.terms site.new ≡ X.terms site.old }
     ensures logs { X.logs site.new ≡ X.logs site.old }
     ensures returned { IsBack (X.lent site.old) (X.lent site.new) }

@@ -4,11 +4,11 @@ ghost use Rattle.std.specs.Prelude.{◌≡◌, ◌≤◌, map, replicate, vec_le
 ghost use Rattle.ss_words.specs.declared.commands.Command.TheVariants.{Serve};
 ghost use Rattle.ss_words.specs.Commands.{HasRange};
 ghost use Rattle.ss_run_serve.specs.Watched.{port_in};
-ghost use Rattle.ss_run_serve.specs.Hosted.{hosted_at, IsBegun};
+ghost use Rattle.ss_run_serve.specs.Hosted.{hosted_at, HasEmptyJournal};
 ghost use Rattle.ss_run_serve.specs.Lending.{AllAreBack, ListensAt, OpensAt};
 ghost use Rattle.ss_run_serve.specs.Course.{CameTo};
-ghost use Rattle.ss_run_serve.specs.Serving.{IsServed};
-ghost use Rattle.ss_run_serve.specs.Logs.{logs_of, AreLogged, AreLoggedAt, HasCut, LogsFailed};
+ghost use Rattle.ss_run_serve.specs.Serving.{IsServerRun};
+ghost use Rattle.ss_run_serve.specs.Logs.{logs_of, AreLoggedUntil, AreLoggedAt, HasCut, LogsFailed};
 ghost use Rattle.ss_run_serve.specs.Logbooks.{number_in, is_kept, files_in, failures_in};
 
 use crate::lines;
@@ -73,14 +73,14 @@ where
     T: Sink,
     R: Threads + Wait + Sync,
     requires range { HasRange (Serve command.now) }
-    requires begun { All (λ account. IsBegun account.1) (map (hosted_at X.Keeper.told X.Keeper.keep_faults)
+    requires begun { All (λ account. HasEmptyJournal account.1) (map (hosted_at X.Keeper.told X.Keeper.keep_faults)
         accounts.items) }
     ensures came { CameTo command.now.manner X.Port.Link.Told.told X.Port.Link.closed (G.says gate.now)
         (map (hosted_at X.Keeper.told X.Keeper.keep_faults) accounts.items)
         (replicate command.now.workers (X.lent site.old).readings) command.now.connections command.now.terms
         (X.terms site.old) (X.terms site.new) (X.counts site.old) (X.counts site.new)
         (map (hosted_at X.Keeper.told X.Keeper.keep_faults) result.0.items) result.1
-        (λ told. AreLogged result.1 (logs_of (number_in book.old) told) (files_in X.Log.held book.old)
+        (λ told. AreLoggedUntil result.1 (logs_of (number_in book.old) told) (files_in X.Log.held book.old)
         (files_in X.Log.held book.new)) }
     ensures cut { HasCut (failures_in X.Log.store_faults book.new) result.1 }
     ensures same { is_kept book.new ≡ is_kept book.old }
@@ -125,7 +125,7 @@ where
     T: Sink,
     R: Threads + Wait + Sync,
     requires range { HasRange (Serve command.now) }
-    requires begun { All (λ account. IsBegun account.1) (map (hosted_at X.Keeper.told X.Keeper.keep_faults)
+    requires begun { All (λ account. HasEmptyJournal account.1) (map (hosted_at X.Keeper.told X.Keeper.keep_faults)
         accounts.items) }
     ensures came { CameTo command.now.manner X.Port.Link.Told.told X.Port.Link.closed (G.says gate.now)
         (map (hosted_at X.Keeper.told X.Keeper.keep_faults) accounts.items)
@@ -166,7 +166,7 @@ where
     T: Sink,
     R: Threads + Wait + Sync,
     requires range { HasRange (Serve command.now) }
-    ensures served { IsServed X.Port.Link.Told.told X.Port.Link.closed (G.says gate.now) command.now result
+    ensures served { IsServerRun X.Port.Link.Told.told X.Port.Link.closed (G.says gate.now) command.now result
         (record {
           counts = X.counts site.old;
           terms = X.terms site.old;

@@ -10,7 +10,7 @@ ghost use Rattle.ss_outside.specs.Plans.{raised_count};
 ghost use Rattle.ss_run_serve.specs.Logs.{HasCut};
 ghost use Rattle.ss_run_serve.specs.Logbooks.{number_in, is_kept, files_in, failures_in};
 ghost use Rattle.ss_run_serve.specs.Watched.{port_in};
-ghost use Rattle.ss_run_serve.specs.Hosted.{hosted_at, IsBegun};
+ghost use Rattle.ss_run_serve.specs.Hosted.{hosted_at, HasEmptyJournal};
 ghost use Rattle.ss_run_serve.specs.Once.{Follows, IsOnce, IsUntold};
 
 use crate::lines;
@@ -123,7 +123,7 @@ where
     requires clocks { (0 < vec_len crew.clocks) × (vec_len crew.clocks ≤ 16) }
     requires connections { connections ≤ 1000 }
     requires bare { AreBare (λ b. (journal_of b).entries) crew.accounts.items }
-    requires begun { All (λ account. IsBegun account.1) (map (hosted_at X.Keeper.told X.Keeper.keep_faults)
+    requires begun { All (λ account. HasEmptyJournal account.1) (map (hosted_at X.Keeper.told X.Keeper.keep_faults)
         crew.accounts.items) }
     ensures once { IsOnce manner X.Port.Link.Told.told X.Port.Link.closed (G.says gate.now) connections
         (number_in book.old) result.1

@@ -6,7 +6,7 @@ ghost use Rattle.ss_links.specs.Ports.{idle_port};
 ghost use Rattle.ss_run_serve.specs.Logs.{HasCut};
 ghost use Rattle.ss_run_serve.specs.Logbooks.{number_in, is_kept, files_in, failures_in};
 ghost use Rattle.ss_run_serve.specs.Watched.{port_in};
-ghost use Rattle.ss_run_serve.specs.Hosted.{hosted, hosted_at, IsBegun};
+ghost use Rattle.ss_run_serve.specs.Hosted.{hosted_account, hosted_at, HasEmptyJournal};
 ghost use Rattle.ss_run_serve.specs.Terms.{BeginsAnew};
 ghost use Rattle.ss_run_serve.specs.Course.{Course, SameKeeper};
 
@@ -72,7 +72,7 @@ where
     requires clocks { (0 < vec_len crew.clocks) × (vec_len crew.clocks ≤ 16) }
     requires connections { command.now.connections ≤ 1000 }
     requires terms { command.now.terms ≤ 999999999999 }
-    requires begun { All (λ account. IsBegun account.1) (map (hosted_at X.Keeper.told X.Keeper.keep_faults)
+    requires begun { All (λ account. HasEmptyJournal account.1) (map (hosted_at X.Keeper.told X.Keeper.keep_faults)
         crew.accounts.items) }
     requires idle { X.Port.counts (port_in port.old) ≡ idle_port }
     ensures course { Course command.now.manner X.Port.Link.Told.told X.Port.Link.closed (G.says gate.now)

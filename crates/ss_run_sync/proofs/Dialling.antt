@@ -5,13 +5,13 @@ use Rattle.std.proofs.lemmas.List.{map-append}
 use Rattle.ss_links.specs.Dials.{Address, IsBehind, HasAsked}
 use Rattle.ss_links.specs.declared.dial.DialFault.{DialFault}
 use Rattle.ss_links.specs.declared.dial.DialFault.TheVariants.{Fault, Memory}
-use Rattle.ss_run_sync.specs.Links.{Used, Dials, missed_address, came_of}
+use Rattle.ss_run_sync.specs.Links.{UsedLink, Dials, missed_address, came_of}
 
 pub dials_none : (address : Address) (a b : Option (List Address)) → b ≡ a → Dials address [] [] a b
 dials_none address a b e = λ y told. (y, sym e ∙ told, sym (append-nil y))
 
 -- one link, with nothing dialled behind it
-pub dials_one : (address : Address) (used : Used) (a b c : Option (List Address)) → IsBehind address a b → c ≡ b → Dials address (used ∷ []) [] a c
+pub dials_one : (address : Address) (used : UsedLink) (a b c : Option (List Address)) → IsBehind address a b → c ≡ b → Dials address (used ∷ []) [] a c
 dials_one address used a b c h same = λ y told. h y (sym same ∙ told)
 
 -- no link
@@ -25,14 +25,14 @@ pub dials_failed : (L : Type 0) (host named : List ℕ) (port : ℕ) (fault : Di
 dials_failed L host named port fault a b e h =
     dials_missed L (record { host = host; port = port }) fault a b (subst (λ x. HasAsked {L = L} (record { host = x; port = port }) (Err fault) a b) e h)
 
-joined : (address : Address) (x : List Address) (ks ls : List Used) (more : List Address)
+joined : (address : Address) (x : List Address) (ks ls : List UsedLink) (more : List Address)
     → (x ++ (map (λ used. address) ks ++ [])) ++ (map (λ used. address) ls ++ more) ≡ x ++ (map (λ used. address) (ks ++ ls) ++ more)
 joined address x ks ls more =
-    let f : Used → Address = λ used. address in
+    let f : UsedLink → Address = λ used. address in
     append_assoc x (map f ks ++ []) (map f ls ++ more)
     ∙ ap (λ q. x ++ q) (ap (λ q. q ++ (map f ls ++ more)) (append-nil (map f ks)) ∙ sym (append_assoc (map f ks) (map f ls) more) ∙ ap (λ q. q ++ more) (sym (map-append f ks ls)))
 
-pub dials_then : (address : Address) (ks ls : List Used) (more : List Address) (a b c : Option (List Address)) → Dials address ks [] a b → Dials address ls more b c → Dials address (ks ++ ls) more a c
+pub dials_then : (address : Address) (ks ls : List UsedLink) (more : List Address) (a b c : Option (List Address)) → Dials address ks [] a b → Dials address ls more b c → Dials address (ks ++ ls) more a c
 dials_then address ks ls more a b c f g = λ y told.
     let n = g y told in
     let m = f n.0 n.1 in

@@ -25,7 +25,7 @@ use Rattle.ss_run_sync.specs.Endings.{status_of, status_of_stop, status_of_size,
 use Rattle.ss_run_sync.specs.Endings.{ending_told, line_told, Tells, Reports, Prints}
 use Rattle.ss_run_sync.specs.Naming.{host_named}
 use Rattle.ss_links.specs.Dials.{Address}
-use Rattle.ss_run_sync.specs.Links.{IsRun}
+use Rattle.ss_run_sync.specs.Links.{IsRunOverLinks}
 use Rattle.ss_run_sync.specs.Syncs.{Outside, Starts, Loads, Saves, KeepsFiles, Closes, Syncs, Went, undialled, dialled}
 use Rattle.ss_run_sync.specs.Syncs.{account_of, address_of, machine_of, fetch_of}
 use Rattle.ss_run_sync.specs.Runs.{Runs, Causes, syncs, asks_nothing, out_of_memory}
@@ -44,18 +44,18 @@ went_undialled command what old new l a h f = record { ending = Failed what; tel
 
 -- a run of a machine with an account at the address that a command names
 abbrev Over : SyncCommand → Came → Outside → Outside → Account → MachineView → Type 0
-Over command what old new account m = IsRun account m what old.dial_faults new.dial_faults old.hung new.hung (address_of command) old.asked new.asked
+Over command what old new account m = IsRunOverLinks account m what old.dial_faults new.dial_faults old.hung new.hung (address_of command) old.asked new.asked
 
 -- a sync that loaded a device, whose run came to this, and that has this end to come
 pub record Ran (command : SyncCommand) (what : Came) (old new : Outside) : Type 0 where
   pub device : DeviceView
   pub starts : Starts old.held command.file device
-  pub run : IsRun (account_of command) (machine_of command device) what old.dial_faults new.dial_faults old.hung new.hung (address_of command) old.asked new.asked
+  pub run : IsRunOverLinks (account_of command) (machine_of command device) what old.dial_faults new.dial_faults old.hung new.hung (address_of command) old.asked new.asked
 
 -- the device that was loaded from the file of this name, and the run of the machine that was started for it, under this host
 pub ran_of : (command : SyncCommand) (file host : List ℕ) (d : DeviceView) (m : MachineView) (fetch : Fetch) (what : Came) (old new : Outside) → file ≡ command.file → host ≡ host_named command.server
     → m ≡ record { device = d; run = first_run (is_newer d fetch); stage = Asks } → fetch ≡ fetch_of command → Starts old.held file d
-    → IsRun (record { uid = command.server.uid; host = host }) m what old.dial_faults new.dial_faults old.hung new.hung (address_of command) old.asked new.asked → Ran command what old new
+    → IsRunOverLinks (record { uid = command.server.uid; host = host }) m what old.dial_faults new.dial_faults old.hung new.hung (address_of command) old.asked new.asked → Ran command what old new
 ran_of command file host d m fetch what old new e h is f s r = record {
   device = d;
   starts = subst (λ x. Starts old.held x d) e s;
@@ -181,7 +181,7 @@ same_trouble : (what that : Trouble) → Failed what ≡ Failed that → what �
 same_trouble what that e = cc
 
 closes_wire : (file : List ℕ) (account : Account) (m : MachineView) (address : Address) (what : Came) (old new : Outside)
-    → IsRun account m what old.dial_faults new.dial_faults old.hung new.hung address old.asked new.asked → Closes file what (Failed trouble.Wire) old new → Rose old.dial_faults new.dial_faults
+    → IsRunOverLinks account m what old.dial_faults new.dial_faults old.hung new.hung address old.asked new.asked → Closes file what (Failed trouble.Wire) old new → Rose old.dial_faults new.dial_faults
 closes_wire file account m address (came.Done d s) old new r c = absurd c
 closes_wire file account m address (came.Stop f) old new r c = absurd c
 closes_wire file account m address came.Wire old new r c = r.comes.1

@@ -16,9 +16,10 @@ use Rattle.ss_run_sync.specs.Course.{Account, Exchange, request_at, request_next
 use Rattle.ss_run_sync.specs.declared.endings.Ending.{Ending}
 use Rattle.ss_run_sync.specs.declared.linking.Came.{Came}
 use Rattle.ss_run_sync.specs.declared.linking.Came.TheVariants as came
-use Rattle.ss_run_sync.specs.Links.{Used, hung_of, exchanges_of, IsLeftLink, link_in_list, IsEnded, Comes, IsRun}
+use Rattle.ss_run_sync.specs.Links.{UsedLink, hung_of, exchanges_of, IsLeftLink, link_in_list, EndsOnLink, Comes}
+use Rattle.ss_run_sync.specs.Links.{IsRunOverLinks}
 use Rattle.ss_run_sync.specs.Syncs.{Outside, undialled, dialled, account_of, address_of, machine_of}
-use Rattle.ss_run_sync.specs.Joined.{AreJoinedLinks, Joined}
+use Rattle.ss_run_sync.specs.Joined.{AreJoinedLinks, HangsJoinedLinks}
 use Rattle.ss_run_sync.specs.Runs.{Runs, syncs, asks_nothing, out_of_memory}
 
 -- where nothing stands behind the pieces of each, all joined are the pieces of all
@@ -41,22 +42,22 @@ pieces_then of f p xs x all =
 
 -- ---- links
 
-abbrev more_of : Option Used → List ℕ
+abbrev more_of : Option UsedLink → List ℕ
 more_of None = []
 more_of (Some used) = used.talked.more
 
-abbrev part_of : Option Used → List ℕ
+abbrev part_of : Option UsedLink → List ℕ
 part_of None = []
 part_of (Some used) = used.talked.part
 
-no_more : (links : List Used) → All IsLeftLink links → All (λ u. u.talked.more ≡ []) links
+no_more : (links : List UsedLink) → All IsLeftLink links → All (λ u. u.talked.more ≡ []) links
 no_more links all = λ k d h. (all k d h).whole.more
 
-no_part : (links : List Used) → All IsLeftLink links → All (λ u. u.talked.part ≡ []) links
+no_part : (links : List UsedLink) → All IsLeftLink links → All (λ u. u.talked.part ≡ []) links
 no_part links all = λ k d h. (all k d h).whole.part
 
 -- the bytes of one kind, over all links
-joined_pieces : (f : Exchange → List ℕ) (p : Used → List ℕ) (behind : Option Used → List ℕ) → behind None ≡ [] → ((used : Used) → behind (Some used) ≡ p used) → (before : List Used) (last : Option Used)
+joined_pieces : (f : Exchange → List ℕ) (p : UsedLink → List ℕ) (behind : Option UsedLink → List ℕ) → behind None ≡ [] → ((used : UsedLink) → behind (Some used) ≡ p used) → (before : List UsedLink) (last : Option UsedLink)
     → All (λ u. p u ≡ []) before → flat_map (λ u. flat_map f u.talked.exchanges ++ p u) (before ++ link_in_list last) ≡ flat_map f (exchanges_of (before ++ link_in_list last)) ++ behind last
 joined_pieces f p behind none some before None all =
     ap (flat_map (λ u. flat_map f u.talked.exchanges ++ p u)) (append-nil before) ∙ whole_pieces (λ u. u.talked.exchanges) f p before all
@@ -73,10 +74,10 @@ front_none text = (text, refl)
 front_whole : (text : List ℕ) → IsFront text text
 front_whole text = ([], sym (append-nil text))
 
-at_end : (last : Option Used) → IsEnded last → part_of last ≡ []
+at_end : (last : Option UsedLink) → EndsOnLink last → part_of last ≡ []
 at_end last e = ap part_of e.is_last ∙ e.whole.part
 
-front_of : (account : Account) (d : DeviceView) (last : Option Used) (next : Next) (f f' : ℕ) (what : Came) → Comes account d last next f f' what → IsFront (part_of last) (request_next account d next)
+front_of : (account : Account) (d : DeviceView) (last : Option UsedLink) (next : Next) (f f' : ℕ) (what : Came) → Comes account d last next f f' what → IsFront (part_of last) (request_next account d next)
 front_of account d last next f f' (came.Done device summary) c = subst (λ p. IsFront p (request_next account d next)) (sym (at_end last c.1)) (front_none (request_next account d next))
 front_of account d last next f f' (came.Stop fault) (inl c, same) = subst (λ p. IsFront p (request_next account d next)) (sym (at_end last c.1)) (front_none (request_next account d next))
 front_of account d last next f f' (came.Stop fault) (inr c, same) =
@@ -88,7 +89,7 @@ front_of account d (Some used) next f f' came.Memory c = c.0.written.1
 
 -- ---- a run, and a sync
 
-pub run_joined : (account : Account) (m : MachineView) (what : Came) (f f' : ℕ) (a b : Option (List HungLink)) (address : Address) (p q : Option (List Address)) → IsRun account m what f f' a b address p q
+pub run_joined : (account : Account) (m : MachineView) (what : Came) (f f' : ℕ) (a b : Option (List HungLink)) (address : Address) (p q : Option (List Address)) → IsRunOverLinks account m what f f' a b address p q
     → (y : List HungLink) → b ≡ Some y → (x : List HungLink) × (links : List HungLink) × (a ≡ Some x) × (y ≡ x ++ links) × AreJoinedLinks account m links
 run_joined account m what f f' a b address p q r y told =
     let d = m.device in
@@ -110,10 +111,10 @@ run_joined account m what f f' a b address p q r y told =
       },
     )
 
-nothing : (words : List (List ℕ)) (old new : Outside) → new.hung ≡ old.hung → Joined words old new
+nothing : (words : List (List ℕ)) (old new : Outside) → new.hung ≡ old.hung → HangsJoinedLinks words old new
 nothing words old new e y told = (y, [], sym e ∙ told, sym (append-nil y), inl refl)
 
-pub joined_of : (words : List (List ℕ)) (result : Ending) (old new : Outside) (a b : Meanings) → Runs words result old new a b → Joined words old new
+pub joined_of : (words : List (List ℕ)) (result : Ending) (old new : Outside) (a b : Meanings) → Runs words result old new a b → HangsJoinedLinks words old new
 joined_of words result old new a b (syncs command ending asks (undialled what e l i h f) p) = nothing words old new h
 joined_of words result old new a b (syncs command ending asks (dialled d what s r c) p) = λ y told.
     let j = run_joined (account_of command) (machine_of command d) what old.dial_faults new.dial_faults old.hung new.hung (address_of command) old.asked new.asked r y told in

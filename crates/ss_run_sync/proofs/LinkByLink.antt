@@ -6,7 +6,7 @@ use Rattle.std.proofs.lemmas.List.{append-nil}
 use Rattle.std.proofs.lemmas.Grind.{flat_map-append}
 use Rattle.std.proofs.lemmas.List.Elements.{All-append, All-cons}
 use Rattle.ss_outside.specs.Told.{Meanings}
-use Rattle.ss_links.specs.Links.{IsUnused}
+use Rattle.ss_links.specs.Links.{IsUnusedLink}
 use Rattle.ss_links.specs.Dials.{Address, HungLink, IsBehind, HasCause, HasHung, HangUpCounts}
 use Rattle.ss_links.specs.declared.dial.DialFault.{DialFault}
 use Rattle.ss_links.specs.declared.dial.DialFault.TheVariants.{Fault, Memory}
@@ -21,8 +21,9 @@ use Rattle.ss_run_sync.specs.Talks.{EndsIn, IsWhole, IsBadReply, Talks}
 use Rattle.ss_run_sync.proofs.Coursing.{course_then}
 use Rattle.ss_run_sync.specs.declared.linking.Came.{Came}
 use Rattle.ss_run_sync.specs.declared.linking.Leg.{Leg}
-use Rattle.ss_run_sync.specs.Links.{Used, Dials, Hangs, missed_address, exchanges_of, IsLeftLink, link_in_list, IsEnded}
-use Rattle.ss_run_sync.specs.Links.{IsUnheard, Comes, IsRun, leg_of, came_of, Goes, IsLeg}
+use Rattle.ss_run_sync.specs.Links.{UsedLink, Dials, Hangs, missed_address, exchanges_of, IsLeftLink, link_in_list}
+use Rattle.ss_run_sync.specs.Links.{EndsOnLink}
+use Rattle.ss_run_sync.specs.Links.{IsUnheard, Comes, IsRunOverLinks, leg_of, came_of, Goes, IsLeg}
 use Rattle.ss_run_sync.proofs.Hanging.{hangs_none, hangs_then, hangs_one, hung_failed, hung_fine}
 use Rattle.ss_run_sync.proofs.Dialling.{dials_none, dials_one, dials_then}
 
@@ -40,16 +41,16 @@ front_whole text part e = ([], sym e ∙ sym (append-nil part))
 
 -- ---- one link
 
-one_course : (d : DeviceView) (now : Next) (used : Used) (next : Next) → IsCourse d now used.talked.exchanges next → IsCourse d now (exchanges_of (used ∷ [])) next
+one_course : (d : DeviceView) (now : Next) (used : UsedLink) (next : Next) → IsCourse d now used.talked.exchanges next → IsCourse d now (exchanges_of (used ∷ [])) next
 one_course d now used next c = subst (λ xs. IsCourse d now xs next) (sym (append-nil used.talked.exchanges)) c
 
 none_left : All IsLeftLink []
 none_left = λ k d h. absurd (omega arith)
 
 pub leg_is : (account : Account) (m : MachineView) (talk : Talk) (link link' : Meanings) (f g : ℕ) (a b : Option (List HungLink)) (address : Address) (asked dialled left : Option (List Address))
-    → IsUnused link → Talks account m talk link link' → HasHung link' a b → HangUpCounts link' f g → IsBehind address asked dialled → left ≡ dialled → IsLeg account m (leg_of talk) f g a b address asked left
+    → IsUnusedLink link → Talks account m talk link link' → HasHung link' a b → HangUpCounts link' f g → IsBehind address asked dialled → left ≡ dialled → IsLeg account m (leg_of talk) f g a b address asked left
 leg_is account m (talks.Done device summary) link link' f g a b address asked dialled left u t h c e same =
-    let used : Used = record { talked = t.talked; tells = link' } in
+    let used : UsedLink = record { talked = t.talked; tells = link' } in
     record {
       before = [];
       last = Some used;
@@ -61,7 +62,7 @@ leg_is account m (talks.Done device summary) link link' f g a b address asked di
       comes = (t.cause.0, record { used = used; is_last = refl; ends = t.cause.1; whole = t.cause.2 }, hung_fine link link' f g u t.cause.3 c);
     }
 leg_is account m (talks.Stop device fault) link link' f g a b address asked dialled left u t h c e same =
-    let used : Used = record { talked = t.talked; tells = link' } in
+    let used : UsedLink = record { talked = t.talked; tells = link' } in
     record {
       before = [];
       last = Some used;
@@ -73,12 +74,12 @@ leg_is account m (talks.Stop device fault) link link' f g a b address asked dial
       comes = (by used refl t.cause.1, hung_fine link link' f g u t.cause.2 c);
     }
   where
-    by : (used : Used) → used ≡ record { talked = t.talked; tells = link' } → ((t.next ≡ Stop fault) × EndsIn t.talked.exchanges × IsWhole t.talked) ⊎ IsBadReply account m.device t.talked t.next fault link'
-        → ((t.next ≡ Stop fault) × IsEnded (Some (record { talked = t.talked; tells = link' }))) ⊎ IsUnheard account m.device (Some (record { talked = t.talked; tells = link' })) t.next fault
+    by : (used : UsedLink) → used ≡ record { talked = t.talked; tells = link' } → ((t.next ≡ Stop fault) × EndsIn t.talked.exchanges × IsWhole t.talked) ⊎ IsBadReply account m.device t.talked t.next fault link'
+        → ((t.next ≡ Stop fault) × EndsOnLink (Some (record { talked = t.talked; tells = link' }))) ⊎ IsUnheard account m.device (Some (record { talked = t.talked; tells = link' })) t.next fault
     by used e (inl s) = inl (s.0, record { used = record { talked = t.talked; tells = link' }; is_last = refl; ends = s.1; whole = s.2 })
     by used e (inr s) = inr (record { used = record { talked = t.talked; tells = link' }; is_last = refl; bad = s })
 leg_is account m (talks.Anew machine request) link link' f g a b address asked dialled left u t h c e same =
-    let used : Used = record { talked = t.talked; tells = link' } in (
+    let used : UsedLink = record { talked = t.talked; tells = link' } in (
       record {
         before = used ∷ [];
         device = t.cause.0;
@@ -91,7 +92,7 @@ leg_is account m (talks.Anew machine request) link link' f g a b address asked d
       t.cause.2,
     )
 leg_is account m (talks.Wire device) link link' f g a b address asked dialled left u t h c e same =
-    let used : Used = record { talked = t.talked; tells = link' } in
+    let used : UsedLink = record { talked = t.talked; tells = link' } in
     let k = t.cause.1 in
     record {
       before = [];
@@ -107,7 +108,7 @@ leg_is account m (talks.Wire device) link link' f g a b address asked dialled le
       );
     }
 leg_is account m (talks.Memory device) link link' f g a b address asked dialled left u t h c e same =
-    let used : Used = record { talked = t.talked; tells = link' } in
+    let used : UsedLink = record { talked = t.talked; tells = link' } in
     let k = t.cause.1 in
     record {
       before = [];
@@ -130,7 +131,7 @@ unlinked L account m Fault f g a b e r = (record { run = m.run; stage = m.stage;
 unlinked L account m Memory f g a b e r = (record { run = m.run; stage = m.stage; asks = refl; written = tt }, r)
 
 pub undialled_is : (L : Type 0) (account : Account) (m : MachineView) (fault : DialFault) (f g : ℕ) (a b : Option (List HungLink)) (address : Address) (asked left : Option (List Address))
-    → b ≡ a → HasCause {L = L} (Err fault) f g → Dials address [] (missed_address address None (came_of fault)) asked left → IsRun account m (came_of fault) f g a b address asked left
+    → b ≡ a → HasCause {L = L} (Err fault) f g → Dials address [] (missed_address address None (came_of fault)) asked left → IsRunOverLinks account m (came_of fault) f g a b address asked left
 undialled_is L account m fault f g a b address asked left e r d = record {
   before = [];
   last = None;
@@ -169,10 +170,10 @@ no_links account m f a address asked = record {
 abbrev of_device : DeviceView → MachineView → MachineView
 of_device d m = record { device = d; run = m.run; stage = m.stage }
 
-exchanges_then : (ks ls : List Used) → exchanges_of (ks ++ ls) ≡ exchanges_of ks ++ exchanges_of ls
+exchanges_then : (ks ls : List UsedLink) → exchanges_of (ks ++ ls) ≡ exchanges_of ks ++ exchanges_of ls
 exchanges_then ks ls = flat_map-append (λ used. used.talked.exchanges) ks ls
 
-courses_then : (d : DeviceView) (x : Next) (ks : List Used) (y : Next) (ls : List Used) (z : Next) → IsCourse d x (exchanges_of ks) y → IsCourse d y (exchanges_of ls) z → IsCourse d x (exchanges_of (ks ++ ls)) z
+courses_then : (d : DeviceView) (x : Next) (ks : List UsedLink) (y : Next) (ls : List UsedLink) (z : Next) → IsCourse d x (exchanges_of ks) y → IsCourse d y (exchanges_of ls) z → IsCourse d x (exchanges_of (ks ++ ls)) z
 courses_then d x ks y ls z f g = subst (λ xs. IsCourse d x xs z) (sym (exchanges_then ks ls)) (course_then d x (exchanges_of ks) y (exchanges_of ls) z f g)
 
 pub goes_then : (account : Account) (m n o : MachineView) (f g h : ℕ) (a b c : Option (List HungLink)) (address : Address) (p q r : Option (List Address))
@@ -191,10 +192,10 @@ goes_then account m n o f g h a b c address p q r k t = go (subst (λ d. Goes ac
     }
 
 pub run_then : (account : Account) (m n : MachineView) (what : Came) (f g h : ℕ) (a b c : Option (List HungLink)) (address : Address) (p q r : Option (List Address))
-    → Goes account m n f g a b address p q → IsRun account n what g h b c address q r → IsRun account m what f h a c address p r
-run_then account m n what f g h a b c address p q r k t = go (subst (λ d. IsRun account (of_device d n) what g h b c address q r) k.device t)
+    → Goes account m n f g a b address p q → IsRunOverLinks account n what g h b c address q r → IsRunOverLinks account m what f h a c address p r
+run_then account m n what f g h a b c address p q r k t = go (subst (λ d. IsRunOverLinks account (of_device d n) what g h b c address q r) k.device t)
   where
-    go : IsRun account (of_device m.device n) what g h b c address q r → IsRun account m what f h a c address p r
+    go : IsRunOverLinks account (of_device m.device n) what g h b c address q r → IsRunOverLinks account m what f h a c address p r
     go s = record {
       before = k.before ++ s.before;
       last = s.last;

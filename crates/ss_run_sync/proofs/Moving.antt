@@ -5,7 +5,7 @@ use Rattle.ss_outside.specs.Told.{Meanings, HasRead, HasWritten, Takes, Loses}
 use Rattle.ss_outside.specs.Causes.{Rose}
 use Rattle.ss_outside.proofs.Telling.{Takes-none, Takes-append, Loses-none, Loses-append, Writes-none, Writes-append}
 use Rattle.ss_outside.proofs.Telling.{idle_append}
-use Rattle.ss_run_sync.specs.Moves.{IsUnfaulted, Fails}
+use Rattle.ss_run_sync.specs.Moves.{RaisesNoFault, Fails}
 use Rattle.ss_outside.specs.Told.{Moves}
 
 pub moves_none : (a : Meanings) → Moves [] [] a a
@@ -46,16 +46,16 @@ moves_both text got a b c w r =
     let P : List ℕ → Type 0 = λ s. Moves got s a c in
     subst P (append-nil text) (moves_then [] text got [] a b c (moves_write text a b w) (moves_read got b c r))
 
-pub unfaulted_none : (a : Meanings) → IsUnfaulted a a
+pub unfaulted_none : (a : Meanings) → RaisesNoFault a a
 unfaulted_none a = record { reads = refl; writes = refl }
 
-pub unfaulted_then : (a b c : Meanings) → IsUnfaulted a b → IsUnfaulted b c → IsUnfaulted a c
+pub unfaulted_then : (a b c : Meanings) → RaisesNoFault a b → RaisesNoFault b c → RaisesNoFault a c
 unfaulted_then a b c u v = record { reads = v.reads ∙ u.reads; writes = v.writes ∙ u.writes }
 
 -- a count that rose from where another one stands
 rose_from : (n m k : ℕ) → m ≡ n → Rose m k → Rose n k
 rose_from n m k e r = subst (λ x. Rose x k) e r
 
-pub fails_then : (text got sent : List ℕ) (a b c : Meanings) → IsUnfaulted a b → Fails text got sent b c → Fails text got sent a c
+pub fails_then : (text got sent : List ℕ) (a b c : Meanings) → RaisesNoFault a b → Fails text got sent b c → Fails text got sent a c
 fails_then text got sent a b c u (inl f) = inl (rose_from a.write_faults b.write_faults c.write_faults u.writes f.0, f.1 ∙ u.reads, f.2, f.3)
 fails_then text got sent a b c u (inr f) = inr (rose_from a.read_faults b.read_faults c.read_faults u.reads f.0, f.1 ∙ u.writes, f.2)

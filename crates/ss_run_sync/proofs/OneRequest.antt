@@ -8,7 +8,7 @@ use Rattle.ss_http.specs.declared.heard.HeardFault.TheVariants as faults
 use Rattle.ss_http.specs.Hearing.{Hearing, EndsHearing, RisesHearing}
 use Rattle.ss_run_sync.specs.declared.asking.Missed.{Missed}
 use Rattle.ss_run_sync.specs.declared.asking.Missed.TheVariants as missed
-use Rattle.ss_run_sync.specs.Answers.{IsOfBytes, IsMissed, AsksOnce}
+use Rattle.ss_run_sync.specs.Answers.{IsOfBytes, IsMissOfFault, AsksOnce}
 use Rattle.ss_run_sync.proofs.Moving.{moves_none, moves_write, moves_both}
 
 -- no memory for the request
@@ -53,7 +53,7 @@ stays : (e : HeardFault) (before now : ℕ) → e ≡ faults.Memory → RisesHea
 stays e before now is r = subst (λ f. RisesHearing f before now) is r
 
 -- no response was heard
-pub unheard : (text : List ℕ) (e : HeardFault) (m : Missed) (a b c : Meanings) → IsMissed e m → HasWritten text a b → b.write_faults ≡ a.write_faults
+pub unheard : (text : List ℕ) (e : HeardFault) (m : Missed) (a b c : Meanings) → IsMissOfFault e m → HasWritten text a b → b.write_faults ≡ a.write_faults
     → (got : List ℕ) × HasRead got b c × Hearing (Err e) got → EndsHearing e c → RisesHearing e b.read_faults c.read_faults → AsksOnce text (Err m) a c
 unheard text e missed.Unread a b c is w writes t ended r = record {
   got = t.0;

@@ -17,7 +17,7 @@ use Rattle.ss_run_sync.specs.declared.asking.Missed.{Missed}
 use Rattle.ss_run_sync.specs.declared.asking.Missed.TheVariants as missed
 use Rattle.ss_run_sync.specs.declared.conversing.Turn.{Turn}
 use Rattle.ss_run_sync.specs.declared.conversing.Turn.TheVariants.{On, End}
-use Rattle.ss_run_sync.specs.Moves.{IsUnfaulted}
+use Rattle.ss_run_sync.specs.Moves.{RaisesNoFault}
 use Rattle.ss_outside.specs.Told.{Moves}
 use Rattle.ss_run_sync.specs.Course.{Account, Exchange, request_at, request_next, requests, responses}
 use Rattle.ss_run_sync.specs.Answers.{AsksOnce}
@@ -189,7 +189,7 @@ wanting_behind account d xs t next g w = record { run = w.run; stage = w.stage; 
     by (inl n) = inl (whole_behind xs t n)
     by (inr e) = inr e
 
-cause_behind : (account : Account) (d : DeviceView) (xs : List Exchange) (t : TalkView) (next : Next) (a b c : Meanings) (talk : Talk) → GoesOn xs → IsUnfaulted a b
+cause_behind : (account : Account) (d : DeviceView) (xs : List Exchange) (t : TalkView) (next : Next) (a b c : Meanings) (talk : Talk) → GoesOn xs → RaisesNoFault a b
     → Cause account d t next b c talk → Cause account d (behind xs t) next a c talk
 unfolding ends_behind
 cause_behind account d xs t next a b c (talks.Done device summary) g u k = (k.0, ends_behind xs t.exchanges g k.1, whole_behind xs t k.2, unfaulted_then a b c u k.3)

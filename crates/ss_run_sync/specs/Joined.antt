@@ -26,6 +26,6 @@ pub record AreJoinedLinks (account : Account) (m : MachineView) (links : List Hu
 
 -- where it is told which links were hung up, these were, behind those before: none, or those of the run of the machine that is started
 -- for the device of the file, with the account that the words name
-abbrev pub Joined : List (List ℕ) → Outside → Outside → Type 0
-Joined words old new = (y : List HungLink) → new.hung ≡ Some y → (x : List HungLink) × (links : List HungLink) × (old.hung ≡ Some x) × (y ≡ x ++ links)
+abbrev pub HangsJoinedLinks : List (List ℕ) → Outside → Outside → Type 0
+HangsJoinedLinks words old new = (y : List HungLink) → new.hung ≡ Some y → (x : List HungLink) × (links : List HungLink) × (old.hung ≡ Some x) × (y ≡ x ++ links)
     × ((links ≡ []) ⊎ ((command : SyncCommand) × (d : DeviceView) × Asks words (Sync command) × Starts old.held command.file d × AreJoinedLinks (account_of command) (machine_of command d) links))

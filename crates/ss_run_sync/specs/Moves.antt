@@ -4,7 +4,7 @@ use Rattle.ss_outside.specs.Told.{Meanings, Takes, Loses, Writes}
 use Rattle.ss_outside.specs.Causes.{Rose}
 
 -- no read and no write failed
-pub record IsUnfaulted (link link' : Meanings) : Type 0 where
+pub record RaisesNoFault (link link' : Meanings) : Type 0 where
   pub reads : link'.read_faults ≡ link.read_faults
   pub writes : link'.write_faults ≡ link.write_faults
 

@@ -26,7 +26,7 @@ use Rattle.ss_run_sync.specs.declared.reports.Report.{Report}
 use Rattle.ss_run_sync.specs.declared.reports.Report.TheVariants.{Line, Short}
 use Rattle.ss_run_sync.specs.Naming.{host_named}
 use Rattle.ss_run_sync.specs.Endings.{Tells, synced_line}
-use Rattle.ss_run_sync.specs.Links.{IsRun}
+use Rattle.ss_run_sync.specs.Links.{IsRunOverLinks}
 
 -- what a sync's dial and store tell and count: the addresses that were asked for, the links that were hung up, the files, and how many
 -- calls failed
@@ -125,7 +125,7 @@ pub data Syncs (command : SyncCommand) (ending : Ending) (old new : Outside) : T
   undialled : (what : Trouble) → ending ≡ Failed what → Loads command.file (Err what) old.held new.held old.store_faults new.store_faults → new.asked ≡ old.asked → new.hung ≡ old.hung
       → new.dial_faults ≡ old.dial_faults → Syncs command ending old new
   dialled : (d : DeviceView) (what : Came) → Starts old.held command.file d
-      → IsRun (account_of command) (machine_of command d) what old.dial_faults new.dial_faults old.hung new.hung (address_of command) old.asked new.asked → Closes command.file what ending old new
+      → IsRunOverLinks (account_of command) (machine_of command d) what old.dial_faults new.dial_faults old.hung new.hung (address_of command) old.asked new.asked → Closes command.file what ending old new
       → Syncs command ending old new
 
 -- a report tells how a sync ended

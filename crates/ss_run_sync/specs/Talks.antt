@@ -12,7 +12,7 @@ use Rattle.ss_client.specs.Machine.{Next, Send, Done, Stop}
 use Rattle.ss_client.specs.Bounds.{to_follow}
 use Rattle.ss_run_sync.specs.declared.talk.Talk.{Talk}
 use Rattle.ss_run_sync.specs.declared.talk.Talk.TheVariants as talks
-use Rattle.ss_run_sync.specs.Moves.{IsUnfaulted, Fails}
+use Rattle.ss_run_sync.specs.Moves.{RaisesNoFault, Fails}
 use Rattle.ss_outside.specs.Told.{Moves}
 use Rattle.ss_run_sync.specs.Course.{Account, Exchange, request_next, requests, responses, IsCourse}
 use Rattle.ss_run_sync.specs.Answers.{IsUnread}
@@ -58,7 +58,7 @@ pub record IsBadReply (account : Account) (d : DeviceView) (t : TalkView) (next 
   pub stops : fault ≡ BadReply run.number
 
 -- the run asked for more, and a write of its request or a read of the response failed
-pub record IsFailed (account : Account) (d : DeviceView) (t : TalkView) (next : Next) (link link' : Meanings) : Type 0 where
+pub record FailsInTalk (account : Account) (d : DeviceView) (t : TalkView) (next : Next) (link link' : Meanings) : Type 0 where
   pub run : Run
   pub stage : Stage
   pub asks : next ≡ Send run stage
@@ -80,13 +80,13 @@ IsLast exchanges = (end : EndsIn exchanges) × IsTrue end.last.heard.last
 -- Why a device left a link, over what went over it, what the run does next, and what the link tells. The device that comes back
 -- is the one that was started, until the run is done
 abbrev pub Cause : Account → DeviceView → TalkView → Next → Meanings → Meanings → Talk → Type 0
-Cause account d t next link link' (talks.Done device summary) = (next ≡ Done device summary) × EndsIn t.exchanges × IsWhole t × IsUnfaulted link link'
+Cause account d t next link link' (talks.Done device summary) = (next ≡ Done device summary) × EndsIn t.exchanges × IsWhole t × RaisesNoFault link link'
 Cause account d t next link link' (talks.Stop device fault) =
-    (device ≡ d) × (((next ≡ Stop fault) × EndsIn t.exchanges × IsWhole t) ⊎ IsBadReply account d t next fault link') × IsUnfaulted link link'
+    (device ≡ d) × (((next ≡ Stop fault) × EndsIn t.exchanges × IsWhole t) ⊎ IsBadReply account d t next fault link') × RaisesNoFault link link'
 Cause account d t next link link' (talks.Anew machine request) =
-    (machine.device ≡ d) × (next ≡ Send machine.run machine.stage) × (request ≡ ask machine) × IsLast t.exchanges × IsWhole t × IsUnfaulted link link'
-Cause account d t next link link' (talks.Wire device) = (device ≡ d) × IsFailed account d t next link link'
-Cause account d t next link link' (talks.Memory device) = (device ≡ d) × IsWanting account d t next × IsUnfaulted link link'
+    (machine.device ≡ d) × (next ≡ Send machine.run machine.stage) × (request ≡ ask machine) × IsLast t.exchanges × IsWhole t × RaisesNoFault link link'
+Cause account d t next link link' (talks.Wire device) = (device ≡ d) × FailsInTalk account d t next link link'
+Cause account d t next link link' (talks.Memory device) = (device ≡ d) × IsWanting account d t next × RaisesNoFault link link'
 
 -- a machine's requests over a link, from the one whose reply it awaits: what went over it, what the run does next, and why it was left
 pub record Talks (account : Account) (m : MachineView) (talk : Talk) (link link' : Meanings) : Type 0 where

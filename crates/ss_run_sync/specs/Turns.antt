@@ -9,7 +9,7 @@ use Rattle.ss_client.specs.Machine.{Next, Send, Done, Stop, Follows}
 use Rattle.ss_run_sync.specs.declared.talk.Talk.TheVariants as talks
 use Rattle.ss_run_sync.specs.declared.conversing.Turn.{Turn}
 use Rattle.ss_run_sync.specs.declared.conversing.Turn.TheVariants.{On, End}
-use Rattle.ss_run_sync.specs.Moves.{IsUnfaulted}
+use Rattle.ss_run_sync.specs.Moves.{RaisesNoFault}
 use Rattle.ss_outside.specs.Told.{Moves}
 use Rattle.ss_run_sync.specs.Course.{Account, Exchange, requests, responses, IsCourse}
 use Rattle.ss_run_sync.specs.Talks.{GoesOn, Talks, IsCloser, IsNearer}
@@ -34,7 +34,7 @@ pub record Comes (account : Account) (m machine : MachineView) (link link' : Mea
   pub course : IsCourse m.device (Send m.run m.stage) exchanges (Send machine.run machine.stage)
   pub goes_on : GoesOn exchanges
   pub moves : Moves (responses exchanges) (requests account m.device exchanges) link link'
-  pub faults : IsUnfaulted link link'
+  pub faults : RaisesNoFault link link'
 
 -- what comes of one exchange
 abbrev pub Turns : Account → MachineView → Turn → Meanings → Meanings → Type 0

@@ -2,7 +2,7 @@
 
 ghost use Rattle.ss_client.specs.Told.{CanSend};
 ghost use Rattle.ss_route.specs.Sending.{IsHost, request_sent};
-ghost use Rattle.ss_run_sync.specs.Answers.{AsksOnce, IsMissed};
+ghost use Rattle.ss_run_sync.specs.Answers.{AsksOnce, IsMissOfFault};
 
 use ss_http::{Heard, HeardFault, read_response};
 use ss_outside::{Sink, Source, write_all};
@@ -24,7 +24,7 @@ pub(crate) enum Missed {
 }
 
 fn missed_by(fault: HeardFault) -> Missed
-    ensures { IsMissed fault result }
+    ensures { IsMissOfFault fault result }
 {
     match fault {
         HeardFault::Cut => Missed::Unread,

@@ -3,9 +3,9 @@
 ghost use Rattle.std.specs.Prelude.{◌≡◌, List, Option};
 ghost use Rattle.ss_route.specs.Sending.{IsHost};
 ghost use Rattle.ss_client.specs.Asking.{ask};
-ghost use Rattle.ss_run_sync.specs.Links.{IsRun, IsLeg, IsNearer, leg_of, came_of};
+ghost use Rattle.ss_run_sync.specs.Links.{IsRunOverLinks, IsLeg, IsNearer, leg_of, came_of};
 ghost use Rattle.ss_run_sync.specs.declared.linking.Leg.TheVariants.{End};
-ghost use Rattle.ss_links.specs.Links.{IsUnused};
+ghost use Rattle.ss_links.specs.Links.{IsUnusedLink};
 ghost use Rattle.ss_links.specs.Dials.{Address, IsBehind};
 
 use crate::conversing::converse;
@@ -76,7 +76,7 @@ fn over<D: Dial>(
 ) -> Leg
     requires asked { request ≡ ask machine }
     requires host { IsHost host.now }
-    requires unused { IsUnused (D.Link.Told.told link) }
+    requires unused { IsUnusedLink (D.Link.Told.told link) }
     ensures nearer { IsNearer machine result }
     ensures leg { (asked : Option (List Address)) → IsBehind (record { host = server.now.host; port = server.now.port })
         asked (D.asked dial.old)
@@ -123,7 +123,7 @@ pub(crate) fn over_links<D: Dial>(
 ) -> Came
     requires asked { request ≡ ask machine }
     requires host { IsHost host.now }
-    ensures { IsRun (record { uid = server.now.uid; host = host.now }) machine result (D.dial_faults dial.old)
+    ensures { IsRunOverLinks (record { uid = server.now.uid; host = host.now }) machine result (D.dial_faults dial.old)
         (D.dial_faults dial.new) (D.hung dial.old) (D.hung dial.new)
         (record { host = server.now.host; port = server.now.port }) (D.asked dial.old) (D.asked dial.new) }
 {

@@ -4,7 +4,7 @@ ghost use Rattle.std.specs.Prelude.{◌≡◌, ◌≢◌, map, string_bytes};
 ghost use Rattle.ss_words.specs.Urls.{HasHost};
 ghost use Rattle.ss_run_sync.specs.Endings.{Reports, status_of};
 ghost use Rattle.ss_run_sync.specs.Syncs.{Went, outside_of};
-ghost use Rattle.ss_run_sync.specs.Joined.{Joined};
+ghost use Rattle.ss_run_sync.specs.Joined.{HangsJoinedLinks};
 ghost use Rattle.ss_run_sync.specs.Runs.{Runs, Causes};
 
 use crate::endings::{Ending, Trouble};
@@ -122,7 +122,7 @@ pub fn run_sync<D: Dial, S: Store, T: Sink>(
         (outside_of D.asked D.hung D.dial_faults S.held S.store_faults dial.new store.new)
         (T.Told.told output.old) (T.Told.told output.new) }
     // What went over all links together: the requests of the machine for the responses that came.
-    ensures joined { Joined (map (λ word. string_bytes word) words.now)
+    ensures joined { HangsJoinedLinks (map (λ word. string_bytes word) words.now)
         (outside_of D.asked D.hung D.dial_faults S.held S.store_faults dial.old store.old)
         (outside_of D.asked D.hung D.dial_faults S.held S.store_faults dial.new store.new) }
     // Which count rose, by the status.

@@ -16,25 +16,25 @@ use Rattle.ss_desk.specs.declared.view.Range.{Range}
 use Rattle.ss_desk.specs.Journal.{entries_of, Begins}
 use Rattle.ss_desk.specs.Passes.{view_at}
 use Rattle.ss_desk.specs.Views.{page_of}
-use Rattle.ss_desk.specs.Calls.{Finished}
+use Rattle.ss_desk.specs.Calls.{IsValueAtClose}
 use Rattle.ss_desk.proofs.Beside.{at_left, there_is}
 use Rattle.ss_desk.proofs.Lists.{at_end, at_length, append_nil, either_part, entries_of-append, on_right}
 use Rattle.ss_outside.specs.Told.{Meanings}
-use Rattle.ss_town.specs.Places.{At, Handed}
+use Rattle.ss_town.specs.Places.{At, HandsBack}
 use Rattle.ss_town.specs.Town.{passes_of}
 use Rattle.ss_laws.specs.declared.journal.Entry.{Entry}
 use Rattle.ss_booked.specs.declared.booked.Terms.{Terms}
 use Rattle.ss_route.specs.declared.manner.Manner.{Manner}
 use Rattle.ss_booked.specs.Sound.{RoseBy, keeper_marks}
 use Rattle.ss_booked.specs.Turns.{IsLegalOn}
-use Rattle.ss_connection.specs.Known.{Known, KnowsMore, known_by}
+use Rattle.ss_connection.specs.Known.{KnownAccount, KnowsMore, known_by}
 use Rattle.ss_connection.specs.Calls.{calls_to}
 use Rattle.ss_serve.specs.declared.report.LinkReport.{LinkReport}
 use Rattle.ss_serve.specs.declared.worker.Worker.{Worker}
-use Rattle.ss_serve.specs.Crew.{Sign, Have, Works, AreHanded, sign, starts}
-use Rattle.ss_serve.specs.Gathering.{Gathered, pages, reports_in}
+use Rattle.ss_serve.specs.Crew.{Sign, Have, Works, AreHandedBack, sign, starts}
+use Rattle.ss_serve.specs.Gathering.{IsGathering, pages, reports_in}
 use Rattle.ss_serve.specs.Reports.{AreReports, all_calls_to, reports_by}
-use Rattle.ss_serve.specs.Terms.{weigh, SameNumbers, AreServed, known_after, uids_in}
+use Rattle.ss_serve.specs.Terms.{weigh, SameNumbers, AreServedAccounts, known_after, uids_in}
 use Rattle.ss_serve.specs.Workers.{half, number_of}
 use Rattle.ss_serve.proofs.Crews.{all_at, at_map, long_map, under}
 use Rattle.ss_serve.proofs.Shares.{halves_pos, halves_drop, past_end}
@@ -213,11 +213,11 @@ module _ {L C T A R : Type 0} {J : Ghosts T Terms Entry A R} where
 
   module _ {B D S : Type 0} (terms : B → Terms) (entries : B → List Entry) (faults : B → ℕ) (tells : L → Meanings) (closed : L → Bool) (coming : C → Option (List ℕ)) (uids : List ℕ) (desks : List (Desk T Terms Entry D S))
       (opened now : List (RawPass T Terms Entry)) (all : List (Worker L C T Terms Entry A R J)) (out : List (LinkReport L)) (clocks : List C) (handed : List (ℕ × B))
-      (g : Gathered (length uids) opened all [] now out clocks) (same_length : length opened ≡ length uids) (few : length all ≤ 16) (desk_count : length desks ≡ length uids)
+      (g : IsGathering (length uids) opened all [] now out clocks) (same_length : length opened ≡ length uids) (few : length all ≤ 16) (desk_count : length desks ≡ length uids)
       (have : Have tells closed coming uids desks opened all)
-      (closing : Handed (λ (e : Entry). e.ticket) (λ (e : Entry). e.pass) terms entries IsLegalOn uids now handed) where
+      (closing : HandsBack (λ (e : Entry). e.ticket) (λ (e : Entry). e.pass) terms entries IsLegalOn uids now handed) where
     Fin : ℕ → B → Type 0
-    Fin i b = Finished (λ (e : Entry). e.ticket) (λ (e : Entry). e.pass) terms entries IsLegalOn (view_at now i) b
+    Fin i b = IsValueAtClose (λ (e : Entry). e.ticket) (λ (e : Entry). e.pass) terms entries IsLegalOn (view_at now i) b
 
     whole : all ≡ g.tail
     whole = g.split
@@ -297,11 +297,11 @@ module _ {L C T A R : Type 0} {J : Ghosts T Terms Entry A R} where
         (λ less.
         let at = there_is handed i less in let u = at.0.0 in let b = at.0.1 in let lt = placed i u b at.1 in let fin : Fin i b = (closing.1 i u b at.1).1 in
         let fixed : Some (terms b) ≡ (view_at ps i).fixed = sym fin.same ∙ (g.fixed i lt ∙ (λ j. sym h.2 j i)) in
-        subst (λ (y : Known). (y.number ≡ (known_by ps i).number) × (y.fixed ≡ (known_by ps i).fixed) × Begins (known_by ps i).journal y.journal) (sym (known_at terms entries (number_of k) handed i u b at.1))
+        subst (λ (y : KnownAccount). (y.number ≡ (known_by ps i).number) × (y.fixed ≡ (known_by ps i).fixed) × Begins (known_by ps i).journal y.journal) (sym (known_at terms entries (number_of k) handed i u b at.1))
         (sym (number_is k w here i lt), fixed, (page_is i u b at.1 k w here).0))
         (λ more.
         let none = past_end ps i (let n = done k w here in omega (arith, n.0, closing.0, g.long, same_length)) in
-        subst (λ (y : Known). (y.number ≡ (known_by ps i).number) × (y.fixed ≡ (known_by ps i).fixed) × Begins (known_by ps i).journal y.journal) (sym (known_past terms entries (number_of k) handed i (omega arith)))
+        subst (λ (y : KnownAccount). (y.number ≡ (known_by ps i).number) × (y.fixed ≡ (known_by ps i).fixed) × Begins (known_by ps i).journal y.journal) (sym (known_past terms entries (number_of k) handed i (omega arith)))
         (ap (λ (v : View Terms Entry). v.range.first) (sym none), ap (λ (v : View Terms Entry). v.fixed) (sym none), ([], ap (λ (v : View Terms Entry). v.seen ++ []) (sym none))))
 
     knows_more : (k : ℕ) (w : Worker L C T Terms Entry A R J) → get_elem? all k ≡ some w → KnowsMore (known_by (passes_of w.passes)) (known_after terms entries (number_of k) handed)
@@ -336,7 +336,7 @@ module _ {L C T A R : Type 0} {J : Ghosts T Terms Entry A R} where
     clock_count = ap length clocks_are ∙ long_map (λ (w : Worker L C T Terms Entry A R J). w.clock) all
 
     pub served : (manner : Manner) → All (λ (w : Worker L C T Terms Entry A R J). w.manner ≡ manner) all → ((i uid : ℕ) (b : B) → get_elem? handed i ≡ some (uid, b) → RoseBy (keeper_marks (entries b)) (terms b).faults (faults b))
-        → AreServed terms entries faults manner tells closed handed out (starts (map (sign coming) all)) (map coming clocks)
+        → AreServedAccounts terms entries faults manner tells closed handed out (starts (map (sign coming) all)) (map coming clocks)
     unfolding Fin
     served manner one kept =
         let count : length (starts (map (sign coming) all)) ≡ length all = long_map (λ (s : Sign). s.start) (map (sign coming) all) ∙ long_map (sign coming) all in record {
@@ -348,7 +348,7 @@ module _ {L C T A R : Type 0} {J : Ghosts T Terms Entry A R} where
           reported = reported manner one;
         }
 
-    pub are_handed : IsStrictlyIncreasing (uids_in handed) → AreHanded terms uids opened handed
+    pub are_handed : IsStrictlyIncreasing (uids_in handed) → AreHandedBack terms uids opened handed
     unfolding Fin
     are_handed sorted = record {
       count = closing.0 ∙ g.long;

@@ -10,7 +10,7 @@ use Rattle.ss_desk.proofs.Beside.{get_left, get_last}
 use Rattle.ss_desk.proofs.Lists.{at_length, at_get, at_end}
 use Rattle.ss_booked.specs.declared.booked.Terms.{Terms}
 use Rattle.ss_route.specs.declared.manner.Manner.{Manner}
-use Rattle.ss_serve.specs.Crew.{Sign, Signed, starts}
+use Rattle.ss_serve.specs.Crew.{Sign, AreWorkerSigns, starts}
 
 module _ {X : Type 0} where
   pub all_end : (P : X → Type 0) (xs : List X) (x : X) → All P xs → P x → All P (xs ++ x ∷ [])
@@ -70,8 +70,8 @@ module _ {X : Type 0} where
       let here : get_elem? (map f ys) k ≡ some (f x) = ap (λ (l : List _). get_elem? l k) (sym e) ∙ at_map f xs k x at in
       let q = under f ys k (f x) here in subst P q.2 (all_at (λ y. P (f y)) ys k q.0 h q.1))
 
-pub signed_more : (least : ℕ) (fixed : ℕ → Option Terms) (manner : Manner) (signs : List Sign) (s : Sign) → Signed least fixed manner signs → s.number ≡ length signs → least ≤ s.room → s.fixed ≡ fixed → s.manner ≡ manner
-    → Signed least fixed manner (signs ++ s ∷ [])
+pub signed_more : (least : ℕ) (fixed : ℕ → Option Terms) (manner : Manner) (signs : List Sign) (s : Sign) → AreWorkerSigns least fixed manner signs → s.number ≡ length signs → least ≤ s.room → s.fixed ≡ fixed → s.manner ≡ manner
+    → AreWorkerSigns least fixed manner (signs ++ s ∷ [])
 signed_more least fixed manner signs s h is enough same so k t at = elim (at_end signs s t k at) [
   | inl old ↦ h k t old
   | inr new ↦
@@ -95,8 +95,8 @@ begun_next {C} coming signs s rest clocks clock all is same e =
     ap (λ (l : List (Option (List ℕ))). l ++ map coming (reverse rest)) more
     ∙ (append_assoc (starts signs) (coming clock ∷ []) (map coming (reverse rest)) ∙ (ap (λ (l : List C). starts signs ++ map coming l) (sym turned) ∙ e))
 
-pub least_of : {X : Type 0} (least : ℕ) (fixed : ℕ → Option Terms) (manner : Manner) (f : X → Sign) (xs : List X) → Signed least fixed manner (map f xs) → All (λ x. least ≤ (f x).room) xs
+pub least_of : {X : Type 0} (least : ℕ) (fixed : ℕ → Option Terms) (manner : Manner) (f : X → Sign) (xs : List X) → AreWorkerSigns least fixed manner (map f xs) → All (λ x. least ≤ (f x).room) xs
 least_of {X} least fixed manner f xs h = all_of (λ (x : X). least ≤ (f x).room) xs (λ k x at. (h k (f x) (at_map f xs k x at)).1)
 
-pub one_manner : {X : Type 0} (least : ℕ) (fixed : ℕ → Option Terms) (manner : Manner) (f : X → Sign) (xs : List X) → Signed least fixed manner (map f xs) → All (λ x. (f x).manner ≡ manner) xs
+pub one_manner : {X : Type 0} (least : ℕ) (fixed : ℕ → Option Terms) (manner : Manner) (f : X → Sign) (xs : List X) → AreWorkerSigns least fixed manner (map f xs) → All (λ x. (f x).manner ≡ manner) xs
 one_manner {X} least fixed manner f xs h = all_of (λ (x : X). (f x).manner ≡ manner) xs (λ k x at. (h k (f x) (at_map f xs k x at)).3)

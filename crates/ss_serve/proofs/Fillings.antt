@@ -6,14 +6,14 @@ use mathlib.Core.Logic.{dite}
 use native.Mathlib.Decide.{ℕ_discrete, dec_lt}
 use lib.ListN.{get_elem?}
 use Rattle.ss_desk.proofs.Lists.{at_length, at_get}
-use Rattle.ss_serve.specs.Fullness.{Decided, OneMore}
+use Rattle.ss_serve.specs.Fullness.{IsTestOf, OneMore}
 use Rattle.ss_serve.specs.Terms.{SomeIs, Smallest}
 
-pub yes : (b : Bool) (P : Type 0) → b ≡ true → Decided b P → P
+pub yes : (b : Bool) (P : Type 0) → b ≡ true → IsTestOf b P → P
 yes true P e d = d
 yes false P e d = absurd (cc)
 
-pub not : (b : Bool) (P : Type 0) → b ≡ false → Decided b P → P → ⊥
+pub not : (b : Bool) (P : Type 0) → b ≡ false → IsTestOf b P → P → ⊥
 not false P e d = d
 not true P e d = absurd (cc)
 
@@ -44,7 +44,7 @@ module _ {B : Type 0} (P : (ℕ × B) → Type 0) (accounts : List (ℕ × B)) w
     lesser : (least : ℕ) → (min least (get_or accounts i d).0 ≡ least) ⊎ (min least (get_or accounts i d).0 ≡ (get_or accounts i d).0)
     lesser least = dite (dec_lt least (get_or accounts i d).0) (λ less. inl (omega arith)) (λ more. inr (omega arith))
 
-    next : (b : Bool) (r r' : Option ℕ) → Smallest P accounts i r → Decided b (P (get_or accounts i d)) → OneMore b r (get_or accounts i d).0 r' → Smallest P accounts (i + 1) r'
+    next : (b : Bool) (r r' : Option ℕ) → Smallest P accounts i r → IsTestOf b (P (get_or accounts i d)) → OneMore b r (get_or accounts i d).0 r' → Smallest P accounts (i + 1) r'
     next false None r' s absent e = subst (Smallest P accounts (i + 1)) (sym e) (none_next P accounts i d lt absent s)
     next false (Some v) r' s absent e = subst (Smallest P accounts (i + 1)) (sym e) (
       s.0,
@@ -65,7 +65,7 @@ module _ {B : Type 0} (P : (ℕ × B) → Type 0) (accounts : List (ℕ × B)) w
           (λ ne. let low = s.1 k a (omega (arith, ne)) at q in omega (arith, low)),
     )
 
-  pub smallest_next : (i : ℕ) (d : ℕ × B) → i < length accounts → (r r' : Option ℕ) → Smallest P accounts i r → ((b : Bool) × Decided b (P (get_or accounts i d)) × OneMore b r (get_or accounts i d).0 r') → Smallest P accounts (i + 1) r'
+  pub smallest_next : (i : ℕ) (d : ℕ × B) → i < length accounts → (r r' : Option ℕ) → Smallest P accounts i r → ((b : Bool) × IsTestOf b (P (get_or accounts i d)) × OneMore b r (get_or accounts i d).0 r') → Smallest P accounts (i + 1) r'
   smallest_next i d lt r r' s o = next i d lt o.0 r r' s o.1 o.2
 
   -- the smallest by one test is the smallest by another that says the same of these accounts

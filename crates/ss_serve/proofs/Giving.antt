@@ -10,7 +10,7 @@ use Rattle.crossbeam_channel.specs.Fifo.{Pushes, Pops, Learns, Forks, Merges}
 use Rattle.ss_outside.specs.Told.{Meanings}
 use Rattle.ss_serve.specs.declared.channel.Tally.{Tally}
 use Rattle.ss_serve.specs.declared.channel.Job.{Job}
-use Rattle.ss_serve.specs.Tallies.{tally, links_in, links, IsNew, AreNew, Balanced, Settled}
+use Rattle.ss_serve.specs.Tallies.{tally, links_in, links, IsNew, AreNew, IsBalancedChannel, IsSettledTally}
 
 module _ {L : Type 0} where
   links_more : (items : List (Job L)) (x : Job L) → links (items ++ x ∷ []) ≡ links items + links_in x
@@ -49,7 +49,7 @@ module _ {L : Type 0} (told : L → Meanings) where
   Idle : ℕ → Tally → Type 0
   Idle j v = v.parts ≡ 0 → (v.put ≡ 0) × (v.taken ≡ 0)
 
-  pub puts : (n pass : ℕ) (v : Tally) (x : Job L) → 0 < v.parts → IsNew told x → Pushes (Balanced told) n pass v x (λ w. w ≡ tally v.parts (v.put + links_in x) v.taken)
+  pub puts : (n pass : ℕ) (v : Tally) (x : Job L) → 0 < v.parts → IsNew told x → Pushes (IsBalancedChannel told) n pass v x (λ w. w ≡ tally v.parts (v.put + links_in x) v.taken)
   unfolding Idle
   puts n pass v x some_part is_new items views room b at =
       let w = tally v.parts (v.put + links_in x) v.taken in
@@ -67,7 +67,7 @@ module _ {L : Type 0} (told : L → Meanings) where
         refl,
       )
 
-  pub takes : (pass : ℕ) (v : Tally) → 0 < v.parts → Pops (Balanced told) pass v (λ x w. (w ≡ tally v.parts v.put (v.taken + links_in x)) × IsNew told x × (v.parts ≡ 32 → v.taken + links_in x ≤ v.put))
+  pub takes : (pass : ℕ) (v : Tally) → 0 < v.parts → Pops (IsBalancedChannel told) pass v (λ x w. (w ≡ tally v.parts v.put (v.taken + links_in x)) × IsNew told x × (v.parts ≡ 32 → v.taken + links_in x ≤ v.put))
   unfolding Idle
   takes pass v some_part x items views b at =
       let w = tally v.parts v.put (v.taken + links_in x) in
@@ -84,15 +84,15 @@ module _ {L : Type 0} (told : L → Meanings) where
         (refl, b.new.0, λ all. let a = only (λ (u : Tally). u.put) views pass v at (b.whole ∙ sym all) (λ j u e z. (b.idle j u e z).0) in let c = only (λ (u : Tally). u.taken) views pass v at (b.whole ∙ sym all) (λ j u e z. (b.idle j u e z).1) in omega (arith, a, c, b.balance)),
       )
 
-  pub learns_none : (pass : ℕ) (v : Tally) → Learns (Balanced told) pass v (λ items. Unit {0})
+  pub learns_none : (pass : ℕ) (v : Tally) → Learns (IsBalancedChannel told) pass v (λ items. Unit {0})
   learns_none pass v items views b at = tt
 
-  pub learns : (pass : ℕ) (v : Tally) → Learns (Balanced told) pass v (Settled v)
+  pub learns : (pass : ℕ) (v : Tally) → Learns (IsBalancedChannel told) pass v (IsSettledTally v)
   learns pass v items views b at all =
       let p = only (λ (u : Tally). u.put) views pass v at (b.whole ∙ sym all) (λ j u e z. (b.idle j u e z).0) in
       let t = only (λ (u : Tally). u.taken) views pass v at (b.whole ∙ sym all) (λ j u e z. (b.idle j u e z).1) in omega (arith, p, t, b.balance)
 
-  pub forks : (pass : ℕ) (v : Tally) → 1 < v.parts → Forks (Balanced told) pass v (tally (v.parts - 1) v.put v.taken) (tally 1 0 0)
+  pub forks : (pass : ℕ) (v : Tally) → 1 < v.parts → Forks (IsBalancedChannel told) pass v (tally (v.parts - 1) v.put v.taken) (tally 1 0 0)
   unfolding Idle
   forks pass v many items views b at =
       let w = tally (v.parts - 1) v.put v.taken in let n = tally 1 0 0 in
@@ -111,7 +111,7 @@ module _ {L : Type 0} (told : L → Meanings) where
         new = b.new;
       }
 
-  pub forks_none : (pass : ℕ) (v : Tally) → Forks (Balanced told) pass v v (tally 0 0 0)
+  pub forks_none : (pass : ℕ) (v : Tally) → Forks (IsBalancedChannel told) pass v v (tally 0 0 0)
   unfolding Idle
   forks_none pass v items views b at =
       let n = tally 0 0 0 in
@@ -130,10 +130,10 @@ module _ {L : Type 0} (told : L → Meanings) where
         new = b.new;
       }
 
-  pub begins : Balanced told [] (tally 32 0 0 ∷ [])
+  pub begins : IsBalancedChannel told [] (tally 32 0 0 ∷ [])
   begins = record { whole = refl; balance = refl; idle = first; new = tt }
 
-  pub merges : (pass : ℕ) (v : Tally) (other : ℕ) (w : Tally) → Merges (Balanced told) pass v other w (tally (v.parts + w.parts) (v.put + w.put) (v.taken + w.taken)) (tally 0 0 0)
+  pub merges : (pass : ℕ) (v : Tally) (other : ℕ) (w : Tally) → Merges (IsBalancedChannel told) pass v other w (tally (v.parts + w.parts) (v.put + w.put) (v.taken + w.taken)) (tally 0 0 0)
   unfolding Idle
   merges pass v other w items views b at ne at' =
       let z = tally (v.parts + w.parts) (v.put + w.put) (v.taken + w.taken) in let n = tally 0 0 0 in
@@ -152,6 +152,6 @@ module _ {L : Type 0} (told : L → Meanings) where
       }
 
 module _ {L : Type 0} where
-  pub nothing_left : (v : Tally) (items : List (Job L)) → length items ≡ 0 → Settled v items → v.parts ≡ 32 → v.put ≡ v.taken
+  pub nothing_left : (v : Tally) (items : List (Job L)) → length items ≡ 0 → IsSettledTally v items → v.parts ≡ 32 → v.put ≡ v.taken
   nothing_left v [] none h all = omega (arith, h all)
   nothing_left v (x ∷ xs) none h all = absurd (omega arith)

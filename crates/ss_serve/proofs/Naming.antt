@@ -18,15 +18,15 @@ use Rattle.ss_booked.specs.declared.booked.Terms.{Terms}
 use Rattle.ss_route.specs.declared.manner.Manner.{Manner}
 use Rattle.ss_booked.specs.Sizes.{is_full, journal_bytes}
 use Rattle.ss_booked.specs.Turns.{full_on, journal_on}
-use Rattle.ss_connection.specs.Known.{Known}
+use Rattle.ss_connection.specs.Known.{KnownAccount}
 use Rattle.ss_connection.specs.Turns.{Exchange, SaysTurn, WasFull, closes}
 use Rattle.ss_connection.specs.declared.notes.Turn.{Turn}
 use Rattle.ss_connection.specs.declared.notes.Turn.TheVariants as turns
 use Rattle.ss_connection.specs.declared.notes.TurnNote.{TurnNote}
 use Rattle.ss_serve.specs.declared.report.LinkReport.{LinkReport}
-use Rattle.ss_serve.specs.Fullness.{TurnNames, IsNamed}
+use Rattle.ss_serve.specs.Fullness.{TurnNames, IsNamedFull}
 use Rattle.ss_serve.specs.Reports.{IsReport, AreReports, reports_by}
-use Rattle.ss_serve.specs.Terms.{AreServed, IsFull, TurnIsFull, known_after, uids_in}
+use Rattle.ss_serve.specs.Terms.{AreServedAccounts, IsFull, TurnIsFull, known_after, uids_in}
 use Rattle.ss_serve.specs.Workers.{number_of}
 use Rattle.ss_serve.proofs.Closings.{known_at}
 use Rattle.ss_serve.proofs.Crews.{at_map, under}
@@ -49,7 +49,7 @@ all_begun xs ys rest e long =
     sym (e ∙ (ap (λ (l : List _). xs ++ l) none ∙ append_nil xs))
 
 -- a turn that was refused for want of room says of which account, and with which numbers
-pub record Told (uids : List ℕ) (known : ℕ → Known) (uid entries : ℕ) (turn : Turn) : Type 0 where
+pub record Told (uids : List ℕ) (known : ℕ → KnownAccount) (uid entries : ℕ) (turn : Turn) : Type 0 where
   pub full : Full
   pub place : ℕ
   pub listed : At uids place uid
@@ -57,7 +57,7 @@ pub record Told (uids : List ℕ) (known : ℕ → Known) (uid entries : ℕ) (t
   pub count : full.entries ≡ entries
   pub says : TurnIsFull uid full turn
 
-turn_tells : (manner : Manner) (uids : List ℕ) (known : ℕ → Known) (message : Message) (now : ℕ) (last : Bool) (turn : Turn) (bytes : List ℕ) (uid entries : ℕ)
+turn_tells : (manner : Manner) (uids : List ℕ) (known : ℕ → KnownAccount) (message : Message) (now : ℕ) (last : Bool) (turn : Turn) (bytes : List ℕ) (uid entries : ℕ)
     → SaysTurn manner uids known message now last turn bytes → TurnNames uid entries turn → Told uids known uid entries turn
 turn_tells manner uids known message now last (turns.Full u count size) bytes uid entries says names = record {
   full = record { entries = count; bytes = size };
@@ -87,7 +87,7 @@ module _ {L : Type 0} where
       (λ e. (suc q.0, ap (λ b. get_elem? (cond b (s ∷ reports_by r.worker rs) (reports_by r.worker rs)) (suc q.0)) (eq-eqb s.worker r.worker e) ∙ q.1))
       (λ ne. (q.0, ap (λ b. get_elem? (cond b (s ∷ reports_by r.worker rs) (reports_by r.worker rs)) q.0) (ne_eqb s.worker r.worker ne) ∙ q.1))
 
-  module _ (manner : Manner) (tells : L → Meanings) (closed : L → Bool) (uids : List ℕ) (known : ℕ → Known) where
+  module _ (manner : Manner) (tells : L → Meanings) (closed : L → Bool) (uids : List ℕ) (known : ℕ → KnownAccount) where
     one_of : (rs : List (LinkReport L)) (before after : Option (List ℕ)) (n : ℕ) (r : LinkReport L) → AreReports manner tells closed uids known rs before after → get_elem? rs n ≡ some r
         → (a : Option (List ℕ)) × (b : Option (List ℕ)) × IsReport manner tells closed uids known a b r
     one_of [] before after n r h at = absurd (some-ne-none r (sym at))
@@ -103,19 +103,19 @@ module _ {L : Type 0} where
         (subst (λ (n : TurnNote). SaysTurn manner uids known x.0.message x.0.note.now (closes k x.0.message x.0.note.closed_by_gate) n.turn x.0.response) x.2 says) names
 
 module _ {B L : Type 0} (terms : B → Terms) (entries : B → List Entry) (faults : B → ℕ) (manner : Manner) (tells : L → Meanings) (closed : L → Bool) (handed : List (ℕ × B)) (reports : List (LinkReport L)) (coming coming' : List (Option (List ℕ)))
-    (h : AreServed terms entries faults manner tells closed handed reports coming coming') (sorted : IsStrictlyIncreasing (uids_in handed)) where
-  named_full : (i : ℕ) (a : ℕ × B) → get_elem? handed i ≡ some a → IsNamed entries reports a → IsFull terms entries reports a
+    (h : AreServedAccounts terms entries faults manner tells closed handed reports coming coming') (sorted : IsStrictlyIncreasing (uids_in handed)) where
+  named_full : (i : ℕ) (a : ℕ × B) → get_elem? handed i ≡ some a → IsNamedFull entries reports a → IsFull terms entries reports a
   named_full i a at named =
       let r = named.1 in let said = named.3 in let note = said.1 in let k = r.worker in
       let lt = h.workers named.0 r named.2 in
       let before = there_is coming k lt in let after = there_is coming' k (omega (arith, h.clocks)) in
       let here = in_by reports named.0 r named.2 in
-      let known : ℕ → Known = known_after terms entries (number_of k) handed in
+      let known : ℕ → KnownAccount = known_after terms entries (number_of k) handed in
       let one = one_of manner tells closed (uids_in handed) known (reports_by k reports) before.0 after.0 here.0 r (h.reported k before.0 after.0 before.1 after.1) here.1 in
       let told = report_tells manner tells closed (uids_in handed) known one.0 one.1 r said.0 note a.0 (length (entries a.1)) one.2 said.2 said.3 in
       let same : told.place ≡ i = one_place (uids_in handed) sorted told.place i a.0 told.listed (at_map (λ (x : ℕ × B). x.0) handed i a at) in
       let is = known_at terms entries (number_of k) handed i a.0 a.1 at in
-      let was = subst (λ (y : Known). WasFull y told.full) is (subst (λ n. WasFull (known n) told.full) same told.was_full) in
+      let was = subst (λ (y : KnownAccount). WasFull y told.full) is (subst (λ n. WasFull (known n) told.full) same told.was_full) in
       let fixed : was.terms ≡ terms a.1 = (let e = was.fixed in cc) in
       let long : length was.before ≡ length (entries a.1) = sym (full_entries was.terms was.before told.full was.is_full) ∙ told.count in
       let whole : was.before ≡ entries a.1 = all_begun was.before (entries a.1) was.begins.0 was.begins.1 long in
@@ -125,9 +125,9 @@ module _ {B L : Type 0} (terms : B → Terms) (entries : B → List Entry) (faul
         said = (named.0, r, named.2, (said.0, note, said.2, told.says));
       }
 
-  full_named : (a : ℕ × B) → IsFull terms entries reports a → IsNamed entries reports a
+  full_named : (a : ℕ × B) → IsFull terms entries reports a → IsNamedFull entries reports a
   full_named a f = let s = f.said in let t = s.3 in
       (s.0, s.1, s.2, (t.0, t.1, t.2, turn_names a.0 (length (entries a.1)) f.full t.1.turn (full_entries (terms a.1) (entries a.1) f.full f.is_full) t.3))
 
-  pub named_same : (i : ℕ) (a : ℕ × B) → get_elem? handed i ≡ some a → (IsNamed entries reports a → IsFull terms entries reports a) × (IsFull terms entries reports a → IsNamed entries reports a)
+  pub named_same : (i : ℕ) (a : ℕ × B) → get_elem? handed i ≡ some a → (IsNamedFull entries reports a → IsFull terms entries reports a) × (IsFull terms entries reports a → IsNamedFull entries reports a)
   named_same i a at = (named_full i a at, full_named a)

@@ -21,11 +21,12 @@ use Rattle.ss_serve.specs.declared.report.LinkReport.{LinkReport}
 use Rattle.ss_serve.specs.declared.report.TermStop.{TermStop}
 use Rattle.ss_serve.specs.declared.report.TermStop.TheVariants as stop
 use Rattle.ss_serve.specs.declared.worker.Worker.{Worker}
-use Rattle.ss_serve.specs.Crew.{Signed, sign, fixed_at, IsWhole, IsStart, AreLeft, HasWorked, Have, AreHanded}
+use Rattle.ss_serve.specs.Crew.{AreWorkerSigns, sign, fixed_at, IsWhole, IsStart, AreHalvedPasses, HasWorked, Have}
+use Rattle.ss_serve.specs.Crew.{AreHandedBack}
 use Rattle.ss_serve.specs.Crew.{count_reports}
 use Rattle.ss_serve.specs.Fullness.{IsOpenStop, FullKind}
 use Rattle.ss_serve.specs.Reports.{AreReports, reports_by}
-use Rattle.ss_serve.specs.Terms.{AreServed, IsTerm, TermSays, FullSays, IsFull, Smallest, known_after, uids_in}
+use Rattle.ss_serve.specs.Terms.{AreServedAccounts, IsTerm, TermSays, FullSays, IsFull, Smallest, known_after, uids_in}
 use Rattle.ss_serve.specs.Workers.{number_of}
 use Rattle.ss_serve.proofs.Crews.{all_at, at_map}
 
@@ -39,7 +40,7 @@ module _ {L C T A R : Type 0} {J : Ghosts T Terms Entry A R} where
   count_least (x ∷ xs) old is lt = omega (arith, ap (λ (w : Worker L C T Terms Entry A R J). length w.reports.items) is)
 
   pub by_place : {D S : Type 0} (tells : L → Meanings) (closed : L → Bool) (coming : C → Option (List ℕ)) (uids : List ℕ) (desks : List (Desk T Terms Entry D S)) (opened : List (RawPass T Terms Entry)) (least : ℕ) (manner : Manner) (crew : List (Worker L C T Terms Entry A R J))
-      → All (λ w. HasWorked tells closed coming uids desks w) crew → Signed least (fixed_at opened) manner (map (sign coming) crew) → Have tells closed coming uids desks opened crew
+      → All (λ w. HasWorked tells closed coming uids desks w) crew → AreWorkerSigns least (fixed_at opened) manner (map (sign coming) crew) → Have tells closed coming uids desks opened crew
   by_place tells closed coming uids desks opened least manner crew worked signed = record {
     each = λ k w at. let s = signed k (sign coming w) (at_map (sign coming) crew k w at) in (all_at (λ w. HasWorked tells closed coming uids desks w) crew k w worked at, s.0, s.2);
   }
@@ -51,18 +52,18 @@ module _ {L C T A R : Type 0} {J : Ghosts T Terms Entry A R} where
 
   -- workers of the passes as they were opened are workers of those that are left
   pub have_left : {D S : Type 0} (tells : L → Meanings) (closed : L → Bool) (coming : C → Option (List ℕ)) (uids : List ℕ) (desks : List (Desk T Terms Entry D S)) (n : ℕ) (opened ps : List (RawPass T Terms Entry)) (crew : List (Worker L C T Terms Entry A R J))
-      → AreLeft n opened ps → Have tells closed coming uids desks opened crew → Have tells closed coming uids desks ps crew
+      → AreHalvedPasses n opened ps → Have tells closed coming uids desks opened crew → Have tells closed coming uids desks ps crew
   have_left tells closed coming uids desks n opened ps crew left h = record { each = λ k w at. let e = h.each k w at in (e.0, e.1, e.2 ∙ sym left.fixed) }
 
 module _ {T : Type 0} where
-  pub whole_left : (n m places : ℕ) (opened ps : List (RawPass T Terms Entry)) → AreLeft n opened ps → places ≡ length ps → m ≡ n → (i : ℕ) → i < places → IsWhole m (view_at ps i)
+  pub whole_left : (n m places : ℕ) (opened ps : List (RawPass T Terms Entry)) → AreHalvedPasses n opened ps → places ≡ length ps → m ≡ n → (i : ℕ) → i < places → IsWhole m (view_at ps i)
   whole_left n m places opened ps h long is i lt = subst (λ k. IsWhole k (view_at ps i)) (sym is) (h.start i (omega (arith, long))).0
 
-  pub left_next : (n m : ℕ) (opened ps qs : List (RawPass T Terms Entry)) → AreLeft n opened ps → length qs ≡ length ps → fixed_at qs ≡ fixed_at ps
-      → ((i : ℕ) → i < length qs → IsStart m (view_at qs i)) → AreLeft m opened qs
+  pub left_next : (n m : ℕ) (opened ps qs : List (RawPass T Terms Entry)) → AreHalvedPasses n opened ps → length qs ≡ length ps → fixed_at qs ≡ fixed_at ps
+      → ((i : ℕ) → i < length qs → IsStart m (view_at qs i)) → AreHalvedPasses m opened qs
   left_next n m opened ps qs h long same start = record { long = long ∙ h.long; start = start; fixed = same ∙ h.fixed }
 
-  pub handed_from : {B : Type 0} (terms : B → Terms) (n : ℕ) (uids : List ℕ) (opened ps : List (RawPass T Terms Entry)) (handed : List (ℕ × B)) → AreLeft n opened ps → AreHanded terms uids ps handed → AreHanded terms uids opened handed
+  pub handed_from : {B : Type 0} (terms : B → Terms) (n : ℕ) (uids : List ℕ) (opened ps : List (RawPass T Terms Entry)) (handed : List (ℕ × B)) → AreHalvedPasses n opened ps → AreHandedBack terms uids ps handed → AreHandedBack terms uids opened handed
   handed_from terms n uids opened ps handed h t = record {
     count = t.count ∙ h.long;
     place = λ i uid b at. let p = t.place i uid b at in (p.0, (λ j. sym h.fixed j i) ∙ p.1);
@@ -83,8 +84,8 @@ module _ {B L : Type 0} (terms : B → Terms) (entries : B → List Entry) (faul
   past k n (r ∷ rs) all le = let lt = all zero r refl in ap (λ b. cond b (r ∷ reports_by k rs) (reports_by k rs)) (ne_eqb r.worker k (λ e. omega (arith, e, lt))) ∙ past k n rs (λ i s at. all (suc i) s at) le
 
   -- clocks that no worker had come back as they were
-  pub served_with : (handed : List (ℕ × B)) (reports : List (LinkReport L)) (coming coming' others : List (Option (List ℕ))) → AreServed terms entries faults manner tells closed handed reports coming coming'
-      → AreServed terms entries faults manner tells closed handed reports (coming ++ others) (coming' ++ others)
+  pub served_with : (handed : List (ℕ × B)) (reports : List (LinkReport L)) (coming coming' others : List (Option (List ℕ))) → AreServedAccounts terms entries faults manner tells closed handed reports coming coming'
+      → AreServedAccounts terms entries faults manner tells closed handed reports (coming ++ others) (coming' ++ others)
   served_with handed reports coming coming' others h = record {
     lawful = h.lawful;
     kept = h.kept;
@@ -112,7 +113,7 @@ module _ {B L : Type 0} (terms : B → Terms) (entries : B → List Entry) (faul
   says_open (stop.Town fault) given handed reports coming coming' o h = absurd o
 
   pub term_of : {D S : Type 0} (given handed : List (ℕ × B)) (reports : List (LinkReport L)) (coming coming' : List (Option (List ℕ))) (uids : List ℕ) (desks : List (Desk B Terms Entry D S)) (ps : List (RawPass B Terms Entry))
-      → MayOpen given → IsTown terms given uids desks ps → AreHanded terms uids ps handed → AreServed terms entries faults manner tells closed handed reports coming coming'
+      → MayOpen given → IsTown terms given uids desks ps → AreHandedBack terms uids ps handed → AreServedAccounts terms entries faults manner tells closed handed reports coming coming'
       → IsTerm terms entries faults manner tells closed given handed reports coming coming'
   term_of given handed reports coming coming' uids desks ps may town h served = record {
     may = may;
@@ -144,7 +145,7 @@ module _ {B L : Type 0} (terms : B → Terms) (entries : B → List Entry) (hand
   full_says full (stop.Town x) k s = tt
   full_says full stop.Memory k s = tt
 
-pub starts_left : {B D S : Type 0} (terms : B → Terms) (given : List (ℕ × B)) (uids : List ℕ) (desks : List (Desk B Terms Entry D S)) (ps : List (RawPass B Terms Entry)) → IsTown terms given uids desks ps → AreLeft 0 ps ps
+pub starts_left : {B D S : Type 0} (terms : B → Terms) (given : List (ℕ × B)) (uids : List ℕ) (desks : List (Desk B Terms Entry D S)) (ps : List (RawPass B Terms Entry)) → IsTown terms given uids desks ps → AreHalvedPasses 0 ps ps
 starts_left terms given uids desks ps town = let o = town.opened in record {
   long = refl;
   start = λ i lt.

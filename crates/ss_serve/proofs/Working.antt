@@ -7,7 +7,7 @@ use Rattle.ss_outside.specs.Told.{Meanings}
 use Rattle.ss_laws.specs.declared.journal.Entry.{Entry}
 use Rattle.ss_booked.specs.declared.booked.Terms.{Terms}
 use Rattle.ss_route.specs.declared.manner.Manner.{Manner}
-use Rattle.ss_connection.specs.Known.{Known, KnowsMore, SeeMore, known_by}
+use Rattle.ss_connection.specs.Known.{KnownAccount, KnowsMore, SeeMore, known_by}
 use Rattle.ss_connection.specs.Calls.{Enters, calls_to}
 use Rattle.ss_connection.proofs.Later.{served_later}
 use Rattle.ss_connection.proofs.Passing.{knows_more}
@@ -22,7 +22,7 @@ module _ {L : Type 0} where
 
   module _ (manner : Manner) (tells : L → Meanings) (closed : L → Bool) (uids : List ℕ) where
     -- what a report says stays true where more is known of the accounts
-    report_later : (known known' : ℕ → Known) → KnowsMore known known' → (coming coming' : Option (List ℕ)) (r : LinkReport L)
+    report_later : (known known' : ℕ → KnownAccount) → KnowsMore known known' → (coming coming' : Option (List ℕ)) (r : LinkReport L)
         → IsReport manner tells closed uids known coming coming' r → IsReport manner tells closed uids known' coming coming' r
     report_later known known' more coming coming' r h = record {
       given = h.given;
@@ -31,13 +31,13 @@ module _ {L : Type 0} where
       is_closed = h.is_closed;
     }
 
-    pub reports_later : (known known' : ℕ → Known) → KnowsMore known known' → (rs : List (LinkReport L)) (coming coming' : Option (List ℕ))
+    pub reports_later : (known known' : ℕ → KnownAccount) → KnowsMore known known' → (rs : List (LinkReport L)) (coming coming' : Option (List ℕ))
         → AreReports manner tells closed uids known rs coming coming' → AreReports manner tells closed uids known' rs coming coming'
     reports_later known known' more [] coming coming' h = h
     reports_later known known' more (r ∷ rs) coming coming' h =
         (h.0, report_later known known' more coming h.0 r h.1, reports_later known known' more rs h.0 coming' h.2)
 
-    reports_push : (known : ℕ → Known) (rs : List (LinkReport L)) (r : LinkReport L) (first before after : Option (List ℕ))
+    reports_push : (known : ℕ → KnownAccount) (rs : List (LinkReport L)) (r : LinkReport L) (first before after : Option (List ℕ))
         → AreReports manner tells closed uids known rs first before → IsReport manner tells closed uids known before after r → AreReports manner tells closed uids known (rs ++ r ∷ []) first after
     reports_push known [] r first before after h is = (after, subst (λ (x : Option (List ℕ)). IsReport manner tells closed uids known x after r) h is, refl)
     reports_push known (s ∷ rs) r first before after h is = (h.0, h.1, reports_push known rs r h.0 before after h.2 is)

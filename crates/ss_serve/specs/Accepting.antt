@@ -3,7 +3,7 @@ use Rattle.std.specs.Prelude.{All, ◌≡◌, ◌≤◌, ◌<◌, ℕ, ◌+◌, 
 use Rattle.ss_outside.specs.Told.{Meanings}
 use Rattle.ss_outside.specs.Causes.{Rose}
 use Rattle.ss_links.specs.Counts.{RoseBy}
-use Rattle.ss_links.specs.Links.{IsUnused}
+use Rattle.ss_links.specs.Links.{IsUnusedLink}
 use Rattle.ss_links.specs.Ports.{Accepts}
 use Rattle.ss_serve.specs.declared.accept.Stopped.{Stopped}
 use Rattle.ss_serve.specs.declared.accept.Stopped.TheVariants.{Connections, PortEnded, Rested, Port, Memory}
@@ -31,5 +31,5 @@ pub record HasGiven (before after most : ℕ) (old new : Accepts) : Type 0 where
   pub rose : RoseBy given old.links new.links
 
 -- no byte was taken from any of the links or written to it, and none of their calls failed
-pub record AreUnused {L : Type 0} (told : L → Meanings) (ls : List L) : Type 0 where
-  pub each : All (λ l. IsUnused (told l)) ls
+pub record AreUnusedLinks {L : Type 0} (told : L → Meanings) (ls : List L) : Type 0 where
+  pub each : All (λ l. IsUnusedLink (told l)) ls

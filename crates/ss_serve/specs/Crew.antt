@@ -46,8 +46,8 @@ starts signs = map (λ (s : Sign). s.start) signs
 
 -- the number of each worker is its place, it has room for so many reports, its passes are of accounts with these fixed parts, and it
 -- reads conditions in this manner
-abbrev pub Signed : ℕ → (ℕ → Option Terms) → Manner → List Sign → Type 0
-Signed least fixed manner signs = (k : ℕ) (s : Sign) → get_elem? signs k ≡ some s → (s.number ≡ k) × (least ≤ s.room) × (s.fixed ≡ fixed) × (s.manner ≡ manner)
+abbrev pub AreWorkerSigns : ℕ → (ℕ → Option Terms) → Manner → List Sign → Type 0
+AreWorkerSigns least fixed manner signs = (k : ℕ) (s : Sign) → get_elem? signs k ≡ some s → (s.number ≡ k) × (least ≤ s.room) × (s.fixed ≡ fixed) × (s.manner ≡ manner)
 
 module _ {T : Type 0} where
   -- the fixed parts of the accounts, as these passes know them
@@ -66,7 +66,7 @@ IsStart n v = IsWhole n v × (v.seen ≡ [])
 
 module _ {T : Type 0} where
   -- the passes of a town after so many halvings of the `opened` ones
-  pub record AreLeft (n : ℕ) (opened ps : List (RawPass T Terms Entry)) : Type 0 where
+  pub record AreHalvedPasses (n : ℕ) (opened ps : List (RawPass T Terms Entry)) : Type 0 where
     pub long : length ps ≡ length opened
     pub start : (i : ℕ) → i < length ps → IsStart n (view_at ps i)
     pub fixed : fixed_at ps ≡ fixed_at opened
@@ -91,8 +91,8 @@ module _ {L C T A R : Type 0} {J : Ghosts T Terms Entry A R} where
   count_reports (w ∷ ws) = length w.reports.items + count_reports ws
 
   -- of each response that a worker reports the gate was asked
-  abbrev pub IsGated : (ℕ → ℕ → Bool → Type 0) → Worker L C T Terms Entry A R J → Type 0
-  IsGated says w = AreAllGated says w.reports.items
+  abbrev pub IsGatedWorker : (ℕ → ℕ → Bool → Type 0) → Worker L C T Terms Entry A R J → Type 0
+  IsGatedWorker says w = AreAllGated says w.reports.items
 
   module _ {D S : Type 0} (tells : L → Meanings) (closed : L → Bool) (coming : C → Option (List ℕ)) (uids : List ℕ) (desks : List (Desk T Terms Entry D S)) where
     -- a worker's passes are of the town, and its reports say what was done
@@ -112,7 +112,7 @@ module _ {L C T A R : Type 0} {J : Ghosts T Terms Entry A R} where
 
 module _ {B T : Type 0} (terms : B → Terms) where
   -- the accounts that are handed back are those of the town, in its order, with what no call changes
-  pub record AreHanded (uids : List ℕ) (ps : List (RawPass T Terms Entry)) (handed : List (ℕ × B)) : Type 0 where
+  pub record AreHandedBack (uids : List ℕ) (ps : List (RawPass T Terms Entry)) (handed : List (ℕ × B)) : Type 0 where
     pub count : length handed ≡ length ps
     pub place : (i uid : ℕ) (b : B) → get_elem? handed i ≡ some (uid, b) → At uids i uid × (fixed_at ps i ≡ Some (terms b))
     pub sorted : IsStrictlyIncreasing (uids_in handed)

@@ -10,9 +10,9 @@ use Rattle.ss_serve.specs.declared.report.TermStop.TheVariants as stop
 use Rattle.ss_serve.specs.Terms.{SomeIs}
 
 -- a test is true exactly where this holds
-abbrev pub Decided : Bool → Type 0 → Type 0
-Decided true P = P
-Decided false P = P → ⊥
+abbrev pub IsTestOf : Bool → Type 0 → Type 0
+IsTestOf true P = P
+IsTestOf false P = P → ⊥
 
 -- the turn says that this account was full, with so many entries
 abbrev pub TurnNames : ℕ → ℕ → Turn → Type 0
@@ -24,13 +24,13 @@ abbrev pub ReportNames : ℕ → ℕ → List TurnNote → Type 0
 ReportNames uid entries notes = SomeIs (λ (note : TurnNote). TurnNames uid entries note.turn) notes
 
 -- a turn of a report says so
-abbrev pub AreNamed : {L : Type 0} → ℕ → ℕ → List (LinkReport L) → Type 0
-AreNamed {L} uid entries reports = SomeIs (λ (r : LinkReport L). ReportNames uid entries r.turns.items) reports
+abbrev pub SomeReportNames : {L : Type 0} → ℕ → ℕ → List (LinkReport L) → Type 0
+SomeReportNames {L} uid entries reports = SomeIs (λ (r : LinkReport L). ReportNames uid entries r.turns.items) reports
 
 module _ {B L : Type 0} (entries : B → List Entry) where
   -- a turn says that the account was full with as many entries as it has
-  abbrev pub IsNamed : List (LinkReport L) → (ℕ × B) → Type 0
-  IsNamed reports a = AreNamed a.0 (length (entries a.1)) reports
+  abbrev pub IsNamedFull : List (LinkReport L) → (ℕ × B) → Type 0
+  IsNamedFull reports a = SomeReportNames a.0 (length (entries a.1)) reports
 
 -- the smallest uid, with one account more that counts or does not
 abbrev pub OneMore : Bool → Option ℕ → ℕ → Option ℕ → Type 0

@@ -25,7 +25,7 @@ module _ {L C T A R : Type 0} {J : Ghosts T Terms Entry A R} where
   reports_in (w ∷ ws) = reports_in ws ++ w.reports.items
 
   -- The passes of the workers in `rest` are still to be taken in
-  pub record Gathered (places : ℕ) (opened : List (RawPass T Terms Entry)) (all rest : List (Worker L C T Terms Entry A R J)) (now : List (RawPass T Terms Entry))
+  pub record IsGathering (places : ℕ) (opened : List (RawPass T Terms Entry)) (all rest : List (Worker L C T Terms Entry A R J)) (now : List (RawPass T Terms Entry))
       (reports : List (LinkReport L)) (clocks : List C) : Type 0 where
     pub long : length now ≡ length opened
     pub tail : List (Worker L C T Terms Entry A R J)

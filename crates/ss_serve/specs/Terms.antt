@@ -18,7 +18,7 @@ use Rattle.ss_booked.specs.declared.booked.Terms.{Terms}
 use Rattle.ss_booked.specs.Sound.{RoseBy, keeper_marks}
 use Rattle.ss_booked.specs.Turns.{IsLegalOn, full_on}
 use Rattle.ss_route.specs.declared.manner.Manner.{Manner}
-use Rattle.ss_connection.specs.Known.{Known}
+use Rattle.ss_connection.specs.Known.{KnownAccount}
 use Rattle.ss_connection.specs.declared.notes.Turn.{Turn}
 use Rattle.ss_connection.specs.declared.notes.Turn.TheVariants as turns
 use Rattle.ss_connection.specs.declared.notes.TurnNote.{TurnNote}
@@ -64,7 +64,7 @@ module _ {B : Type 0} where
 
 module _ {B : Type 0} (terms : B → Terms) (entries : B → List Entry) where
   -- what is known of the accounts, by passes of this number, once the accounts are handed back: their whole journals
-  abbrev pub known_after : ℕ → List (ℕ × B) → ℕ → Known
+  abbrev pub known_after : ℕ → List (ℕ × B) → ℕ → KnownAccount
   known_after number [] i = record { number = 0; fixed = None; journal = [] }
   known_after number (a ∷ accounts) zero = record { number = number; fixed = Some (terms a.1); journal = entries a.1 }
   known_after number (a ∷ accounts) (suc i) = known_after number accounts i
@@ -85,7 +85,7 @@ module _ {B : Type 0} (terms : B → Terms) (entries : B → List Entry) where
     FullSays handed reports _ = Unit {0}
 
     -- no town was opened: the accounts and the clocks come back, and there are no reports
-    pub record IsRefused (fault : TownFault) (given handed : List (ℕ × B)) (reports : List (LinkReport L)) (coming coming' : List (Option (List ℕ))) : Type 0 where
+    pub record IsRefusedTerm (fault : TownFault) (given handed : List (ℕ × B)) (reports : List (LinkReport L)) (coming coming' : List (Option (List ℕ))) : Type 0 where
       pub cause : FaultSays given fault
       pub back : BackAfter terms entries given handed fault
       pub none : reports ≡ []
@@ -93,7 +93,7 @@ module _ {B : Type 0} (terms : B → Terms) (entries : B → List Entry) where
 
     module _ (faults : B → ℕ) (manner : Manner) (tells : L → Meanings) (closed : L → Bool) where
       -- The accounts, the reports and the clocks that are handed back, of clocks that told `coming`
-      pub record AreServed (handed : List (ℕ × B)) (reports : List (LinkReport L)) (coming coming' : List (Option (List ℕ))) : Type 0 where
+      pub record AreServedAccounts (handed : List (ℕ × B)) (reports : List (LinkReport L)) (coming coming' : List (Option (List ℕ))) : Type 0 where
         -- Each journal is legal, and its tickets rise.
         pub lawful : (i uid : ℕ) (b : B) → get_elem? handed i ≡ some (uid, b) → IsLegalOn (terms b) (entries b) × Rises (λ (e : Entry). e.ticket) (entries b)
         -- Since its opening the keeper has failed at least as often as the journal has entries that say so.
@@ -118,11 +118,11 @@ module _ {B : Type 0} (terms : B → Terms) (entries : B → List Entry) where
         pub count : length handed ≡ length order
         pub back : (i uid : ℕ) (b : B) → get_elem? order i ≡ some (uid, b) → (b' : B) × (get_elem? handed i ≡ some (uid, b')) × (terms b' ≡ terms b)
         pub sorted : IsStrictlyIncreasing (uids_in handed)
-        pub served : AreServed handed reports coming coming'
+        pub served : AreServedAccounts handed reports coming coming'
 
       -- What a term hands back, by how it ended
       abbrev pub TermSays : List (ℕ × B) → List (ℕ × B) → List (LinkReport L) → List (Option (List ℕ)) → List (Option (List ℕ)) → TermStop → Type 0
-      TermSays given handed reports coming coming' (stop.Town fault) = IsRefused fault given handed reports coming coming'
+      TermSays given handed reports coming coming' (stop.Town fault) = IsRefusedTerm fault given handed reports coming coming'
       TermSays given handed reports coming coming' stop.Connections = IsTerm given handed reports coming coming'
       TermSays given handed reports coming coming' stop.PortEnded = IsTerm given handed reports coming coming'
       TermSays given handed reports coming coming' stop.Rested = IsTerm given handed reports coming coming'

@@ -3,8 +3,8 @@
 ghost use Rattle.std.specs.Prelude.{◌≡◌, ◌≤◌, ◌<◌, ◌+◌, All, vec_len, vec_capacity};
 ghost use Rattle.crossbeam_channel.specs.Claims.{view, IsSeatAt};
 ghost use Rattle.crossbeam_channel.specs.Ends.{sends_on};
-ghost use Rattle.ss_links.specs.Links.{IsUnused};
-ghost use Rattle.ss_serve.specs.Accepting.{HasCause, HasGiven, AreUnused};
+ghost use Rattle.ss_links.specs.Links.{IsUnusedLink};
+ghost use Rattle.ss_serve.specs.Accepting.{HasCause, HasGiven, AreUnusedLinks};
 
 use crate::channel::{Job, Links, Put, Tally};
 use crossbeam_channel::{Pass, RuledSender};
@@ -36,15 +36,15 @@ fn offer<L: Closable + Drop, R: Wait>(
 )
     requires seat { IsSeatAt (sends_on sender.now) place.old }
     requires parts { 0 < (view place.old).parts }
-    requires new { IsUnused (L.Told.told link) }
-    requires left { All (λ l. IsUnused (L.Told.told l)) left.old.items }
+    requires new { IsUnusedLink (L.Told.told link) }
+    requires left { All (λ l. IsUnusedLink (L.Told.told l)) left.old.items }
     requires room { vec_len left.old < vec_capacity left.old }
     ensures seat { IsSeatAt (sends_on sender.now) place.new }
     ensures parts { (view place.new).parts ≡ (view place.old).parts }
     ensures taken { (view place.new).taken ≡ (view place.old).taken }
     ensures more { (view place.new).put + vec_len left.new ≡ (view place.old).put + vec_len left.old + 1 }
     ensures least { vec_len left.new ≤ vec_len left.old + 1 }
-    ensures left { All (λ l. IsUnused (L.Told.told l)) left.new.items }
+    ensures left { All (λ l. IsUnusedLink (L.Told.told l)) left.new.items }
     ensures room { vec_capacity left.new ≡ vec_capacity left.old }
 {
     match sender.send_as::<Put<L>, R>(rt, place, Job::Link(link)) {
@@ -84,13 +84,13 @@ fn accept_links<L: Closable + Drop, P: Port<Link = L>, R: Wait>(
 ) -> Stopped
     requires seat { IsSeatAt (sends_on sender.now) place.old }
     requires parts { 0 < (view place.old).parts }
-    requires left { All (λ l. IsUnused (L.Told.told l)) left.old.items }
+    requires left { All (λ l. IsUnusedLink (L.Told.told l)) left.old.items }
     requires room { vec_len left.old + connections ≤ vec_capacity left.old }
     ensures seat { IsSeatAt (sends_on sender.now) place.new }
     ensures parts { (view place.new).parts ≡ (view place.old).parts }
     ensures taken { (view place.new).taken ≡ (view place.old).taken }
     ensures given { HasGiven ((view place.old).put + vec_len left.old) ((view place.new).put + vec_len left.new) connections (P.counts port.old) (P.counts port.new) }
-    ensures left { All (λ l. IsUnused (L.Told.told l)) left.new.items }
+    ensures left { All (λ l. IsUnusedLink (L.Told.told l)) left.new.items }
     ensures cause { HasCause result connections (P.counts port.old) (P.counts port.new) }
 {
     for _ in 0..connections {
@@ -118,13 +118,13 @@ pub(crate) fn accept_all<L: Closable + Drop, P: Port<Link = L>, R: Wait>(
 ) -> Stopped
     requires seat { IsSeatAt (sends_on sender.now) place.old }
     requires parts { 0 < (view place.old).parts }
-    requires left { AreUnused L.Told.told left.old.items }
+    requires left { AreUnusedLinks L.Told.told left.old.items }
     requires room { vec_len left.old + connections ≤ vec_capacity left.old }
     ensures seat { IsSeatAt (sends_on sender.now) place.new }
     ensures parts { (view place.new).parts ≡ (view place.old).parts }
     ensures taken { (view place.new).taken ≡ (view place.old).taken }
     ensures given { HasGiven ((view place.old).put + vec_len left.old) ((view place.new).put + vec_len left.new) connections (P.counts port.old) (P.counts port.new) }
-    ensures left { AreUnused L.Told.told left.new.items }
+    ensures left { AreUnusedLinks L.Told.told left.new.items }
     ensures cause { HasCause result connections (P.counts port.old) (P.counts port.new) }
 {
     let stopped = accept_links(rt, port, sender, place, left, connections);

@@ -23,9 +23,9 @@ pub(crate) struct Links<L> {
 }
 
 impl<L: Closable> Protocol<Job<L>, Tally> for Links<L> {
-    ghost use Rattle.ss_serve.specs.Tallies.{Balanced, tally};
+    ghost use Rattle.ss_serve.specs.Tallies.{IsBalancedChannel, tally};
 
-    ghost holds = { Balanced L.Told.told };
+    ghost holds = { IsBalancedChannel L.Told.told };
 
     ghost first = { tally 32 0 0 };
 }
@@ -57,9 +57,9 @@ impl<L: Closable> Outcome<Job<L>, Tally> for Take<L> {
 }
 
 impl<L: Closable> Lesson<Job<L>, Tally> for Take<L> {
-    ghost use Rattle.ss_serve.specs.Tallies.{Settled};
+    ghost use Rattle.ss_serve.specs.Tallies.{IsSettledTally};
 
-    ghost fact = { λ v items. Settled v items };
+    ghost fact = { λ v items. IsSettledTally v items };
 }
 
 pub(crate) struct Cut;

@@ -7,7 +7,8 @@ ghost use Rattle.crossbeam_channel.specs.Ends.{sends_on};
 ghost use Rattle.ss_desk.specs.Passes.{AreOf, view_at};
 ghost use Rattle.ss_town.specs.Town.{uids_of, desks_of, passes_of};
 ghost use Rattle.ss_serve.specs.Tallies.{tally};
-ghost use Rattle.ss_serve.specs.Crew.{IsReady, HasWorked, IsStart, AreLeft, Signed, fixed_at, sign, starts};
+ghost use Rattle.ss_serve.specs.Crew.{IsReady, HasWorked, IsStart, AreHalvedPasses, AreWorkerSigns, fixed_at, sign};
+ghost use Rattle.ss_serve.specs.Crew.{starts};
 ghost use Rattle.ss_serve.specs.Crew.{count_reports};
 
 use crate::channel::{Bare, Cut, Job, Links, Tally};
@@ -92,20 +93,20 @@ pub(crate) fn recruit_all<L: Closable + Drop, C: Clock + Drop, K: Keeper + Drop>
     jobs: &mut Vec<Worker<L, C, Booked<K>>>,
 ) -> bool
     requires of { AreOf (desks_of town.now) (passes_of passes.old) }
-    requires start { AreLeft 0 (passes_of passes.old) (passes_of passes.old) }
+    requires start { AreHalvedPasses 0 (passes_of passes.old) (passes_of passes.old) }
     requires seat { IsSeatAt (sends_on sender.now) place.old }
     requires whole { view place.old ≡ tally 32 0 0 }
     requires none { jobs.old.items ≡ [] }
     requires few { vec_len clocks.old ≤ 16 }
     requires room { vec_len clocks.old ≤ vec_capacity jobs.old }
     ensures of { AreOf (desks_of town.now) (passes_of passes.new) }
-    ensures left { AreLeft (length jobs.new.items) (passes_of passes.old) (passes_of passes.new) }
+    ensures left { AreHalvedPasses (length jobs.new.items) (passes_of passes.old) (passes_of passes.new) }
     ensures seat { IsSeatAt (sends_on sender.now) place.new }
     ensures parts { (view place.new).parts + length jobs.new.items ≡ 32 }
     ensures idle { ((view place.new).put ≡ 0) × ((view place.new).taken ≡ 0) }
     ensures ready { All (λ w. IsReady L.Told.told L.closed C.coming (uids_of town.now) (desks_of town.now)
         (sends_on sender.now) w) jobs.new.items }
-    ensures signed { Signed connections (fixed_at (passes_of passes.old)) manner (map (sign C.coming) jobs.new.items) }
+    ensures signed { AreWorkerSigns connections (fixed_at (passes_of passes.old)) manner (map (sign C.coming) jobs.new.items) }
     ensures none { count_reports jobs.new.items ≡ 0 }
     ensures starts { starts (map (sign C.coming) jobs.new.items) ++ map C.coming clocks.new.items
         ≡ map C.coming clocks.old.items }

@@ -5,9 +5,9 @@ ghost use Rattle.ss_desk.specs.Passes.{AreOf, view_at};
 ghost use Rattle.ss_town.specs.Town.{uids_of, desks_of, passes_of};
 ghost use Rattle.ss_booked.specs.Booked.{account_of, journal_of, terms_of};
 ghost use Rattle.ss_route.specs.declared.manner.Manner.{Manner};
-ghost use Rattle.ss_serve.specs.Terms.{AreServed};
-ghost use Rattle.ss_serve.specs.Crew.{Have, IsWhole, AreHanded, count_reports, sign, starts};
-ghost use Rattle.ss_serve.specs.Gathering.{Gathered, reports_in};
+ghost use Rattle.ss_serve.specs.Terms.{AreServedAccounts};
+ghost use Rattle.ss_serve.specs.Crew.{Have, IsWhole, AreHandedBack, count_reports, sign, starts};
+ghost use Rattle.ss_serve.specs.Gathering.{IsGathering, reports_in};
 
 use crate::report::LinkReport;
 use crate::worker::Worker;
@@ -45,7 +45,7 @@ fn gather<L: Closable + Drop, C: Clock + Drop, K: Keeper + Drop>(
     requires room { count_reports crew.items ≤ vec_capacity reports.old }
     requires clocks { vec_len crew ≤ vec_capacity clocks.old }
     ensures of { AreOf (desks_of town.now) (passes_of passes.new) }
-    ensures gathered { Gathered (length (uids_of town.now)) (passes_of passes.old) crew.items [] (passes_of passes.new)
+    ensures gathered { IsGathering (length (uids_of town.now)) (passes_of passes.old) crew.items [] (passes_of passes.new)
         reports.new.items (reverse clocks.new.items) }
     ensures room { vec_capacity clocks.new ≡ vec_capacity clocks.old }
 {
@@ -81,9 +81,9 @@ pub(crate) fn finish<L: Closable + Drop, C: Clock + Drop, K: Keeper + Drop>(
     requires none { (reports.items ≡ []) × (clocks.items ≡ []) }
     requires room { count_reports crew.items ≤ vec_capacity reports }
     requires clocks { vec_len crew ≤ vec_capacity clocks }
-    ensures handed { AreHanded (λ b. terms_of K.keep_faults b) (uids_of town) (passes_of passes) result.0.items }
+    ensures handed { AreHandedBack (λ b. terms_of K.keep_faults b) (uids_of town) (passes_of passes) result.0.items }
     ensures served { (manner : Manner) → All (λ w. w.manner ≡ manner) crew.items
-        → AreServed (λ b. terms_of K.keep_faults b) (λ b. (journal_of b).entries)
+        → AreServedAccounts (λ b. terms_of K.keep_faults b) (λ b. (journal_of b).entries)
         (λ b. K.keep_faults (account_of b).keeper) manner L.Told.told L.closed
         result.0.items result.1.items (starts (map (sign C.coming) crew.items)) (map C.coming result.2.items) }
     ensures reports { result.1.items ≡ reports_in crew.items }

@@ -11,12 +11,13 @@ ghost use Rattle.ss_town.specs.Town.{uids_of, desks_of, passes_of};
 ghost use Rattle.ss_town.specs.Opening.{AreBare};
 ghost use Rattle.ss_booked.specs.Booked.{account_of, journal_of, terms_of};
 ghost use Rattle.ss_route.specs.declared.manner.Manner.{Manner};
-ghost use Rattle.ss_serve.specs.Crew.{AreLeft, AreHanded, Have, HasWorked, IsGated, IsReady, IsWhole, count_reports};
+ghost use Rattle.ss_serve.specs.Crew.{AreHalvedPasses, AreHandedBack, Have, HasWorked, IsGatedWorker, IsReady, IsWhole};
+ghost use Rattle.ss_serve.specs.Crew.{count_reports};
 ghost use Rattle.ss_serve.specs.Crew.{sign, starts};
 ghost use Rattle.ss_serve.specs.Gathering.{reports_in};
 ghost use Rattle.ss_serve.specs.Reports.{AreAllGated};
 ghost use Rattle.ss_serve.specs.Tallies.{tally};
-ghost use Rattle.ss_serve.specs.Terms.{TermSays, FullSays, HasEnded, AreServed};
+ghost use Rattle.ss_serve.specs.Terms.{TermSays, FullSays, HasEnded, AreServedAccounts};
 ghost use Rattle.ss_serve.specs.Fullness.{IsOpenStop, FullKind};
 
 use crate::accept::Stopped;
@@ -88,9 +89,9 @@ fn end_unserved<L: Closable + Drop, C: Clock + Drop, K: Keeper + Drop>(
     clocks: Vec<C>,
 ) -> TermEnd<L, C, K>
     requires of { AreOf (desks_of town) (passes_of passes) }
-    requires start { AreLeft 0 (passes_of passes) (passes_of passes) }
-    ensures handed { AreHanded (λ b. terms_of K.keep_faults b) (uids_of town) (passes_of passes) result.accounts.items }
-    ensures served { (manner : Manner) → AreServed (λ b. terms_of K.keep_faults b) (λ b. (journal_of b).entries)
+    requires start { AreHalvedPasses 0 (passes_of passes) (passes_of passes) }
+    ensures handed { AreHandedBack (λ b. terms_of K.keep_faults b) (uids_of town) (passes_of passes) result.accounts.items }
+    ensures served { (manner : Manner) → AreServedAccounts (λ b. terms_of K.keep_faults b) (λ b. (journal_of b).entries)
         (λ b. K.keep_faults (account_of b).keeper) manner L.Told.told L.closed
         result.accounts.items result.links.items (map C.coming clocks.items) (map C.coming result.clocks.items) }
     ensures none { result.links.items ≡ [] }
@@ -122,9 +123,9 @@ fn end_early<L: Closable + Drop, C: Clock + Drop, K: Keeper + Drop>(
     requires none { (reports.items ≡ []) × (served.items ≡ []) }
     requires unserved { count_reports crew.items ≡ 0 }
     requires room { vec_len crew + vec_len others ≤ vec_capacity served }
-    ensures handed { AreHanded (λ b. terms_of K.keep_faults b) (uids_of town) (passes_of passes) result.accounts.items }
+    ensures handed { AreHandedBack (λ b. terms_of K.keep_faults b) (uids_of town) (passes_of passes) result.accounts.items }
     ensures served { (manner : Manner) → All (λ w. w.manner ≡ manner) crew.items
-        → AreServed (λ b. terms_of K.keep_faults b) (λ b. (journal_of b).entries)
+        → AreServedAccounts (λ b. terms_of K.keep_faults b) (λ b. (journal_of b).entries)
         (λ b. K.keep_faults (account_of b).keeper) manner L.Told.told L.closed
         result.accounts.items result.links.items (starts (map (sign C.coming) crew.items) ++ map C.coming others.items) (map C.coming result.clocks.items) }
     ensures none { length result.links.items ≡ 0 }
@@ -157,9 +158,9 @@ fn end_served<L: Closable + Drop, C: Clock + Drop, K: Keeper + Drop>(
     requires none { (reports.items ≡ []) × (clocks.items ≡ []) }
     requires room { count_reports crew.items ≤ vec_capacity reports }
     requires clocks { vec_len crew ≤ vec_capacity clocks }
-    ensures handed { AreHanded (λ b. terms_of K.keep_faults b) (uids_of town) (passes_of passes) result.accounts.items }
+    ensures handed { AreHandedBack (λ b. terms_of K.keep_faults b) (uids_of town) (passes_of passes) result.accounts.items }
     ensures served { (manner : Manner) → All (λ w. w.manner ≡ manner) crew.items
-        → AreServed (λ b. terms_of K.keep_faults b) (λ b. (journal_of b).entries)
+        → AreServedAccounts (λ b. terms_of K.keep_faults b) (λ b. (journal_of b).entries)
         (λ b. K.keep_faults (account_of b).keeper) manner L.Told.told L.closed
         result.accounts.items result.links.items (starts (map (sign C.coming) crew.items)) (map C.coming result.clocks.items) }
     ensures reports { result.links.items ≡ reports_in crew.items }
@@ -210,11 +211,11 @@ fn serve_links<
     requires jobs { All (λ w. IsReady L.Told.told L.closed C.coming (uids_of town.now) (desks_of town.now)
         (sends_on sender.now) w) crew.jobs.items }
     requires least { All (λ w. connections ≤ vec_capacity w.reports) crew.jobs.items }
-    requires gated { All (IsGated (G.says gate.now)) crew.jobs.items }
+    requires gated { All (IsGatedWorker (G.says gate.now)) crew.jobs.items }
     ensures worked { All (λ w. HasWorked L.Told.told L.closed C.coming (uids_of town.now) (desks_of town.now) w)
         result.0.items }
     ensures signs { map (sign C.coming) result.0.items ≡ map (sign C.coming) crew.jobs.items }
-    ensures gated { All (IsGated (G.says gate.now)) result.0.items }
+    ensures gated { All (IsGatedWorker (G.says gate.now)) result.0.items }
     ensures given { HasGiven 0 (count_reports result.0.items) connections (P.counts port.old) (P.counts port.new) }
     ensures cause { HasCause result.1 connections (P.counts port.old) (P.counts port.new) }
 {
@@ -271,7 +272,7 @@ fn run_in<
     requires clocks { (0 < vec_len clocks) × (vec_len clocks ≤ 16) }
     requires connections { connections ≤ 1000 }
     requires of { AreOf (desks_of town) (passes_of passes) }
-    requires start { AreLeft 0 (passes_of passes) (passes_of passes) }
+    requires start { AreHalvedPasses 0 (passes_of passes) (passes_of passes) }
     requires jobs { (room.jobs.items ≡ []) × (vec_len clocks ≤ vec_capacity room.jobs) }
     requires done { (room.done.items ≡ []) × (vec_len clocks ≤ vec_capacity room.done) }
     requires left { (room.left.items ≡ []) × (connections ≤ vec_capacity room.left) }
@@ -279,8 +280,8 @@ fn run_in<
     requires served { (room.clocks.items ≡ []) × (vec_len clocks ≤ vec_capacity room.clocks) }
     requires channel { (receives_on room.receiver ≡ sends_on room.sender) × IsSeatAt (sends_on room.sender) room.place
         × (view room.place ≡ tally 32 0 0) }
-    ensures handed { AreHanded (λ b. terms_of K.keep_faults b) (uids_of town) (passes_of passes) result.accounts.items }
-    ensures served { AreServed (λ b. terms_of K.keep_faults b) (λ b. (journal_of b).entries)
+    ensures handed { AreHandedBack (λ b. terms_of K.keep_faults b) (uids_of town) (passes_of passes) result.accounts.items }
+    ensures served { AreServedAccounts (λ b. terms_of K.keep_faults b) (λ b. (journal_of b).entries)
         (λ b. K.keep_faults (account_of b).keeper) manner L.Told.told L.closed
         result.accounts.items result.links.items (map C.coming clocks.items) (map C.coming result.clocks.items) }
     ensures open { IsOpenStop result.ended }
@@ -351,9 +352,9 @@ fn run_term<
     requires clocks { (0 < vec_len clocks) × (vec_len clocks ≤ 16) }
     requires connections { connections ≤ 1000 }
     requires of { AreOf (desks_of town) (passes_of passes) }
-    requires start { AreLeft 0 (passes_of passes) (passes_of passes) }
-    ensures handed { AreHanded (λ b. terms_of K.keep_faults b) (uids_of town) (passes_of passes) result.accounts.items }
-    ensures served { AreServed (λ b. terms_of K.keep_faults b) (λ b. (journal_of b).entries)
+    requires start { AreHalvedPasses 0 (passes_of passes) (passes_of passes) }
+    ensures handed { AreHandedBack (λ b. terms_of K.keep_faults b) (uids_of town) (passes_of passes) result.accounts.items }
+    ensures served { AreServedAccounts (λ b. terms_of K.keep_faults b) (λ b. (journal_of b).entries)
         (λ b. K.keep_faults (account_of b).keeper) manner L.Told.told L.closed
         result.accounts.items result.links.items (map C.coming clocks.items) (map C.coming result.clocks.items) }
     ensures open { IsOpenStop result.ended }

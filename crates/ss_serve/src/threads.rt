@@ -4,9 +4,9 @@ ghost use Rattle.std.specs.Prelude.{◌≡◌, ◌≤◌, ◌<◌, ◌+◌, [], 
 ghost use denote.Param.Send.{IsSync};
 ghost use Rattle.crossbeam_channel.specs.Claims.{view, IsSeatAt};
 ghost use Rattle.crossbeam_channel.specs.Ends.{sends_on, receives_on};
-ghost use Rattle.ss_serve.specs.Accepting.{HasCause, HasGiven, AreUnused};
+ghost use Rattle.ss_serve.specs.Accepting.{HasCause, HasGiven, AreUnusedLinks};
 ghost use Rattle.ss_town.specs.Town.{uids_of, desks_of};
-ghost use Rattle.ss_serve.specs.Crew.{IsGated, IsReady, sign};
+ghost use Rattle.ss_serve.specs.Crew.{IsGatedWorker, IsReady, sign};
 
 use crate::accept::{Stopped, accept_all};
 use crate::channel::{Job, Links, Tally};
@@ -56,13 +56,13 @@ fn serve_all<
     requires none { done.items ≡ [] }
     requires jobs { All (λ w. IsReady L.Told.told L.closed C.coming (uids_of town.now) (desks_of town.now)
         (receives_on receiver.now) w) jobs.items }
-    requires gated { All (IsGated (G.says gate.now)) jobs.items }
+    requires gated { All (IsGatedWorker (G.says gate.now)) jobs.items }
     ensures all { All (λ w. IsReady L.Told.told L.closed C.coming (uids_of town.now) (desks_of town.now)
         (receives_on receiver.now) w) result.items }
     ensures signs { map (sign C.coming) result.items ≡ map (sign C.coming) jobs.items }
     ensures len { vec_len result ≡ vec_len jobs }
     ensures room { vec_capacity result ≡ vec_capacity done }
-    ensures gated { All (IsGated (G.says gate.now)) result.items }
+    ensures gated { All (IsGatedWorker (G.says gate.now)) result.items }
 {
     let Some(job) = jobs.pop() else {
         return done;
@@ -71,20 +71,20 @@ fn serve_all<
         rt,
         || -> Worker<L, C, Booked<K>>
             requires { IsReady L.Told.told L.closed C.coming (uids_of town.now) (desks_of town.now)
-                (receives_on receiver.now) job × IsGated (G.says gate.now) job }
+                (receives_on receiver.now) job × IsGatedWorker (G.says gate.now) job }
             ensures { IsReady L.Told.told L.closed C.coming (uids_of town.entry.now) (desks_of town.entry.now)
                 (receives_on receiver.entry.now) result × (sign C.coming result ≡ sign C.coming job)
-                × IsGated (G.says gate.entry.now) result }
+                × IsGatedWorker (G.says gate.entry.now) result }
         { work(rt, alloc, gate, town, receiver, job) },
         || -> Vec<Worker<L, C, Booked<K>>>
             requires { IsSync R.row × IsSync G.row × (vec_len done + vec_len jobs ≤ vec_capacity done)
                 × (done.items ≡ []) × All (λ w. IsReady L.Told.told L.closed C.coming (uids_of town.now)
                 (desks_of town.now) (receives_on receiver.now) w) jobs.items
-                × All (IsGated (G.says gate.now)) jobs.items }
+                × All (IsGatedWorker (G.says gate.now)) jobs.items }
             ensures { All (λ w. IsReady L.Told.told L.closed C.coming (uids_of town.entry.now) (desks_of town.entry.now)
                 (receives_on receiver.entry.now) w) result.items × (map (sign C.coming) result.items
                 ≡ map (sign C.coming) jobs.items) × (vec_len result ≡ vec_len jobs)
-                × (vec_capacity result ≡ vec_capacity done) × All (IsGated (G.says gate.entry.now)) result.items }
+                × (vec_capacity result ≡ vec_capacity done) × All (IsGatedWorker (G.says gate.entry.now)) result.items }
         { serve_all(rt, alloc, gate, town, receiver, jobs, done) },
     );
     rest.push_reserved(mine);
@@ -108,11 +108,11 @@ fn begin<
 ) -> Vec<Worker<L, C, Booked<K>>>
     requires { MatchOption crew.old ⊥ (λ c. (vec_len c.done + vec_len c.jobs ≤ vec_capacity c.done)
         × (c.done.items ≡ []) × All (λ w. IsReady L.Told.told L.closed C.coming (uids_of town.now) (desks_of town.now)
-        (receives_on receiver.now) w) c.jobs.items × All (IsGated (G.says gate.now)) c.jobs.items) }
+        (receives_on receiver.now) w) c.jobs.items × All (IsGatedWorker (G.says gate.now)) c.jobs.items) }
     ensures { MatchOption crew.old ⊥ (λ c. All (λ w. IsReady L.Told.told L.closed C.coming (uids_of town.now)
         (desks_of town.now) (receives_on receiver.now) w) result.items
         × (map (sign C.coming) result.items ≡ map (sign C.coming) c.jobs.items)
-        × All (IsGated (G.says gate.now)) result.items) }
+        × All (IsGatedWorker (G.says gate.now)) result.items) }
 {
     let Some(Crew { jobs, done }) = crew.take() else {
         unreachable!()
@@ -130,14 +130,14 @@ fn accept_in_front<L: Closable + Drop, P: Port<Link = L>, R: Wait>(
 ) -> Stopped
     requires seat { IsSeatAt (sends_on sender.now) front.old.place }
     requires parts { 0 < (view front.old.place).parts }
-    requires left { AreUnused L.Told.told front.old.left.items }
+    requires left { AreUnusedLinks L.Told.told front.old.left.items }
     requires room { vec_len front.old.left + connections ≤ vec_capacity front.old.left }
     ensures seat { IsSeatAt (sends_on sender.now) front.new.place }
     ensures parts { (view front.new.place).parts ≡ (view front.old.place).parts }
     ensures taken { (view front.new.place).taken ≡ (view front.old.place).taken }
     ensures given { HasGiven ((view front.old.place).put + vec_len front.old.left)
         ((view front.new.place).put + vec_len front.new.left) connections (P.counts port.old) (P.counts port.new) }
-    ensures left { AreUnused L.Told.told front.new.left.items }
+    ensures left { AreUnusedLinks L.Told.told front.new.left.items }
     ensures cause { HasCause result connections (P.counts port.old) (P.counts port.new) }
 {
     accept_all(
@@ -175,48 +175,48 @@ pub(crate) fn run<
 ) -> (Vec<Worker<L, C, Booked<K>>>, Stopped)
     requires seat { IsSeatAt (sends_on sender.now) front.old.place }
     requires parts { 0 < (view front.old.place).parts }
-    requires left { AreUnused L.Told.told front.old.left.items }
+    requires left { AreUnusedLinks L.Told.told front.old.left.items }
     requires room { vec_len front.old.left + connections ≤ vec_capacity front.old.left }
     requires done { (vec_len crew.done + vec_len crew.jobs ≤ vec_capacity crew.done) × (crew.done.items ≡ []) }
     requires jobs { All (λ w. IsReady L.Told.told L.closed C.coming (uids_of town.now) (desks_of town.now)
         (receives_on receiver.now) w) crew.jobs.items }
-    requires gated { All (IsGated (G.says gate.now)) crew.jobs.items }
+    requires gated { All (IsGatedWorker (G.says gate.now)) crew.jobs.items }
     ensures seat { IsSeatAt (sends_on sender.now) front.new.place }
     ensures parts { (view front.new.place).parts ≡ (view front.old.place).parts }
     ensures taken { (view front.new.place).taken ≡ (view front.old.place).taken }
     ensures given { HasGiven ((view front.old.place).put + vec_len front.old.left)
         ((view front.new.place).put + vec_len front.new.left) connections (P.counts port.old) (P.counts port.new) }
-    ensures left { AreUnused L.Told.told front.new.left.items }
+    ensures left { AreUnusedLinks L.Told.told front.new.left.items }
     ensures cause { HasCause result.1 connections (P.counts port.old) (P.counts port.new) }
     ensures all { All (λ w. IsReady L.Told.told L.closed C.coming (uids_of town.now) (desks_of town.now)
         (receives_on receiver.now) w) result.0.items }
     ensures signs { map (sign C.coming) result.0.items ≡ map (sign C.coming) crew.jobs.items }
-    ensures gated { All (IsGated (G.says gate.now)) result.0.items }
+    ensures gated { All (IsGatedWorker (G.says gate.now)) result.0.items }
 {
     let mut waiting = Some(crew);
     let mut first = move || -> Vec<Worker<L, C, Booked<K>>>
         requires { MatchOption waiting ⊥ (λ c. (vec_len c.done + vec_len c.jobs ≤ vec_capacity c.done)
             × (c.done.items ≡ []) × All (λ w. IsReady L.Told.told L.closed C.coming (uids_of town.now)
             (desks_of town.now) (receives_on receiver.now) w) c.jobs.items
-            × All (IsGated (G.says gate.now)) c.jobs.items) }
+            × All (IsGatedWorker (G.says gate.now)) c.jobs.items) }
         ensures { MatchOption waiting.entry ⊥ (λ c. All (λ w. IsReady L.Told.told L.closed C.coming
             (uids_of town.entry.now) (desks_of town.entry.now) (receives_on receiver.entry.now) w) result.items
             × (map (sign C.coming) result.items ≡ map (sign C.coming) c.jobs.items)
-            × All (IsGated (G.says gate.entry.now)) result.items) }
+            × All (IsGatedWorker (G.says gate.entry.now)) result.items) }
     { begin(rt, alloc, gate, town, receiver, &mut waiting) };
     join_mut(
         rt,
         &mut first,
         &mut || -> Stopped
             requires { IsSeatAt (sends_on sender.now) front.now.place × (0 < (view front.now.place).parts)
-                × AreUnused L.Told.told front.now.left.items × (vec_len front.now.left + connections
+                × AreUnusedLinks L.Told.told front.now.left.items × (vec_len front.now.left + connections
                 ≤ vec_capacity front.now.left) }
             ensures { IsSeatAt (sends_on sender.entry.now) front.exit.now.place
                 × ((view front.exit.now.place).parts ≡ (view front.entry.now.place).parts)
                 × ((view front.exit.now.place).taken ≡ (view front.entry.now.place).taken)
                 × HasGiven ((view front.entry.now.place).put + vec_len front.entry.now.left)
                 ((view front.exit.now.place).put + vec_len front.exit.now.left) connections (P.counts port.entry.now)
-                (P.counts port.exit.now) × AreUnused L.Told.told front.exit.now.left.items
+                (P.counts port.exit.now) × AreUnusedLinks L.Told.told front.exit.now.left.items
                 × HasCause result connections (P.counts port.entry.now) (P.counts port.exit.now) }
         { accept_in_front(rt, port, sender, front, connections, workers) },
     )

@@ -2,9 +2,9 @@
 
 ghost use Rattle.std.specs.Prelude.{◌≡◌, ◌<◌, ◌+◌, vec_len, vec_capacity};
 ghost use Rattle.crossbeam_channel.specs.Ends.{receives_on};
-ghost use Rattle.ss_links.specs.Links.{IsUnused};
+ghost use Rattle.ss_links.specs.Links.{IsUnusedLink};
 ghost use Rattle.ss_town.specs.Town.{uids_of, desks_of};
-ghost use Rattle.ss_serve.specs.Crew.{HasWorked, IsGated, IsReady, sign};
+ghost use Rattle.ss_serve.specs.Crew.{HasWorked, IsGatedWorker, IsReady, sign};
 
 use crate::channel::{Job, Links, Take, Tally};
 use crate::report::LinkReport;
@@ -44,14 +44,14 @@ pub(crate) fn serve_one<L: Closable + Drop, C: Clock + Drop, K: Keeper + Drop, G
     mut link: L,
 )
     requires worked { HasWorked L.Told.told L.closed C.coming (uids_of town.now) (desks_of town.now) worker.old }
-    requires unused { IsUnused (L.Told.told link) }
+    requires unused { IsUnusedLink (L.Told.told link) }
     requires room { vec_len worker.old.reports < vec_capacity worker.old.reports }
-    requires gated { IsGated (G.says gate.now) worker.old }
+    requires gated { IsGatedWorker (G.says gate.now) worker.old }
     ensures worked { HasWorked L.Told.told L.closed C.coming (uids_of town.now) (desks_of town.now) worker.new }
     ensures more { vec_len worker.new.reports ≡ vec_len worker.old.reports + 1 }
     ensures place { worker.new.place ≡ worker.old.place }
     ensures sign { sign C.coming worker.new ≡ sign C.coming worker.old }
-    ensures gated { IsGated (G.says gate.now) worker.new }
+    ensures gated { IsGatedWorker (G.says gate.now) worker.new }
 {
     let mut turns = Vec::new(alloc);
     let end = serve_connection(
@@ -89,11 +89,11 @@ pub(crate) fn work<L: Closable + Drop, C: Clock + Drop, K: Keeper + Drop, G: Gat
 ) -> Worker<L, C, Booked<K>>
     requires ready { IsReady L.Told.told L.closed C.coming (uids_of town.now) (desks_of town.now)
         (receives_on receiver.now) worker }
-    requires gated { IsGated (G.says gate.now) worker }
+    requires gated { IsGatedWorker (G.says gate.now) worker }
     ensures ready { IsReady L.Told.told L.closed C.coming (uids_of town.now) (desks_of town.now)
         (receives_on receiver.now) result }
     ensures sign { sign C.coming result ≡ sign C.coming worker }
-    ensures gated { IsGated (G.says gate.now) result }
+    ensures gated { IsGatedWorker (G.says gate.now) result }
 {
     for _ in rt.forever() {
         if worker.reports.len() >= worker.reports.capacity() {

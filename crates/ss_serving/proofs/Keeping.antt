@@ -9,7 +9,7 @@ use Rattle.ss_bso.specs.declared.account.Staged.{Staged}
 use Rattle.ss_bso.specs.declared.changes.Kept.{Kept}
 use Rattle.ss_bso.specs.Account.{tick, is_open}
 use Rattle.ss_bso.specs.Batches.{batch_in}
-use Rattle.ss_bso.specs.Changes.{opened, plain_of}
+use Rattle.ss_bso.specs.Changes.{account_at_opening, plain_of}
 use Rattle.ss_bso.specs.Lists.{Each, Pairs}
 use Rattle.ss_bso.specs.Validity.{IsValid, SameAccount}
 use Rattle.ss_bso.proofs.Lists.{Each-imp, Each-from_All, Pairs-from_AllPairs}
@@ -190,9 +190,9 @@ module _ {first : ℕ} (before : Server) (h : IsSteady first before) where
         record {
           valid = v;
           good = g;
-          opens = subst (λ (kept : Kept). IsGood first (opened kept)) (sym k) h.opens;
-          rows = ap (λ (kept : Kept). sheets_of (opened kept).rows) k ∙ (h.rows ∙ (sym (rows_ticked before.account h.good now) ∙ sym shows.rows));
-          time = ap (λ (kept : Kept). collection_time (opened kept) bookmarks) k ∙ (h.time ∙ sym shows.target);
+          opens = subst (λ (kept : Kept). IsGood first (account_at_opening kept)) (sym k) h.opens;
+          rows = ap (λ (kept : Kept). sheets_of (account_at_opening kept).rows) k ∙ (h.rows ∙ (sym (rows_ticked before.account h.good now) ∙ sym shows.rows));
+          time = ap (λ (kept : Kept). collection_time (account_at_opening kept) bookmarks) k ∙ (h.time ∙ sym shows.target);
           store = ap (λ (kept : Kept). kept.store) k ∙ (h.store ∙ sym shows.store);
           counter = ap (λ (kept : Kept). kept.counter) k ∙ (h.counter ∙ sym shows.counter);
           numbers = subst (λ (kept : Kept). Pairs OtherNumber kept.batches) (sym k) h.numbers;
@@ -316,22 +316,22 @@ module _ {first : ℕ} (before : Server) (h : IsSteady first before) where
 
   pub reopens-steady : (after : Server) → Reopens before after → IsSteady first after × IsQuiet (shown_by before) (shown_by after) × Ages (shown_by before) (shown_by after)
   reopens-steady after s =
-      let names = names-back (opened before.kept) after.account s.valid s.account in
-      let g : IsGood first after.account = good-same (opened before.kept) after.account names s.account h.opens in
-      let same : sheets_of after.account.rows ≡ sheets_of (opened before.kept).rows = sym (sheets-reordered (opened before.kept).rows after.account.rows s.account.rows h.opens.places) in
-      let at : collection_time after.account bookmarks ≡ collection_time (opened before.kept) bookmarks = sym (time-reordered (opened before.kept) after.account names s.account) in
+      let names = names-back (account_at_opening before.kept) after.account s.valid s.account in
+      let g : IsGood first after.account = good-same (account_at_opening before.kept) after.account names s.account h.opens in
+      let same : sheets_of after.account.rows ≡ sheets_of (account_at_opening before.kept).rows = sym (sheets-reordered (account_at_opening before.kept).rows after.account.rows s.account.rows h.opens.places) in
+      let at : collection_time after.account bookmarks ≡ collection_time (account_at_opening before.kept) bookmarks = sym (time-reordered (account_at_opening before.kept) after.account names s.account) in
       let steady : IsSteady first after = record {
         valid = s.valid;
         good = g;
-        opens = subst (λ (kept : Kept). IsGood first (opened kept)) (sym s.left) h.opens;
-        rows = ap (λ (kept : Kept). sheets_of (opened kept).rows) s.left ∙ sym same;
-        time = ap (λ (kept : Kept). collection_time (opened kept) bookmarks) s.left ∙ sym at;
+        opens = subst (λ (kept : Kept). IsGood first (account_at_opening kept)) (sym s.left) h.opens;
+        rows = ap (λ (kept : Kept). sheets_of (account_at_opening kept).rows) s.left ∙ sym same;
+        time = ap (λ (kept : Kept). collection_time (account_at_opening kept) bookmarks) s.left ∙ sym at;
         store = ap (λ (kept : Kept). kept.store) s.left ∙ s.account.store;
         counter = ap (λ (kept : Kept). kept.counter) s.left ∙ s.account.counter;
         numbers = subst (λ (kept : Kept). Pairs OtherNumber kept.batches) (sym s.left) h.numbers;
         batches = subst (λ (kept : Kept). Each (IsGoodBatch first kept.counter) kept.batches) (sym s.left) h.batches;
         live = λ n batch e.
-            let was : batch_in bookmarks n (opened before.kept).batches ≡ Some batch = batch-reordered n (opened before.kept).batches after.account.batches s.account.batches h.opens.numbers ∙ e in
+            let was : batch_in bookmarks n (account_at_opening before.kept).batches ≡ Some batch = batch-reordered n (account_at_opening before.kept).batches after.account.batches s.account.batches h.opens.numbers ∙ e in
             ap (λ (kept : Kept). batch_in bookmarks n kept.batches) s.left
             ∙ found_before bookmarks n (is_open (clock (plain_of before.kept).moment 0)) before.kept.batches h.numbers batch was;
       } in
@@ -347,17 +347,17 @@ module _ {first : ℕ} (before : Server) (h : IsSteady first before) where
 -- ---- an opening
 
 -- a valid account over a keeper, opened from what it tells, is steady where no bookmark ends and the collection's time isn't above the store's
-pub opens-steady : (server : Server) → IsValid server.account → SameAccount (opened server.kept) server.account → MayOpen server.kept → Each Lasts server.account.rows → collection_time server.account bookmarks ≤ server.account.store → IsSteady server.account.counter server
+pub opens-steady : (server : Server) → IsValid server.account → SameAccount (account_at_opening server.kept) server.account → MayOpen server.kept → Each Lasts server.account.rows → collection_time server.account bookmarks ≤ server.account.store → IsSteady server.account.counter server
 opens-steady server v s k lasting below =
     let g : IsGood server.account.counter server.account = good_from server.account v lasting below in
-    let back : SameAccount server.account (opened server.kept) = same-back (opened server.kept) server.account s in
+    let back : SameAccount server.account (account_at_opening server.kept) = same-back (account_at_opening server.kept) server.account s in
     let names : Pairs NamedApart server.account.collections = Pairs-from_AllPairs NamedApart server.account.collections v.names in
     record {
       valid = v;
       good = g;
-      opens = good-same server.account (opened server.kept) names back g;
-      rows = sym (sheets-reordered server.account.rows (opened server.kept).rows back.rows g.places);
-      time = sym (time-reordered server.account (opened server.kept) names back);
+      opens = good-same server.account (account_at_opening server.kept) names back g;
+      rows = sym (sheets-reordered server.account.rows (account_at_opening server.kept).rows back.rows g.places);
+      time = sym (time-reordered server.account (account_at_opening server.kept) names back);
       store = s.store;
       counter = s.counter;
       numbers = Pairs-from_AllPairs OtherNumber server.kept.batches (numbers-good server.kept k);
@@ -365,6 +365,6 @@ opens-steady server v s k lasting below =
           (λ batch given. record { counted = given.1; plain = λ late. let le : batch.number ≤ server.kept.counter = given.1 in let same : server.kept.counter ≡ server.account.counter = s.counter in absurd (omega arith) }) server.kept.batches
           (Each-from_All (λ (batch : Staged). (1 ≤ batch.number) × (batch.number ≤ server.kept.counter)) server.kept.batches (given-good server.kept k));
       live = λ n batch e.
-          let was : batch_in bookmarks n (opened server.kept).batches ≡ Some batch = batch-reordered n (opened server.kept).batches server.account.batches s.batches (Pairs-reordered OtherNumber other_turned back.batches g.numbers) ∙ e in
+          let was : batch_in bookmarks n (account_at_opening server.kept).batches ≡ Some batch = batch-reordered n (account_at_opening server.kept).batches server.account.batches s.batches (Pairs-reordered OtherNumber other_turned back.batches g.numbers) ∙ e in
           found_before bookmarks n (is_open (clock (plain_of server.kept).moment 0)) server.kept.batches (Pairs-from_AllPairs OtherNumber server.kept.batches (numbers-good server.kept k)) batch was;
     }

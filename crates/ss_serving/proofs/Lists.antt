@@ -2,7 +2,7 @@
 use Rattle.std.specs.Prelude.{◌≡◌, ◌⊎◌, Bool, true, false, cond, List, [], ◌∷◌, ◌++◌, map, filter, find, Some}
 use Rattle.std.specs.Prelude.{option_map, refl}
 use Rattle.std.proofs.Common.{subst, sym, ap, ◌∙◌, inl, inr}
-use Rattle.ss_text.specs.Texts.{Reordered, nothing, head, swapped, chain}
+use Rattle.ss_text.specs.Texts.{IsReordering, nothing, head, swapped, chain}
 use Rattle.ss_bso.specs.Lists.{Each}
 
 -- x is an element
@@ -20,7 +20,7 @@ module _ {X : Type 0} where
   each_among P [] h = tt
   each_among P (y ∷ ys) h = (h y (inl refl), each_among P ys (λ x a. h x (inr a)))
 
-  pub among_reordered : (x : X) {xs ys : List X} → Reordered xs ys → Among x xs → Among x ys
+  pub among_reordered : (x : X) {xs ys : List X} → IsReordering xs ys → Among x xs → Among x ys
   among_reordered x nothing h = h
   among_reordered x (head y r) (inl e) = inl e
   among_reordered x (head y r) (inr h) = inr (among_reordered x r h)

@@ -10,7 +10,7 @@ use Rattle.ss_bso.specs.declared.account.Staged.{Staged}
 use Rattle.ss_bso.specs.Account.{time_of}
 use Rattle.ss_bso.specs.Batches.{batch_in, grown}
 use Rattle.ss_bso.specs.Limits.{rows_of}
-use Rattle.ss_bso.specs.Write.{ids_of, is_among, rows_written, rows_without, stamped}
+use Rattle.ss_bso.specs.Write.{ids_of, is_among, rows_written, rows_without, account_after_write}
 use Rattle.ss_query.specs.declared.requests.Request.{Request}
 use Rattle.ss_query.specs.declared.requests.Request.TheVariants.{Info, DeleteAll, List as ListOf, Post}
 use Rattle.ss_query.specs.declared.requests.Request.TheVariants.{DeleteCollection, DeleteIds, Get, Put, Delete}
@@ -119,14 +119,14 @@ module _ {first : ℕ} (a t : Plain) (quiet : IsQuiet (shown_account a) (shown_a
 
   module _ (collection : List ℕ) (else : bytes_eq bookmarks collection ≡ false) where
     stamped_stays : (rows : List Row) → rows_of bookmarks rows ≡ rows_of bookmarks t.rows → Pairs Apart rows → length rows ≤ most_rows_and_collections → Each Lasts rows
-        → Stays rows (collection_time (stamped t collection (stamp_in t) rows) bookmarks) (stamp_in t)
+        → Stays rows (collection_time (account_after_write t collection (stamp_in t) rows) bookmarks) (stamp_in t)
     stamped_stays rows same places number lasting =
-        let at : collection_time (stamped t collection (stamp_in t) rows) bookmarks ≡ collection_time t bookmarks =
+        let at : collection_time (account_after_write t collection (stamp_in t) rows) bookmarks ≡ collection_time t bookmarks =
         ap (λ (o : Option ℕ). unwrap_or o t.last_delete) (time_of-with_other t.collections collection bookmarks (stamp_in t) else) in
         let low : collection_time t bookmarks ≤ t.store = good.below in
         record { same = same; places = places; number = number; lasting = lasting; time = omega arith; below = omega arith; later = omega arith }
 
-    without_stays : (ids : List (List ℕ)) → Stays (rows_without collection ids t.rows) (collection_time (stamped t collection (stamp_in t) (rows_without collection ids t.rows)) bookmarks) (stamp_in t)
+    without_stays : (ids : List (List ℕ)) → Stays (rows_without collection ids t.rows) (collection_time (account_after_write t collection (stamp_in t) (rows_without collection ids t.rows)) bookmarks) (stamp_in t)
     without_stays ids =
         let keep : Row → Bool = λ row. not (bytes_eq row.collection collection && is_among ids row.id) in
         stamped_stays (rows_without collection ids t.rows) (rows_beside collection else ids t.rows) (Pairs-filter Apart keep t.rows good.places)
@@ -191,8 +191,8 @@ module _ {first : ℕ} (a t : Plain) (quiet : IsQuiet (shown_account a) (shown_a
     less = λ n parts e. staged_before (batch_in bookmarks n (filter keep t.batches)) (batch_in bookmarks n t.batches) (λ batch h. found_before bookmarks n keep t.batches good.numbers batch h) parts e;
   }
 
-  ids_calm : (collection : List ℕ) → bytes_eq bookmarks collection ≡ false → (ids : List (List ℕ)) (b : Bool) → Calm (cond b (stamped t collection (stamp_in t) (rows_without collection ids t.rows)) t)
-  ids_calm collection else ids true = calm (stamped t collection (stamp_in t) (rows_without collection ids t.rows)) (without_stays collection else ids) same_remain
+  ids_calm : (collection : List ℕ) → bytes_eq bookmarks collection ≡ false → (ids : List (List ℕ)) (b : Bool) → Calm (cond b (account_after_write t collection (stamp_in t) (rows_without collection ids t.rows)) t)
+  ids_calm collection else ids true = calm (account_after_write t collection (stamp_in t) (rows_without collection ids t.rows)) (without_stays collection else ids) same_remain
   ids_calm collection else ids false = (good, quiet, ages)
 
   done_calm : (request : Request) → touches request ≡ false → Passes t request → Calm (effect t request)

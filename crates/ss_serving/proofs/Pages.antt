@@ -5,7 +5,7 @@ use Rattle.std.specs.Prelude.{refl}
 use Rattle.std.proofs.Common.{sym, ap, subst, ◌∙◌, arith}
 use Rattle.std.proofs.lemmas.Bool.Decides.{nat_tests}
 use Rattle.std.proofs.lemmas.List.{take-map, drop-map, length-map}
-use Rattle.ss_text.specs.Texts.{sorted, Reordered, nothing, head, swapped, chain}
+use Rattle.ss_text.specs.Texts.{sorted, IsReordering, nothing, head, swapped, chain}
 use Rattle.ss_text.specs.Time.{stops}
 use Rattle.ss_text.specs.declared.stamps.Cond.TheVariants.{IfUnmodified}
 use Rattle.ss_bso.specs.declared.rows.Row.{Row}
@@ -82,7 +82,7 @@ some-map : (o : Option Row) → is_some (option_map sheet_of o) ≡ is_some o
 some-map None = refl
 some-map (Some row) = refl
 
-some-reordered : (x : List ℕ) {xs ys : List Row} → Reordered xs ys → is_some (find (λ row. bytes_eq x row.id) xs) ≡ is_some (find (λ row. bytes_eq x row.id) ys)
+some-reordered : (x : List ℕ) {xs ys : List Row} → IsReordering xs ys → is_some (find (λ row. bytes_eq x row.id) xs) ≡ is_some (find (λ row. bytes_eq x row.id) ys)
 some-reordered x nothing = refl
 some-reordered x (head row {xs = us} {ys = vs} r) = by (bytes_eq x row.id) (find (λ z. bytes_eq x z.id) us) (find (λ z. bytes_eq x z.id) vs) (some-reordered x r)
   where

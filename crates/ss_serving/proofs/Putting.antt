@@ -8,7 +8,7 @@ use Rattle.ss_bso.specs.declared.rows.Row.{Row}
 use Rattle.ss_bso.specs.declared.parts.Part.{Part}
 use Rattle.ss_bso.specs.Account.{is_at, row_at}
 use Rattle.ss_bso.specs.Lists.{Each, Pairs, Apart}
-use Rattle.ss_bso.specs.Put.{field_value, put}
+use Rattle.ss_bso.specs.Put.{field_value, row_after_put}
 use Rattle.ss_bso.specs.Write.{ids_of, is_among, parts_of, put_all, rows_without, rows_written}
 use Rattle.ss_bso.proofs.Lists.{Each-any, Each-append, Each-filter, Each-filter_map, Each-find}
 use Rattle.ss_laws.proofs.Reading.{write_law}
@@ -20,7 +20,7 @@ use Rattle.ss_serving.specs.Good.{Lasts}
 use Rattle.ss_serving.proofs.Seen.{sheet-shown, sheets-apart}
 use Rattle.ss_text.proofs.Basics.{bytes_eq-same}
 
-sheet-put : (stamp : ℕ) (old : Option Row) (part : Part) → sheet_of (put old bookmarks part stamp) ≡ sheet_put stamp (option_map sheet_of old) part
+sheet-put : (stamp : ℕ) (old : Option Row) (part : Part) → sheet_of (row_after_put old bookmarks part stamp) ≡ sheet_put stamp (option_map sheet_of old) part
 unfolding sheet_put
 sheet-put stamp None part = refl
 sheet-put stamp (Some row) part = refl
@@ -28,7 +28,7 @@ sheet-put stamp (Some row) part = refl
 sheet-put_all : (stamp : ℕ) (parts : List Part) (old : Option Row) → option_map sheet_of (put_all bookmarks parts stamp old) ≡ fold (λ row part. Some (sheet_put stamp row part)) (option_map sheet_of old) parts
 sheet-put_all stamp [] old = refl
 sheet-put_all stamp (part ∷ parts) old =
-    sheet-put_all stamp parts (Some (put old bookmarks part stamp)) ∙ ap (λ s. fold (λ row p. Some (sheet_put stamp row p)) (Some s) parts) (sheet-put stamp old part)
+    sheet-put_all stamp parts (Some (row_after_put old bookmarks part stamp)) ∙ ap (λ s. fold (λ row p. Some (sheet_put stamp row p)) (Some s) parts) (sheet-put stamp old part)
 
 -- the rows that are shown after a write are those that the parts leave
 pub written : (rows : List Row) → Pairs Apart rows → (parts : List Part) (stamp : ℕ) → AreRowsAfter (sheets_of rows) parts stamp (sheets_of (rows_written bookmarks parts stamp rows))
@@ -69,7 +69,7 @@ abbrev LastsIn : Option Row → Type 0
 LastsIn None = Unit {0}
 LastsIn (Some row) = row.expires ≡ None
 
-put-lasts : (stamp : ℕ) (part : Part) (old : Option Row) → IsUpload part → LastsIn old → LastsIn (Some (put old bookmarks part stamp))
+put-lasts : (stamp : ℕ) (part : Part) (old : Option Row) → IsUpload part → LastsIn old → LastsIn (Some (row_after_put old bookmarks part stamp))
 put-lasts stamp part None up h = ap (λ f. field_value f None None (λ seconds. Some (stamp + 100 * seconds))) up.ttl
 put-lasts stamp part (Some row) up h = ap (λ f. field_value f row.expires None (λ seconds. Some (stamp + 100 * seconds))) up.ttl ∙ h
 
@@ -77,7 +77,7 @@ put_all-lasts : (stamp : ℕ) (x : List ℕ) (parts : List Part) (old : Option R
 put_all-lasts stamp x [] old ups h = h
 put_all-lasts stamp x (part ∷ parts) old ups h =
     elim (bytes_eq part.id x) as (λ v. LastsIn (put_all bookmarks (cond v (part ∷ parts_of x parts) (parts_of x parts)) stamp old)) [
-      | true ↦ put_all-lasts stamp x parts (Some (put old bookmarks part stamp)) ups.1 (put-lasts stamp part old ups.0 h)
+      | true ↦ put_all-lasts stamp x parts (Some (row_after_put old bookmarks part stamp)) ups.1 (put-lasts stamp part old ups.0 h)
       | false ↦ put_all-lasts stamp x parts old ups.1 h
     ]
 

@@ -1,7 +1,7 @@
 -- Accounts that are the same but for the order of their lists show the same, and are good together.
 use Rattle.std.specs.Prelude.{◌≡◌, ℕ, ◌≤◌, true, false, ◌&&◌, ◌==◌, List, map, Option, None, unwrap_or, bytes_eq, refl}
 use Rattle.std.proofs.Common.{sym, ap, subst, ◌∙◌}
-use Rattle.ss_text.specs.Texts.{Reordered, sorted}
+use Rattle.ss_text.specs.Texts.{IsReordering, sorted}
 use Rattle.ss_bso.specs.declared.rows.Row.{Row}
 use Rattle.ss_bso.specs.declared.account.Plain.{Plain}
 use Rattle.ss_bso.specs.declared.account.Staged.{Staged}
@@ -34,7 +34,7 @@ all_rows = record { ids = None; newer = None; older = None; limit = None; offset
 sheets_by_answer : (rows : List Row) → map sheet_of (answer (rows_of bookmarks rows) all_rows).rows ≡ sheets_of rows
 sheets_by_answer rows = ap (λ (found : List Row). map sheet_of (sorted (comes_before Oldest) found)) (filter_all (is_asked all_rows) (rows_of bookmarks rows) (λ row. refl))
 
-pub sheets-reordered : (rows others : List Row) → Reordered rows others → Pairs Apart rows → sheets_of rows ≡ sheets_of others
+pub sheets-reordered : (rows others : List Row) → IsReordering rows others → Pairs Apart rows → sheets_of rows ≡ sheets_of others
 sheets-reordered rows others r places =
     sym (sheets_by_answer rows)
     ∙ ap (λ (found : Picked). map sheet_of found.rows) (answer-reordered (rows_of bookmarks rows) (rows_of bookmarks others) all_rows (reordered-filter (λ row. bytes_eq row.collection bookmarks) r) (ids_distinct bookmarks rows places))
@@ -52,7 +52,7 @@ not_both n batch other differ =
     ] refl
 
 -- the batch of a number is the same in either order
-pub batch-reordered : (n : ℕ) (batches others : List Staged) → Reordered batches others → Pairs OtherNumber batches → batch_in bookmarks n batches ≡ batch_in bookmarks n others
+pub batch-reordered : (n : ℕ) (batches others : List Staged) → IsReordering batches others → Pairs OtherNumber batches → batch_in bookmarks n batches ≡ batch_in bookmarks n others
 batch-reordered n batches others r numbers =
     find-reordered (is_it bookmarks n) r (Pairs-imp OtherNumber (NotBoth (is_it bookmarks n)) (λ (batch : Staged). Unit {0}) (λ batch one _ _ differ. not_both n batch one differ) batches (Each-any batches) numbers)
 

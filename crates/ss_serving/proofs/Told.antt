@@ -37,7 +37,7 @@ use Rattle.ss_serving.specs.Asking.{request_of, awaited_of}
 use Rattle.ss_serving.specs.Asking.{FirstPage as AskFirst}
 use Rattle.ss_serving.specs.Asking.{told_by, said_by, page_told}
 use Rattle.ss_serving.specs.Bookmarks.{sheet_of}
-use Rattle.ss_serving.specs.Typed.{IsTyped, IsTypedBody, IsTypedRow, IsOfKind}
+use Rattle.ss_serving.specs.Typed.{IsTypedReply, IsTypedBody, IsTypedRow, IsOfKind}
 use Rattle.ss_serving.proofs.JsonTexts.{json_text}
 use Rattle.ss_serving.proofs.Bodies.{rows_json, ids_json, posted_json, staged_json, limits_json, rows_are, ids_are}
 use Rattle.ss_serving.proofs.Bodies.{posted_is, staged_is, limits_are}
@@ -133,7 +133,7 @@ module _ (back : Back) (reply : Reply) (last : Bool) where
   by_status false x y z h = refl
 
   -- what is heard is what the reply says
-  pub heard_is_told : (awaited : Awaited) → IsTyped reply → (reply.status ≡ status_of awaited → IsOfKind awaited reply.body) → answer_of awaited heard ≡ told_by awaited reply
+  pub heard_is_told : (awaited : Awaited) → IsTypedReply reply → (reply.status ≡ status_of awaited → IsOfKind awaited reply.body) → answer_of awaited heard ≡ told_by awaited reply
   unfolding answer_of told_by
   heard_is_told awaited typed kind =
       by_status (reply.status == status_of awaited) _ _ _ (λ e. let s = eqb-true reply.status (status_of awaited) e in said_is awaited reply.body refl s typed.body typed.next (kind s))

@@ -5,7 +5,7 @@ use Rattle.ss_bso.specs.declared.rows.Row.{Row}
 use Rattle.ss_bso.specs.declared.account.Plain.{Plain}
 use Rattle.ss_bso.specs.declared.account.Staged.{Staged}
 use Rattle.ss_bso.specs.Batches.{batch_in}
-use Rattle.ss_bso.specs.Changes.{opened}
+use Rattle.ss_bso.specs.Changes.{account_at_opening}
 use Rattle.ss_bso.specs.Limits.{most_rows_and_collections}
 use Rattle.ss_bso.specs.Lists.{Each, Pairs, Apart}
 use Rattle.ss_bso.specs.Validity.{IsValid}
@@ -45,9 +45,9 @@ pub record IsGood (first : ℕ) (account : Plain) : Type 0 where
 pub record IsSteady (first : ℕ) (server : Server) : Type 0 where
   pub valid : IsValid server.account
   pub good : IsGood first server.account
-  pub opens : IsGood first (opened server.kept)
-  pub rows : sheets_of (opened server.kept).rows ≡ sheets_of server.account.rows
-  pub time : collection_time (opened server.kept) bookmarks ≡ collection_time server.account bookmarks
+  pub opens : IsGood first (account_at_opening server.kept)
+  pub rows : sheets_of (account_at_opening server.kept).rows ≡ sheets_of server.account.rows
+  pub time : collection_time (account_at_opening server.kept) bookmarks ≡ collection_time server.account bookmarks
   pub store : server.kept.store ≡ server.account.store
   pub counter : server.kept.counter ≡ server.account.counter
   pub numbers : Pairs OtherNumber server.kept.batches

@@ -1,7 +1,7 @@
 -- The steps of an account with its keeper, whatever the order of the account's lists; as every account it is valid then.
 use Rattle.std.specs.Prelude.{◌≡◌, ℕ, true, false}
 use Rattle.ss_bso.specs.Account.{tick}
-use Rattle.ss_bso.specs.Changes.{opened}
+use Rattle.ss_bso.specs.Changes.{account_at_opening}
 use Rattle.ss_bso.specs.Validity.{IsValid, SameAccount}
 use Rattle.ss_query.specs.declared.requests.Request.{Request}
 use Rattle.ss_query.specs.Api.{api}
@@ -23,6 +23,6 @@ pub record Ticks (before : Server) (now : ℕ) (after : Server) : Type 0 where
 
 -- the account is opened anew with what its keeper tells
 pub record Reopens (before after : Server) : Type 0 where
-  pub account : SameAccount (opened before.kept) after.account
+  pub account : SameAccount (account_at_opening before.kept) after.account
   pub valid : IsValid after.account
   pub left : after.kept ≡ before.kept

@@ -34,7 +34,7 @@ IsTypedBody (Posted time success failed) = (time ≤ last_stamp) × AreIds succe
 IsTypedBody (Staged batch success failed) = (1 ≤ batch) × (batch ≤ last_stamp) × AreIds success × HaveIds failed
 IsTypedBody _ = ⊤
 
-pub record IsTyped (reply : Reply) : Type 0 where
+pub record IsTypedReply (reply : Reply) : Type 0 where
   pub next : IfSome reply.next (λ next. next < 2 ^ 64)
   pub body : IsTypedBody reply.body
 

@@ -3,7 +3,7 @@
 ghost use Rattle.std.specs.Prelude.{◌≡◌, ℕ, ◌≤◌, map, Bool, false};
 ghost use Rattle.ss_record.specs.Ids.{Apart};
 ghost use Rattle.ss_bso.specs.declared.account.Plain.{Plain};
-ghost use Rattle.ss_bso.specs.Changes.{opened};
+ghost use Rattle.ss_bso.specs.Changes.{account_at_opening};
 ghost use Rattle.ss_bso.specs.Lists.{Each};
 ghost use Rattle.ss_bso.specs.Validity.{IsValid, SameAccount};
 ghost use Rattle.ss_query.specs.declared.requests.Request.{Request};
@@ -19,7 +19,7 @@ ghost use Rattle.ss_serving.specs.Asking.{Ask, IsAskable, awaited_of, request_of
 ghost use Rattle.ss_serving.specs.Serving.{Ages, IsQuiet, Serves};
 ghost use Rattle.ss_serving.specs.Good.{IsSteady, Lasts};
 ghost use Rattle.ss_serving.specs.Steps.{Answers, Reopens, Ticks};
-ghost use Rattle.ss_serving.specs.Typed.{IsOfKind, IsTyped};
+ghost use Rattle.ss_serving.specs.Typed.{IsOfKind, IsTypedReply};
 
 use ss_route::batch_ids_are_given_out;
 
@@ -29,7 +29,7 @@ use ss_route::batch_ids_are_given_out;
 /// new opening leave the bookmarks. Whatever is asked, a bookmark that wasn't there before is later than the store's
 /// time was.
 pub fn account_serves_bookmarks()
-    ensures opens { (server : Server) → IsValid server.account → SameAccount (opened server.kept) server.account
+    ensures opens { (server : Server) → IsValid server.account → SameAccount (account_at_opening server.kept) server.account
         → MayOpen server.kept
         → Each Lasts server.account.rows → collection_time server.account bookmarks ≤ server.account.store
         → IsSteady server.account.counter server }
@@ -55,7 +55,7 @@ pub fn account_serves_bookmarks()
 /// types, and where it has the awaited status its body is of the kind that is awaited, as each reply of the account to
 /// what a sync client asks is; a list is told as one JSON text, as it is asked for.
 pub fn replies_say_what_is_told()
-    ensures heard { (awaited : Awaited) (reply : Reply) (last : Bool) → IsTyped reply
+    ensures heard { (awaited : Awaited) (reply : Reply) (last : Bool) → IsTypedReply reply
         → (reply.status ≡ status_of awaited → IsOfKind awaited reply.body)
         → answer_of awaited (heard_of reply false last) ≡ told_by awaited reply }
     ensures kinds { (account : Plain) (now : ℕ) (ask : Ask) → (api account now (request_of ask)).reply.status

@@ -3,7 +3,7 @@ use Rattle.std.specs.Prelude.{List, Option, Some, None, map, option_map, string_
 use Rattle.ss_links.specs.Stores.{Files, files_of}
 use Rattle.ss_site.specs.declared.memory_site.KeptTerm.{KeptTerm}
 use Rattle.ss_site.specs.declared.memory_site.MemSite.{MemSite}
-use Rattle.ss_site.specs.Sites.{Counts, Lent, Term, Entries}
+use Rattle.ss_site.specs.Sites.{Counts, LentParts, Term, Entries}
 use Rattle.ss_site.specs.Tables.{entries_of, place_given}
 
 module _ {T : Type 0} where
@@ -19,7 +19,7 @@ module _ {T : Type 0} where
     rests = s.rests;
   }
 
-  abbrev pub site_lent : MemSite T → Lent
+  abbrev pub site_lent : MemSite T → LentParts
   site_lent s = record {
     given = s.given;
     back = s.back;

@@ -13,7 +13,7 @@ use Rattle.ss_site.specs.declared.site.NoKeeper.{NoKeeper}
 use Rattle.ss_site.specs.declared.site.NoKeeper.TheVariants as missing
 
 -- a site's own calls that gave nothing: those that failed, and those for a keeper that found no account in what is kept
-pub record Refused : Type 0 where
+pub record RefusedCalls : Type 0 where
   pub failed : ℕ
   pub damaged : ℕ
 
@@ -21,14 +21,14 @@ pub record Refused : Type 0 where
 -- its own calls; the links of the ports that were shut; those of these ports that had ended; and how often these ports rested
 pub record Counts : Type 0 where
   pub faults : ℕ
-  pub refused : Refused
+  pub refused : RefusedCalls
   pub links : ℕ
   pub ends : ℕ
   pub rests : ℕ
 
 -- how many keepers, ports and stores a site gave, and how many of them came back; the address of each port and the folder and uid of
 -- each keeper that it gave, in order; and what each clock reads that it gives, where that is told
-pub record Lent : Type 0 where
+pub record LentParts : Type 0 where
   pub given : ℕ
   pub back : ℕ
   pub addresses : List (List ℕ)
@@ -84,7 +84,7 @@ HasKeeperCause (Err missing.Damaged) old new = FoundDamage old new
 HasKeeperCause (Err missing.Memory) old new = new ≡ old
 
 -- one more was given, and nothing else is noted of it
-pub record IsGiven (old new : Lent) : Type 0 where
+pub record GivesOneMore (old new : LentParts) : Type 0 where
   pub given : RoseBy 1 old.given new.given
   pub back : new.back ≡ old.back
   pub addresses : new.addresses ≡ old.addresses
@@ -92,24 +92,24 @@ pub record IsGiven (old new : Lent) : Type 0 where
   pub readings : new.readings ≡ old.readings
 
 -- a store was given where the answer is one, and nothing where it is a fault
-abbrev pub HasLent : {T : Type 0} → Result T SiteFault → Lent → Lent → Type 0
-HasLent (Ok value) old new = IsGiven old new
+abbrev pub HasLent : {T : Type 0} → Result T SiteFault → LentParts → LentParts → Type 0
+HasLent (Ok value) old new = GivesOneMore old new
 HasLent (Err why) old new = new ≡ old
 
 -- the keeper of this folder and uid was given where the answer is one, and nothing where it is none
-abbrev pub HasLentKeeper : {T : Type 0} → List ℕ → ℕ → Result T NoKeeper → Lent → Lent → Type 0
+abbrev pub HasLentKeeper : {T : Type 0} → List ℕ → ℕ → Result T NoKeeper → LentParts → LentParts → Type 0
 HasLentKeeper folder uid (Ok keeper) old new =
     RoseBy 1 old.given new.given × (new.back ≡ old.back) × (new.addresses ≡ old.addresses) × (new.keepers ≡ old.keepers ++ (folder, uid) ∷ []) × (new.readings ≡ old.readings)
 HasLentKeeper folder uid (Err why) old new = new ≡ old
 
 -- a port was given that listens at this address where the answer is one, and nothing where it is a fault
-abbrev pub Listens : {T : Type 0} → List ℕ → Result T SiteFault → Lent → Lent → Type 0
+abbrev pub Listens : {T : Type 0} → List ℕ → Result T SiteFault → LentParts → LentParts → Type 0
 Listens address (Ok value) old new =
     RoseBy 1 old.given new.given × (new.back ≡ old.back) × (new.addresses ≡ old.addresses ++ address ∷ []) × (new.keepers ≡ old.keepers) × (new.readings ≡ old.readings)
 Listens address (Err why) old new = new ≡ old
 
 -- one of those that were given came back
-pub record IsBack (old new : Lent) : Type 0 where
+pub record IsBack (old new : LentParts) : Type 0 where
   pub given : new.given ≡ old.given
   pub back : RoseBy 1 old.back new.back
   pub addresses : new.addresses ≡ old.addresses

@@ -5,8 +5,10 @@ ghost use Rattle.std.specs.Prelude.{option_and_then};
 ghost use Rattle.std.specs.Option.{option_copied};
 ghost use Rattle.ss_links.specs.Counts.{RoseBy};
 ghost use Rattle.ss_links.specs.Stores.{Files, files_of};
-ghost use Rattle.ss_site.specs.Sites.{Counts, Lent, Term, HasCause, HasKeeperCause, HasLent, HasLentKeeper, IsBack};
-ghost use Rattle.ss_site.specs.Sites.{IsEntry, IsGiven, HasRetired, StaysTold, CountsKeeper, CountsPort, CountsStore};
+ghost use Rattle.ss_site.specs.Sites.{Counts, LentParts, Term, HasCause, HasKeeperCause, HasLent, HasLentKeeper};
+ghost use Rattle.ss_site.specs.Sites.{IsBack};
+ghost use Rattle.ss_site.specs.Sites.{IsEntry, GivesOneMore, HasRetired, StaysTold, CountsKeeper, CountsPort};
+ghost use Rattle.ss_site.specs.Sites.{CountsStore};
 ghost use Rattle.ss_site.specs.Sites.{AddsTerm};
 ghost use Rattle.ss_site.specs.Tables.{entries_of, held_of, knows, place_given};
 
@@ -218,7 +220,7 @@ impl<T> MemSite<T> {
 
     // Counts a keeper, a port or a store that is given.
     fn lend(&mut self)
-        ensures given { IsGiven (site_lent self.old) (site_lent self.new) }
+        ensures given { GivesOneMore (site_lent self.old) (site_lent self.new) }
         ensures counts { site_counts self.new ≡ site_counts self.old }
         ensures terms { site_terms self.new ≡ site_terms self.old }
         ensures kept { site_kept self.new ≡ site_kept self.old }

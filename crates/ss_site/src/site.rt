@@ -4,7 +4,8 @@ ghost use Rattle.std.specs.Prelude.{◌≡◌, ℕ, Option, List, IfOk, OnOk, On
 ghost use Rattle.ss_links.specs.Ports.{idle_port};
 ghost use Rattle.ss_links.specs.Stores.{Files};
 ghost use Rattle.ss_site.specs.Missing.{without_keeper};
-ghost use Rattle.ss_site.specs.Sites.{Counts, Lent, Term, Entries, HasCause, HasKeeperCause, HasLent, HasLentKeeper};
+ghost use Rattle.ss_site.specs.Sites.{Counts, LentParts, Term, Entries, HasCause, HasKeeperCause, HasLent};
+ghost use Rattle.ss_site.specs.Sites.{HasLentKeeper};
 ghost use Rattle.ss_site.specs.Sites.{Listens, IsBack, IsEntry, HasRetired, StaysTold, CountsKeeper, CountsPort};
 ghost use Rattle.ss_site.specs.Sites.{CountsStore, AddsTerm};
 
@@ -67,7 +68,7 @@ pub trait Site {
 
     /// The keepers, ports and stores that it gave, those that came back, the addresses of the ports, the folders and
     /// uids of the keepers, and what its clocks read, where that is told.
-    ghost lent: { Self → Lent };
+    ghost lent: { Self → LentParts };
 
     /// The terms that it was told, where it tells them.
     ghost terms: { Self → Option (List (Term Self.Report)) };

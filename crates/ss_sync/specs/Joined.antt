@@ -10,13 +10,13 @@ use Rattle.ss_build.specs.Built.{built}
 use Rattle.ss_dupe.specs.Looks.{Id}
 use Rattle.ss_dupe.specs.Sides.{sides}
 use Rattle.ss_dupe.specs.Pairs.{ArePairs}
-use Rattle.ss_dupe.specs.Renaming.{named, tree_renamed}
+use Rattle.ss_dupe.specs.Renaming.{renamed_id, tree_renamed}
 use Rattle.ss_merge.specs.Merged.{entries_merged}
 
 -- the merged tree of three trees and the deleted ids of two sides, where these are the duplicate pairs
 abbrev pub merged_of : List (Id × Id) → List PlacedItem → List PlacedItem → List PlacedItem → List Id → List Id → List PlacedItem
 merged_of pairs mirror local remote local_dead remote_dead =
-    entries_merged (sides mirror (tree_renamed (named pairs) local) remote local_dead remote_dead) (by_id (firsts (node_ids (tree_renamed (named pairs) local) ++ node_ids remote)))
+    entries_merged (sides mirror (tree_renamed (renamed_id pairs) local) remote local_dead remote_dead) (by_id (firsts (node_ids (tree_renamed (renamed_id pairs) local) ++ node_ids remote)))
 
 -- the rows of the mirror that count: where no row was fetched, none
 abbrev pub counting : List Sheet → List Sheet → List Sheet

@@ -10,7 +10,7 @@ use Rattle.std.proofs.lemmas.Str.{IsCharBoundary-before_ascii, IsCharBoundary-af
 use Rattle.std.proofs.lemmas.List.{get_or_at, take_at, drop_at, drop-drop, take-append-drop}
 use Rattle.ss_text.specs.Decimals.{is_number_byte, outside, Piece, run, text, unended, byte, pieces, bytes_of_piece}
 use Rattle.ss_text.specs.Decimals.{is_decimal, escape_mark, begins_marked, marked_piece, unmarked_piece, changed_piece}
-use Rattle.ss_text.specs.Decimals.{changed_text, wrapped, marked, unmarked_text}
+use Rattle.ss_text.specs.Decimals.{changed_text, wrapped_text, marked_text, unmarked_text}
 use Rattle.ss_text.specs.declared.decimals.Change.{Change}
 use Rattle.ss_text.specs.declared.decimals.Change.TheVariants.{Wrap, Mark, Unmark}
 use Rattle.ss_text.proofs.Pieces.{small_byte, begins_run, raw_run, Cut, cut_pieces, pieces_text, recut}
@@ -76,10 +76,10 @@ wrap_cut (unended s ∷ []) h = (h.0, tt)
 wrap_cut (unended s ∷ p ∷ ps) h = absurd h.1
 wrap_cut (byte b ∷ ps) h = (h.0, h.1, wrap_cut ps h.2)
 
-pub marked_pieces : (t : List ℕ) → pieces outside (marked t) ≡ flat_map (changed_piece Mark) (pieces outside t)
+pub marked_pieces : (t : List ℕ) → pieces outside (marked_text t) ≡ flat_map (changed_piece Mark) (pieces outside t)
 marked_pieces t = recut (flat_map (changed_piece Mark) (pieces outside t)) (mark_cut (pieces outside t) (cut_pieces t outside))
 
-pub wrapped_pieces_are : (t : List ℕ) → pieces outside (wrapped t) ≡ flat_map (changed_piece Wrap) (pieces outside t)
+pub wrapped_pieces_are : (t : List ℕ) → pieces outside (wrapped_text t) ≡ flat_map (changed_piece Wrap) (pieces outside t)
 wrapped_pieces_are t = recut (flat_map (changed_piece Wrap) (pieces outside t)) (wrap_cut (pieces outside t) (cut_pieces t outside))
 
 -- ---- marked and unmarked
@@ -109,7 +109,7 @@ pieces_back : (ps : List Piece) → Cut ps → flat_map (changed_piece Unmark) (
 pieces_back [] h = refl
 pieces_back (p ∷ ps) h = ap₂ (λ q qs. q ∷ qs) (piece_back p ps h) (pieces_back ps (cut_rest p ps h))
 
-pub unmarked-marked : (t : List ℕ) → unmarked_text (marked t) ≡ t
+pub unmarked-marked : (t : List ℕ) → unmarked_text (marked_text t) ≡ t
 unmarked-marked t =
     ap (λ ps. flat_map bytes_of_piece (flat_map (changed_piece Unmark) ps)) (marked_pieces t)
     ∙ ap (flat_map bytes_of_piece) (pieces_back (pieces outside t) (cut_pieces t outside)) ∙ pieces_text t
@@ -122,7 +122,7 @@ abbrev pub all_unmarked : List Piece → List Piece
 all_unmarked ps = flat_map (changed_piece Unmark) ps
 
 -- a text whose pieces are marked again into what they were
-pub marked-unmarked : (ps : List Piece) → Cut (flat_map (changed_piece Unmark) ps) → flat_map (changed_piece Mark) (flat_map (changed_piece Unmark) ps) ≡ ps → marked (flat_map bytes_of_piece (flat_map (changed_piece Unmark) ps)) ≡ flat_map bytes_of_piece ps
+pub marked-unmarked : (ps : List Piece) → Cut (flat_map (changed_piece Unmark) ps) → flat_map (changed_piece Mark) (flat_map (changed_piece Unmark) ps) ≡ ps → marked_text (flat_map bytes_of_piece (flat_map (changed_piece Unmark) ps)) ≡ flat_map bytes_of_piece ps
 marked-unmarked ps h e =
     ap (λ qs. flat_map bytes_of_piece (flat_map (changed_piece Mark) qs)) (recut (flat_map (changed_piece Unmark) ps) h) ∙ ap (flat_map bytes_of_piece) e
 

@@ -8,7 +8,7 @@ use Rattle.json.proofs.Unique.Spelling.{value-json_tokens_back}
 use Rattle.serde_json.specs.Data.{Data}
 use Rattle.serde_json.specs.Read.{read, max_depth, of_json}
 use Rattle.serde_json.specs.Written.{has_float}
-use Rattle.ss_text.specs.Decimals.{outside, pieces, wrapped, marked}
+use Rattle.ss_text.specs.Decimals.{outside, pieces, wrapped_text, marked_text}
 use Rattle.ss_text.specs.Tokens.{AreWhole}
 use Rattle.ss_text.proofs.WholeTrees.{whole_tree}
 use Rattle.ss_text.proofs.WholeTokens.{Kept, tokens_are_whole, kept_wrapped, kept_marked}
@@ -25,8 +25,8 @@ from_value ts (Some p) d e h reads = from_tree ts p.1 p.0 d (value-json_tokens_b
 read_kept : (text : List ℕ) (d : Data) → Kept (pieces outside text) → read text ≡ Some d → has_float d ≡ false
 read_kept text d kept reads = from_value (tokens text) (json.value max_depth (tokens text)) d refl (tokens_are_whole text kept) reads
 
-pub no_float : (text : List ℕ) (d : Data) → read (wrapped text) ≡ Some d → has_float d ≡ false
-no_float text d reads = read_kept (wrapped text) d (kept_wrapped text) reads
+pub no_float : (text : List ℕ) (d : Data) → read (wrapped_text text) ≡ Some d → has_float d ≡ false
+no_float text d reads = read_kept (wrapped_text text) d (kept_wrapped text) reads
 
-pub marked_no_float : (text : List ℕ) (d : Data) → read (marked text) ≡ Some d → has_float d ≡ false
-marked_no_float text d reads = read_kept (marked text) d (kept_marked text) reads
+pub marked_no_float : (text : List ℕ) (d : Data) → read (marked_text text) ≡ Some d → has_float d ≡ false
+marked_no_float text d reads = read_kept (marked_text text) d (kept_marked text) reads

@@ -13,7 +13,7 @@ use Rattle.json.specs.Print.{ArePrintable, IsPrintable}
 use Rattle.json.specs.Word.{after_number}
 use Rattle.json.proofs.Printed.Strings.{escape_byte_plain}
 use Rattle.ss_text.specs.Decimals.{is_number_byte, outside, inside, escaped, Piece, run, text, unended, byte, pieces}
-use Rattle.ss_text.specs.Decimals.{bytes_of_piece, is_decimal, is_wrapped, wrapped_pieces, wrapped, count_of}
+use Rattle.ss_text.specs.Decimals.{bytes_of_piece, is_decimal, is_wrapped, wrapped_pieces, wrapped_text, count_of}
 use Rattle.ss_text.specs.Tokens.{IsWhole, AreWhole}
 use Rattle.ss_text.proofs.Pieces.{at_byte, run_there, Raw, string_there, pieces_text}
 use Rattle.ss_text.proofs.WholeTokens.{Kept, number_bytes, some_front, tokens_are_whole}
@@ -48,7 +48,7 @@ kept_text (text s ∷ ps) h = ap (λ t. 34 ∷ ((s ++ 34 ∷ []) ++ t)) (kept_te
 kept_text (unended s ∷ ps) h = ap (λ t. 34 ∷ (s ++ t)) (kept_text ps h)
 kept_text (byte b ∷ ps) h = ap (λ t. b ∷ t) (kept_text ps h)
 
-pub kept_stays : (t : List ℕ) → count_of t ≡ 0 → wrapped t ≡ t
+pub kept_stays : (t : List ℕ) → count_of t ≡ 0 → wrapped_text t ≡ t
 kept_stays t h = kept_text (pieces outside t) (kept_from_count t h) ∙ pieces_text t
 
 pub kept_tokens : (t : List ℕ) → count_of t ≡ 0 → AreWhole (tokens t)

@@ -22,7 +22,7 @@ use Rattle.ss_text.specs.declared.decimals.Change.{Change}
 use Rattle.ss_text.specs.declared.decimals.Change.TheVariants.{Wrap, Mark}
 use Rattle.ss_text.specs.Decimals as at
 use Rattle.ss_text.specs.Decimals.{is_number_byte, Piece, run, text, byte, bytes_of_piece, pieces, changed_piece}
-use Rattle.ss_text.specs.Decimals.{changed_text, wrapped, marked, is_decimal, begins_marked, escape_mark}
+use Rattle.ss_text.specs.Decimals.{changed_text, wrapped_text, marked_text, is_decimal, begins_marked, escape_mark}
 use Rattle.ss_text.specs.Tokens.{Lexes, wrapped_token, marked_once_more, marked_token}
 use Rattle.ss_text.proofs.Marks.{flat-append, begins_split}
 use Rattle.ss_text.proofs.Pieces.{at_byte, string_there, raw_run, Raw}
@@ -558,12 +558,12 @@ kept_in m (colon ∷ ls) after_key g = kept_in m ls fresh g
 all_stay : (m : Bool) (t : List ℕ) → Lexes t → tokens (now m t) ≡ flat_map (after m) (tokens t)
 all_stay m t h = ap (punctuate fresh) (lexemes_stay m t (all_fine (lex between t) fresh h)) ∙ kept_in m (lex between t) fresh h
 
-pub wrapped_stay : (t : List ℕ) → Lexes t → tokens (wrapped t) ≡ flat_map wrapped_token (tokens t)
+pub wrapped_stay : (t : List ℕ) → Lexes t → tokens (wrapped_text t) ≡ flat_map wrapped_token (tokens t)
 wrapped_stay t h = all_stay false t h
 
 one_each : (ts : List Token) → flat_map (after true) ts ≡ map marked_token ts
 one_each [] = refl
 one_each (t ∷ ts) = ap (λ us. marked_token t ∷ us) (one_each ts)
 
-pub marked_stay : (t : List ℕ) → Lexes t → tokens (marked t) ≡ map marked_token (tokens t)
+pub marked_stay : (t : List ℕ) → Lexes t → tokens (marked_text t) ≡ map marked_token (tokens t)
 marked_stay t h = all_stay true t h ∙ one_each (tokens t)

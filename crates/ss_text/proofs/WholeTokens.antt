@@ -435,7 +435,7 @@ wrapped_kept (text s ∷ ps) = wrapped_kept ps
 wrapped_kept (unended s ∷ ps) = wrapped_kept ps
 wrapped_kept (byte b ∷ ps) = wrapped_kept ps
 
-pub kept_wrapped : (t : List ℕ) → Kept (pieces at.outside (at.wrapped t))
+pub kept_wrapped : (t : List ℕ) → Kept (pieces at.outside (at.wrapped_text t))
 kept_wrapped t = subst Kept (sym (wrapped_pieces_are t)) (wrapped_kept (pieces at.outside t))
 
 marked_kept : (ps : List Piece) → Kept (all_marked ps)
@@ -453,5 +453,5 @@ marked_kept (text s ∷ ps) = go (at.begins_marked s) (marked_kept ps)
 marked_kept (unended s ∷ ps) = marked_kept ps
 marked_kept (byte b ∷ ps) = marked_kept ps
 
-pub kept_marked : (t : List ℕ) → Kept (pieces at.outside (at.marked t))
+pub kept_marked : (t : List ℕ) → Kept (pieces at.outside (at.marked_text t))
 kept_marked t = subst Kept (sym (marked_pieces t)) (marked_kept (pieces at.outside t))

@@ -135,12 +135,12 @@ abbrev pub changed_text : Change → List ℕ → List ℕ
 changed_text change t = flat_map bytes_of_piece (flat_map (changed_piece change) (pieces outside t))
 
 -- the text with its decimals wrapped
-abbrev pub wrapped : List ℕ → List ℕ
-wrapped t = changed_text Wrap t
+abbrev pub wrapped_text : List ℕ → List ℕ
+wrapped_text t = changed_text Wrap t
 
 -- the text with its decimals marked
-abbrev pub marked : List ℕ → List ℕ
-marked t = changed_text Mark t
+abbrev pub marked_text : List ℕ → List ℕ
+marked_text t = changed_text Mark t
 
 -- the text with its marked decimals as numbers again
 abbrev pub unmarked_text : List ℕ → List ℕ

@@ -25,11 +25,11 @@ sorted before [] = []
 sorted before (x ∷ xs) = list_with before x (sorted before xs)
 
 -- the same elements, in whatever order
-pub data Reordered {X : Type 0} : List X → List X → Type 0 where
-  nothing : Reordered [] []
-  head : (x : X) {xs ys : List X} → Reordered xs ys → Reordered (x ∷ xs) (x ∷ ys)
-  swapped : (x y : X) (xs : List X) → Reordered (x ∷ y ∷ xs) (y ∷ x ∷ xs)
-  chain : {xs ys zs : List X} → Reordered xs ys → Reordered ys zs → Reordered xs zs
+pub data IsReordering {X : Type 0} : List X → List X → Type 0 where
+  nothing : IsReordering [] []
+  head : (x : X) {xs ys : List X} → IsReordering xs ys → IsReordering (x ∷ xs) (x ∷ ys)
+  swapped : (x y : X) (xs : List X) → IsReordering (x ∷ y ∷ xs) (y ∷ x ∷ xs)
+  chain : {xs ys zs : List X} → IsReordering xs ys → IsReordering ys zs → IsReordering xs zs
 
 -- the lines of a text: the pieces between newlines, empty ones dropped
 abbrev pub lines_of : List ℕ → List (List ℕ)

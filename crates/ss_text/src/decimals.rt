@@ -8,8 +8,9 @@ ghost use Rattle.std.specs.Char.{is_ascii_digit};
 ghost use Rattle.std.specs.Str.{IsUtf8};
 ghost use Rattle.json.specs.Word.{after_number};
 ghost use Rattle.ss_text.specs.Decimals.{is_number_byte, outside, inside, pieces, bytes_of_piece, is_all, is_point};
-ghost use Rattle.ss_text.specs.Decimals.{is_inexact, is_decimal, begins_marked, changed_piece, changed_text, wrapped};
-ghost use Rattle.ss_text.specs.Decimals.{marked, unmarked_text, is_wrapped, count_of};
+ghost use Rattle.ss_text.specs.Decimals.{is_inexact, is_decimal, begins_marked, changed_piece, changed_text};
+ghost use Rattle.ss_text.specs.Decimals.{wrapped_text};
+ghost use Rattle.ss_text.specs.Decimals.{marked_text, unmarked_text, is_wrapped, count_of};
 ghost use Rattle.ss_text.specs.Decimals as cut;
 ghost use Rattle.ss_text.specs.Scan.{inside_len, scanned_piece, HasRun};
 
@@ -267,7 +268,7 @@ fn is_wrapped(piece: Piece<'_>) -> bool
 /// `-0`. A text without one is its own wrapped text, so it can be read as it is.
 pub fn count_decimals(text: &[u8]) -> u64
     ensures count { result ≡ count_of text.now }
-    ensures same { result ≡ 0 → wrapped text.now ≡ text.now }
+    ensures same { result ≡ 0 → wrapped_text text.now ≡ text.now }
 {
     let mut count = 0u64;
     let mut at = 0;
@@ -285,7 +286,7 @@ pub fn count_decimals(text: &[u8]) -> u64
 /// or is `-0`, becomes a list of one string with the same characters. All else stays. So serde_json reads no number of
 /// it as a float, which would lose digits (this project).
 pub fn wrap_decimals(alloc: Global, text: &[u8]) -> Result<Wrapped, AllocError>
-    ensures bytes { IfOk result (λ w. w.bytes.items ≡ wrapped text.now) }
+    ensures bytes { IfOk result (λ w. w.bytes.items ≡ wrapped_text text.now) }
     ensures count { IfOk result (λ w. w.count ≡ count_of text.now) }
 {
     Ok(Wrapped {
@@ -298,7 +299,7 @@ pub fn wrap_decimals(alloc: Global, text: &[u8]) -> Result<Wrapped, AllocError>
 /// names included, that begins with that escape gets one more at its front. All else stays. So serde_json reads every
 /// number of it exactly, and `unmark_decimals` gives the text back (this project).
 pub fn mark_decimals(alloc: Global, text: &[u8]) -> Result<Vec<u8>, AllocError>
-    ensures text { IfOk result (λ m. m.items ≡ marked text.now) }
+    ensures text { IfOk result (λ m. m.items ≡ marked_text text.now) }
     ensures utf8 { IsUtf8 text.now → IfOk result (λ m. IsUtf8 m.items) }
 {
     rewrite(alloc, text, Change::Mark)

@@ -11,14 +11,14 @@ use Rattle.ss_desk.specs.declared.desk.Desk.{Desk}
 use Rattle.ss_desk.specs.declared.pass.RawPass.{RawPass}
 use Rattle.ss_desk.specs.declared.view.View.{View}
 use Rattle.ss_desk.specs.Desks.{view, IsPassOf, SameDesk}
-use Rattle.ss_desk.specs.Views.{joined, lower, upper, numbers}
-use Rattle.ss_desk.specs.Calls.{Finished}
+use Rattle.ss_desk.specs.Views.{joined_view, lower, upper, numbers}
+use Rattle.ss_desk.specs.Calls.{IsValueAtClose}
 use Rattle.ss_desk.specs.Views.{CoversAll}
 use Rattle.ss_desk.proofs.Lists.{at_end, at_length, append_nil}
 use Rattle.ss_desk.specs.Passes.{AreOf, view_at}
 use Rattle.ss_desk.proofs.Beside.{get_left, get_last, last_long, view_left, view_last, view_here, view_else, view_is}
 use Rattle.ss_desk.proofs.Beside.{length_set, are_set, are_but, are_more}
-use Rattle.ss_town.specs.Places.{Handed}
+use Rattle.ss_town.specs.Places.{HandsBack}
 use Rattle.ss_town.specs.Steps.{Joining, Halving, LeastBelow}
 
 module _ {T F E A R : Type 0} (desks : List (Desk T F E A R)) where
@@ -61,7 +61,7 @@ module _ {T F E A R : Type 0} (desks : List (Desk T F E A R)) where
   joins_first ps os h k = record { of = h; length_is = refl; others = k; tail = []; split = sym (append_nil os); before = λ j l. refl; after = λ j l m. absurd (omega arith) }
 
   pub joins_next : (ps os qs rest : List (RawPass T F E)) (i : ℕ) (x old p : RawPass T F E) → Joining desks ps os qs (rest ++ x ∷ []) → i ≡ length rest → length ps ≡ length desks → old ≡ get_or qs i old → SameDesk old p
-      → view p ≡ joined (view old) (view x) → Joining desks ps os (set qs i p) rest
+      → view p ≡ joined_view (view old) (view x) → Joining desks ps os (set qs i p) rest
   joins_next ps os qs rest i x old p h at long is beside both =
       let more = last_long rest x in
       let all : length os ≡ length rest + length (x ∷ h.tail) = ap length (h.split ∙ append_assoc rest (x ∷ []) h.tail) ∙ length-append rest (x ∷ h.tail) in
@@ -77,7 +77,7 @@ module _ {T F E A R : Type 0} (desks : List (Desk T F E A R)) where
         split = h.split ∙ append_assoc rest (x ∷ []) h.tail;
         before = λ j l. view_else qs i j p (λ e. omega arith) ∙ h.before j (omega arith);
         after = λ j l in_all. dite (ℕ_discrete j i)
-            (λ e. ap (view_at (set qs i p)) e ∙ view_here qs i p here ∙ both ∙ ap (λ (v : View F E). joined v (view x)) was ∙ ap (λ (v : View F E). joined (view_at ps i) v) (sym is_x) ∙ ap (λ n. joined (view_at ps n) (view_at os n)) (sym e))
+            (λ e. ap (view_at (set qs i p)) e ∙ view_here qs i p here ∙ both ∙ ap (λ (v : View F E). joined_view v (view x)) was ∙ ap (λ (v : View F E). joined_view (view_at ps i) v) (sym is_x) ∙ ap (λ n. joined_view (view_at ps n) (view_at os n)) (sym e))
             (λ ne. view_else qs i j p ne ∙ h.after j (omega arith) in_all);
       }
 
@@ -93,10 +93,10 @@ module _ {T F E A R : Type 0} (desks : List (Desk T F E A R)) where
 
 module _ {T F E : Type 0} (ticket_of pass_of : E → ℕ) (fixed : T → F) (entries : T → List E) (legal : F → List E → Type 0) (uids : List ℕ) where
   Ended : View F E → T → Type 0
-  Ended v x = Finished ticket_of pass_of fixed entries legal v x
+  Ended v x = IsValueAtClose ticket_of pass_of fixed entries legal v x
 
-  pub handed_more : (ps : List (RawPass T F E)) (p : RawPass T F E) (bs : List (ℕ × T)) (uid : ℕ) (b : T) → Handed ticket_of pass_of fixed entries legal uids ps bs → get_elem? uids (length ps) ≡ some uid
-      → Finished ticket_of pass_of fixed entries legal (view p) b → Handed ticket_of pass_of fixed entries legal uids (ps ++ p ∷ []) (bs ++ (uid, b) ∷ [])
+  pub handed_more : (ps : List (RawPass T F E)) (p : RawPass T F E) (bs : List (ℕ × T)) (uid : ℕ) (b : T) → HandsBack ticket_of pass_of fixed entries legal uids ps bs → get_elem? uids (length ps) ≡ some uid
+      → IsValueAtClose ticket_of pass_of fixed entries legal (view p) b → HandsBack ticket_of pass_of fixed entries legal uids (ps ++ p ∷ []) (bs ++ (uid, b) ∷ [])
   unfolding Ended
   handed_more ps p bs uid b h place done = (
     last_long bs (uid, b) ∙ ap (λ n. n + 1) h.0 ∙ sym (last_long ps p),

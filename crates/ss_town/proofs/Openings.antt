@@ -11,14 +11,14 @@ use Rattle.ss_desk.specs.declared.view.View.{View}
 use Rattle.ss_desk.specs.Desks.{view, IsPassOf}
 use Rattle.ss_desk.specs.Journal.{entries_of}
 use Rattle.ss_desk.specs.Views.{opening_view, Bears, CoversAll}
-use Rattle.ss_desk.specs.Calls.{Finished}
+use Rattle.ss_desk.specs.Calls.{IsValueAtClose}
 use Rattle.ss_desk.proofs.Lists.{at_end, at_length, at_get}
 use Rattle.ss_desk.specs.Passes.{AreOf, view_at}
 use Rattle.ss_desk.proofs.Beside.{last_long, view_left, view_last, at_left, at_last, there_is, are_more}
 use Rattle.ss_desk.proofs.Served.{unserved}
-use Rattle.ss_town.specs.Places.{At, Handed}
-use Rattle.ss_town.specs.Opening.{HasUid, AreDistinct, DistinctBelow, FaultSays, RefusedSays, MayOpen, IsOpened}
-use Rattle.ss_town.specs.Opening.{AreBare, AreReturned}
+use Rattle.ss_town.specs.Places.{At, HandsBack}
+use Rattle.ss_town.specs.Opening.{HasUid, AreDistinct, DistinctBelow, FaultSays, RefusedSays, MayOpen, IsOpenedTown}
+use Rattle.ss_town.specs.Opening.{AreBare, AreReturnedAccounts}
 use Rattle.ss_town.specs.declared.opening.TownFault.{TownFault}
 use Rattle.ss_town.specs.declared.opening.TownFault.TheVariants.{Empty, TooMany, Twice, Zero, Memory}
 
@@ -64,7 +64,7 @@ module _ {T : Type 0} where
 
 module _ {T F E A R : Type 0} (fixed : T → F) where
   pub opened_more : (accounts : List (ℕ × T)) (uids : List ℕ) (ds : List (Desk T F E A R)) (ps : List (RawPass T F E)) (u : ℕ) (x : T) (d : Desk T F E A R) (p : RawPass T F E)
-      → IsOpened fixed accounts uids ds ps → IsPassOf d p → view p ≡ opening_view (fixed x) → IsOpened fixed (accounts ++ (u, x) ∷ []) (uids ++ u ∷ []) (ds ++ d ∷ []) (ps ++ p ∷ [])
+      → IsOpenedTown fixed accounts uids ds ps → IsPassOf d p → view p ≡ opening_view (fixed x) → IsOpenedTown fixed (accounts ++ (u, x) ∷ []) (uids ++ u ∷ []) (ds ++ d ∷ []) (ps ++ p ∷ [])
   opened_more accounts uids ds ps u x d p o here start =
       let long : length ps ≡ length accounts = o.of.0 ∙ o.count in record {
         of = are_more ds d ps p o.of here;
@@ -80,19 +80,19 @@ module _ {T F E A R : Type 0} (fixed : T → F) where
         ];
       }
 
-  pub opened_covers : (accounts : List (ℕ × T)) (uids : List ℕ) (ds : List (Desk T F E A R)) (ps : List (RawPass T F E)) → IsOpened fixed accounts uids ds ps → (i : ℕ) → i < length ds → CoversAll (view_at ps i)
+  pub opened_covers : (accounts : List (ℕ × T)) (uids : List ℕ) (ds : List (Desk T F E A R)) (ps : List (RawPass T F E)) → IsOpenedTown fixed accounts uids ds ps → (i : ℕ) → i < length ds → CoversAll (view_at ps i)
   opened_covers accounts uids ds ps o i lt n low = let a = there_is accounts i (omega (arith, o.count)) in
       subst (λ (v : View F E). CoversAll v) (sym (o.start i a.0.0 a.0.1 a.1)) (λ m less. inl (omega arith, less)) n low
 
-  uid_has : (accounts : List (ℕ × T)) (uids : List ℕ) (ds : List (Desk T F E A R)) (ps : List (RawPass T F E)) → IsOpened fixed accounts uids ds ps → (k u : ℕ) → At uids k u → HasUid accounts k u
+  uid_has : (accounts : List (ℕ × T)) (uids : List ℕ) (ds : List (Desk T F E A R)) (ps : List (RawPass T F E)) → IsOpenedTown fixed accounts uids ds ps → (k u : ℕ) → At uids k u → HasUid accounts k u
   uid_has accounts uids ds ps o k u at = let x = there_is accounts k (omega (arith, o.uids_count, at_length uids k u at)) in
       let e : x.0.0 ≡ u = some-injective x.0.0 u (sym (o.uid k x.0.0 x.0.1 x.1) ∙ at) in (x.0.1, x.1 ∙ ap (λ v. some (v, x.0.1)) e)
 
-  pub opened_distinct : (accounts : List (ℕ × T)) (uids : List ℕ) (ds : List (Desk T F E A R)) (ps : List (RawPass T F E)) → IsOpened fixed accounts uids ds ps → AreDistinct accounts → (i j u : ℕ) → At uids i u → At uids j u → i ≡ j
+  pub opened_distinct : (accounts : List (ℕ × T)) (uids : List ℕ) (ds : List (Desk T F E A R)) (ps : List (RawPass T F E)) → IsOpenedTown fixed accounts uids ds ps → AreDistinct accounts → (i j u : ℕ) → At uids i u → At uids j u → i ≡ j
   opened_distinct accounts uids ds ps o far i j u a b = far i j u (uid_has accounts uids ds ps o i u a) (uid_has accounts uids ds ps o j u b)
 
 module _ {T F E : Type 0} (fixed : T → F) (entries : T → List E) where
-  pub returned_more : (accounts back : List (ℕ × T)) (u : ℕ) (x y : T) → AreReturned fixed entries accounts back → fixed y ≡ fixed x → entries y ≡ [] → AreReturned fixed entries (accounts ++ (u, x) ∷ []) (back ++ (u, y) ∷ [])
+  pub returned_more : (accounts back : List (ℕ × T)) (u : ℕ) (x y : T) → AreReturnedAccounts fixed entries accounts back → fixed y ≡ fixed x → entries y ≡ [] → AreReturnedAccounts fixed entries (accounts ++ (u, x) ∷ []) (back ++ (u, y) ∷ [])
   returned_more accounts back u x y r same none = record {
     count = last_long back (u, y) ∙ (ap (λ n. n + 1) r.count ∙ sym (last_long accounts (u, x)));
     each = λ i v z at. elim (at_end accounts (u, x) (v, z) i at) [
@@ -101,7 +101,7 @@ module _ {T F E : Type 0} (fixed : T → F) (entries : T → List E) where
     ];
   }
 
-  pub returned_all : (accounts : List (ℕ × T)) → AreBare entries accounts → AreReturned fixed entries accounts accounts
+  pub returned_all : (accounts : List (ℕ × T)) → AreBare entries accounts → AreReturnedAccounts fixed entries accounts accounts
   returned_all accounts bare = record { count = refl; each = λ i u x at. (x, at, refl, bare i u x at) }
 
   pub bare_but : (accounts : List (ℕ × T)) (u : ℕ) (x : T) → AreBare entries (accounts ++ (u, x) ∷ []) → AreBare entries accounts × (entries x ≡ [])
@@ -109,7 +109,7 @@ module _ {T F E : Type 0} (fixed : T → F) (entries : T → List E) where
 
   module _ (ticket_of pass_of : E → ℕ) (legal : F → List E → Type 0) where
     pub returned_closed : {A R : Type 0} (accounts : List (ℕ × T)) (uids : List ℕ) (ds : List (Desk T F E A R)) (ps : List (RawPass T F E)) (back : List (ℕ × T))
-        → IsOpened fixed accounts uids ds ps → Handed ticket_of pass_of fixed entries legal uids ps back → AreReturned fixed entries accounts back
+        → IsOpenedTown fixed accounts uids ds ps → HandsBack ticket_of pass_of fixed entries legal uids ps back → AreReturnedAccounts fixed entries accounts back
     returned_closed accounts uids ds ps back o h =
         let long : length back ≡ length accounts = h.0 ∙ (o.of.0 ∙ o.count) in record {
           count = long;
@@ -117,7 +117,7 @@ module _ {T F E : Type 0} (fixed : T → F) (entries : T → List E) where
               let b = there_is back i (omega (arith, long, at_length accounts i (u, x) at)) in
               let k = h.1 i b.0.0 b.0.1 b.1 in
               let e : b.0.0 ≡ u = some-injective b.0.0 u (sym k.0 ∙ o.uid i u x at) in
-              let done = unserved ticket_of pass_of fixed entries legal (fixed x) b.0.1 (subst (λ (v : View F E). Finished ticket_of pass_of fixed entries legal v b.0.1) (o.start i u x at) k.1) in
+              let done = unserved ticket_of pass_of fixed entries legal (fixed x) b.0.1 (subst (λ (v : View F E). IsValueAtClose ticket_of pass_of fixed entries legal v b.0.1) (o.start i u x at) k.1) in
               (b.0.1, b.1 ∙ ap (λ v. some (v, b.0.1)) e, done.0, done.1);
         }
 

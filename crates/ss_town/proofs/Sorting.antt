@@ -13,8 +13,8 @@ use Rattle.ss_desk.specs.declared.desk.Desk.{Desk}
 use Rattle.ss_desk.specs.declared.pass.RawPass.{RawPass}
 use Rattle.ss_desk.proofs.Lists.{at_get, at_length}
 use Rattle.ss_desk.proofs.Beside.{there_is}
-use Rattle.ss_town.specs.Places.{At, Handed}
-use Rattle.ss_town.specs.Opening.{HasUid, AreDistinct, AreBare, AreReturned, ComeBack, IsOpened}
+use Rattle.ss_town.specs.Places.{At, HandsBack}
+use Rattle.ss_town.specs.Opening.{HasUid, AreDistinct, AreBare, AreReturnedAccounts, ComeBack, IsOpenedTown}
 use Rattle.ss_town.proofs.Openings.{returned_all}
 
 module _ {X : Type 0} where
@@ -84,7 +84,7 @@ module _ {T : Type 0} where
 module _ {T F E A R : Type 0} (fixed : T → F) where
   -- the uids of a town that was opened with sorted accounts rise
   pub uids_rise : (accounts : List (ℕ × T)) (uids : List ℕ) (ds : List (Desk T F E A R)) (ps : List (RawPass T F E))
-      → IsOpened fixed accounts uids ds ps → AreDistinct accounts → IsNonDecreasingBy (λ (a : ℕ × T). a.0) accounts → IsStrictlyIncreasing uids
+      → IsOpenedTown fixed accounts uids ds ps → AreDistinct accounts → IsNonDecreasingBy (λ (a : ℕ × T). a.0) accounts → IsStrictlyIncreasing uids
   uids_rise accounts uids ds ps o far sorted k lt =
       let x = there_is accounts k (omega (arith, o.uids_count)) in
       let y = there_is accounts (k + 1) (omega (arith, o.uids_count)) in

@@ -54,7 +54,7 @@ module _ {T : Type 0} where
 
 module _ {T F E A R : Type 0} (fixed : T → F) (accounts : List (ℕ × T)) where
   -- at each place the uid, the desk and the pass of the account there
-  pub record IsOpened (uids : List ℕ) (desks : List (Desk T F E A R)) (passes : List (RawPass T F E)) : Type 0 where
+  pub record IsOpenedTown (uids : List ℕ) (desks : List (Desk T F E A R)) (passes : List (RawPass T F E)) : Type 0 where
     pub of : AreOf desks passes
     pub count : length desks ≡ length accounts
     pub uids_count : length uids ≡ length accounts
@@ -68,7 +68,7 @@ module _ {T E : Type 0} (entries : T → List E) where
 
 module _ {T F E : Type 0} (fixed : T → F) (entries : T → List E) where
   -- the same accounts come back, each with its fixed part and without entries
-  pub record AreReturned (accounts back : List (ℕ × T)) : Type 0 where
+  pub record AreReturnedAccounts (accounts back : List (ℕ × T)) : Type 0 where
     pub count : length back ≡ length accounts
     pub each : (i u : ℕ) (x : T) → get_elem? accounts i ≡ some (u, x) → (y : T) × (get_elem? back i ≡ some (u, y)) × (fixed y ≡ fixed x) × (entries y ≡ [])
 
@@ -77,14 +77,14 @@ module _ {T F E A R : Type 0} (fixed : T → F) where
   pub record IsTown (accounts : List (ℕ × T)) (uids : List ℕ) (desks : List (Desk T F E A R)) (passes : List (RawPass T F E)) : Type 0 where
     pub order : List (ℕ × T)
     pub moved : IsPermutation accounts order
-    pub opened : IsOpened fixed order uids desks passes
+    pub opened : IsOpenedTown fixed order uids desks passes
 
 module _ {T F E : Type 0} (fixed : T → F) (entries : T → List E) where
   -- all accounts are among those that come back, in some order
   pub record ComeBack (accounts back : List (ℕ × T)) : Type 0 where
     pub order : List (ℕ × T)
     pub moved : IsPermutation accounts order
-    pub returned : AreReturned fixed entries order back
+    pub returned : AreReturnedAccounts fixed entries order back
 
   -- After want of memory the accounts come back, each with its fixed part and without entries. After any other refusal they come back as they were
   abbrev pub BackAfter : List (ℕ × T) → List (ℕ × T) → TownFault → Type 0

@@ -4,7 +4,7 @@ use mathlib.Core.Option.{some}
 use lib.ListN.{get_elem?}
 use Rattle.ss_desk.specs.declared.pass.RawPass.{RawPass}
 use Rattle.ss_desk.specs.Views.{numbers, CoversNoLess}
-use Rattle.ss_desk.specs.Calls.{Finished}
+use Rattle.ss_desk.specs.Calls.{IsValueAtClose}
 use Rattle.ss_desk.specs.Passes.{view_at}
 
 -- the uid stands at this place of the list
@@ -29,5 +29,5 @@ module _ {T F E : Type 0} where
 
 module _ {B F E : Type 0} (ticket_of pass_of : E → ℕ) (fixed : B → F) (entries : B → List E) (legal : F → List E → Type 0) where
   -- at each place, when the town is closed, the account that stood there: its desk's value as the closing pass finds it
-  abbrev pub Handed : {T : Type 0} → List ℕ → List (RawPass T F E) → List (ℕ × B) → Type 0
-  Handed uids ps bs = (length bs ≡ length ps) × ((i uid : ℕ) (x : B) → get_elem? bs i ≡ some (uid, x) → At uids i uid × Finished ticket_of pass_of fixed entries legal (view_at ps i) x)
+  abbrev pub HandsBack : {T : Type 0} → List ℕ → List (RawPass T F E) → List (ℕ × B) → Type 0
+  HandsBack uids ps bs = (length bs ≡ length ps) × ((i uid : ℕ) (x : B) → get_elem? bs i ≡ some (uid, x) → At uids i uid × IsValueAtClose ticket_of pass_of fixed entries legal (view_at ps i) x)

@@ -3,7 +3,7 @@ use Rattle.std.specs.Prelude.{◌≡◌, ℕ, ◌<◌, ◌≤◌, List, [], ◌�
 use Rattle.ss_desk.specs.declared.desk.Desk.{Desk}
 use Rattle.ss_desk.specs.declared.pass.RawPass.{RawPass}
 use Rattle.ss_desk.specs.Desks.{IsPassOf}
-use Rattle.ss_desk.specs.Views.{joined, lower, upper, numbers}
+use Rattle.ss_desk.specs.Views.{joined_view, lower, upper, numbers}
 use Rattle.ss_desk.specs.Passes.{AreOf, view_at}
 
 module _ {T F E A R : Type 0} where
@@ -15,7 +15,7 @@ module _ {T F E A R : Type 0} where
     pub tail : List (RawPass T F E)
     pub split : os ≡ rest ++ tail
     pub before : (j : ℕ) → j < length rest → view_at qs j ≡ view_at ps j
-    pub after : (j : ℕ) → length rest ≤ j → j < length os → view_at qs j ≡ joined (view_at ps j) (view_at os j)
+    pub after : (j : ℕ) → length rest ≤ j → j < length os → view_at qs j ≡ joined_view (view_at ps j) (view_at os j)
 
   -- the passes below i are halved
   pub record Halving (desks : List (Desk T F E A R)) (ps qs rs : List (RawPass T F E)) (i : ℕ) : Type 0 where

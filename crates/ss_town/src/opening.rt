@@ -1,7 +1,8 @@
 // How a town is opened, and why it is not.
 ghost use Rattle.std.specs.Prelude.{◌≡◌, ◌≤◌, ◌<◌, [], MatchOption, IfOk, IfErr, vec_len, vec_capacity};
 ghost use Rattle.std.specs.List.Sorted.{IsPermutation, IsNonDecreasingBy};
-ghost use Rattle.ss_town.specs.Opening.{FaultSays, MayOpen, IsOpened, IsTown, AreReturned, AreBare, BackAfter};
+ghost use Rattle.ss_town.specs.Opening.{FaultSays, MayOpen, IsOpenedTown, IsTown, AreReturnedAccounts, AreBare};
+ghost use Rattle.ss_town.specs.Opening.{BackAfter};
 ghost use Rattle.ss_town.specs.Opening.{ComeBack, RefusedSays};
 
 use crate::limits::MOST_ACCOUNTS;
@@ -123,10 +124,10 @@ fn open_from<T: Journaled>(
     requires bare { AreBare T.entries accounts.items }
     requires empty { (room.uids.items ≡ []) × (room.desks.items ≡ []) × (room.passes.items ≡ []) }
     requires room { (vec_len accounts ≤ vec_capacity room.uids) × (vec_len accounts ≤ vec_capacity room.desks) × (vec_len accounts ≤ vec_capacity room.passes) }
-    ensures opened { IfOk result (λ r. IsOpened T.fixed accounts.items r.1.uids.items r.1.desks.items r.1.passes.items) }
+    ensures opened { IfOk result (λ r. IsOpenedTown T.fixed accounts.items r.1.uids.items r.1.desks.items r.1.passes.items) }
     ensures rest { IfOk result (λ r. (r.0.items ≡ []) × (vec_capacity r.0 ≡ vec_capacity accounts)) }
     ensures room { IfOk result (λ r. (vec_capacity r.1.uids ≡ vec_capacity room.uids) × (vec_capacity r.1.desks ≡ vec_capacity room.desks) × (vec_capacity r.1.passes ≡ vec_capacity room.passes)) }
-    ensures returned { IfErr result (λ e. AreReturned T.fixed T.entries accounts.items e.items × (vec_capacity e ≡ vec_capacity accounts)) }
+    ensures returned { IfErr result (λ e. AreReturnedAccounts T.fixed T.entries accounts.items e.items × (vec_capacity e ≡ vec_capacity accounts)) }
 {
     let Some((uid, value)) = accounts.pop() else {
         return Ok((accounts, room));

@@ -2,10 +2,10 @@
 ghost use Rattle.std.specs.Prelude.{◌≡◌, ◌≤◌, ◌<◌, ℕ, [], map, length, vec_len, vec_capacity, IfOk, IfErr};
 ghost use Rattle.std.specs.List.Sorted.{IsStrictlyIncreasing};
 ghost use Rattle.ss_desk.specs.Views.{CoversAll};
-ghost use Rattle.ss_desk.specs.Calls.{Entered, Denied};
+ghost use Rattle.ss_desk.specs.Calls.{EntersCall, DeniesCall};
 ghost use Rattle.ss_desk.specs.Passes.{AreOf, view_at, SameOthers, Joins};
 ghost use Rattle.ss_town.specs.Limits.{most_accounts};
-ghost use Rattle.ss_town.specs.Places.{Handed};
+ghost use Rattle.ss_town.specs.Places.{HandsBack};
 
 use crate::passes::Passes;
 use ss_desk::{Desk, Full, Journaled, Pass};
@@ -82,8 +82,8 @@ impl<T: Journaled> Town<T> {
         requires fits { T.fits ask }
         ensures of { AreOf (desks_of self.now) (passes_of passes.new) }
         ensures same { SameOthers i (passes_of passes.old) (passes_of passes.new) }
-        ensures reply { IfOk result (λ r. Entered T.ticket_of T.pass_of T.ask_of T.legal T.replies T.full (view_at (passes_of passes.old) i) (view_at (passes_of passes.new) i) r.0 ask r.1) }
-        ensures full { IfErr result (λ f. Denied T.ticket_of T.pass_of T.legal T.full (view_at (passes_of passes.old) i) (view_at (passes_of passes.new) i) f) }
+        ensures reply { IfOk result (λ r. EntersCall T.ticket_of T.pass_of T.ask_of T.legal T.replies T.full (view_at (passes_of passes.old) i) (view_at (passes_of passes.new) i) r.0 ask r.1) }
+        ensures full { IfErr result (λ f. DeniesCall T.ticket_of T.pass_of T.legal T.full (view_at (passes_of passes.old) i) (view_at (passes_of passes.new) i) f) }
     {
         self.desks[i].call(rt, &mut passes.passes[i], ask)
     }
@@ -107,7 +107,7 @@ impl<T: Journaled> Town<T> {
     pub fn close(self, passes: Passes<T>) -> Vec<(u32, T)>
         requires of { AreOf (desks_of self) (passes_of passes) }
         requires all { (i : ℕ) → i < length (desks_of self) → CoversAll (view_at (passes_of passes) i) }
-        ensures handed { Handed T.ticket_of T.pass_of T.fixed T.entries T.legal (uids_of self) (passes_of passes) result.items }
+        ensures handed { HandsBack T.ticket_of T.pass_of T.fixed T.entries T.legal (uids_of self) (passes_of passes) result.items }
         ensures sorted { IsStrictlyIncreasing (map (λ b. b.0) result.items) }
     {
         let Town { uids, desks, room } = self;
@@ -129,7 +129,7 @@ pub(crate) fn close_from<T: Journaled>(
     requires room { vec_len desks ≤ vec_capacity room }
     requires empty { room.items ≡ [] }
     requires all { (i : ℕ) → i < vec_len desks → CoversAll (view_at passes.items i) }
-    ensures handed { Handed T.ticket_of T.pass_of T.fixed T.entries T.legal uids.now passes.items result.items }
+    ensures handed { HandsBack T.ticket_of T.pass_of T.fixed T.entries T.legal uids.now passes.items result.items }
     ensures room { vec_capacity result ≡ vec_capacity room }
 {
     let (Some(desk), Some(pass)) = (desks.pop(), passes.pop()) else {

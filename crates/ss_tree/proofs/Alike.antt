@@ -6,7 +6,7 @@ use Rattle.ss_tree.specs.Trees.{PlacedItem, node, IsSame, empty_tree}
 use Rattle.ss_tree.specs.Entries.{entry, kids, placed, tree, IsTree, new_entries}
 use Rattle.ss_tree.proofs.Valid.{entry_in, in_entry, node_found, node_at}
 use Rattle.ss_tree.proofs.Kept.{new_tree, new_same}
-use Rattle.ss_tree.specs.Built.{ArePlaced}
+use Rattle.ss_tree.specs.Built.{AreAtTheirNodes}
 use Rattle.ss_tree.proofs.Settled.{same_kid_ids}
 use Rattle.std.proofs.lemmas.Option.{none-some}
 
@@ -43,7 +43,7 @@ module _ (es fs : List Entry) (t : IsTree es) (u : IsTree fs) (look : (k : ℕ) 
 pub new_is_same : (fs : List Entry) → IsTree fs → ((k : ℕ) → entry k fs ≡ entry k new_entries) → ((k : ℕ) → kids k fs ≡ kids k new_entries) → IsSame (tree fs) empty_tree
 new_is_same fs u look rows x = same_items new_entries fs new_tree u look rows x ∙ ap (node x) new_same
 
-pub new_placed : ArePlaced new_entries
+pub new_placed : AreAtTheirNodes new_entries
 new_placed zero lt = (refl, tt)
 new_placed (suc zero) lt = (refl, omega arith)
 new_placed (suc (suc zero)) lt = (refl, omega arith)

@@ -19,7 +19,7 @@ use Rattle.ss_tree.proofs.Kept.{move_kids, moved_entry, kept_remove, kept_set, e
 use Rattle.ss_tree.specs.declared.cells.Cell.{Cell}
 use Rattle.ss_tree.specs.declared.cells.TheConstants.{END}
 use Rattle.ss_tree.specs.Cells.{IsPlace, blank, cell_at, next_of, prev_of, seat, seat_at, link_of, Joins, Attaches}
-use Rattle.ss_tree.specs.Cells.{Frees, SameLinks, Seats, listing, Lies, IsLinked}
+use Rattle.ss_tree.specs.Cells.{Frees, SameLinks, Seats, listing, Lies, IsLinkedTree}
 use Rattle.ss_tree.proofs.Kin.{entry_kid, kid_entry, kid_once, kid_apart}
 use Rattle.ss_tree.proofs.Listed.{absent}
 use Rattle.ss_tree.proofs.Sibs.{times-gone, times-kept, times-without}
@@ -67,7 +67,7 @@ pub record Holds (cells : List Cell) (es : List Entry) : Type 0 where
   pub kept : KeepsTree es (length cells)
   pub lies : Lies cells es
 
-pub holds_linked : {cells : List Cell} {es : List Entry} → Holds cells es → IsLinked cells
+pub holds_linked : {cells : List Cell} {es : List Entry} → Holds cells es → IsLinkedTree cells
 holds_linked {cells} {es} h = settled cells es h.kept h.lies
 
 pub holds_entry : {cells : List Cell} {es : List Entry} → Holds cells es → (k : ℕ) → entry k (listing cells) ≡ entry k es
@@ -150,7 +150,7 @@ module _ (cells : List Cell) (new : Cell) where
 
 -- ---- insert
 
-module _ (cells : List Cell) (p : ℕ) (b : Option ℕ) (e : Entry) (linked : IsLinked cells) (free : insert_fault (listing cells) p b e.item.id ≡ None) (under_p : e.parent ≡ Some p) (blank_there : seat_at cells e.node ≡ None) (seated : List Cell) (seats : Seats cells seated e) (room : length cells + 1 < END) where
+module _ (cells : List Cell) (p : ℕ) (b : Option ℕ) (e : Entry) (linked : IsLinkedTree cells) (free : insert_fault (listing cells) p b e.item.id ≡ None) (under_p : e.parent ≡ Some p) (blank_there : seat_at cells e.node ≡ None) (seated : List Cell) (seats : Seats cells seated e) (room : length cells + 1 < END) where
   gone : entry e.node (listing cells) ≡ None
   gone = linked.lies.seats e.node ∙ blank_there
 
@@ -219,7 +219,7 @@ module _ (cells : List Cell) (p : ℕ) (b : Option ℕ) (e : Entry) (linked : Is
 
 -- ---- a node that leaves its row
 
-module _ (cells : List Cell) (k p : ℕ) (linked : IsLinked cells) (up : above (listing cells) k ≡ Some p) where
+module _ (cells : List Cell) (k p : ℕ) (linked : IsLinkedTree cells) (up : above (listing cells) k ≡ Some p) where
   pub parent_there : 0 < times k (kids p (listing cells))
   unfolding above
   parent_there = go (entry k (listing cells)) refl up
@@ -357,7 +357,7 @@ module _ (cells : List Cell) (k p : ℕ) (linked : IsLinked cells) (up : above (
 
 -- ---- another content and time
 
-module _ (cells : List Cell) (k : ℕ) (content : List ℕ) (time : ℕ) (new : List Cell) (linked : IsLinked cells) (inside : (k == 0) ≡ false) (fit : is_fit_with content k (listing cells) ≡ true) (same : SameLinks cells new) (seats : (j : ℕ) → seat_at new j ≡ cond (j == k) (option_map (revised_entry content time) (seat_at cells j)) (seat_at cells j)) where
+module _ (cells : List Cell) (k : ℕ) (content : List ℕ) (time : ℕ) (new : List Cell) (linked : IsLinkedTree cells) (inside : (k == 0) ≡ false) (fit : is_fit_with content k (listing cells) ≡ true) (same : SameLinks cells new) (seats : (j : ℕ) → seat_at new j ≡ cond (j == k) (option_map (revised_entry content time) (seat_at cells j)) (seat_at cells j)) where
   pub revised_holds : Holds new (revise_entry k content time (listing cells))
   revised_holds = record {
     kept = subst (KeepsTree (revise_entry k content time (listing cells))) (sym same.long) (kept_set (listing cells) (length cells) k content time linked.kept inside fit);

@@ -17,7 +17,7 @@ use Rattle.ss_tree.proofs.Edits.{entry_put, entry-nil, kids-nil, kids_put}
 use Rattle.ss_tree.specs.declared.cells.Cell.{Cell}
 use Rattle.ss_tree.specs.declared.cells.TheConstants.{END}
 use Rattle.ss_tree.specs.Cells.{Seats, IsPlace, blank, next_of, prev_of, seat, seat_at}
-use Rattle.ss_tree.specs.Built.{ArePlaced, lone, HasParent, AddsUnder, Adds}
+use Rattle.ss_tree.specs.Built.{AreAtTheirNodes, lone, HasParent, AddsUnder, Adds}
 use Rattle.ss_tree.proofs.Kin.{under_is}
 use Rattle.ss_tree.proofs.Listed.{absent}
 use Rattle.ss_tree.proofs.Strung.{Strung}
@@ -197,7 +197,7 @@ pub record Next (cells : List Cell) (e : Entry) : Type 0 where
   pub room : length cells < END
   pub ready : HasParent cells e.parent
 
-pub next_entry : (cells : List Cell) (done : List Entry) (e : Entry) (rest es : List Entry) → Built cells done → length cells ≡ length done → done ++ e ∷ rest ≡ es → ArePlaced es → length es < END → Next cells e
+pub next_entry : (cells : List Cell) (done : List Entry) (e : Entry) (rest es : List Entry) → Built cells done → length cells ≡ length done → done ++ e ∷ rest ≡ es → AreAtTheirNodes es → length es < END → Next cells e
 next_entry cells done e rest es built long all placed room =
     let count : length (done ++ e ∷ rest) ≡ length es = ap length all in
     let few : length done < length es = omega (arith, length-append done (e ∷ rest)) in

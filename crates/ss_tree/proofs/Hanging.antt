@@ -15,7 +15,7 @@ use Rattle.ss_tree.specs.declared.cells.TheConstants.{END}
 use Rattle.ss_tree.specs.Entries.{above, entry, insert_fault, kids, move_fault, revised_entry, under, without_node}
 use Rattle.ss_tree.specs.Entries.{NodesApart}
 use Rattle.ss_tree.specs.Cells.{blank, blank_at, cell_at, next_of, prev_of, link_of, seat_at, Attaches, Frees, Hangs}
-use Rattle.ss_tree.specs.Cells.{Joins, SameLinks, Seats, IsLinked, listing}
+use Rattle.ss_tree.specs.Cells.{Joins, SameLinks, Seats, IsLinkedTree, listing}
 use Rattle.ss_tree.proofs.Changed.{Holds, insert_left, leave_left, move_left, node_low, parent_there}
 use Rattle.ss_tree.proofs.Edits.{entry-cons}
 use Rattle.ss_tree.proofs.Kin.{kid_entry}
@@ -184,12 +184,12 @@ module _ {cells seated : List Cell} {v : ℕ} (h : Hangs cells v) (room : length
 
 -- ---- the rows are of nodes
 
-pub row_full : (cells : List Cell) → IsLinked cells → (p x : ℕ) → 0 < times x (END ∷ kids p (listing cells)) → x ≢ END → is_some (seat_at cells x) ≡ true
+pub row_full : (cells : List Cell) → IsLinkedTree cells → (p x : ℕ) → 0 < times x (END ∷ kids p (listing cells)) → x ≢ END → is_some (seat_at cells x) ≡ true
 row_full cells linked p x there inner =
     let r = kid_entry p x (listing cells) linked.kept.is_tree.nodes (omega (arith, times-apart x END (kids p (listing cells)) inner)) in
     ap is_some (sym (linked.lies.seats x) ∙ r.1)
 
-pub row_full_without : (cells : List Cell) → IsLinked cells → (k p x : ℕ) → 0 < times x (END ∷ without_node k (kids p (listing cells))) → x ≢ END → is_some (seat_at cells x) ≡ true
+pub row_full_without : (cells : List Cell) → IsLinkedTree cells → (k p x : ℕ) → 0 < times x (END ∷ without_node k (kids p (listing cells))) → x ≢ END → is_some (seat_at cells x) ≡ true
 row_full_without cells linked k p x there inner =
     row_full cells linked p x (omega (arith, times-apart x END (kids p (listing cells)) inner, times-apart x END (without_node k (kids p (listing cells))) inner, times-without x k (kids p (listing cells)))) inner
 
@@ -249,7 +249,7 @@ some_kept f true None = refl
 some_kept f true (Some e) = refl
 some_kept f false o = refl
 
-module _ (cells : List Cell) (p : ℕ) (b : Option ℕ) (e : Entry) (linked : IsLinked cells) (free : insert_fault (listing cells) p b e.item.id ≡ None) (under_p : e.parent ≡ Some p) (blank_there : seat_at cells e.node ≡ None) (seated : List Cell) (seats : Seats cells seated e) (room : length cells + 1 < END) where
+module _ (cells : List Cell) (p : ℕ) (b : Option ℕ) (e : Entry) (linked : IsLinkedTree cells) (free : insert_fault (listing cells) p b e.item.id ≡ None) (under_p : e.parent ≡ Some p) (blank_there : seat_at cells e.node ≡ None) (seated : List Cell) (seats : Seats cells seated e) (room : length cells + 1 < END) where
   still_seated : (x : ℕ) → is_some (seat_at cells x) ≡ true → is_some (seat_at seated x) ≡ true
   still_seated x full = ap is_some (seats.seats x) ∙ go (x == e.node)
     where
@@ -265,7 +265,7 @@ module _ (cells : List Cell) (p : ℕ) (b : Option ℕ) (e : Entry) (linked : Is
       hangs_attached (hangs_seated h (omega arith) e within blank_there again seats) (omega arith) p e.node (link_of b) attaches
       (λ inner. still_seated (prev_of seated p (link_of b)) (row_full cells linked p (prev_of seated p (link_of b)) left inner)) own
 
-module _ (cells : List Cell) (k p : ℕ) (linked : IsLinked cells) (up : above (listing cells) k ≡ Some p) (middle : List Cell) (joins : Joins cells middle p (prev_of cells p k) (next_of cells p k)) (v : ℕ) (h : Hangs cells v) where
+module _ (cells : List Cell) (k p : ℕ) (linked : IsLinkedTree cells) (up : above (listing cells) k ≡ Some p) (middle : List Cell) (joins : Joins cells middle p (prev_of cells p k) (next_of cells p k)) (v : ℕ) (h : Hangs cells v) where
   here_full : is_some (seat_at cells k) ≡ true
   here_full =
       let r = kid_entry p k (listing cells) linked.kept.is_tree.nodes (parent_there cells k p linked up) in
@@ -293,6 +293,6 @@ module _ (cells : List Cell) (k p : ℕ) (linked : IsLinked cells) (up : above (
       let long = joins.long in
       hangs_freed left_hangs middle_room k (omega arith) (ap is_some (joins.seats k) ∙ here_full) frees seats
 
-pub revised_hangs : (cells : List Cell) (k : ℕ) (content : List ℕ) (time : ℕ) (new : List Cell) → IsLinked cells → SameLinks cells new → ((j : ℕ) → seat_at new j ≡ cond (j == k) (option_map (revised_entry content time) (seat_at cells j)) (seat_at cells j)) → (v : ℕ) → Hangs cells v → Hangs new v
+pub revised_hangs : (cells : List Cell) (k : ℕ) (content : List ℕ) (time : ℕ) (new : List Cell) → IsLinkedTree cells → SameLinks cells new → ((j : ℕ) → seat_at new j ≡ cond (j == k) (option_map (revised_entry content time) (seat_at cells j)) (seat_at cells j)) → (v : ℕ) → Hangs cells v → Hangs new v
 revised_hangs cells k content time new linked same seats v h =
     hangs_linked h linked.lies.room same (λ j. ap is_some (seats j) ∙ some_kept (revised_entry content time) (j == k) (seat_at cells j))

@@ -18,7 +18,7 @@ use Rattle.ss_tree.proofs.Valid.{In, entry_in, in_entry, one_entry}
 use Rattle.ss_tree.specs.declared.cells.Cell.{Cell}
 use Rattle.ss_tree.specs.declared.cells.TheConstants.{END}
 use Rattle.ss_tree.specs.Cells.{cell_at, next_of, prev_of, seat_at, full_at, row_of, down, order_of, listing, Lies}
-use Rattle.ss_tree.specs.Cells.{IsLinked}
+use Rattle.ss_tree.specs.Cells.{IsLinkedTree}
 use Rattle.ss_list.proofs.Paths.{Path}
 use Rattle.ss_tree.proofs.Rows.{row_path, length_within}
 use Rattle.ss_tree.proofs.Kin.{kid_entry, entry_kid, kid_once, kid_apart}
@@ -221,7 +221,7 @@ module _ (cells : List Cell) (es : List Entry) (kept : KeepsTree es (length cell
   listed_tree = same_tree es (listing cells) t listed_entry listed_kids listed_nodes listed_ids
 
   -- cells that lie as a tree's entries are a tree
-  pub settled : IsLinked cells
+  pub settled : IsLinkedTree cells
   settled = record {
     kept = record { is_tree = listed_tree; below = λ k l. kept.below k (sym (ap is_some (listed_entry k)) ∙ l) };
     lies = record {

@@ -9,7 +9,7 @@ use Rattle.std.proofs.lemmas.Bool.{false≢true, or_parts, eqb-true, ltb-true, l
 use Rattle.std.proofs.lemmas.Map.Made.{length-le_from_is_member}
 use Rattle.ss_tree.specs.declared.entries.Entry.{Entry}
 use Rattle.ss_tree.specs.Trees.{steps}
-use Rattle.ss_tree.specs.Entries.{entry, above, ancestor, up, met, is_below, IsBelow, IsTree}
+use Rattle.ss_tree.specs.Entries.{entry, above, ancestor, up, is_met_above, is_below, IsBelow, IsTree}
 use Rattle.ss_tree.proofs.Edits.{entry-nil, entry-cons}
 use Rattle.ss_tree.proofs.Changes.{up_top, live_steps}
 use Rattle.std.proofs.lemmas.Option.{none-some}
@@ -112,12 +112,12 @@ unfolding up
 up_nowhere es x q = ap (λ o. unwrap_or o 0) q
 
 -- what is met on the way up is found
-met_on_way : (es : List Entry) → IsTree es → (top n i x : ℕ) → i < n → steps (up es) (suc i) x ≡ top → top ≢ 0 → met es top n (above es x) ≡ true
+met_on_way : (es : List Entry) → IsTree es → (top n i x : ℕ) → i < n → steps (up es) (suc i) x ≡ top → top ≢ 0 → is_met_above es top n (above es x) ≡ true
 unfolding steps
 met_on_way es t top zero i x l e ne = absurd (omega arith)
 met_on_way es t top (suc n) i x l e ne = go (above es x) refl (λ m j. met_on_way es t top n m j)
   where
-    go : (o : Option ℕ) → above es x ≡ o → ((m j : ℕ) → m < n → steps (up es) (suc m) j ≡ top → top ≢ 0 → met es top n (above es j) ≡ true) → met es top (suc n) o ≡ true
+    go : (o : Option ℕ) → above es x ≡ o → ((m j : ℕ) → m < n → steps (up es) (suc m) j ≡ top → top ≢ 0 → is_met_above es top n (above es j) ≡ true) → is_met_above es top (suc n) o ≡ true
     go None q ih = absurd (ne (sym e ∙ (ap (steps (up es) i) (up_nowhere es x q) ∙ stays es t i)))
     go (Some j) q ih = at i l (sym (ap (steps (up es) i) (up_some es x j q)) ∙ e)
       where
@@ -125,9 +125,9 @@ met_on_way es t top (suc n) i x l e ne = go (above es x) refl (λ m j. met_on_wa
         either true c h = refl
         either false c h = h
 
-        at : (m : ℕ) → m < suc n → steps (up es) m j ≡ top → ((top == j) || met es top n (above es j)) ≡ true
-        at zero l2 e2 = ap (λ b. b || met es top n (above es j)) (eq-eqb top j (sym e2))
-        at (suc m) l2 e2 = either (top == j) (met es top n (above es j)) (ih m j (omega arith) e2 ne)
+        at : (m : ℕ) → m < suc n → steps (up es) m j ≡ top → ((top == j) || is_met_above es top n (above es j)) ≡ true
+        at zero l2 e2 = ap (λ b. b || is_met_above es top n (above es j)) (eq-eqb top j (sym e2))
+        at (suc m) l2 e2 = either (top == j) (is_met_above es top n (above es j)) (ih m j (omega arith) e2 ne)
 
 compare_le : (a b : ℕ) → (a ≤ suc b) ⊎ (suc b < a)
 compare_le a b = go (nat_lt (suc b) a) refl
@@ -156,8 +156,8 @@ never_met es t k p f q ne np nb (suc i) e = false≢true (sym nb ∙ met_on_way 
         go (inr lt) = let le : w.0 ≤ length es = w.2 in omega arith
 
 -- one step more of the look for a node
-pub met_step : (es : List Entry) (top n j : ℕ) → (top == j) ≡ false → met es top (suc n) (Some j) ≡ met es top n (above es j)
-met_step es top n j other = ap (λ b. b || met es top n (above es j)) other
+pub met_step : (es : List Entry) (top n j : ℕ) → (top == j) ≡ false → is_met_above es top (suc n) (Some j) ≡ is_met_above es top n (above es j)
+met_step es top n j other = ap (λ b. b || is_met_above es top n (above es j)) other
 
 -- ---- how far up doesn't matter
 
@@ -165,28 +165,28 @@ nowhere : (es : List Entry) (top n k : ℕ) → above es k ≡ None → ancestor
 nowhere es top zero k h q = none-some _ (sym h ∙ q)
 nowhere es top (suc n) k h q = none-some _ (sym (ap (option_and_then (ancestor es n)) h) ∙ q)
 
-met_above : (es : List Entry) (top most n k : ℕ) → n < most → ancestor es n k ≡ Some top → met es top most (above es k) ≡ true
+met_above : (es : List Entry) (top most n k : ℕ) → n < most → ancestor es n k ≡ Some top → is_met_above es top most (above es k) ≡ true
 met_above es top zero n k l q = absurd (omega arith)
-met_above es top (suc most) zero k l q = ap (met es top (suc most)) q ∙ ap (λ b. b || met es top most (above es top)) (eq-eqb top top refl)
+met_above es top (suc most) zero k l q = ap (is_met_above es top (suc most)) q ∙ ap (λ b. b || is_met_above es top most (above es top)) (eq-eqb top top refl)
 met_above es top (suc most) (suc n) k l q = go (above es k) refl (λ j. met_above es top most n j (omega arith))
   where
     either : (b c : Bool) → c ≡ true → (b || c) ≡ true
     either true c h = refl
     either false c h = h
 
-    go : (o : Option ℕ) → above es k ≡ o → ((j : ℕ) → ancestor es n j ≡ Some top → met es top most (above es j) ≡ true) → met es top (suc most) o ≡ true
+    go : (o : Option ℕ) → above es k ≡ o → ((j : ℕ) → ancestor es n j ≡ Some top → is_met_above es top most (above es j) ≡ true) → is_met_above es top (suc most) o ≡ true
     go None h ih = absurd (nowhere es top (suc n) k h q)
-    go (Some j) h ih = either (top == j) (met es top most (above es j)) (ih j (sym (ap (option_and_then (ancestor es n)) h) ∙ q))
+    go (Some j) h ih = either (top == j) (is_met_above es top most (above es j)) (ih j (sym (ap (option_and_then (ancestor es n)) h) ∙ q))
 
-pub above_met : (es : List Entry) (top most k : ℕ) → met es top most (above es k) ≡ true → (n : ℕ) × (ancestor es n k ≡ Some top)
+pub above_met : (es : List Entry) (top most k : ℕ) → is_met_above es top most (above es k) ≡ true → (n : ℕ) × (ancestor es n k ≡ Some top)
 above_met es top zero k h = absurd (false≢true h)
 above_met es top (suc most) k h = go (above es k) refl h (λ j. above_met es top most j)
   where
-    at : (j : ℕ) → above es k ≡ Some j → (b : Bool) → (top == j) ≡ b → (b || met es top most (above es j)) ≡ true → (met es top most (above es j) ≡ true → (n : ℕ) × (ancestor es n j ≡ Some top)) → (n : ℕ) × (ancestor es n k ≡ Some top)
+    at : (j : ℕ) → above es k ≡ Some j → (b : Bool) → (top == j) ≡ b → (b || is_met_above es top most (above es j)) ≡ true → (is_met_above es top most (above es j) ≡ true → (n : ℕ) × (ancestor es n j ≡ Some top)) → (n : ℕ) × (ancestor es n k ≡ Some top)
     at j q true c k2 ih = (zero, q ∙ ap Some (sym (eqb-true top j c)))
     at j q false c k2 ih = let r = ih k2 in (suc r.0, ap (option_and_then (ancestor es r.0)) q ∙ r.1)
 
-    go : (o : Option ℕ) → above es k ≡ o → met es top (suc most) o ≡ true → ((j : ℕ) → met es top most (above es j) ≡ true → (n : ℕ) × (ancestor es n j ≡ Some top)) → (n : ℕ) × (ancestor es n k ≡ Some top)
+    go : (o : Option ℕ) → above es k ≡ o → is_met_above es top (suc most) o ≡ true → ((j : ℕ) → is_met_above es top most (above es j) ≡ true → (n : ℕ) × (ancestor es n j ≡ Some top)) → (n : ℕ) × (ancestor es n k ≡ Some top)
     go None q k2 ih = absurd (false≢true k2)
     go (Some j) q k2 ih = at j q (top == j) refl k2 (ih j)
 
@@ -217,7 +217,7 @@ pub below_is : (es : List Entry) → IsTree es → (top k : ℕ) → (is_below e
 unfolding is_below
 below_is es t top k = (above_met es top (length es) k, from)
   where
-    from : (n : ℕ) × (ancestor es n k ≡ Some top) → met es top (length es) (above es k) ≡ true
+    from : (n : ℕ) × (ancestor es n k ≡ Some top) → is_met_above es top (length es) (above es k) ≡ true
     from r =
         let e = live_below es top r.0 k r.1 in
         let w = within es t k e.0 e.1 in

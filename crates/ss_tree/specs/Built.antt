@@ -28,8 +28,8 @@ abbrev pub Adds : List Cell → List Cell → Entry → Type 0
 Adds old new e = AddsUnder old new e e.parent
 
 -- each entry stands at its node's number, after its parent
-abbrev pub ArePlaced : List Entry → Type 0
-ArePlaced es = (i : ℕ) → i < length es → ((get_or es i top_entry).node ≡ i) × IfSome (get_or es i top_entry).parent (λ p. p < i)
+abbrev pub AreAtTheirNodes : List Entry → Type 0
+AreAtTheirNodes es = (i : ℕ) → i < length es → ((get_or es i top_entry).node ≡ i) × IfSome (get_or es i top_entry).parent (λ p. p < i)
 
 -- a node is last under its parent, where it has one
 abbrev pub PutsUnder : List Cell → List Cell → ℕ → Option ℕ → Type 0

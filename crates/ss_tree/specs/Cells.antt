@@ -138,7 +138,7 @@ pub record Lies (cells : List Cell) (es : List Entry) : Type 0 where
   pub room : length cells < END
 
 -- cells that are a tree
-pub record IsLinked (cells : List Cell) : Type 0 where
+pub record IsLinkedTree (cells : List Cell) : Type 0 where
   pub kept : KeepsTree (listing cells) (length cells)
   pub lies : Lies cells (listing cells)
 

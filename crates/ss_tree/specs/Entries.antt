@@ -139,14 +139,14 @@ abbrev pub IsBelow : List Entry → ℕ → ℕ → Type 0
 IsBelow es top k = (n : ℕ) × (ancestor es n k ≡ Some top)
 
 -- top is met within n steps up, from where the last one led
-abbrev pub met : List Entry → ℕ → ℕ → Option ℕ → Bool
-met es top zero j = false
-met es top (suc n) None = false
-met es top (suc n) (Some j) = (top == j) || met es top n (above es j)
+abbrev pub is_met_above : List Entry → ℕ → ℕ → Option ℕ → Bool
+is_met_above es top zero j = false
+is_met_above es top (suc n) None = false
+is_met_above es top (suc n) (Some j) = (top == j) || is_met_above es top n (above es j)
 
 -- the test of it (`is_under` says that it is one): no way up is longer than the entries are many
 unfoldable pub is_below : List Entry → ℕ → ℕ → Bool
-is_below es top k = met es top (length es) (above es k)
+is_below es top k = is_met_above es top (length es) (above es k)
 
 -- the node, and those below it, n levels deep: each before its children, and these in their order
 unfoldable pub preorder : List Entry → ℕ → ℕ → List ℕ

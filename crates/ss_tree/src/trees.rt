@@ -1,6 +1,6 @@
 //! Trees of items.
 
-ghost use Rattle.ss_tree.specs.Built.{ArePlaced};
+ghost use Rattle.ss_tree.specs.Built.{AreAtTheirNodes};
 ghost use Rattle.ss_list.specs.Chain.{times};
 ghost use Rattle.ss_tree.specs.Walks.{after, follower};
 ghost use Rattle.std.specs.HashMap.{get};
@@ -47,13 +47,13 @@ impl Model for Tree {
     ghost use Rattle.std.specs.HashMap.{get};
     ghost use Rattle.ss_tree.specs.Entries.{node_of};
     ghost use Rattle.ss_tree.specs.declared.entries.Entry.{Entry as Seat};
-    ghost use Rattle.ss_tree.specs.Cells.{Hangs, IsLinked, listing};
+    ghost use Rattle.ss_tree.specs.Cells.{Hangs, IsLinkedTree, listing};
 
     ghost Value = { List Seat };
 
     ghost view = { λ t. listing t.cells.items };
 
-    ghost invariant = { λ t. IsLinked t.cells.items × ((x : List ℕ) → get bytes_eq t.index x ≡ node_of x (listing t.cells.items)) × Hangs t.cells.items t.vacant };
+    ghost invariant = { λ t. IsLinkedTree t.cells.items × ((x : List ℕ) → get bytes_eq t.index x ≡ node_of x (listing t.cells.items)) × Hangs t.cells.items t.vacant };
 }
 
 /// The entry of an empty folder in a new tree.
@@ -116,7 +116,7 @@ impl Tree {
     /// The tree of these entries: each stands at its node's number, after its parent, and siblings in their order.
     pub fn from_placed(alloc: Global, entries: Vec<Entry>) -> Result<Tree, AllocError>
         requires tree { IsTree entries.items }
-        requires placed { ArePlaced entries.items }
+        requires placed { AreAtTheirNodes entries.items }
         requires room { length entries.items < 2 ^ 64 - 1 }
         ensures entries { IfOk result (λ t. (k : ℕ) → entry k t ≡ entry k entries.items) }
         ensures kids { IfOk result (λ t. (k : ℕ) → kids k t ≡ kids k entries.items) }

@@ -17,7 +17,7 @@ use Rattle.ss_words.specs.declared.names.OptionName.TheVariants.{At, Newer, Work
 use Rattle.ss_words.specs.declared.names.OptionName.TheVariants.{Journal, From}
 use Rattle.ss_words.specs.Names.{name_of}
 use Rattle.ss_words.specs.Lines.{Line, IsLine}
-use Rattle.ss_words.specs.Values.{given, number_in, number_given, accounts_of, are_accounts}
+use Rattle.ss_words.specs.Values.{given_value, number_in, number_given, accounts_of, are_accounts}
 use Rattle.ss_words.specs.Urls.{server_of, HasHost}
 use Rattle.ss_words.specs.Actions.{action_in}
 
@@ -54,7 +54,7 @@ sync_words newer (url ∷ file ∷ []) = option_map (λ server. asked.Sync (reco
 sync_words newer _ = None
 
 unfoldable pub sync_in : Line → Option Command
-sync_in line = option_and_then (λ newer. sync_words newer line.positionals) (given Newer line)
+sync_in line = option_and_then (λ newer. sync_words newer line.positionals) (given_value Newer line)
 
 -- how a server reads conditions: as browsers mean them where `--firefox` is given, else by the letter
 abbrev pub manner_of : Option (List ℕ) → Manner
@@ -73,7 +73,7 @@ logs_of (Some []) from = None
 logs_of (Some (byte ∷ bytes)) from = Some (Some (record { folder = byte ∷ bytes; from = unwrap_or from 1 }))
 
 unfoldable pub logs_in : Line → Option (Option LogFolder)
-logs_in line = option_and_then (λ from. option_and_then (λ folder. logs_of folder from) (given Journal line)) (number_given From 1 most_from line)
+logs_in line = option_and_then (λ from. option_and_then (λ folder. logs_of folder from) (given_value Journal line)) (number_given From 1 most_from line)
 
 -- `serve ADDRESS FOLDER UID ..`
 abbrev pub serve_words : ℕ → ℕ → ℕ → Manner → Option LogFolder → List (List ℕ) → Option Command
@@ -94,7 +94,7 @@ unfoldable pub serve_in : Line → Option Command
 serve_in line =
     option_and_then (λ workers. option_and_then (λ connections. option_and_then (λ terms. option_and_then (λ firefox. option_and_then (λ logs.
     serve_words (unwrap_or workers 4) (unwrap_or connections 100) (unwrap_or terms 0) (manner_of firefox) logs line.positionals)
-    (logs_in line)) (given Firefox line)) (number_given Terms 0 most line)) (number_given Connections 1 most_connections line)) (number_given Workers 1 most_workers line)
+    (logs_in line)) (given_value Firefox line)) (number_given Terms 0 most line)) (number_given Connections 1 most_connections line)) (number_given Workers 1 most_workers line)
 
 -- what the line of a command asks
 abbrev pub command_in : Name → Line → Option Command

@@ -21,8 +21,8 @@ once (value ∷ []) = Some (Some value)
 once (value ∷ other ∷ values) = None
 
 -- the value with which an option is given, where it is
-abbrev pub given : OptionName → Line → Option (Option (List ℕ))
-given option line = once (values_in option line.options)
+abbrev pub given_value : OptionName → Line → Option (Option (List ℕ))
+given_value option line = once (values_in option line.options)
 
 -- a number of 1 to 12 digits in a range
 unfoldable pub number_in : ℕ → ℕ → List ℕ → Option ℕ
@@ -34,7 +34,7 @@ optional_number low high None = Some None
 optional_number low high (Some text) = option_map (λ number. Some number) (number_in low high text)
 
 abbrev pub number_given : OptionName → ℕ → ℕ → Line → Option (Option ℕ)
-number_given option low high line = option_and_then (optional_number low high) (given option line)
+number_given option low high line = option_and_then (optional_number low high) (given_value option line)
 
 -- the accounts that all these words name
 abbrev pub uids_of : List (List ℕ) → Option (List ℕ)

@@ -4,7 +4,7 @@ ghost use Rattle.std.specs.Prelude.{◌≡◌, ◌≤◌, ◌==◌, Some, None, 
 ghost use Rattle.std.specs.Option.{option_copied};
 ghost use Rattle.ss_route.specs.Targets.{uid_of};
 ghost use Rattle.ss_words.specs.Refused.{AsksNothing};
-ghost use Rattle.ss_words.specs.Values.{given, number_in, optional_number, number_given, accounts_of, uids_of};
+ghost use Rattle.ss_words.specs.Values.{given_value, number_in, optional_number, number_given, accounts_of, uids_of};
 ghost use Rattle.ss_text.specs.Names.{id_of};
 ghost use Rattle.ss_words.specs.Values.{are_distinct, are_accounts};
 
@@ -50,8 +50,8 @@ pub(crate) fn given<'a>(
     line: &Line<'a>,
     option: OptionName,
 ) -> Result<Option<&'a str>, WordsFault<'a>>
-    ensures ok { IfOk result (λ value. given option line.now ≡ Some (option_copied value)) }
-    ensures refused { IfErr result (λ fault. given option line.now ≡ None) }
+    ensures ok { IfOk result (λ value. given_value option line.now ≡ Some (option_copied value)) }
+    ensures refused { IfErr result (λ fault. given_value option line.now ≡ None) }
 {
     let options = line.options();
     let mut found: Option<&'a str> = None;

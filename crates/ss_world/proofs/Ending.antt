@@ -31,7 +31,8 @@ use Rattle.ss_client.specs.Machine.{Holds, Writes, LastPage, PageIn, PageOn, Ope
 use Rattle.ss_client.specs.Machine.{held_at, written_at, limits_at, Follows}
 use Rattle.ss_world.specs.Worlds.{WorldView}
 use Rattle.ss_world.specs.Promises.{EndsWell, IsUnderstood}
-use Rattle.ss_world.specs.Ending.{GoesOnForEver, IsAwaited, IsDoneOrPlanned, IsOfTheReply, Rank, fetch_part, post_part}
+use Rattle.ss_world.specs.Ending.{GoesOnForEver, IsAwaitedAnswer, IsDoneOrPlanned, IsOfTheReply, Rank, fetch_part}
+use Rattle.ss_world.specs.Ending.{post_part}
 use Rattle.ss_world.specs.Ending.{rank, IsLower, ComesBelow}
 
 near : (y : Rank) (next it : Next) → next ≡ it → ComesBelow y it → ComesBelow y next
@@ -171,7 +172,7 @@ module _ (d : DeviceView) (run : Run) where
   at-written (Uploads u) stamp next e = writes-near u stamp (rest_of u) next e
 
   -- each awaited answer ends the run, or leads nearer to its end
-  pub nears : (stage : Stage) (answer : Answer) (next : Next) → IsAwaited answer → Follows d run stage answer next → ComesBelow (rank run.newer stage) next
+  pub nears : (stage : Stage) (answer : Answer) (next : Next) → IsAwaitedAnswer answer → Follows d run stage answer next → ComesBelow (rank run.newer stage) next
   unfolding Follows
   nears stage (Configured limits) next a e = at-limits stage limits next e
   nears stage (Paged rows offset time) next a e = at-page stage rows offset time next e

@@ -41,9 +41,9 @@ use Rattle.ss_world.specs.declared.events.Event.TheVariants.{Start, Deliver, Los
 use Rattle.ss_world.specs.declared.events.Event.TheVariants.{Other, Tick, Reopen}
 use Rattle.ss_world.specs.Seats.{after}
 use Rattle.ss_world.specs.Worlds.{Seat, Idle, Syncs, WorldView, world_with_seat, asks}
-use Rattle.ss_world.specs.Happening.{Happens, At, Starts, IsDelivered, IsGivenUp, IsLost, IsEdited, ChangesDevice}
-use Rattle.ss_world.specs.Happening.{Edits, Asked, edit_fault}
-use Rattle.ss_world.specs.Promises.{AreAll, IsFaithful, StandsForOne, IsTrusted, IsUploaded, OneTree, noted_at}
+use Rattle.ss_world.specs.Happening.{Happens, At, Starts, DeliversAtSeat, IsGivenUp, IsLost, EditsAtSeat, ChangesDevice}
+use Rattle.ss_world.specs.Happening.{Edits, AsksElsewhere, edit_fault}
+use Rattle.ss_world.specs.Promises.{AreAll, IsFaithful, StandsForOne, IsTrustedEvent, IsLastUpload, OneTree, noted_at}
 use Rattle.ss_world.specs.Promises.{noted_in, noted_by, EndsWell}
 use Rattle.ss_world.proofs.Lists.{at_set}
 use Rattle.ss_world.proofs.Asking.{asked-asks, awaits-asks}
@@ -258,13 +258,13 @@ module _ (trusts : ℕ → Bool) (first : ℕ) where
 
     -- ---- each event
 
-    start : (n : ℕ) (fetch : Fetch) (v : WorldView) → IsTrusted trusts (Start n fetch) → (s : Seat) → slice_get w.seats n ≡ Some s → Starts w n fetch v s → IsSound notes v
+    start : (n : ℕ) (fetch : Fetch) (v : WorldView) → IsTrustedEvent trusts (Start n fetch) → (s : Seat) → slice_get w.seats n ≡ Some s → Starts w n fetch v s → IsSound notes v
     start n fetch v ok (Syncs m) there e = subst (IsSound notes) (sym e) h
     start n fetch v ok (Idle d) there e = subst (IsSound notes) (sym e)
         (seat_step n (Idle d) there notes (λ i ne. refl) (Syncs (record { device = d; run = first_run (is_newer d fetch); stage = Asks })) Asks (λ k own. absurd (none-some k own)) w.server h.steady h.stands
         (quiet_leaves Asks _ _ (quiet-self (shown_by w.server))) (ages-self (shown_by w.server)) ((h.sits n (Idle d) there).0, (h.sits n (Idle d) there).1, begun fetch ok, tt) (λ k own. absurd (none-some k own)))
       where
-        begun : (f : Fetch) → IsTrusted trusts (Start n f) → is_newer d f ≡ true → (trusts n ≡ true) × (d.stamp ≢ 0)
+        begun : (f : Fetch) → IsTrustedEvent trusts (Start n f) → is_newer d f ≡ true → (trusts n ≡ true) × (d.stamp ≢ 0)
         begun Whole t q = absurd (false≢true q)
         begun Newer t q = (t, (λ z. absurd (false≢true (sym (ap (λ v. not (v == 0)) z) ∙ q))))
 
@@ -277,7 +277,7 @@ module _ (trusts : ℕ → Bool) (first : ℕ) where
     lost n now v (Idle d) there e = subst (IsSound notes) (sym e) h
     lost n now v (Syncs m) there e = subst (IsSound notes) (sym e.is) (loses n now m there e.server e.answers)
 
-    edited : (n now : ℕ) (edit : Edit) (v : WorldView) (s : Seat) → slice_get w.seats n ≡ Some s → IsEdited w n now edit v s → IsSound notes v
+    edited : (n now : ℕ) (edit : Edit) (v : WorldView) (s : Seat) → slice_get w.seats n ≡ Some s → EditsAtSeat w n now edit v s → IsSound notes v
     edited n now edit v (Syncs m) there e = subst (IsSound notes) (sym e) h
     edited n now edit v (Idle d) there e = go (edit_fault d edit) e
       where
@@ -309,7 +309,7 @@ module _ (trusts : ℕ → Bool) (first : ℕ) where
     noting event v = λ i. noted_by i w event v (notes i)
 
     -- what is noted at a delivery
-    delivered : (n now : ℕ) (v : WorldView) → At w n v (IsDelivered w n now v) → IsSound (λ i. noted_by i w (Deliver n now) v (notes i)) v
+    delivered : (n now : ℕ) (v : WorldView) → At w n v (DeliversAtSeat w n now v) → IsSound (λ i. noted_by i w (Deliver n now) v (notes i)) v
     delivered n now v e = go (slice_get w.seats n) refl e
       where
         same_number : (x : ℕ) → (x == x) ≡ true
@@ -331,7 +331,7 @@ module _ (trusts : ℕ → Bool) (first : ℕ) where
         quietly : (o : Option Seat) → slice_get w.seats n ≡ o → noted_in o (sheets_of v.server.account.rows) (notes n) ≡ notes n → v ≡ w → IsSound (λ i. noted_by i w (Deliver n now) v (notes i)) v
         quietly o is isnt q = subst (λ f. IsSound f v) (λ k i. sym (unnoted o is isnt i) k) (subst (IsSound notes) (sym q) h)
 
-        go : (o : Option Seat) → slice_get w.seats n ≡ o → MatchOption o (v ≡ w) (IsDelivered w n now v) → IsSound (λ i. noted_by i w (Deliver n now) v (notes i)) v
+        go : (o : Option Seat) → slice_get w.seats n ≡ o → MatchOption o (v ≡ w) (DeliversAtSeat w n now v) → IsSound (λ i. noted_by i w (Deliver n now) v (notes i)) v
         go None is q = quietly None is refl q
         go (Some (Idle d)) is q = quietly (Some (Idle d)) is refl q
         go (Some (Syncs m)) is q =
@@ -343,21 +343,21 @@ module _ (trusts : ℕ → Bool) (first : ℕ) where
             ∙ (ap (λ o. noted_in o (sheets_of v.server.account.rows) (notes n)) is ∙ ap (λ r. noted_at m.stage r (notes n)) rows))
             q.next q.follows)
 
-    others : (now : ℕ) (request : Request) (v : WorldView) → MatchBool (touches request) (v ≡ w) (Asked w now request v) → IsSound notes v
+    others : (now : ℕ) (request : Request) (v : WorldView) → MatchBool (touches request) (v ≡ w) (AsksElsewhere w now request v) → IsSound notes v
     others now request v e = go (touches request) refl e
       where
-        go : (b : Bool) → touches request ≡ b → MatchBool b (v ≡ w) (Asked w now request v) → IsSound notes v
+        go : (b : Bool) → touches request ≡ b → MatchBool b (v ≡ w) (AsksElsewhere w now request v) → IsSound notes v
         go true q e = subst (IsSound notes) (sym e) h
         go false q e = let g = others-steady w.server h.steady now request e.server q e.answers in subst (IsSound notes) (sym e.is) (account_step e.server g.0 g.1 g.2)
 
     -- every event keeps the invariant
-    pub keeps : (event : Event) (v : WorldView) → IsTrusted trusts event → Happens w event v → IsSound (λ i. noted_by i w event v (notes i)) v
+    pub keeps : (event : Event) (v : WorldView) → IsTrustedEvent trusts event → Happens w event v → IsSound (λ i. noted_by i w event v (notes i)) v
     keeps (Start n fetch) v ok e = at_seat (IsSound notes) n v (Starts w n fetch v) h (start n fetch v ok) e
     keeps (Deliver n now) v ok e = delivered n now v e
     keeps (LoseRequest n) v ok e = at_seat (IsSound notes) n v (IsGivenUp w n v) h (given_up n v) e
     keeps (LoseReply n now) v ok e = at_seat (IsSound notes) n v (IsLost w n now v) h (lost n now v) e
     keeps (Anew n) v ok e = at_seat (IsSound notes) n v (IsGivenUp w n v) h (given_up n v) e
-    keeps (Change n now edit) v ok e = at_seat (IsSound notes) n v (IsEdited w n now edit v) h (edited n now edit v) e
+    keeps (Change n now edit) v ok e = at_seat (IsSound notes) n v (EditsAtSeat w n now edit v) h (edited n now edit v) e
     keeps (Other now request) v ok e = others now request v e
     keeps (Tick now) v ok e = let g = ticks-steady w.server h.steady now e.server e.ticks in subst (IsSound notes) (sym e.is) (account_step e.server g.0 g.1 g.2)
     keeps Reopen v ok e = let g = reopens-steady w.server h.steady e.server e.reopens in subst (IsSound notes) (sym e.is) (account_step e.server g.0 g.1 g.2)
@@ -365,7 +365,7 @@ module _ (trusts : ℕ → Bool) (first : ℕ) where
     -- ---- one tree
 
     abbrev Turns : Event → WorldView → Type 0
-    Turns event v = (sheets_of v.server.account.rows ≡ sheets_of w.server.account.rows) ⊎ IsUploaded w event v
+    Turns event v = (sheets_of v.server.account.rows ≡ sheets_of w.server.account.rows) ⊎ IsLastUpload w event v
 
     stays : (v : WorldView) → v ≡ w → sheets_of v.server.account.rows ≡ sheets_of w.server.account.rows
     stays v e = ap (λ (x : WorldView). sheets_of x.server.account.rows) e
@@ -398,9 +398,9 @@ module _ (trusts : ℕ → Bool) (first : ℕ) where
         by : (s : Seat) → Starts w n fetch v s → sheets_of v.server.account.rows ≡ sheets_of w.server.account.rows
         by (Idle d) q = ap (λ (x : WorldView). sheets_of x.server.account.rows) q
         by (Syncs m) q = stays v q
-    one_tree (Deliver n now) v e = at_seat (λ x. OneTree w (Deliver n now) x) n v (IsDelivered w n now v) (inl refl) by e
+    one_tree (Deliver n now) v e = at_seat (λ x. OneTree w (Deliver n now) x) n v (DeliversAtSeat w n now v) (inl refl) by e
       where
-        by : (s : Seat) → slice_get w.seats n ≡ Some s → IsDelivered w n now v s → OneTree w (Deliver n now) v
+        by : (s : Seat) → slice_get w.seats n ≡ Some s → DeliversAtSeat w n now v s → OneTree w (Deliver n now) v
         by (Idle d) i q = inl (stays v q)
         by (Syncs m) i q = turns (Deliver n now) n now m v q.server (inl refl) i q.answers (ap (λ (x : WorldView). x.server) q.is)
     one_tree (LoseRequest n) v e = at_seat (λ x. OneTree w (LoseRequest n) x) n v (IsGivenUp w n v) (inl refl) (λ s i q. inl (by s q)) e
@@ -418,9 +418,9 @@ module _ (trusts : ℕ → Bool) (first : ℕ) where
         by : (s : Seat) → IsGivenUp w n v s → sheets_of v.server.account.rows ≡ sheets_of w.server.account.rows
         by (Idle d) q = stays v q
         by (Syncs m) q = ap (λ (x : WorldView). sheets_of x.server.account.rows) q
-    one_tree (Change n now edit) v e = at_seat (λ x. OneTree w (Change n now edit) x) n v (IsEdited w n now edit v) (inl refl) (λ s i q. inl (by s q)) e
+    one_tree (Change n now edit) v e = at_seat (λ x. OneTree w (Change n now edit) x) n v (EditsAtSeat w n now edit v) (inl refl) (λ s i q. inl (by s q)) e
       where
-        by : (s : Seat) → IsEdited w n now edit v s → sheets_of v.server.account.rows ≡ sheets_of w.server.account.rows
+        by : (s : Seat) → EditsAtSeat w n now edit v s → sheets_of v.server.account.rows ≡ sheets_of w.server.account.rows
         by (Syncs m) q = stays v q
         by (Idle d) q = go (edit_fault d edit) q
           where
@@ -429,7 +429,7 @@ module _ (trusts : ℕ → Bool) (first : ℕ) where
             go (Some fault) r = stays v r
     one_tree (Other now request) v e = go (touches request) refl e
       where
-        go : (b : Bool) → touches request ≡ b → MatchBool b (v ≡ w) (Asked w now request v) → OneTree w (Other now request) v
+        go : (b : Bool) → touches request ≡ b → MatchBool b (v ≡ w) (AsksElsewhere w now request v) → OneTree w (Other now request) v
         go true q r = inl (stays v r)
         go false q r = inl (ap (λ (x : WorldView). sheets_of x.server.account.rows) r.is ∙ (others-steady w.server h.steady now request r.server q r.answers).1.rows)
     one_tree (Tick now) v e = inl (ap (λ (x : WorldView). sheets_of x.server.account.rows) e.is ∙ (ticks-steady w.server h.steady now e.server e.ticks).1.rows)

@@ -32,8 +32,8 @@ use Rattle.ss_world.specs.declared.events.Event.{Event}
 use Rattle.ss_world.specs.declared.events.Event.TheVariants.{Deliver}
 use Rattle.ss_world.specs.Seats.{device_of}
 use Rattle.ss_world.specs.Worlds.{Seat, Idle, Syncs, WorldView, asks}
-use Rattle.ss_world.specs.Happening.{Happens, Step, Runs, last, IsDelivered, IsGivenUp, Delivers, OpensAnew}
-use Rattle.ss_world.specs.Promises.{AreAll, IsFaithful, StandsForOne, IsOpening, AreTrusted, IsUploaded, OneTree}
+use Rattle.ss_world.specs.Happening.{Happens, Step, Runs, last, DeliversAtSeat, IsGivenUp, Delivers, OpensAnew}
+use Rattle.ss_world.specs.Promises.{AreAll, IsFaithful, StandsForOne, IsOpening, AreTrustedSteps, IsLastUpload, OneTree}
 use Rattle.ss_world.specs.Promises.{fetched_at, noted_at, noted_in, noted_by, first_rows, EndsWell}
 use Rattle.ss_world.proofs.Lists.{page_last}
 use Rattle.ss_world.proofs.Looking.{all-same, recalls}
@@ -123,7 +123,7 @@ opening_sound trusts w o = record {
   apart = λ i j n s t e f hs ht. absurd (subst (λ x. HasBatch trusts w.server.account.counter x n) (o.idle i s e).1 hs);
 }
 
-keeps_all : (trusts : ℕ → Bool) (first : ℕ) (notes : ℕ → List Sheet) (w : WorldView) (steps : List Step) → IsSound trusts first notes w → Runs w steps → AreTrusted trusts steps → IsSound trusts first (λ n. first_rows n w steps (notes n)) (last w steps)
+keeps_all : (trusts : ℕ → Bool) (first : ℕ) (notes : ℕ → List Sheet) (w : WorldView) (steps : List Step) → IsSound trusts first notes w → Runs w steps → AreTrustedSteps trusts steps → IsSound trusts first (λ n. first_rows n w steps (notes n)) (last w steps)
 keeps_all trusts first notes w [] h r ok = h
 keeps_all trusts first notes w (step ∷ steps) h r ok =
     keeps_all trusts first (λ i. noted_by i w step.event step.world (notes i)) step.world steps (keeps trusts first notes w h step.event step.world ok.0 r.0) r.1 ok.1
@@ -132,7 +132,7 @@ pub noted_last : (n : ℕ) (w : WorldView) (steps : List Step) (step : Step) (ol
 noted_last n w [] step old = refl
 noted_last n w (s ∷ steps) step old = noted_last n s.world steps step (noted_by n w s.event s.world old)
 
-module _ (trusts : ℕ → Bool) (w : WorldView) (steps : List Step) (o : IsOpening trusts w) (r : Runs w steps) (ok : AreTrusted trusts steps) where
+module _ (trusts : ℕ → Bool) (w : WorldView) (steps : List Step) (o : IsOpening trusts w) (r : Runs w steps) (ok : AreTrustedSteps trusts steps) where
   abbrev pub now : WorldView
   now = last w steps
 
@@ -154,7 +154,7 @@ module _ (trusts : ℕ → Bool) (w : WorldView) (steps : List Step) (o : IsOpen
       by (Syncs m) f = (f.0, f.1)
 
   -- an event that is no last POST leaves the rows
-  pub interrupted : (event : Event) (v : WorldView) → Happens (last w steps) event v → (IsUploaded (last w steps) event v → ⊥) → sheets_of v.server.account.rows ≡ sheets_of (last w steps).server.account.rows
+  pub interrupted : (event : Event) (v : WorldView) → Happens (last w steps) event v → (IsLastUpload (last w steps) event v → ⊥) → sheets_of v.server.account.rows ≡ sheets_of (last w steps).server.account.rows
   interrupted event v h none = elim (turns event v h) [ inl e ↦ e | inr u ↦ absurd (none u) ]
 
   -- the rows of a finished fetch
@@ -162,7 +162,7 @@ module _ (trusts : ℕ → Bool) (w : WorldView) (steps : List Step) (o : IsOpen
       → fetched_at m (told_by (awaits m.stage) (api (last w steps).server.account reading (ask m)).reply) m.stage ≡ Some rows
       → AreAll rows (sheets_of v.server.account.rows) × (first_rows n w (steps ++ record { event = Deliver n reading; world = v } ∷ []) [] ≡ sheets_of v.server.account.rows)
   fetches n reading m v rows there h f =
-      let e : Delivers (last w steps) n reading m v = subst (λ (q : Option Seat). MatchOption q (v ≡ last w steps) (IsDelivered (last w steps) n reading v)) there h in
+      let e : Delivers (last w steps) n reading m v = subst (λ (q : Option Seat). MatchOption q (v ≡ last w steps) (DeliversAtSeat (last w steps) n reading v)) there h in
       let old : List Sheet = first_rows n w steps [] in
       let g = served trusts w.server.account.counter (λ k. first_rows k w steps []) (last w steps) sound n reading m there e.server e.answers in
       let sits = sound.sits n (Syncs m) there in
@@ -190,5 +190,5 @@ pub same_tree : (t u : List PlacedItem) (sheets : List Sheet) → Apart (ids_of 
 same_tree t u sheets apart vt vu st su = λ x. sym (sheets_built_back t sheets vt apart st x) ∙ sheets_built_back u sheets vu apart su x
 
 -- what is shown of an opening's account has each id once
-pub once : (trusts : ℕ → Bool) (w : WorldView) → IsOpening trusts w → (steps : List Step) → Runs w steps → AreTrusted trusts steps → Apart (ids_of (sheets_of (last w steps).server.account.rows))
+pub once : (trusts : ℕ → Bool) (w : WorldView) → IsOpening trusts w → (steps : List Step) → Runs w steps → AreTrustedSteps trusts steps → Apart (ids_of (sheets_of (last w steps).server.account.rows))
 once trusts w o steps r ok = sheets-apart (last w steps).server.account.rows (sound trusts w steps o r ok).steady.good.places

@@ -5,7 +5,7 @@ use Rattle.std.specs.Prelude.{Result, Ok, Err, IfErr, OnOk}
 use Rattle.std.specs.List.{All}
 use Rattle.std.proofs.lemmas.List.Elements.{All-get_or}
 use Rattle.std.proofs.lemmas.Option.{none-some, same_Some, get_or_from_slice_get, slice_get_within}
-use Rattle.ss_bso.specs.Changes.{opened}
+use Rattle.ss_bso.specs.Changes.{account_at_opening}
 use Rattle.ss_bso.specs.Validity.{IsValid, SameAccount}
 use Rattle.ss_query.specs.Api.{api}
 use Rattle.ss_account.specs.Opening.{IsGood}
@@ -19,10 +19,11 @@ use Rattle.ss_world.specs.declared.events.Event.TheVariants.{Other, Tick, Reopen
 use Rattle.ss_world.specs.declared.faults.WorldFault.{WorldFault}
 use Rattle.ss_world.specs.Worlds.{Seat, Idle, Syncs, WorldView}
 use Rattle.ss_world.specs.Happening.{At, Delivers, Happens, IsLost, Runs, Step, ReadsClock, last}
-use Rattle.ss_world.specs.Promises.{AreAll, AreTrusted, EndsWell, IsTrusted, OneTree, StandsForOne, fetched_at}
+use Rattle.ss_world.specs.Promises.{AreAll, AreTrustedSteps, EndsWell, IsTrustedEvent, OneTree, StandsForOne}
+use Rattle.ss_world.specs.Promises.{fetched_at}
 use Rattle.ss_world.specs.Promises.{first_rows, rows}
 use Rattle.ss_world.specs.Stepping.{Fails, IsCutShort, IsUnheard}
-use Rattle.ss_world.specs.Reaching.{IsOpenable, IsReached, IsWellDelivered, IsWholeFetch, Promised}
+use Rattle.ss_world.specs.Reaching.{IsOpenable, IsReachedWorld, IsWellDelivered, IsWholeFetch, KeepsPromises}
 use Rattle.ss_world.proofs.Promised.{ends, fetches, stands, turns}
 
 -- ---- one step more
@@ -31,7 +32,7 @@ runs_more : (w : WorldView) (steps : List Step) (step : Step) → Runs w steps �
 runs_more w [] step r h = (h, tt)
 runs_more w (s ∷ steps) step r h = (r.0, runs_more s.world steps step r.1 h)
 
-trusted_more : (trusts : ℕ → Bool) (steps : List Step) (step : Step) → AreTrusted trusts steps → IsTrusted trusts step.event → AreTrusted trusts (steps ++ step ∷ [])
+trusted_more : (trusts : ℕ → Bool) (steps : List Step) (step : Step) → AreTrustedSteps trusts steps → IsTrustedEvent trusts step.event → AreTrustedSteps trusts (steps ++ step ∷ [])
 trusted_more trusts [] step r h = (h, tt)
 trusted_more trusts (s ∷ steps) step r h = (r.0, trusted_more trusts steps step r.1 h)
 
@@ -39,7 +40,7 @@ last_more : (w : WorldView) (steps : List Step) (step : Step) → last w (steps 
 last_more w [] step = refl
 last_more w (s ∷ steps) step = last_more s.world steps step
 
-pub reached_more : (trusts : ℕ → Bool) (w : WorldView) (event : Event) (v : WorldView) → IsReached trusts w → Happens w event v → IsTrusted trusts event → IsReached trusts v
+pub reached_more : (trusts : ℕ → Bool) (w : WorldView) (event : Event) (v : WorldView) → IsReachedWorld trusts w → Happens w event v → IsTrustedEvent trusts event → IsReachedWorld trusts v
 reached_more trusts w event v r h ok = record {
   opening = r.opening;
   steps = r.steps ++ record { event = event; world = v } ∷ [];
@@ -51,13 +52,13 @@ reached_more trusts w event v r h ok = record {
 
 -- ---- what holds of a reached world
 
-stands_here : (trusts : ℕ → Bool) (w : WorldView) → IsReached trusts w → StandsForOne (rows w)
+stands_here : (trusts : ℕ → Bool) (w : WorldView) → IsReachedWorld trusts w → StandsForOne (rows w)
 stands_here trusts w r = subst (λ x. StandsForOne (rows x)) r.here (stands trusts r.opening r.steps r.opens r.runs r.trusted)
 
-turns_here : (trusts : ℕ → Bool) (w : WorldView) (event : Event) (v : WorldView) → IsReached trusts w → Happens w event v → OneTree w event v
+turns_here : (trusts : ℕ → Bool) (w : WorldView) (event : Event) (v : WorldView) → IsReachedWorld trusts w → Happens w event v → OneTree w event v
 turns_here trusts w event v r h = subst (λ x. Happens x event v → OneTree x event v) r.here (turns trusts r.opening r.steps r.opens r.runs r.trusted event v) h
 
-pub promised : (trusts : ℕ → Bool) (w : WorldView) (event : Event) (v : WorldView) → IsReached trusts w → IsTrusted trusts event → Happens w event v → Promised trusts w event v
+pub promised : (trusts : ℕ → Bool) (w : WorldView) (event : Event) (v : WorldView) → IsReachedWorld trusts w → IsTrustedEvent trusts event → Happens w event v → KeepsPromises trusts w event v
 promised trusts w event v r ok h =
     let next = reached_more trusts w event v r h ok in record { reached = next; stands = stands_here trusts v next; turns = turns_here trusts w event v r h }
 
@@ -93,15 +94,15 @@ of_lost w v n now (inr u) = elim u.event_is [
     same : {m k : ℕ} → ◌≡◌ {A = Event} (LoseReply n now) (LoseReply m k) → ◌≡◌ {A = Event} (Deliver n now) (Deliver m k)
     same e = cc
 
-module _ (trusts : ℕ → Bool) (w v : WorldView) (r : IsReached trusts w) where
+module _ (trusts : ℕ → Bool) (w v : WorldView) (r : IsReachedWorld trusts w) where
   -- nothing happened
-  left : (event : Event) → v ≡ w → Promised trusts w event v
-  left event same = let here = subst (IsReached trusts) (sym same) r in record { reached = here; stands = stands_here trusts v here; turns = inl (ap rows same) }
+  left : (event : Event) → v ≡ w → KeepsPromises trusts w event v
+  left event same = let here = subst (IsReachedWorld trusts) (sym same) r in record { reached = here; stands = stands_here trusts v here; turns = inl (ap rows same) }
 
-  ticked : (now : ℕ) (event : Event) → ReadsClock w now v → Promised trusts w event v
+  ticked : (now : ℕ) (event : Event) → ReadsClock w now v → KeepsPromises trusts w event v
   ticked now event t = let p = promised trusts w (Tick now) v r tt t in record { reached = p.reached; stands = p.stands; turns = of_tick w v now event p.turns }
 
-  lost : (n now : ℕ) → At w n v (IsLost w n now v) → Promised trusts w (Deliver n now) v
+  lost : (n now : ℕ) → At w n v (IsLost w n now v) → KeepsPromises trusts w (Deliver n now) v
   lost n now h = let p = promised trusts w (LoseReply n now) v r tt h in record { reached = p.reached; stands = p.stands; turns = of_lost w v n now p.turns }
 
   -- a reply that couldn't be handed on is lost
@@ -113,7 +114,7 @@ module _ (trusts : ℕ → Bool) (w v : WorldView) (r : IsReached trusts w) wher
       go (Some (Idle d)) e = e
       go (Some (Syncs m)) e = e.0
 
-  cut : (event : Event) → IsCutShort w event v → Promised trusts w event v
+  cut : (event : Event) → IsCutShort w event v → KeepsPromises trusts w event v
   cut (Deliver n now) (inl same) = left (Deliver n now) same
   cut (Deliver n now) (inr (inl t)) = ticked now (Deliver n now) t
   cut (Deliver n now) (inr (inr h)) = lost n now (unheard_lost n now h)
@@ -128,18 +129,18 @@ module _ (trusts : ℕ → Bool) (w v : WorldView) (r : IsReached trusts w) wher
   cut (Tick now) none = absurd none
   cut Reopen same = left Reopen same
 
-  pub failed : (event : Event) (e : WorldFault) → Fails w event v e → Promised trusts w event v
+  pub failed : (event : Event) (e : WorldFault) → Fails w event v e → KeepsPromises trusts w event v
   failed event e (inl h) = cut event h.1.left
   failed event e (inr h) = left event h.left
 
 -- ---- what a delivery leads to
 
-pub understood : (trusts : ℕ → Bool) (w : WorldView) (event : Event) (v : WorldView) → IsReached trusts w → IsWellDelivered w event v
+pub understood : (trusts : ℕ → Bool) (w : WorldView) (event : Event) (v : WorldView) → IsReachedWorld trusts w → IsWellDelivered w event v
 understood trusts w event v r = λ n now m is there e.
     subst (λ x. (i k : ℕ) (mm : MachineView) (y : WorldView) → slice_get x.seats i ≡ Some (Syncs mm) → (d : Delivers x i k mm y) → EndsWell x mm d.next y) r.here
     (λ i k mm y t d. ends trusts r.opening r.steps r.opens r.runs r.trusted i k mm y t d) n now m v there e
 
-pub whole : (trusts : ℕ → Bool) (w : WorldView) (r : IsReached trusts w) (event : Event) (v : WorldView) → Happens w event v → IsWholeFetch trusts w r event v
+pub whole : (trusts : ℕ → Bool) (w : WorldView) (r : IsReachedWorld trusts w) (event : Event) (v : WorldView) → Happens w event v → IsWholeFetch trusts w r event v
 whole trusts w r event v h = λ n now m fetched is there f.
     subst (λ (x : Event). AreAll fetched (rows v) × (first_rows n r.opening (r.steps ++ record { event = x; world = v } ∷ []) [] ≡ rows v)) (sym is)
     (subst (λ x. slice_get x.seats n ≡ Some (Syncs m) → Happens x (Deliver n now) v → fetched_at m (told_by (awaits m.stage) (api x.server.account now (ask m)).reply) m.stage ≡ Some fetched
@@ -157,8 +158,8 @@ seat_device (d ∷ ds) (suc n) s e = seat_device ds n s e
 devices_valid : (devices : List DeviceView) → All IsDevice devices → (n : ℕ) (d : DeviceView) → slice_get devices n ≡ Some d → IsDevice d
 devices_valid devices valid n d e = subst IsDevice (get_or_from_slice_get devices n d d e) (All-get_or IsDevice devices n d (slice_get_within devices n d e) valid)
 
-pub opening_reached : (trusts : ℕ → Bool) (w : WorldView) (devices : List DeviceView) → IsValid w.server.account → SameAccount (opened w.server.kept) w.server.account → IsGood w.server.kept → w.seats ≡ map Idle devices → All IsDevice devices
-    → IsOpenable trusts w → IsReached trusts w
+pub opening_reached : (trusts : ℕ → Bool) (w : WorldView) (devices : List DeviceView) → IsValid w.server.account → SameAccount (account_at_opening w.server.kept) w.server.account → IsGood w.server.kept → w.seats ≡ map Idle devices → All IsDevice devices
+    → IsOpenable trusts w → IsReachedWorld trusts w
 opening_reached trusts w devices valid same good seats sound o = record {
   opening = w;
   steps = [];
@@ -178,6 +179,6 @@ opening_reached trusts w devices valid same good seats sound o = record {
 
 -- ---- a step
 
-pub stepped : {X : Type 0} (result : Result X WorldFault) (trusts : ℕ → Bool) (w : WorldView) (event : Event) (v : WorldView) → IsReached trusts w → IsTrusted trusts event → OnOk result (Happens w event v) → IfErr result (Fails w event v) → Promised trusts w event v
+pub stepped : {X : Type 0} (result : Result X WorldFault) (trusts : ℕ → Bool) (w : WorldView) (event : Event) (v : WorldView) → IsReachedWorld trusts w → IsTrustedEvent trusts event → OnOk result (Happens w event v) → IfErr result (Fails w event v) → KeepsPromises trusts w event v
 stepped (Ok x) trusts w event v r ok h f = promised trusts w event v r ok h
 stepped (Err e) trusts w event v r ok h f = failed trusts w v r event e f

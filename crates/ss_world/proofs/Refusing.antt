@@ -16,7 +16,8 @@ use Rattle.ss_world.specs.declared.events.Event.TheVariants.{Other, Tick, Reopen
 use Rattle.ss_world.specs.declared.faults.WorldFault.{WorldFault}
 use Rattle.ss_world.specs.declared.faults.WorldFault.TheVariants as fault
 use Rattle.ss_world.specs.Worlds.{Seat, Idle, Syncs, WorldView}
-use Rattle.ss_world.specs.Happening.{Asked, At, Edits, Happens, IsDelivered, IsEdited, IsGivenUp, IsLost, Starts}
+use Rattle.ss_world.specs.Happening.{AsksElsewhere, At, Edits, Happens, DeliversAtSeat, EditsAtSeat, IsGivenUp, IsLost}
+use Rattle.ss_world.specs.Happening.{Starts}
 use Rattle.ss_world.specs.Happening.{edit_fault}
 use Rattle.ss_world.specs.Stepping.{Fails, Refuses, at_device, change_fault, request_fault, start_fault}
 
@@ -32,7 +33,7 @@ module _ (w v : WorldView) (e : WorldFault) (left : v ≡ w) where
   by_start n fetch (Idle d) q = absurd (none-some e q)
   by_start n fetch (Syncs m) q = left
 
-  by_delivery : (n now : ℕ) (seat : Seat) → request_fault n seat ≡ Some e → IsDelivered w n now v seat
+  by_delivery : (n now : ℕ) (seat : Seat) → request_fault n seat ≡ Some e → DeliversAtSeat w n now v seat
   by_delivery n now (Idle d) q = left
   by_delivery n now (Syncs m) q = absurd (none-some e q)
 
@@ -48,21 +49,21 @@ module _ (w v : WorldView) (e : WorldFault) (left : v ≡ w) where
   by_edit n now edit d None q = absurd (none-some e q)
   by_edit n now edit d (Some f) q = left
 
-  by_change : (n now : ℕ) (edit : Edit) (seat : Seat) → change_fault n edit seat ≡ Some e → IsEdited w n now edit v seat
+  by_change : (n now : ℕ) (edit : Edit) (seat : Seat) → change_fault n edit seat ≡ Some e → EditsAtSeat w n now edit v seat
   by_change n now edit (Idle d) q = by_edit n now edit d (edit_fault d edit) q
   by_change n now edit (Syncs m) q = left
 
-  by_others : (now : ℕ) (request : Request) (b : Bool) → cond b (Some fault.Touches) None ≡ Some e → MatchBool b (v ≡ w) (Asked w now request v)
+  by_others : (now : ℕ) (request : Request) (b : Bool) → cond b (Some fault.Touches) None ≡ Some e → MatchBool b (v ≡ w) (AsksElsewhere w now request v)
   by_others now request true q = left
   by_others now request false q = absurd (none-some e q)
 
 pub refused_happens : (w v : WorldView) (event : Event) (e : WorldFault) → Refuses w event e v → Happens w event v
 refused_happens w v (Start n fetch) e r = at_refused w v e r.left n (start_fault n) (Starts w n fetch v) (by_start w v e r.left n fetch) r.cause
-refused_happens w v (Deliver n now) e r = at_refused w v e r.left n (request_fault n) (IsDelivered w n now v) (by_delivery w v e r.left n now) r.cause
+refused_happens w v (Deliver n now) e r = at_refused w v e r.left n (request_fault n) (DeliversAtSeat w n now v) (by_delivery w v e r.left n now) r.cause
 refused_happens w v (LoseRequest n) e r = at_refused w v e r.left n (request_fault n) (IsGivenUp w n v) (by_giving w v e r.left n) r.cause
 refused_happens w v (LoseReply n now) e r = at_refused w v e r.left n (request_fault n) (IsLost w n now v) (by_loss w v e r.left n now) r.cause
 refused_happens w v (Anew n) e r = at_refused w v e r.left n (request_fault n) (IsGivenUp w n v) (by_giving w v e r.left n) r.cause
-refused_happens w v (Change n now edit) e r = at_refused w v e r.left n (change_fault n edit) (IsEdited w n now edit v) (by_change w v e r.left n now edit) r.cause
+refused_happens w v (Change n now edit) e r = at_refused w v e r.left n (change_fault n edit) (EditsAtSeat w n now edit v) (by_change w v e r.left n now edit) r.cause
 refused_happens w v (Other now request) e r = by_others w v e r.left now request (touches request) r.cause
 refused_happens w v (Tick now) e r = absurd (none-some e r.cause)
 refused_happens w v Reopen e r = absurd (none-some e r.cause)

@@ -21,11 +21,13 @@ use Rattle.ss_world.specs.declared.events.Event.{Event}
 use Rattle.ss_world.specs.declared.events.Event.TheVariants.{Deliver, LoseReply, Change, Other}
 use Rattle.ss_world.specs.declared.faults.WorldFault.{WorldFault}
 use Rattle.ss_world.specs.declared.faults.WorldFault.TheVariants as fault
-use Rattle.ss_world.specs.Seats.{started}
+use Rattle.ss_world.specs.Seats.{seat_after_start}
 use Rattle.ss_world.specs.Worlds.{Seat, Idle, Syncs, WorldView}
-use Rattle.ss_world.specs.Happening.{At, Asked, Delivers, Edits, IsDelivered, IsEdited, IsGivenUp, IsLost, OpensAnew}
+use Rattle.ss_world.specs.Happening.{At, AsksElsewhere, Delivers, Edits, DeliversAtSeat, EditsAtSeat, IsGivenUp, IsLost}
+use Rattle.ss_world.specs.Happening.{OpensAnew}
 use Rattle.ss_world.specs.Happening.{Starts, ReadsClock}
-use Rattle.ss_world.specs.Stepping.{Begins, Changes, Fails, GivesUp, Hears, IsEditedSeat, IsHeard, IsUnheard, IsWanting}
+use Rattle.ss_world.specs.Stepping.{Begins, Changes, Fails, GivesUp, Hears, IsEditedSeat, HearsAtSeat, IsUnheard}
+use Rattle.ss_world.specs.Stepping.{IsWanting}
 use Rattle.ss_world.specs.Stepping.{at_device, change_fault, edit_refusal, request_fault, start_fault, tested_change}
 
 -- a world of a server and seats
@@ -63,12 +65,12 @@ lost w server after seats new n now m is there a gives =
 -- ---- a delivery
 
 pub delivered : (w : WorldView) (server after : Server) (seats new : List Seat) (n now : ℕ) (m : MachineView) → world server seats ≡ w → slice_get seats n ≡ Some (Syncs m) → Answers server now (ask m) after
-    → Hears (told_by (awaits m.stage) (api server.account now (ask m)).reply) seats n new → At w n (world after new) (IsDelivered w n now (world after new))
+    → Hears (told_by (awaits m.stage) (api server.account now (ask m)).reply) seats n new → At w n (world after new) (DeliversAtSeat w n now (world after new))
 delivered w server after seats new n now m is there a hears =
-    subst (λ x. At x n (world after new) (IsDelivered x n now (world after new))) is
-    (subst (λ (o : Option Seat). MatchOption o (world after new ≡ world server seats) (IsDelivered (world server seats) n now (world after new))) (sym there) (go (hears (Syncs m) there)))
+    subst (λ x. At x n (world after new) (DeliversAtSeat x n now (world after new))) is
+    (subst (λ (o : Option Seat). MatchOption o (world after new ≡ world server seats) (DeliversAtSeat (world server seats) n now (world after new))) (sym there) (go (hears (Syncs m) there)))
   where
-    go : (heard : Seat) × IsHeard (told_by (awaits m.stage) (api server.account now (ask m)).reply) heard (Syncs m) × (new ≡ set seats n heard) → Delivers (world server seats) n now m (world after new)
+    go : (heard : Seat) × HearsAtSeat (told_by (awaits m.stage) (api server.account now (ask m)).reply) heard (Syncs m) × (new ≡ set seats n heard) → Delivers (world server seats) n now m (world after new)
     go h = record { server = after; answers = a; next = h.1.0; follows = h.1.1; is = ap (world after) (h.2 ∙ ap (set seats n) h.1.2) }
 
 -- ---- the seats
@@ -86,19 +88,19 @@ starts w server seats new n fetch is none begins =
     subst (λ x. At x n (world server new) (Starts x n fetch (world server new))) is
     (subst (λ (o : Option Seat). MatchOption o (world server new ≡ world server seats) (Starts (world server seats) n fetch (world server new))) (sym s.1) (by s.0 s.2 (begins s.0 s.1)))
   where
-    by : (seat : Seat) → start_fault n seat ≡ None → new ≡ set seats n (started fetch seat) → Starts (world server seats) n fetch (world server new) seat
+    by : (seat : Seat) → start_fault n seat ≡ None → new ≡ set seats n (seat_after_start fetch seat) → Starts (world server seats) n fetch (world server new) seat
     by (Idle d) e q = ap (world server) q
     by (Syncs m) e q = absurd (none-some (fault.Busy n) (sym e))
 
 -- ---- a change
 
 module _ (w : WorldView) (server : Server) (seats new : List Seat) (n now : ℕ) (edit : Edit) (is : world server seats ≡ w) (seat : Seat) (at : slice_get seats n ≡ Some seat) (changes : Changes now edit seats n new) where
-  pub edits : At w n (world server new) (IsEdited w n now edit (world server new))
+  pub edits : At w n (world server new) (EditsAtSeat w n now edit (world server new))
   edits =
-      subst (λ x. At x n (world server new) (IsEdited x n now edit (world server new))) is
-      (subst (λ (o : Option Seat). MatchOption o (world server new ≡ world server seats) (IsEdited (world server seats) n now edit (world server new))) (sym at) (by seat (changes seat at)))
+      subst (λ x. At x n (world server new) (EditsAtSeat x n now edit (world server new))) is
+      (subst (λ (o : Option Seat). MatchOption o (world server new ≡ world server seats) (EditsAtSeat (world server seats) n now edit (world server new))) (sym at) (by seat (changes seat at)))
     where
-      by : (x : Seat) → (changed : Seat) × IsEditedSeat now edit changed x × (new ≡ set seats n changed) → IsEdited (world server seats) n now edit (world server new) x
+      by : (x : Seat) → (changed : Seat) × IsEditedSeat now edit changed x × (new ≡ set seats n changed) → EditsAtSeat (world server seats) n now edit (world server new) x
       by (Idle d) h =
           subst (λ o. MatchOption o (Edits (world server seats) n now edit d (world server new)) (λ f. world server new ≡ world server seats)) (sym h.1.taken)
           (record { device = h.1.device; changed = h.1.changed; valid = h.1.valid; is = ap (world server) (h.2 ∙ ap (set seats n) h.1.is) })
@@ -115,10 +117,10 @@ module _ (w : WorldView) (server : Server) (seats new : List Seat) (n now : ℕ)
 -- ---- others, the clock, a new start of the server
 
 pub asked : (w : WorldView) (server after : Server) (seats : List Seat) (now : ℕ) (request : Request) → world server seats ≡ w → touches request ≡ false → Answers server now request after
-    → MatchBool (touches request) (world after seats ≡ w) (Asked w now request (world after seats))
+    → MatchBool (touches request) (world after seats ≡ w) (AsksElsewhere w now request (world after seats))
 asked w server after seats now request is spared a =
-    subst (λ b. MatchBool b (world after seats ≡ w) (Asked w now request (world after seats))) (sym spared)
-    (subst (λ x. Asked x now request (world after seats)) is (record { server = after; answers = a; is = refl }))
+    subst (λ b. MatchBool b (world after seats ≡ w) (AsksElsewhere w now request (world after seats))) (sym spared)
+    (subst (λ x. AsksElsewhere x now request (world after seats)) is (record { server = after; answers = a; is = refl }))
 
 pub ticked : (w : WorldView) (server after : Server) (seats : List Seat) (now : ℕ) → world server seats ≡ w → Ticks server now after → ReadsClock w now (world after seats)
 ticked w server after seats now is t = subst (λ x. ReadsClock x now (world after seats)) is (record { server = after; ticks = t; is = refl })

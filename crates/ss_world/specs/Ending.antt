@@ -12,10 +12,10 @@ use Rattle.ss_client.specs.Runs.{rest_of}
 use Rattle.ss_client.specs.Machine.{Follows, Next, Send, Done, Stop}
 
 -- a reply of the awaited status
-abbrev pub IsAwaited : Answer → Type 0
-IsAwaited (Changed time) = ⊥
-IsAwaited (Refused status) = ⊥
-IsAwaited answer = ⊤
+abbrev pub IsAwaitedAnswer : Answer → Type 0
+IsAwaitedAnswer (Changed time) = ⊥
+IsAwaitedAnswer (Refused status) = ⊥
+IsAwaitedAnswer answer = ⊤
 
 -- the part of a run, counted down, and how much is left of it: the limits; a newer fetch; the ids; a whole fetch; a first POST;
 -- further ones
@@ -57,7 +57,7 @@ pub record GoesOnForEver (device : DeviceView) : Type 0 where
   pub run : ℕ → Run
   pub stage : ℕ → Stage
   pub answer : ℕ → Answer
-  pub awaited : (k : ℕ) → IsAwaited (answer k)
+  pub awaited : (k : ℕ) → IsAwaitedAnswer (answer k)
   pub follows : (k : ℕ) → Follows device (run k) (stage k) (answer k) (Send (run (k + 1)) (stage (k + 1)))
 
 -- a run goes on, is done, or stops since its plan is beyond the server's limits

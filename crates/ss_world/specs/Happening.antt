@@ -63,7 +63,7 @@ pub record Loses (w : WorldView) (n now : ℕ) (m : MachineView) (v : WorldView)
   pub is : v ≡ world_with_seat w server n (Idle m.device)
 
 -- somebody else asks
-pub record Asked (w : WorldView) (now : ℕ) (request : Request) (v : WorldView) : Type 0 where
+pub record AsksElsewhere (w : WorldView) (now : ℕ) (request : Request) (v : WorldView) : Type 0 where
   pub server : Server
   pub answers : Answers w.server now request server
   pub is : v ≡ record w { server = server }
@@ -84,9 +84,9 @@ abbrev pub Starts : WorldView → ℕ → Fetch → WorldView → Seat → Type 
 Starts w n fetch v (Idle d) = v ≡ world_with_seat w w.server n (Syncs (record { device = d; run = first_run (is_newer d fetch); stage = Asks }))
 Starts w n fetch v (Syncs m) = v ≡ w
 
-abbrev pub IsDelivered : WorldView → ℕ → ℕ → WorldView → Seat → Type 0
-IsDelivered w n now v (Idle d) = v ≡ w
-IsDelivered w n now v (Syncs m) = Delivers w n now m v
+abbrev pub DeliversAtSeat : WorldView → ℕ → ℕ → WorldView → Seat → Type 0
+DeliversAtSeat w n now v (Idle d) = v ≡ w
+DeliversAtSeat w n now v (Syncs m) = Delivers w n now m v
 
 abbrev pub IsGivenUp : WorldView → ℕ → WorldView → Seat → Type 0
 IsGivenUp w n v (Idle d) = v ≡ w
@@ -96,9 +96,9 @@ abbrev pub IsLost : WorldView → ℕ → ℕ → WorldView → Seat → Type 0
 IsLost w n now v (Idle d) = v ≡ w
 IsLost w n now v (Syncs m) = Loses w n now m v
 
-abbrev pub IsEdited : WorldView → ℕ → ℕ → Edit → WorldView → Seat → Type 0
-IsEdited w n now edit v (Idle d) = MatchOption (edit_fault d edit) (Edits w n now edit d v) (λ fault. v ≡ w)
-IsEdited w n now edit v (Syncs m) = v ≡ w
+abbrev pub EditsAtSeat : WorldView → ℕ → ℕ → Edit → WorldView → Seat → Type 0
+EditsAtSeat w n now edit v (Idle d) = MatchOption (edit_fault d edit) (Edits w n now edit d v) (λ fault. v ≡ w)
+EditsAtSeat w n now edit v (Syncs m) = v ≡ w
 
 -- where there is no device of a number, nothing happens
 abbrev pub At : WorldView → ℕ → WorldView → (Seat → Type 0) → Type 0
@@ -107,12 +107,12 @@ At w n v P = MatchOption (slice_get w.seats n) (v ≡ w) P
 -- what an event makes of a world
 abbrev pub Happens : WorldView → Event → WorldView → Type 0
 Happens w (Start n fetch) v = At w n v (Starts w n fetch v)
-Happens w (Deliver n now) v = At w n v (IsDelivered w n now v)
+Happens w (Deliver n now) v = At w n v (DeliversAtSeat w n now v)
 Happens w (LoseRequest n) v = At w n v (IsGivenUp w n v)
 Happens w (LoseReply n now) v = At w n v (IsLost w n now v)
 Happens w (Anew n) v = At w n v (IsGivenUp w n v)
-Happens w (Change n now edit) v = At w n v (IsEdited w n now edit v)
-Happens w (Other now request) v = MatchBool (touches request) (v ≡ w) (Asked w now request v)
+Happens w (Change n now edit) v = At w n v (EditsAtSeat w n now edit v)
+Happens w (Other now request) v = MatchBool (touches request) (v ≡ w) (AsksElsewhere w now request v)
 Happens w (Tick now) v = ReadsClock w now v
 Happens w Reopen v = OpensAnew w v
 

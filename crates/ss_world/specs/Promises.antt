@@ -9,7 +9,7 @@ use Rattle.ss_build.specs.Rows.{rows_of}
 use Rattle.ss_build.specs.Stand.{HasItsRows, StandFor}
 use Rattle.ss_bso.specs.Lists.{Each}
 use Rattle.ss_bso.specs.Validity.{IsValid, SameAccount}
-use Rattle.ss_bso.specs.Changes.{opened}
+use Rattle.ss_bso.specs.Changes.{account_at_opening}
 use Rattle.ss_plan.specs.Written.{sheet}
 use Rattle.ss_query.specs.Refused.{collection_time}
 use Rattle.ss_query.specs.Api.{api}
@@ -64,7 +64,7 @@ pub record StandsForOne (sheets : List Sheet) : Type 0 where
 -- ends; the collection's time isn't above the store's; and the devices are idle, the trusted ones faithful.
 pub record IsOpening (trusts : ℕ → Bool) (w : WorldView) : Type 0 where
   pub valid : IsValid w.server.account
-  pub opened : SameAccount (opened w.server.kept) w.server.account
+  pub opened : SameAccount (account_at_opening w.server.kept) w.server.account
   pub kept : IsGood w.server.kept
   pub lasts : Each Lasts w.server.account.rows
   pub below : collection_time w.server.account bookmarks ≤ w.server.account.store
@@ -72,20 +72,20 @@ pub record IsOpening (trusts : ℕ → Bool) (w : WorldView) : Type 0 where
   pub idle : (n : ℕ) (s : Seat) → slice_get w.seats n ≡ Some s → (d : DeviceView) × (s ≡ Idle d) × IsDevice d × (trusts n ≡ true → IsFaithful d w.server)
 
 -- a newer fetch is begun by trusted devices alone
-abbrev pub IsTrusted : (ℕ → Bool) → Event → Type 0
-IsTrusted trusts (Start n Newer) = trusts n ≡ true
-IsTrusted trusts _ = ⊤
+abbrev pub IsTrustedEvent : (ℕ → Bool) → Event → Type 0
+IsTrustedEvent trusts (Start n Newer) = trusts n ≡ true
+IsTrustedEvent trusts _ = ⊤
 
 -- each step of a run is such
-abbrev pub AreTrusted : (ℕ → Bool) → List Step → Type 0
-AreTrusted trusts [] = ⊤
-AreTrusted trusts (step ∷ steps) = IsTrusted trusts step.event × AreTrusted trusts steps
+abbrev pub AreTrustedSteps : (ℕ → Bool) → List Step → Type 0
+AreTrustedSteps trusts [] = ⊤
+AreTrustedSteps trusts (step ∷ steps) = IsTrustedEvent trusts step.event × AreTrustedSteps trusts steps
 
 -- ---- one tree
 
 -- The last POST of a device comes to the account, which writes it; the device hears it or not. The rows were all those that the
 -- device had fetched, and stand for the merged tree then.
-pub record IsUploaded (w : WorldView) (event : Event) (v : WorldView) : Type 0 where
+pub record IsLastUpload (w : WorldView) (event : Event) (v : WorldView) : Type 0 where
   pub device : ℕ
   pub now : ℕ
   pub machine : MachineView
@@ -102,7 +102,7 @@ pub record IsUploaded (w : WorldView) (event : Event) (v : WorldView) : Type 0 w
 
 -- one tree: the rows stay; or an upload takes them to the tree that merging its device with these rows gives
 abbrev pub OneTree : WorldView → Event → WorldView → Type 0
-OneTree w event v = (sheets_of v.server.account.rows ≡ sheets_of w.server.account.rows) ⊎ IsUploaded w event v
+OneTree w event v = (sheets_of v.server.account.rows ≡ sheets_of w.server.account.rows) ⊎ IsLastUpload w event v
 
 -- ---- a fetch
 
@@ -142,7 +142,7 @@ IsUnderstood _ = ⊤
 
 -- After a sync that is done the device is valid and faithful, and the rows stand for its tree: that of merging the device as it
 -- was with all rows.
-pub record IsDone (w : WorldView) (m : MachineView) (device : DeviceView) (v : WorldView) : Type 0 where
+pub record IsFinishedSync (w : WorldView) (m : MachineView) (device : DeviceView) (v : WorldView) : Type 0 where
   pub valid : IsDevice device
   pub fetched : List Sheet
   pub all : AreAll fetched (sheets_of w.server.account.rows)
@@ -152,5 +152,5 @@ pub record IsDone (w : WorldView) (m : MachineView) (device : DeviceView) (v : W
 
 abbrev pub EndsWell : WorldView → MachineView → Next → WorldView → Type 0
 EndsWell w m (Send run stage) v = ⊤
-EndsWell w m (Done device summary) v = IsDone w m device v
+EndsWell w m (Done device summary) v = IsFinishedSync w m device v
 EndsWell w m (Stop f) v = IsUnderstood f

@@ -14,7 +14,7 @@ use Rattle.ss_world.specs.declared.events.Event.{Event}
 use Rattle.ss_world.specs.declared.events.Event.TheVariants.{Deliver}
 use Rattle.ss_world.specs.Worlds.{Idle, Syncs, WorldView}
 use Rattle.ss_world.specs.Happening.{Delivers, Runs, Step, last}
-use Rattle.ss_world.specs.Promises.{AreAll, AreTrusted, EndsWell, IsFaithful, IsOpening, OneTree, StandsForOne}
+use Rattle.ss_world.specs.Promises.{AreAll, AreTrustedSteps, EndsWell, IsFaithful, IsOpening, OneTree, StandsForOne}
 use Rattle.ss_world.specs.Promises.{fetched_at, first_rows, rows}
 
 -- The premises on a world that was opened: no bookmark ends, the collection's time isn't above the store's, the bookmarks stand for
@@ -26,18 +26,18 @@ pub record IsOpenable (trusts : ℕ → Bool) (w : WorldView) : Type 0 where
   pub faithful : (n : ℕ) (d : DeviceView) → slice_get w.seats n ≡ Some (Idle d) → trusts n ≡ true → IsFaithful d w.server
 
 -- events led here from an opening, with newer fetches of trusted devices alone
-pub record IsReached (trusts : ℕ → Bool) (w : WorldView) : Type 0 where
+pub record IsReachedWorld (trusts : ℕ → Bool) (w : WorldView) : Type 0 where
   pub opening : WorldView
   pub steps : List Step
   pub opens : IsOpening trusts opening
   pub runs : Runs opening steps
-  pub trusted : AreTrusted trusts steps
+  pub trusted : AreTrustedSteps trusts steps
   pub here : last opening steps ≡ w
 
 -- What is promised of a step from a reached world: it leads to a reached one, whose bookmarks stand for one valid tree; and they
 -- are as before, or the event was a last POST that came to the account, and they stand for the merged tree.
-pub record Promised (trusts : ℕ → Bool) (old : WorldView) (event : Event) (new : WorldView) : Type 0 where
-  pub reached : IsReached trusts new
+pub record KeepsPromises (trusts : ℕ → Bool) (old : WorldView) (event : Event) (new : WorldView) : Type 0 where
+  pub reached : IsReachedWorld trusts new
   pub stands : StandsForOne (rows new)
   pub turns : OneTree old event new
 
@@ -48,7 +48,7 @@ IsWellDelivered old event new =
     (n now : ℕ) (m : MachineView) → event ≡ Deliver n now → slice_get old.seats n ≡ Some (Syncs m) → (e : Delivers old n now m new) → EndsWell old m e.next new
 
 -- the rows of a fetch that a delivery finishes are all that were there at its first page, and are there now
-abbrev pub IsWholeFetch : (trusts : ℕ → Bool) (old : WorldView) → IsReached trusts old → Event → WorldView → Type 0
+abbrev pub IsWholeFetch : (trusts : ℕ → Bool) (old : WorldView) → IsReachedWorld trusts old → Event → WorldView → Type 0
 IsWholeFetch trusts old r event new =
     (n now : ℕ) (m : MachineView) (fetched : List Sheet) → event ≡ Deliver n now → slice_get old.seats n ≡ Some (Syncs m)
     → fetched_at m (told_by (awaits m.stage) (api old.server.account now (ask m)).reply) m.stage ≡ Some fetched

@@ -19,6 +19,6 @@ after m (Done device summary) = Idle device
 after m (Stop fault) = Idle m.device
 
 -- a device that has no sync under way begins one
-abbrev pub started : Fetch → Seat → Seat
-started fetch (Idle device) = Syncs (record { device = device; run = first_run (is_newer device fetch); stage = Asks })
-started fetch (Syncs machine) = Syncs machine
+abbrev pub seat_after_start : Fetch → Seat → Seat
+seat_after_start fetch (Idle device) = Syncs (record { device = device; run = first_run (is_newer device fetch); stage = Asks })
+seat_after_start fetch (Syncs machine) = Syncs machine

@@ -21,7 +21,7 @@ use Rattle.ss_world.specs.declared.events.Event.TheVariants.{Start, Deliver, Los
 use Rattle.ss_world.specs.declared.events.Event.TheVariants.{Other, Tick, Reopen}
 use Rattle.ss_world.specs.declared.faults.WorldFault.{WorldFault}
 use Rattle.ss_world.specs.declared.faults.WorldFault.TheVariants as fault
-use Rattle.ss_world.specs.Seats.{after, device_of, started}
+use Rattle.ss_world.specs.Seats.{after, device_of, seat_after_start}
 use Rattle.ss_world.specs.Worlds.{Seat, Idle, Syncs, WorldView}
 use Rattle.ss_world.specs.Happening.{At, ChangesDevice, Loses, ReadsClock, edit_fault}
 
@@ -137,9 +137,9 @@ IsFitEvent Reopen = ⊤
 -- ---- a seat
 
 -- what a device is after its machine has heard an answer
-abbrev pub IsHeard : Answer → Seat → Seat → Type 0
-IsHeard answer new (Idle d) = new ≡ Idle d
-IsHeard answer new (Syncs m) = (next : Next) × Follows m.device m.run m.stage answer next × (new ≡ after m next)
+abbrev pub HearsAtSeat : Answer → Seat → Seat → Type 0
+HearsAtSeat answer new (Idle d) = new ≡ Idle d
+HearsAtSeat answer new (Syncs m) = (next : Next) × Follows m.device m.run m.stage answer next × (new ≡ after m next)
 
 -- an answer with which the run of a device might go on
 abbrev pub LeadsOn : Answer → Seat → Type 0
@@ -166,11 +166,11 @@ GivesUp seats n new = (seat : Seat) → slice_get seats n ≡ Some seat → new 
 
 -- a device begins a sync
 abbrev pub Begins : Fetch → List Seat → ℕ → List Seat → Type 0
-Begins fetch seats n new = (seat : Seat) → slice_get seats n ≡ Some seat → new ≡ set seats n (started fetch seat)
+Begins fetch seats n new = (seat : Seat) → slice_get seats n ≡ Some seat → new ≡ set seats n (seat_after_start fetch seat)
 
 -- a device hears an answer
 abbrev pub Hears : Answer → List Seat → ℕ → List Seat → Type 0
-Hears answer seats n new = (seat : Seat) → slice_get seats n ≡ Some seat → (heard : Seat) × IsHeard answer heard seat × (new ≡ set seats n heard)
+Hears answer seats n new = (seat : Seat) → slice_get seats n ≡ Some seat → (heard : Seat) × HearsAtSeat answer heard seat × (new ≡ set seats n heard)
 
 -- a device is edited
 abbrev pub Changes : ℕ → Edit → List Seat → ℕ → List Seat → Type 0

@@ -6,7 +6,7 @@ use Rattle.ss_client.specs.declared.runs.Stage.TheVariants.{Asks, Opens, Pages, 
 use Rattle.ss_client.specs.Runs.{MachineView, post_of, rest_of}
 use Rattle.ss_client.specs.Asking.{since}
 use Rattle.ss_keeper.specs.Memory.{Holding}
-use Rattle.ss_account.specs.Held.{Held}
+use Rattle.ss_account.specs.Held.{AccountWithKeeper}
 use Rattle.ss_serving.specs.Bookmarks.{Server}
 pub use Rattle.ss_world.specs.declared.seats.Seat.{Seat}
 pub use Rattle.ss_world.specs.declared.seats.Seat.TheVariants.{Idle, Syncs}
@@ -19,7 +19,7 @@ pub record WorldView : Type 0 where
   pub seats : List Seat
 
 -- an account over a keeper in memory
-abbrev pub server_of : Held Holding → Server
+abbrev pub server_of : AccountWithKeeper Holding → Server
 server_of held = record { account = held.plain; kept = held.keeper.kept }
 
 -- another server, and another seat of a device

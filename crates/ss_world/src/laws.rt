@@ -5,7 +5,7 @@ ghost use Rattle.ss_record.specs.declared.readings.Sheet.{Sheet};
 ghost use Rattle.ss_tree.specs.Trees.{PlacedItem, IsValidTree};
 ghost use Rattle.ss_build.specs.Rows.{rows_of};
 ghost use Rattle.ss_build.specs.Stand.{IsSameUntimed, StandFor};
-ghost use Rattle.ss_bso.specs.Changes.{fresh_kept, opened};
+ghost use Rattle.ss_bso.specs.Changes.{fresh_kept, account_at_opening};
 ghost use Rattle.ss_bso.specs.Validity.{SameAccount};
 ghost use Rattle.ss_query.specs.Api.{api};
 ghost use Rattle.ss_hearing.specs.declared.answer.Answer.{Answer};
@@ -19,12 +19,13 @@ ghost use Rattle.ss_serving.specs.Bookmarks.{Server, sheets_of};
 ghost use Rattle.ss_serving.specs.Asking.{told_by};
 ghost use Rattle.ss_world.specs.declared.events.Event.{Event};
 ghost use Rattle.ss_world.specs.declared.events.Event.TheVariants.{Deliver, LoseRequest, Anew, Reopen};
-ghost use Rattle.ss_world.specs.Ending.{GoesOnForEver, IsAwaited, IsDoneOrPlanned, ComesBelow, rank};
+ghost use Rattle.ss_world.specs.Ending.{GoesOnForEver, IsAwaitedAnswer, IsDoneOrPlanned, ComesBelow, rank};
 ghost use Rattle.ss_world.specs.Seats.{device_of};
 ghost use Rattle.ss_world.specs.Worlds.{Seat, Idle, Syncs, WorldView};
 ghost use Rattle.ss_world.specs.Happening.{Happens, Delivers, Step, Runs, last};
 ghost use Rattle.ss_world.specs.Reaching.{IsOpenable};
-ghost use Rattle.ss_world.specs.Promises.{AreAll, AreTrusted, EndsWell, IsFaithful, IsOpening, IsUploaded, OneTree};
+ghost use Rattle.ss_world.specs.Promises.{AreAll, AreTrustedSteps, EndsWell, IsFaithful, IsOpening, IsLastUpload};
+ghost use Rattle.ss_world.specs.Promises.{OneTree};
 ghost use Rattle.ss_world.specs.Promises.{StandsForOne, fetched_at, first_rows};
 
 /// One tree: after every run from an opening the bookmarks stand for a valid tree, and for no other one. Each event
@@ -32,16 +33,16 @@ ghost use Rattle.ss_world.specs.Promises.{StandsForOne, fetched_at, first_rows};
 /// whole.
 pub fn bookmarks_are_one_tree()
     ensures stands { (trusts : ℕ → Bool) (w : WorldView) (steps : List Step) → IsOpening trusts w → Runs w steps
-        → AreTrusted trusts steps
+        → AreTrustedSteps trusts steps
         → StandsForOne (sheets_of (last w steps).server.account.rows) }
     ensures only { (trusts : ℕ → Bool) (w : WorldView) (steps : List Step) → IsOpening trusts w → Runs w steps
-        → AreTrusted trusts steps
+        → AreTrustedSteps trusts steps
         → (t u : List PlacedItem) → IsValidTree t → IsValidTree u → StandFor t
         (rows_of (sheets_of (last w steps).server.account.rows))
         → StandFor u (rows_of (sheets_of (last w steps).server.account.rows)) → IsSameUntimed t u }
     ensures turns { (trusts : ℕ → Bool) (w : WorldView) (steps : List Step) (event : Event) (v : WorldView)
         → IsOpening trusts w → Runs w steps
-        → AreTrusted trusts steps → Happens (last w steps) event v → OneTree (last w steps) event v }
+        → AreTrustedSteps trusts steps → Happens (last w steps) event v → OneTree (last w steps) event v }
 {}
 
 /// A fetch: the rows of a finished fetch are all bookmarks that were there at its first page, and are there at its
@@ -49,7 +50,7 @@ pub fn bookmarks_are_one_tree()
 pub fn fetches_are_whole()
     ensures { (trusts : ℕ → Bool) (w : WorldView) (steps : List Step) (n now : ℕ) (m : MachineView) (v : WorldView)
         (rows : List Sheet) → IsOpening trusts w
-        → Runs w steps → AreTrusted trusts steps → slice_get (last w steps).seats n ≡ Some (Syncs m)
+        → Runs w steps → AreTrustedSteps trusts steps → slice_get (last w steps).seats n ≡ Some (Syncs m)
         → Happens (last w steps) (Deliver n now) v
         → fetched_at m (told_by (awaits m.stage) (api (last w steps).server.account now (ask m)).reply) m.stage
         ≡ Some rows
@@ -65,21 +66,21 @@ pub fn fetches_are_whole()
 pub fn replies_are_understood()
     ensures ends { (trusts : ℕ → Bool) (w : WorldView) (steps : List Step) (n now : ℕ) (m : MachineView) (v : WorldView)
         → IsOpening trusts w → Runs w steps
-        → AreTrusted trusts steps → slice_get (last w steps).seats n ≡ Some (Syncs m)
+        → AreTrustedSteps trusts steps → slice_get (last w steps).seats n ≡ Some (Syncs m)
         → (e : Delivers (last w steps) n now m v)
         → EndsWell (last w steps) m e.next v }
     ensures awaited { (trusts : ℕ → Bool) (w : WorldView) (steps : List Step) (n now : ℕ) (m : MachineView)
         (v : WorldView) → IsOpening trusts w → Runs w steps
-        → AreTrusted trusts steps → slice_get (last w steps).seats n ≡ Some (Syncs m)
+        → AreTrustedSteps trusts steps → slice_get (last w steps).seats n ≡ Some (Syncs m)
         → (e : Delivers (last w steps) n now m v)
-        → IsAwaited (told_by (awaits m.stage) (api (last w steps).server.account now (ask m)).reply)
+        → IsAwaitedAnswer (told_by (awaits m.stage) (api (last w steps).server.account now (ask m)).reply)
         → IsDoneOrPlanned e.next }
 {}
 
 /// A machine that gets the awaited status each time ends: each such answer ends its run, or leads nearer to its end;
 /// and so no run goes on for ever.
 pub fn machines_end()
-    ensures nears { (device : DeviceView) (run : Run) (stage : Stage) (answer : Answer) (next : Next) → IsAwaited answer
+    ensures nears { (device : DeviceView) (run : Run) (stage : Stage) (answer : Answer) (next : Next) → IsAwaitedAnswer answer
         → Follows device run stage answer next
         → ComesBelow (rank run.newer stage) next }
     ensures ends { (device : DeviceView) → GoesOnForEver device → ⊥ }
@@ -89,7 +90,7 @@ pub fn machines_end()
 /// rows of its mirror.
 pub fn devices_stay_faithful()
     ensures { (trusts : ℕ → Bool) (w : WorldView) (steps : List Step) (n : ℕ) (s : Seat) → IsOpening trusts w
-        → Runs w steps → AreTrusted trusts steps
+        → Runs w steps → AreTrustedSteps trusts steps
         → slice_get (last w steps).seats n ≡ Some s
         → IsDevice (device_of s) × (trusts n ≡ true → IsFaithful (device_of s) (last w steps).server) }
 {}
@@ -99,7 +100,7 @@ pub fn devices_stay_faithful()
 pub fn interruptions_leave_the_tree()
     ensures quiet { (trusts : ℕ → Bool) (w : WorldView) (steps : List Step) (event : Event) (v : WorldView)
         → IsOpening trusts w → Runs w steps
-        → AreTrusted trusts steps → Happens (last w steps) event v → (IsUploaded (last w steps) event v → ⊥)
+        → AreTrustedSteps trusts steps → Happens (last w steps) event v → (IsLastUpload (last w steps) event v → ⊥)
         → sheets_of v.server.account.rows ≡ sheets_of (last w steps).server.account.rows }
     ensures lost { (w v : WorldView) (n : ℕ) → Happens w (LoseRequest n) v → v.server ≡ w.server }
     ensures anew { (w v : WorldView) (n : ℕ) → Happens w (Anew n) v → v.server ≡ w.server }
@@ -110,6 +111,6 @@ pub fn interruptions_leave_the_tree()
 /// are trusted: nothing is there, which stands for the four empty roots. So every list of events keeps what is promised
 /// from there on.
 pub fn fresh_worlds_can_be_opened()
-    ensures { (trusts : ℕ → Bool) (w : WorldView) → SameAccount (opened fresh_kept) w.server.account
+    ensures { (trusts : ℕ → Bool) (w : WorldView) → SameAccount (account_at_opening fresh_kept) w.server.account
         → ((n : ℕ) (d : DeviceView) → slice_get w.seats n ≡ Some (Idle d) → d.stamp ≡ 0) → IsOpenable trusts w }
 {}

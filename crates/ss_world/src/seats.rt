@@ -5,8 +5,9 @@ ghost use Rattle.ss_client.specs.Sound.{TellsOurs};
 ghost use Rattle.ss_hearing.specs.Hearing.{status_of};
 ghost use Rattle.ss_serving.specs.Asking.{told_by};
 ghost use Rattle.ss_device.specs.Device.{IsDevice};
-ghost use Rattle.ss_world.specs.Seats.{device_of, started};
-ghost use Rattle.ss_world.specs.Stepping.{Begins, Changes, GivesUp, Hears, IsEditedSeat, IsHeard, LeadsOn, at_device};
+ghost use Rattle.ss_world.specs.Seats.{device_of, seat_after_start};
+ghost use Rattle.ss_world.specs.Stepping.{Begins, Changes, GivesUp, Hears, IsEditedSeat, HearsAtSeat, LeadsOn};
+ghost use Rattle.ss_world.specs.Stepping.{at_device};
 ghost use Rattle.ss_world.specs.Stepping.{change_fault, edit_refusal, request_fault, start_fault, tested_change};
 ghost use Rattle.ss_world.specs.Stepping.{tested_edit};
 ghost use Rattle.ss_world.specs.Happening.{ChangesDevice, edit_fault};
@@ -76,7 +77,7 @@ pub(crate) fn idle_at(seats: &mut Vec<Seat>, n: u32)
 
 /// A sync of a device that has none under way.
 fn started(seat: Seat, begin: (Global, Fetch)) -> (Seat, ())
-    ensures { result.0 ≡ started begin.1 seat }
+    ensures { result.0 ≡ seat_after_start begin.1 seat }
 {
     let (alloc, fetch) = begin;
     match seat {
@@ -116,7 +117,7 @@ pub(crate) fn start_at(
 /// the answer stops the run by itself.
 fn heard(seat: Seat, told: (Global, Answer)) -> (Seat, Result<(), AllocError>)
     requires { TellsOurs told.1 }
-    ensures heard { OnOk result.1 (IsHeard told.1 result.0 seat) }
+    ensures heard { OnOk result.1 (HearsAtSeat told.1 result.0 seat) }
     ensures lost { OnErr result.1 (result.0 ≡ Seat.Idle (device_of seat)) }
     ensures wanting { OnErr result.1 (LeadsOn told.1 seat) }
 {

@@ -1,7 +1,7 @@
 //! A world that events happen to.
 
 ghost use Rattle.std.specs.Prelude.{◌≡◌, ℕ, map, slice_get, Bool, option_map, IfOk, IfErr, OnOk, All};
-ghost use Rattle.ss_bso.specs.Changes.{opened};
+ghost use Rattle.ss_bso.specs.Changes.{account_at_opening};
 ghost use Rattle.ss_bso.specs.Validity.{IsValid, SameAccount};
 ghost use Rattle.ss_account.specs.Opening.{IsFaultOf, IsGood};
 ghost use Rattle.ss_account.specs.declared.faults.OpenFault.TheVariants.{Keeper as OpenKeeper};
@@ -10,9 +10,9 @@ ghost use Rattle.ss_device.specs.Device.{IsDevice};
 ghost use Rattle.ss_world.specs.Seats.{device_of};
 ghost use Rattle.ss_world.specs.Worlds.{server_of};
 ghost use Rattle.ss_world.specs.Happening.{Happens};
-ghost use Rattle.ss_world.specs.Promises.{IsTrusted};
+ghost use Rattle.ss_world.specs.Promises.{IsTrustedEvent};
 ghost use Rattle.ss_world.specs.Stepping.{Fails, IsFitEvent, fault_of};
-ghost use Rattle.ss_world.specs.Reaching.{IsOpenable, IsReached, IsWellDelivered, IsWholeFetch, Promised};
+ghost use Rattle.ss_world.specs.Reaching.{IsOpenable, IsReachedWorld, IsWellDelivered, IsWholeFetch, KeepsPromises};
 ghost use Rattle.ss_world.specs.declared.events.Event.TheVariants as event;
 ghost use Rattle.ss_world.specs.declared.faults.WorldFault.TheVariants as fault;
 
@@ -64,7 +64,7 @@ impl World {
     /// The account of what is kept, with these devices, none of which syncs. It isn't opened exactly where a
     /// collection, a row or a batch is bad, or where memory is wanting.
     pub fn new(alloc: Global, devices: Vec<Device>, kept: Kept) -> Result<World, OpenFault>
-        ensures opened { IfOk result (λ world. SameAccount (opened kept) world.server.account) }
+        ensures opened { IfOk result (λ world. SameAccount (account_at_opening kept) world.server.account) }
         ensures valid { IfOk result (λ world. IsValid world.server.account) }
         ensures kept { IfOk result (λ world. world.server.kept ≡ kept) }
         ensures good { OnOk result (IsGood kept) }
@@ -72,7 +72,7 @@ impl World {
         ensures bad { IfErr result (IsFaultOf kept) }
         ensures quiet { IfErr result (λ fault. fault ≡ OpenKeeper → ⊥) }
         ensures reached { IfOk result (λ world. (trusts : ℕ → Bool) → IsOpenable trusts world
-            → IsReached trusts world) }
+            → IsReachedWorld trusts world) }
     {
         let seats = seated(alloc, devices)?;
         let keeper = SureKeeper::new(kept);
@@ -218,11 +218,11 @@ impl World {
         ensures permitted { OnOk result (fault_of self.old happening.now ≡ None) }
         ensures refused { IfErr result (Fails self.old happening.now self.new) }
         ensures passed { IfErr result (λ e. (e ≡ fault.Memory → ⊥) → Happens self.old happening.now self.new) }
-        ensures promised { (trusts : ℕ → Bool) → IsReached trusts self.old → IsTrusted trusts happening.now
-            → Promised trusts self.old happening.now self.new }
-        ensures understood { OnOk result ((trusts : ℕ → Bool) → IsReached trusts self.old
+        ensures promised { (trusts : ℕ → Bool) → IsReachedWorld trusts self.old → IsTrustedEvent trusts happening.now
+            → KeepsPromises trusts self.old happening.now self.new }
+        ensures understood { OnOk result ((trusts : ℕ → Bool) → IsReachedWorld trusts self.old
             → IsWellDelivered self.old happening.now self.new) }
-        ensures fetched { OnOk result ((trusts : ℕ → Bool) (r : IsReached trusts self.old)
+        ensures fetched { OnOk result ((trusts : ℕ → Bool) (r : IsReachedWorld trusts self.old)
             → IsWholeFetch trusts self.old r happening.now self.new) }
     {
         self.happen(alloc, happening)

@@ -9,7 +9,7 @@ use Rattle.std.proofs.lemmas.List.{take_more, append-nil, length-append}
 use Rattle.indexmap.specs.IndexMap.{insert_entry}
 use Rattle.ss_bso.specs.declared.rows.Row.{Row}
 use Rattle.ss_bso.specs.declared.parts.Part.{Part}
-use Rattle.ss_bso.specs.Put.{put}
+use Rattle.ss_bso.specs.Put.{row_after_put}
 use Rattle.ss_bso.specs.Write.{ids_of, is_among, parts_of, put_all}
 use Rattle.ss_writes.specs.Parts.{OtherText, or_else, with_id, with_part_id, with_row}
 use Rattle.ss_bso.proofs.Lists.{Each-imp, Pairs-append}
@@ -110,7 +110,7 @@ module _ (collection : List ℕ) (old : List ℕ → Option Row) (time : ℕ) wh
       joins false = refl
 
   -- one part more, for its own id and for the others
-  more-here : (parts : List Part) (part : Part) → made_of (parts ++ part ∷ []) part.id ≡ Some (put (made_of parts part.id) collection part time)
+  more-here : (parts : List Part) (part : Part) → made_of (parts ++ part ∷ []) part.id ≡ Some (row_after_put (made_of parts part.id) collection part time)
   more-here parts part =
       ap (λ ps. put_all collection ps time (old part.id)) (parts_of-append part.id parts (part ∷ []) ∙ ap (λ b. parts_of part.id parts ++ cond b (part ∷ []) []) (bytes_eq-same part.id part.id refl))
       ∙ put_all-append collection (parts_of part.id parts) (part ∷ []) time (old part.id)
@@ -126,19 +126,19 @@ module _ (collection : List ℕ) (old : List ℕ → Option Row) (time : ℕ) wh
 
   rows-insert : (parts : List Part) (part : Part) (made : List (List ℕ × Row)) (row : Row) → Pairs (λ (one other : List ℕ). bytes_eq one other ≡ false) (keys_of made)
       → Each (λ (entry : List ℕ × Row). made_of parts entry.0 ≡ Some entry.1) made
-      → ((found : Row) → lookup (bytes_eq part.id) made ≡ Some found → row ≡ put (Some found) collection part time)
-      → (lookup (bytes_eq part.id) made ≡ None → row ≡ put (made_of parts part.id) collection part time)
+      → ((found : Row) → lookup (bytes_eq part.id) made ≡ Some found → row ≡ row_after_put (Some found) collection part time)
+      → (lookup (bytes_eq part.id) made ≡ None → row ≡ row_after_put (made_of parts part.id) collection part time)
       → Each (λ (entry : List ℕ × Row). made_of (parts ++ part ∷ []) entry.0 ≡ Some entry.1) (insert_entry bytes_eq made part.id row)
   rows-insert parts part [] row distinct rows there new = (more-here parts part ∙ sym (ap Some (new refl)), tt)
   rows-insert parts part (entry ∷ made) row distinct rows there new =
       elim (bytes_eq part.id entry.0) as (λ v. bytes_eq part.id entry.0 ≡ v
-      → ((found : Row) → cond v (Some entry.1) (lookup (bytes_eq part.id) made) ≡ Some found → row ≡ put (Some found) collection part time)
-      → (cond v (Some entry.1) (lookup (bytes_eq part.id) made) ≡ None → row ≡ put (made_of parts part.id) collection part time)
+      → ((found : Row) → cond v (Some entry.1) (lookup (bytes_eq part.id) made) ≡ Some found → row ≡ row_after_put (Some found) collection part time)
+      → (cond v (Some entry.1) (lookup (bytes_eq part.id) made) ≡ None → row ≡ row_after_put (made_of parts part.id) collection part time)
       → Each (λ (one : List ℕ × Row). made_of (parts ++ part ∷ []) one.0 ≡ Some one.1) (cond v ((entry.0, row) ∷ made) (entry ∷ insert_entry bytes_eq made part.id row))) [
         | true ↦ (λ e is none.
             let same : part.id ≡ entry.0 = same_text part.id entry.0 e in (
               sym (ap (made_of (parts ++ part ∷ [])) same) ∙ more-here parts part
-                  ∙ ap (λ o. Some (put o collection part time)) (ap (made_of parts) same ∙ rows.0)
+                  ∙ ap (λ o. Some (row_after_put o collection part time)) (ap (made_of parts) same ∙ rows.0)
                   ∙ sym (ap Some (is entry.1 refl)),
               others-more parts part made (apart-keys made (subst (λ id. Each (λ (other : List ℕ). bytes_eq id other ≡ false) (keys_of made)) (sym same) distinct.0)) rows.1,
             ))
@@ -171,14 +171,14 @@ module _ (collection : List ℕ) (old : List ℕ → Option Row) (time : ℕ) wh
   -- one part more
   made-step : (parts : List Part) (part : Part) (made : List (List ℕ × Row)) → AreMade parts made → AreMade (parts ++ part ∷ []) (with_row collection old time made part)
   made-step parts part made are =
-      let row : Row = put (or_else (lookup (bytes_eq part.id) made) (old part.id)) collection part time in
+      let row : Row = row_after_put (or_else (lookup (bytes_eq part.id) made) (old part.id)) collection part time in
       record {
         ids = keys-insert made part.id row ∙ ap (λ ids. with_id ids part.id) are.ids ∙ sym (ids-more parts part (ids_of parts) (is_among (ids_of parts) part.id) refl refl);
         rows = rows-insert parts part made row (subst (Pairs (λ (one other : List ℕ). bytes_eq one other ≡ false)) (sym are.ids) (distinct-ids parts)) are.rows
-            (λ found e. ap (λ o. put (or_else o (old part.id)) collection part time) e)
+            (λ found e. ap (λ o. row_after_put (or_else o (old part.id)) collection part time) e)
             (λ e.
-            ap (λ o. put (or_else o (old part.id)) collection part time) e
-            ∙ ap (λ o. put o collection part time)
+            ap (λ o. row_after_put (or_else o (old part.id)) collection part time) e
+            ∙ ap (λ o. row_after_put o collection part time)
             (sym (ap (λ ps. put_all collection ps time (old part.id)) (no-parts parts part.id (ap (λ ids. is_among ids part.id) (sym are.ids) ∙ not-among part.id made e)))));
       }
 

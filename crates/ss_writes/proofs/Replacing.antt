@@ -6,7 +6,7 @@ use Rattle.std.proofs.Common.{sym, ap, subst, ◌∙◌, arith}
 use Rattle.std.proofs.lemmas.List.{length-append}
 use Rattle.std.proofs.lemmas.List.Elements.{filter_agree}
 use Rattle.std.proofs.lemmas.List.Sums.{sum_by-append}
-use Rattle.ss_text.specs.Texts.{Reordered, chain, head, swapped}
+use Rattle.ss_text.specs.Texts.{IsReordering, chain, head, swapped}
 use Rattle.ss_bso.specs.declared.rows.Row.{Row}
 use Rattle.ss_bso.specs.Account.{is_at, row_at}
 use Rattle.ss_bso.specs.Limits.{row_bytes}
@@ -24,15 +24,15 @@ use Rattle.std.proofs.lemmas.Bool.{and_from, not-false}
 use Rattle.ss_index.proofs.Picks.{Each-find_none}
 
 -- the one element that passes, before those that don't
-pub pulled : {X : Type 0} (p : X → Bool) (xs : List X) (x : X) → find p xs ≡ Some x → Pairs (NotBoth p) xs → Reordered xs (x ∷ filter (λ y. not (p y)) xs)
+pub pulled : {X : Type 0} (p : X → Bool) (xs : List X) (x : X) → find p xs ≡ Some x → Pairs (NotBoth p) xs → IsReordering xs (x ∷ filter (λ y. not (p y)) xs)
 pulled p [] x e n = cc
 pulled {X} p (y ∷ xs) x e n =
-    elim (p y) as (λ v. p y ≡ v → cond v (Some y) (find p xs) ≡ Some x → Reordered (y ∷ xs) (x ∷ cond (not v) (y ∷ filter (λ z. not (p z)) xs) (filter (λ z. not (p z)) xs))) [
+    elim (p y) as (λ v. p y ≡ v → cond v (Some y) (find p xs) ≡ Some x → IsReordering (y ∷ xs) (x ∷ cond (not v) (y ∷ filter (λ z. not (p z)) xs) (filter (λ z. not (p z)) xs))) [
       | true ↦ (λ t is.
           let same : y ≡ x = cc in
           let others : Each (λ (z : X). p z ≡ false) xs = Each-imp (NotBoth p y) (λ (z : X). p z ≡ false) (λ z h. ap (λ v. v && p z) (sym t) ∙ h) xs n.0 in
-          subst (λ (first : X). Reordered (y ∷ xs) (first ∷ filter (λ z. not (p z)) xs)) same
-          (subst (λ (rest : List X). Reordered (y ∷ xs) (y ∷ rest)) (sym (filter-all p xs others)) (head y (reordered-refl xs))))
+          subst (λ (first : X). IsReordering (y ∷ xs) (first ∷ filter (λ z. not (p z)) xs)) same
+          (subst (λ (rest : List X). IsReordering (y ∷ xs) (y ∷ rest)) (sym (filter-all p xs others)) (head y (reordered-refl xs))))
       | false ↦ (λ t is. chain (head y (pulled p xs x is n.1)) (swapped y x (filter (λ z. not (p z)) xs)))
     ] refl e
 
@@ -79,20 +79,20 @@ one-there collection id rows apart =
     let clash : true ≡ false = sym yes ∙ no in cc) rows apart
 
 pub replaced : (collection : List ℕ) (ids : List (List ℕ)) (rows : List Row) → Pairs Apart rows → Pairs OtherText ids
-    → Reordered rows (filter_map (λ id. row_at collection id rows) ids ++ rows_without collection ids rows)
-replaced collection [] rows apart differ = subst (λ (left : List Row). Reordered rows left) (sym (all_left rows)) (reordered-refl rows)
+    → IsReordering rows (filter_map (λ id. row_at collection id rows) ids ++ rows_without collection ids rows)
+replaced collection [] rows apart differ = subst (λ (left : List Row). IsReordering rows left) (sym (all_left rows)) (reordered-refl rows)
   where
     all_left : (rs : List Row) → rows_without collection [] rs ≡ rs
     all_left rs = filter_agree (λ (row : Row). not (bytes_eq row.collection collection && false)) (λ row. true) (λ row. ap not (and_false (bytes_eq row.collection collection))) rs ∙ filter-true rs
 replaced collection (id ∷ ids) rows apart differ =
     let rest : List Row = others_than collection id rows in
     let named : List Row = filter_map (λ other. row_at collection other rows) ids in
-    let later : Reordered rest (named ++ rows_without collection (id ∷ ids) rows) =
-    subst (λ (left : List Row). Reordered rest (named ++ left)) (sym (left-more collection id ids rows))
-    (subst (λ (found : List Row). Reordered rest (found ++ rows_without collection ids rest)) (found-all collection id ids rows differ.0)
+    let later : IsReordering rest (named ++ rows_without collection (id ∷ ids) rows) =
+    subst (λ (left : List Row). IsReordering rest (named ++ left)) (sym (left-more collection id ids rows))
+    (subst (λ (found : List Row). IsReordering rest (found ++ rows_without collection ids rest)) (found-all collection id ids rows differ.0)
     (replaced collection ids rest (Pairs-filter Apart (λ row. not (is_at collection id row)) rows apart) differ.1)) in
-    elim (row_at collection id rows) as (λ o. row_at collection id rows ≡ o → Reordered rows (cons_option o named ++ rows_without collection (id ∷ ids) rows)) [
-      | None ↦ (λ e. subst (λ (all : List Row). Reordered all (named ++ rows_without collection (id ∷ ids) rows)) (filter-all (is_at collection id) rows (Each-find_none (is_at collection id) rows e)) later)
+    elim (row_at collection id rows) as (λ o. row_at collection id rows ≡ o → IsReordering rows (cons_option o named ++ rows_without collection (id ∷ ids) rows)) [
+      | None ↦ (λ e. subst (λ (all : List Row). IsReordering all (named ++ rows_without collection (id ∷ ids) rows)) (filter-all (is_at collection id) rows (Each-find_none (is_at collection id) rows e)) later)
       | Some row ↦ (λ e. chain (pulled (is_at collection id) rows row e (one-there collection id rows apart)) (head row later))
     ] refl
 

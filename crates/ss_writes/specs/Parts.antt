@@ -6,7 +6,7 @@ use Rattle.indexmap.specs.IndexMap.{insert_entry}
 use Rattle.ss_bso.specs.declared.rows.Row.{Row}
 use Rattle.ss_bso.specs.declared.parts.Part.{Part}
 use Rattle.ss_bso.specs.Limits.{row_bytes}
-use Rattle.ss_bso.specs.Put.{put}
+use Rattle.ss_bso.specs.Put.{row_after_put}
 use Rattle.ss_bso.specs.Write.{is_among}
 use Rattle.ss_batch.specs.Stage.{most_counted}
 use Rattle.ss_writes.specs.declared.sizes.Size.{Size}
@@ -35,4 +35,4 @@ or_else (Some x) other = Some x
 -- the rows that were made, each under its id, after one more part: it is put over the row of its id, or else over the old one
 abbrev pub with_row : List ℕ → (List ℕ → Option Row) → ℕ → List (List ℕ × Row) → Part → List (List ℕ × Row)
 with_row collection old time made part =
-    insert_entry bytes_eq made part.id (put (or_else (lookup (bytes_eq part.id) made) (old part.id)) collection part time)
+    insert_entry bytes_eq made part.id (row_after_put (or_else (lookup (bytes_eq part.id) made) (old part.id)) collection part time)

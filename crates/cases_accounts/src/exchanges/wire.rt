@@ -2,7 +2,7 @@
 
 ghost use Rattle.std.specs.Prelude.{IfOk};
 ghost use Rattle.ss_query.specs.Fit.{IsFitRequest};
-ghost use Rattle.ss_route.specs.Sending.{IsSent};
+ghost use Rattle.ss_route.specs.Sending.{IsSentRequest};
 
 use anyhow::bail;
 use ss_http::{Buffer, Heard, read_message, read_response};
@@ -59,7 +59,7 @@ pub fn response_line(alloc: Global, response: &[u8], is_quiet: bool) -> anyhow::
 
 /// A client's question for the limits of the server.
 fn limits() -> Request
-    ensures sent { IsSent result }
+    ensures sent { IsSentRequest result }
     ensures fit { IsFitRequest result }
 {
     Request::Info {
@@ -70,7 +70,7 @@ fn limits() -> Request
 
 /// A client's question for a later page of the bookmarks.
 fn later_page(alloc: Global) -> Result<Request, AllocError>
-    ensures sent { IfOk result (λ request. IsSent request) }
+    ensures sent { IfOk result (λ request. IsSentRequest request) }
     ensures fit { IfOk result (λ request. IsFitRequest request) }
 {
     let Some(collection) = Name::new(alloc, "bookmarks".as_bytes())? else {

@@ -2,7 +2,7 @@
 
 ghost use Rattle.std.specs.Prelude.{◌≡◌, All, IfOk};
 ghost use Rattle.ss_booked.specs.Booked.{journal_of};
-ghost use Rattle.ss_links.specs.Links.{IsUnused, link_tells};
+ghost use Rattle.ss_links.specs.Links.{IsUnusedLink, link_tells};
 ghost use Rattle.ss_town.specs.Opening.{AreBare};
 
 use crate::accounts::{add, booked};
@@ -36,7 +36,7 @@ type Ended = TermEnd<MemLink, CountClock, SureKeeper>;
 
 /// A link from which drawn messages come in drawn pieces.
 fn link(alloc: Global, number: u32) -> anyhow::Result<MemLink>
-    ensures { IfOk result (λ link. IsUnused (link_tells link)) }
+    ensures { IfOk result (λ link. IsUnusedLink (link_tells link)) }
 {
     let mut draw = Draw::new(u64::from(number));
     let mut text = String::new(alloc);
@@ -48,7 +48,7 @@ fn link(alloc: Global, number: u32) -> anyhow::Result<MemLink>
 }
 
 fn links(alloc: Global) -> anyhow::Result<Vec<MemLink>>
-    ensures { IfOk result (λ links. All (λ link. IsUnused (link_tells link)) links.items) }
+    ensures { IfOk result (λ links. All (λ link. IsUnusedLink (link_tells link)) links.items) }
 {
     let mut links = Vec::new(alloc);
     for number in 0..LINKS {

@@ -2,7 +2,7 @@
 
 ghost use Rattle.std.specs.Prelude.{◌≡◌, IfOk};
 ghost use Rattle.ss_booked.specs.Booked.{journal_of};
-ghost use Rattle.ss_links.specs.Links.{IsUnused, link_tells};
+ghost use Rattle.ss_links.specs.Links.{IsUnusedLink, link_tells};
 ghost use Rattle.ss_town.specs.Opening.{AreBare};
 
 use crate::accounts::{add, booked};
@@ -71,7 +71,7 @@ impl<'a> Keeper for Guest<'a> {
 
 /// A link from which a PUT to an account comes.
 fn link(alloc: Global, uid: u32) -> Result<MemLink, AllocError>
-    ensures { IfOk result (λ link. IsUnused (link_tells link)) }
+    ensures { IfOk result (λ link. IsUnusedLink (link_tells link)) }
 {
     let text = format!(in alloc;
         "PUT /1.5/{uid}/storage/forms/a HTTP/1.1\r\nContent-Length: 15\r\n\r\n{{\"payload\":\"s\"}}"

@@ -1,7 +1,7 @@
 //! The cases: each is a term over a fresh account, or two, one after the other.
 
 ghost use Rattle.std.specs.Prelude.{All};
-ghost use Rattle.ss_links.specs.Links.{IsUnused, link_tells};
+ghost use Rattle.ss_links.specs.Links.{IsUnusedLink, link_tells};
 
 use crate::hostile::account::{Setting, accounts, again};
 use crate::hostile::links::{bytes, fronts, link, pieces, sound};
@@ -51,7 +51,7 @@ fn show<R: Threads + Wait + Sync>(
     links: Vec<MemLink>,
     setting: Setting,
 ) -> anyhow::Result<String>
-    requires unused { All (λ link. IsUnused (link_tells link)) links.items }
+    requires unused { All (λ link. IsUnusedLink (link_tells link)) links.items }
 {
     ended_line(
         alloc,
@@ -166,7 +166,7 @@ fn next<R: Threads + Wait + Sync>(
     links: Vec<MemLink>,
     ended: Ended,
 ) -> anyhow::Result<Ended>
-    requires unused { All (λ link. IsUnused (link_tells link)) links.items }
+    requires unused { All (λ link. IsUnusedLink (link_tells link)) links.items }
 {
     let TermEnd {
         accounts,

@@ -1,7 +1,7 @@
 //! Links from which texts come.
 
 ghost use Rattle.std.specs.Prelude.{All, IfOk};
-ghost use Rattle.ss_links.specs.Links.{IsUnused, link_tells};
+ghost use Rattle.ss_links.specs.Links.{IsUnusedLink, link_tells};
 
 use ss_links::MemLink;
 use std::alloc::{AllocError, Global};
@@ -30,21 +30,21 @@ pub fn bytes(alloc: Global, text: &str) -> Result<Vec<Vec<u8>>, AllocError> {
 /// A link from which these pieces come. The call with this number fails, reads and writes counted together from 1; 0 is
 /// none.
 pub fn link(alloc: Global, pieces: Vec<Vec<u8>>, failing: u64) -> Result<MemLink, AllocError>
-    ensures { IfOk result (λ link. IsUnused (link_tells link)) }
+    ensures { IfOk result (λ link. IsUnusedLink (link_tells link)) }
 {
     MemLink::new(alloc, pieces, ROOM, vec![in alloc; failing]?)
 }
 
 /// A link that never fails, from which these texts come.
 pub fn sound(alloc: Global, texts: &[&str]) -> Result<MemLink, AllocError>
-    ensures { IfOk result (λ link. IsUnused (link_tells link)) }
+    ensures { IfOk result (λ link. IsUnusedLink (link_tells link)) }
 {
     link(alloc, pieces(alloc, texts)?, 0)
 }
 
 /// A link from each front of a text, from its first byte alone to all bytes but the last.
 pub fn fronts(alloc: Global, text: &str) -> Result<Vec<MemLink>, AllocError>
-    ensures { IfOk result (λ links. All (λ link. IsUnused (link_tells link)) links.items) }
+    ensures { IfOk result (λ links. All (λ link. IsUnusedLink (link_tells link)) links.items) }
 {
     let bytes = text.as_bytes();
     let mut links = Vec::new(alloc);

@@ -2,7 +2,7 @@
 
 ghost use Rattle.std.specs.Prelude.{All};
 ghost use Rattle.ss_booked.specs.Booked.{journal_of};
-ghost use Rattle.ss_links.specs.Links.{IsUnused, link_tells};
+ghost use Rattle.ss_links.specs.Links.{IsUnusedLink, link_tells};
 ghost use Rattle.ss_town.specs.Opening.{AreBare};
 
 use ss_booked::Booked;
@@ -27,7 +27,7 @@ pub fn serve<R: Threads + Wait + Sync>(
     links: Vec<MemLink>,
     accounts: Vec<(u32, Booked<MemKeeper>)>,
 ) -> Result<Ended, AllocError>
-    requires unused { All (λ link. IsUnused (link_tells link)) links.items }
+    requires unused { All (λ link. IsUnusedLink (link_tells link)) links.items }
     requires bare { AreBare (λ b. (journal_of b).entries) accounts.items }
 {
     let clocks = vec![in alloc; CountClock::new(1000)]?;

@@ -1,7 +1,7 @@
 //! Terms of two workers over the accounts 7 and 8, at readings of 10.00.
 
 ghost use Rattle.std.specs.Prelude.{◌≡◌, All, IfOk, vec_len};
-ghost use Rattle.ss_links.specs.Links.{IsUnused, link_tells};
+ghost use Rattle.ss_links.specs.Links.{IsUnusedLink, link_tells};
 
 use crate::terms::accounts::accounts;
 use crate::terms::case::{Case, Planned};
@@ -22,7 +22,7 @@ pub type Ended = TermEnd<MemLink, MemClock, MemKeeper>;
 
 /// A link as it is planned.
 fn link(alloc: Global, planned: Planned) -> Result<MemLink, AllocError>
-    ensures { IfOk result (λ link. IsUnused (link_tells link)) }
+    ensures { IfOk result (λ link. IsUnusedLink (link_tells link)) }
 {
     let Planned { pieces, failing } = planned;
     MemLink::new(alloc, pieces, ROOM, vec![in alloc; failing]?)
@@ -30,7 +30,7 @@ fn link(alloc: Global, planned: Planned) -> Result<MemLink, AllocError>
 
 /// Links as they are planned.
 fn links(alloc: Global, planned: Vec<Planned>) -> Result<Vec<MemLink>, AllocError>
-    ensures { IfOk result (λ links. All (λ link. IsUnused (link_tells link)) links.items) }
+    ensures { IfOk result (λ links. All (λ link. IsUnusedLink (link_tells link)) links.items) }
 {
     let mut links = Vec::new(alloc);
     for planned in planned {

@@ -1,10 +1,10 @@
 use Rattle.std.proofs.Common.{◌≡◌, ◌+◌, ◌++◌, ◌∷◌, [], Bool, List, sym, subst}
-use Rattle.ss_http.specs.Buffers.{Kept}
+use Rattle.ss_http.specs.Buffers.{KeptBytes}
 use Rattle.ss_connection.specs.Known.{known_by}
 use Rattle.ss_connection.specs.Sending.{bytes_of}
-use Rattle.ss_connection.specs.Turns.{AreGated, SaysTurn}
+use Rattle.ss_connection.specs.Turns.{AreGatedTurns, SaysTurn}
 use Rattle.ss_connection.specs.Calls.{turns_added, Enters}
-use Rattle.ss_connection.specs.Ends.{Served}
+use Rattle.ss_connection.specs.Ends.{IsServedConnection}
 use Rattle.ss_connection.specs.Progress.{Progress}
 use Rattle.ss_connection.specs.declared.notes.End.TheVariants.{WriteFault, Asked, Gate, Memory}
 use Rattle.ss_connection.specs.declared.notes.TurnNote.{TurnNote}
@@ -20,7 +20,7 @@ returns-in_default-clause-served g c = unserved c.args.manner c.args.town.now.ui
 pub messages-init : goal.messages-init
 messages-init g c =
     let manner = c.args.manner in let uids = c.args.town.now.uids.items in let ps = c.args.passes.now.passes.items in let link = g.L.Told.told c.args.link.now in let coming = g.C.Clock.coming c.args.clock.now in
-    let K : Kept → Type 0 = λ kept. Progress manner uids (known_by ps) link link coming coming kept c.args.turns.now.items c.args.turns.now.items 0 in
+    let K : KeptBytes → Type 0 = λ kept. Progress manner uids (known_by ps) link link coming coming kept c.args.turns.now.items c.args.turns.now.items 0 in
     record {
       of = c.requires.of;
       more = see_itself ps;
@@ -38,7 +38,7 @@ returns-in-Err-clause-served g c =
     let takes = rw p.going_on at c.in-Err.ensures.takes in
     let ended = rw p.going_on at c.in-Err.ensures.ended in
     let cause = rw p.going_on at c.in-Err.ensures.cause in
-    subst (λ ts. Served manner uids (known_by qs) c.stop.result link link3 coming coming2 (turns_added c.args.turns.now.items ts)) (sym {A = List TurnNote} c.reserve.ensures.items)
+    subst (λ ts. IsServedConnection manner uids (known_by qs) c.stop.result link link3 coming coming2 (turns_added c.args.turns.now.items ts)) (sym {A = List TurnNote} c.reserve.ensures.items)
     (stopped manner uids (known_by qs) link link' link2 link3 coming coming' coming2 c.messages.buffer c.args.turns.now.items c.messages.turns.items c.messages.count c.in-Err.fault c.stop.result p
     (record { few = c.messages-test.true; got = takes.0; read = takes.1; is = takes.2.2; ended = ended; rises = cause }) c.stop.ensures)
 
@@ -68,7 +68,7 @@ returns-in-Err-write-clause-served g c =
       reading = c.now-now.ensures;
       says = subst S c.closes-last.ensures c.answer-turn.ensures.says;
     } in
-    subst (λ ts. Served manner uids (known_by rs) WriteFault link link3 coming coming2 (turns_added c.args.turns.now.items ts)) (sym {A = List TurnNote} turns) (ended_cut manner uids (known_by qs) (known_by rs) (knows_more qs rs c.answer-turn.ensures.more) link link' link2 link3 coming coming' coming2 c.messages.buffer c.read_message.new.buffer c.args.turns.now.items c.messages.turns.items c.messages.count m note (bytes_of c.answer-turn.result.1) p a c.in-Err-write.ensures.cut)
+    subst (λ ts. IsServedConnection manner uids (known_by rs) WriteFault link link3 coming coming2 (turns_added c.args.turns.now.items ts)) (sym {A = List TurnNote} turns) (ended_cut manner uids (known_by qs) (known_by rs) (knows_more qs rs c.answer-turn.ensures.more) link link' link2 link3 coming coming' coming2 c.messages.buffer c.read_message.new.buffer c.args.turns.now.items c.messages.turns.items c.messages.count m note (bytes_of c.answer-turn.result.1) p a c.in-Err-write.ensures.cut)
 
 pub returns-in-Err-write-clause-enters : goal.returns-in-Err-write-clause-enters
 returns-in-Err-write-clause-enters g c =
@@ -84,7 +84,7 @@ returns-in-Err-write-clause-gated g c =
     let i = c.messages.invariant in let manner = c.args.manner in let uids = c.args.town.now.uids.items in let qs = c.messages.passes.passes.items in
     let note : TurnNote = record { now = c.now-now.result; closed_by_gate = c.pass-closed_by_gate.result; turn = c.answer-turn.result.0 } in
     let turns : c.push_reserved.new.self.items ≡ c.messages.turns.items ++ note ∷ [] = pushed_on c.push_reserved.new.self.items c.reserve.new.self.items c.messages.turns.items note c.push_reserved.ensures.items c.reserve.ensures.items in
-    subst (λ ts. AreGated (g.G.Gate.says c.args.gate.now c.args.worker) (turns_added c.args.turns.now.items ts)) (sym {A = List TurnNote} turns)
+    subst (λ ts. AreGatedTurns (g.G.Gate.says c.args.gate.now c.args.worker) (turns_added c.args.turns.now.items ts)) (sym {A = List TurnNote} turns)
     (gated_more manner uids (known_by qs) (g.L.Told.told c.args.link.now) (g.L.Told.told c.messages.link) (g.C.Clock.coming c.args.clock.now) (g.C.Clock.coming c.messages.clock) c.messages.buffer c.args.turns.now.items c.messages.turns.items c.messages.count i.progress
     (g.G.Gate.says c.args.gate.now c.args.worker) note i.gated c.pass-closed_by_gate.ensures.says)
 
@@ -114,7 +114,7 @@ returns-then-message-clause-served g c =
       reading = c.now-now.ensures;
       says = subst S c.closes-last.ensures c.answer-turn.ensures.says;
     } in
-    subst (λ ts. Served manner uids (known_by rs) Asked link link3 coming coming2 (turns_added c.args.turns.now.items ts)) (sym {A = List TurnNote} turns) (ended_asked manner uids (known_by qs) (known_by rs) (knows_more qs rs c.answer-turn.ensures.more) link link' link2 link3 coming coming' coming2 c.messages.buffer c.read_message.new.buffer c.args.turns.now.items c.messages.turns.items c.messages.count m note (bytes_of c.answer-turn.result.1) p a c.in-Ok-write.ensures.sent c.if-message.true)
+    subst (λ ts. IsServedConnection manner uids (known_by rs) Asked link link3 coming coming2 (turns_added c.args.turns.now.items ts)) (sym {A = List TurnNote} turns) (ended_asked manner uids (known_by qs) (known_by rs) (knows_more qs rs c.answer-turn.ensures.more) link link' link2 link3 coming coming' coming2 c.messages.buffer c.read_message.new.buffer c.args.turns.now.items c.messages.turns.items c.messages.count m note (bytes_of c.answer-turn.result.1) p a c.in-Ok-write.ensures.sent c.if-message.true)
 
 pub returns-then-message-clause-enters : goal.returns-then-message-clause-enters
 returns-then-message-clause-enters g c =
@@ -130,7 +130,7 @@ returns-then-message-clause-gated g c =
     let i = c.messages.invariant in let manner = c.args.manner in let uids = c.args.town.now.uids.items in let qs = c.messages.passes.passes.items in
     let note : TurnNote = record { now = c.now-now.result; closed_by_gate = c.pass-closed_by_gate.result; turn = c.answer-turn.result.0 } in
     let turns : c.push_reserved.new.self.items ≡ c.messages.turns.items ++ note ∷ [] = pushed_on c.push_reserved.new.self.items c.reserve.new.self.items c.messages.turns.items note c.push_reserved.ensures.items c.reserve.ensures.items in
-    subst (λ ts. AreGated (g.G.Gate.says c.args.gate.now c.args.worker) (turns_added c.args.turns.now.items ts)) (sym {A = List TurnNote} turns)
+    subst (λ ts. AreGatedTurns (g.G.Gate.says c.args.gate.now c.args.worker) (turns_added c.args.turns.now.items ts)) (sym {A = List TurnNote} turns)
     (gated_more manner uids (known_by qs) (g.L.Told.told c.args.link.now) (g.L.Told.told c.messages.link) (g.C.Clock.coming c.args.clock.now) (g.C.Clock.coming c.messages.clock) c.messages.buffer c.args.turns.now.items c.messages.turns.items c.messages.count i.progress
     (g.G.Gate.says c.args.gate.now c.args.worker) note i.gated c.pass-closed_by_gate.ensures.says)
 
@@ -160,7 +160,7 @@ returns-then-closed_by_gate-clause-served g c =
       reading = c.now-now.ensures;
       says = subst S c.closes-last.ensures c.answer-turn.ensures.says;
     } in
-    subst (λ ts. Served manner uids (known_by rs) Gate link link3 coming coming2 (turns_added c.args.turns.now.items ts)) (sym {A = List TurnNote} turns) (ended_by_gate manner uids (known_by qs) (known_by rs) (knows_more qs rs c.answer-turn.ensures.more) link link' link2 link3 coming coming' coming2 c.messages.buffer c.read_message.new.buffer c.args.turns.now.items c.messages.turns.items c.messages.count m note (bytes_of c.answer-turn.result.1) p a c.in-Ok-write.ensures.sent c.if-message.false c.if-closed_by_gate.true)
+    subst (λ ts. IsServedConnection manner uids (known_by rs) Gate link link3 coming coming2 (turns_added c.args.turns.now.items ts)) (sym {A = List TurnNote} turns) (ended_by_gate manner uids (known_by qs) (known_by rs) (knows_more qs rs c.answer-turn.ensures.more) link link' link2 link3 coming coming' coming2 c.messages.buffer c.read_message.new.buffer c.args.turns.now.items c.messages.turns.items c.messages.count m note (bytes_of c.answer-turn.result.1) p a c.in-Ok-write.ensures.sent c.if-message.false c.if-closed_by_gate.true)
 
 pub returns-then-closed_by_gate-clause-enters : goal.returns-then-closed_by_gate-clause-enters
 returns-then-closed_by_gate-clause-enters g c =
@@ -176,7 +176,7 @@ returns-then-closed_by_gate-clause-gated g c =
     let i = c.messages.invariant in let manner = c.args.manner in let uids = c.args.town.now.uids.items in let qs = c.messages.passes.passes.items in
     let note : TurnNote = record { now = c.now-now.result; closed_by_gate = c.pass-closed_by_gate.result; turn = c.answer-turn.result.0 } in
     let turns : c.push_reserved.new.self.items ≡ c.messages.turns.items ++ note ∷ [] = pushed_on c.push_reserved.new.self.items c.reserve.new.self.items c.messages.turns.items note c.push_reserved.ensures.items c.reserve.ensures.items in
-    subst (λ ts. AreGated (g.G.Gate.says c.args.gate.now c.args.worker) (turns_added c.args.turns.now.items ts)) (sym {A = List TurnNote} turns)
+    subst (λ ts. AreGatedTurns (g.G.Gate.says c.args.gate.now c.args.worker) (turns_added c.args.turns.now.items ts)) (sym {A = List TurnNote} turns)
     (gated_more manner uids (known_by qs) (g.L.Told.told c.args.link.now) (g.L.Told.told c.messages.link) (g.C.Clock.coming c.args.clock.now) (g.C.Clock.coming c.messages.clock) c.messages.buffer c.args.turns.now.items c.messages.turns.items c.messages.count i.progress
     (g.G.Gate.says c.args.gate.now c.args.worker) note i.gated c.pass-closed_by_gate.ensures.says)
 
@@ -208,7 +208,7 @@ messages-preserved g c =
       more = see_then ps qs rs i.more c.answer-turn.ensures.more;
       progress = subst (λ ts. Progress manner uids (known_by rs) link link3 coming coming2 c.read_message.new.buffer c.args.turns.now.items ts (c.messages.count + 1)) (sym {A = List TurnNote} turns)
           (goes_on manner uids (known_by qs) (known_by rs) (knows_more qs rs c.answer-turn.ensures.more) link link' link2 link3 coming coming' coming2 c.messages.buffer c.read_message.new.buffer c.args.turns.now.items c.messages.turns.items c.messages.count m note (bytes_of c.answer-turn.result.1) p a c.in-Ok-write.ensures.sent c.if-message.false c.if-closed_by_gate.false);
-      gated = subst (λ ts. AreGated (g.G.Gate.says c.args.gate.now c.args.worker) (turns_added c.args.turns.now.items ts)) (sym {A = List TurnNote} turns)
+      gated = subst (λ ts. AreGatedTurns (g.G.Gate.says c.args.gate.now c.args.worker) (turns_added c.args.turns.now.items ts)) (sym {A = List TurnNote} turns)
           (gated_more manner uids (known_by qs) link link' coming coming' c.messages.buffer c.args.turns.now.items c.messages.turns.items c.messages.count p (g.G.Gate.says c.args.gate.now c.args.worker) note i.gated c.pass-closed_by_gate.ensures.says);
       enters = subst (λ ts. Enters uids ps rs (turns_added c.args.turns.now.items ts)) (sym {A = List TurnNote} turns)
           (enters_push uids ps qs rs c.args.turns.now.items c.messages.turns.items note (begins manner uids (known_by qs) (g.L.Told.told c.args.link.now) (g.L.Told.told c.messages.link) (g.C.Clock.coming c.args.clock.now) (g.C.Clock.coming c.messages.clock) c.messages.buffer c.args.turns.now.items c.messages.turns.items c.messages.count p) i.enters (c.answer-turn.ensures.enters c.pass-closed_by_gate.result));
@@ -218,7 +218,7 @@ pub returns-then-is_err-clause-served : goal.returns-then-is_err-clause-served
 returns-then-is_err-clause-served g c =
     let manner = c.args.manner in let uids = c.args.town.now.uids.items in let qs = c.messages.passes.passes.items in
     let link = g.L.Told.told c.args.link.now in let link' = g.L.Told.told c.messages.link in let coming = g.C.Clock.coming c.args.clock.now in let coming' = g.C.Clock.coming c.messages.clock in
-    subst (λ ts. Served manner uids (known_by qs) Memory link link' coming coming' (turns_added c.args.turns.now.items ts)) (sym {A = List TurnNote} c.reserve.ensures.items) (ended_early manner uids (known_by qs) link link' coming coming' c.messages.buffer c.args.turns.now.items c.messages.turns.items c.messages.count c.messages.invariant.progress c.messages-test.true)
+    subst (λ ts. IsServedConnection manner uids (known_by qs) Memory link link' coming coming' (turns_added c.args.turns.now.items ts)) (sym {A = List TurnNote} c.reserve.ensures.items) (ended_early manner uids (known_by qs) link link' coming coming' c.messages.buffer c.args.turns.now.items c.messages.turns.items c.messages.count c.messages.invariant.progress c.messages-test.true)
 
 pub returns-clause-served : goal.returns-clause-served
 returns-clause-served g c =

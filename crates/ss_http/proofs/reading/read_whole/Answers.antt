@@ -2,7 +2,7 @@ use Rattle.std.proofs.Common.{◌≡◌, ◌+◌, ◌-◌, ℕ, List, take, drop
 use Rattle.std.proofs.lemmas.Result.{err_from_is_err_and}
 use Rattle.ss_http.specs.declared.message.Message.{Message}
 use Rattle.ss_http.specs.Heads.{IsHeadAt}
-use Rattle.ss_http.specs.Buffers.{Kept}
+use Rattle.ss_http.specs.Buffers.{KeptBytes}
 use Rattle.ss_http.proofs.Filling.{Brings-append}
 use Rattle.ss_http.proofs.HeadLemmas.{begins, kept_whole, head_append, short_fault, body_whole}
 use Rattle.ss_http.proofs.reading.read_whole.Goals as goal
@@ -41,19 +41,19 @@ returns-in_err-fill_to-clause-bytes g c =
 pub returns-in_err-fill_to-clause-ready : goal.returns-in_err-fill_to-clause-ready
 returns-in_err-fill_to-clause-ready g c = λ m rest r.
     let same = c.read_head.ensures.ready (inl (r.head, begins c.args.buffer.now.bytes m rest r)) in
-    let size = kept_whole c.args.buffer.now.bytes c.read_head.new.buffer.bytes c.in_ok-head.head m rest (ap (λ (k : Kept). k.bytes) same.0) c.in_ok-head.ensures.head r in
+    let size = kept_whole c.args.buffer.now.bytes c.read_head.new.buffer.bytes c.in_ok-head.head m rest (ap (λ (k : KeptBytes). k.bytes) same.0) c.in_ok-head.ensures.head r in
     (c.fill_to.ensures.ready size).1 ∙ same.1
 
 pub returns-in_default-clause-ready : goal.returns-in_default-clause-ready
 returns-in_default-clause-ready g c = λ m rest r.
     let same = c.read_head.ensures.ready (inl (r.head, begins c.args.buffer.now.bytes m rest r)) in
-    let size = kept_whole c.args.buffer.now.bytes c.read_head.new.buffer.bytes c.in_ok-head.head m rest (ap (λ (k : Kept). k.bytes) same.0) c.in_ok-head.ensures.head r in
+    let size = kept_whole c.args.buffer.now.bytes c.read_head.new.buffer.bytes c.in_ok-head.head m rest (ap (λ (k : KeptBytes). k.bytes) same.0) c.in_ok-head.ensures.head r in
     (c.fill_to.ensures.ready size).1 ∙ same.1
 
 pub returns-clause-ready : goal.returns-clause-ready
 returns-clause-ready g c = λ m rest r.
     let same = c.read_head.ensures.ready (inl (r.head, begins c.args.buffer.now.bytes m rest r)) in
-    let size = kept_whole c.args.buffer.now.bytes c.read_head.new.buffer.bytes c.in_ok-head.head m rest (ap (λ (k : Kept). k.bytes) same.0) c.in_ok-head.ensures.head r in
+    let size = kept_whole c.args.buffer.now.bytes c.read_head.new.buffer.bytes c.in_ok-head.head m rest (ap (λ (k : KeptBytes). k.bytes) same.0) c.in_ok-head.ensures.head r in
     (c.fill_to.ensures.ready size).1 ∙ same.1
 
 pub returns-clause-bytes : goal.returns-clause-bytes

@@ -6,7 +6,7 @@ use Rattle.ss_dupe.specs.Looks.{Id}
 use Rattle.ss_dupe.specs.Pairs.{ArePairs}
 use Rattle.ss_dupe.specs.Sides.{Sides, sides_asked}
 use Rattle.ss_dupe.specs.Plains.{look_of, view}
-use Rattle.ss_dupe.specs.Shapes.{AreShaped}
+use Rattle.ss_dupe.specs.Shapes.{HaveShapes}
 use Rattle.ss_merge.proofs.Naming.{apart_sorted, are_names, renamed_look}
 use Rattle.ss_merge.proofs.Reading.{paired_shaped}
 use Rattle.ss_merge.proofs.paired.read_paired.Goals as goal
@@ -47,4 +47,4 @@ returns-clause-same c =
 
 pub returns-clause-shaped : goal.returns-clause-shaped
 returns-clause-shaped c =
-    subst AreShaped (sym (returns-clause-same c)) (paired_shaped c.in_ok-renamed.renamed.items c.args.sides.now c.in_ok-read.ensures.local_tree c.in_ok-read.ensures.remote_tree (returns-clause-renamed c))
+    subst HaveShapes (sym (returns-clause-same c)) (paired_shaped c.in_ok-renamed.renamed.items c.args.sides.now c.in_ok-read.ensures.local_tree c.in_ok-read.ensures.remote_tree (returns-clause-renamed c))

@@ -1,5 +1,5 @@
 use Rattle.std.proofs.Common.{◌≡◌, ◌≤◌, ◌+◌, ◌*◌, ◌++◌, ◌∷◌, [], sym, ap, ap₂, ◌∙◌, refl, arith}
-use Rattle.ss_rehearse.specs.Draws.{drawn, drawn_after}
+use Rattle.ss_rehearse.specs.Draws.{drawn_number, drawn_after}
 use Rattle.ss_rehearse.specs.Bookmarks.{bookmark, root_of}
 use Rattle.ss_world.specs.declared.events.Edit.TheVariants as edit
 use Rattle.ss_rehearse.specs.Scripts.{addition, additions}
@@ -12,7 +12,7 @@ loop-at-init c = record { last = refl; changed = ([], changed_none 0 c.args.now 
 pub loop-at-preserved : goal.loop-at-preserved
 loop-at-preserved c =
     let k = c.loop-at.at + 1 in
-    let last : c.drawn_after-drawn.result ≡ drawn c.args.seed k = c.drawn_after-drawn.ensures ∙ (ap drawn_after c.loop-at.invariant.last ∙ sym (drawn_more c.args.seed c.loop-at.at)) in
+    let last : c.drawn_after-drawn.result ≡ drawn_number c.args.seed k = c.drawn_after-drawn.ensures ∙ (ap drawn_after c.loop-at.invariant.last ∙ sym (drawn_more c.args.seed c.loop-at.at)) in
     let new = edit.Add c.in_ok-parent.parent c.in_ok-item.item in
     let is : new ≡ addition c.args.seed k = ap₂ edit.Add (c.in_ok-parent.ensures ∙ ap root_of last) (c.in_ok-item.ensures ∙ ap (bookmark k) last) in
     let low : c.loop-at.next ≤ c.args.now + 100 * c.loop-at.at = c.loop-at.invariant.early in

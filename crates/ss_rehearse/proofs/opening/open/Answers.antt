@@ -1,5 +1,5 @@
 use Rattle.std.proofs.Common.{map, ap, subst, ◌∙◌}
-use Rattle.ss_bso.specs.Changes.{opened}
+use Rattle.ss_bso.specs.Changes.{account_at_opening}
 use Rattle.ss_bso.specs.Validity.{SameAccount}
 use Rattle.ss_world.specs.declared.seats.Seat.TheVariants.{Idle}
 use Rattle.ss_rehearse.specs.Rehearsals.{all_trusted}
@@ -8,7 +8,7 @@ use Rattle.ss_rehearse.proofs.opening.open.Goals as goal
 
 pub returns-in-Ok-clause-fresh : goal.returns-in-Ok-clause-fresh
 returns-in-Ok-clause-fresh c =
-    fresh_is c.in-Ok.world c.in_ok-first.first c.in_ok-second.second (subst (λ k. SameAccount (opened k) c.in-Ok.world.server.account) c.fresh.ensures c.in-Ok.ensures.opened) (c.in-Ok.ensures.kept ∙ c.fresh.ensures)
+    fresh_is c.in-Ok.world c.in_ok-first.first c.in_ok-second.second (subst (λ k. SameAccount (account_at_opening k) c.in-Ok.world.server.account) c.fresh.ensures c.in-Ok.ensures.opened) (c.in-Ok.ensures.kept ∙ c.fresh.ensures)
     (c.in-Ok.ensures.devices ∙ ap (map Idle) c.in_ok-devices.ensures.items) c.in_ok-first.ensures c.in_ok-second.ensures
 
 pub returns-in-Ok-clause-reached : goal.returns-in-Ok-clause-reached

@@ -4,12 +4,12 @@ use Rattle.ss_world.specs.Worlds.{WorldView}
 use Rattle.ss_world.specs.Happening.{Step}
 use Rattle.ss_rehearse.specs.Scripts.{changes, moves, parting, renamings}
 use Rattle.ss_rehearse.specs.Plays.{PlaysChanges}
-use Rattle.ss_rehearse.specs.Syncing.{ArePlayed}
+use Rattle.ss_rehearse.specs.Syncing.{LeadsByActs}
 use Rattle.ss_rehearse.proofs.Playing.{changes_played, played_on}
 use Rattle.ss_rehearse.proofs.rehearsing.part.Goals as goal
 
 both : {E : Type 0} (items now mid : ℕ) (w v u : WorldView) (r : Result ℕ E) → ((steps : List Step) × PlaysChanges 1 now w (renamings items) steps v mid) → IfOk r (λ next. (steps : List Step) × PlaysChanges 0 mid v (moves items) steps u next)
-    → IfOk r (λ next. ArePlayed w now (parting items) [] u next)
+    → IfOk r (λ next. LeadsByActs w now (parting items) [] u next)
 both items now mid w v u (Ok next) h k =
     played_on w v u now mid next (changes 1 (renamings items) ∷ []) (changes 0 (moves items) ∷ []) [] [] (changes_played 1 now w (renamings items) v mid h) (changes_played 0 mid v (moves items) u next k)
 both items now mid w v u (Err e) h k = tt

@@ -1,9 +1,9 @@
 use Rattle.std.proofs.Common.{◌≡◌, Bool, [], None, subst, sym, ◌∙◌}
 use Rattle.ss_bso.specs.declared.account.Plain.{Plain}
 use Rattle.ss_bso.specs.Account.{fresh}
-use Rattle.ss_bso.specs.Changes.{opened}
+use Rattle.ss_bso.specs.Changes.{account_at_opening}
 use Rattle.ss_bso.specs.Validity.{SameAccount}
-use Rattle.ss_http.specs.Buffers.{Kept}
+use Rattle.ss_http.specs.Buffers.{KeptBytes}
 use Rattle.ss_run_answer.specs.Turns.{Progress, IsTurn, asked_by_message, bytes_of}
 use Rattle.ss_run_answer.proofs.Run.{begun, turned, ended_asking, ended_cut, stopped, ended_counting, ended_early}
 use Rattle.ss_run_answer.proofs.Run.{fresh-alone, valid_fresh, unread_further, unread_at_first}
@@ -25,8 +25,8 @@ turns-init g c =
     let uid = c.args.command.uid in
     let at = c.args.command.at in
     let account = c.in-Ok-open.account.plain in
-    let is : account ≡ fresh = fresh-alone account (subst (λ k. SameAccount (opened k) account) (c.new-keeper.ensures.kept ∙ c.fresh.ensures) c.in-Ok-open.ensures.opened) in
-    let K : Kept → Type 0 = λ k. Progress uid at input input output output coming coming k account 0 in
+    let is : account ≡ fresh = fresh-alone account (subst (λ k. SameAccount (account_at_opening k) account) (c.new-keeper.ensures.kept ∙ c.fresh.ensures) c.in-Ok-open.ensures.opened) in
+    let K : KeptBytes → Type 0 = λ k. Progress uid at input input output output coming coming k account 0 in
     let A : Plain → Type 0 = λ a. Progress uid at input input output output coming coming (record { bytes = []; stop = None }) a 0 in
     (subst K (sym c.in-Ok.ensures) (subst A (sym is) (begun uid at input output coming valid_fresh)), unread_at_first at c.args.clock.now)
 

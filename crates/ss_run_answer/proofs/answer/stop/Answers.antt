@@ -4,12 +4,12 @@ use Rattle.std.specs.Option.{option_map_or}
 use Rattle.ss_http.specs.Responses.{memory_response}
 use Rattle.ss_route.specs.declared.routed.Local.{Local}
 use Rattle.ss_route.specs.Wire.{local_wire, refusal_of}
-use Rattle.ss_run_answer.specs.Turns.{Refused, refusal_response, WasSent, WasCut, bytes_of}
+use Rattle.ss_run_answer.specs.Turns.{InputRefusal, refusal_response, WasSent, WasCut, bytes_of}
 use Rattle.ss_text.specs.Time.{clamped_reading}
 use Rattle.ss_run_answer.proofs.answer.stop.Goals as goal
 
 -- the refusal of a fault that is answered by this local reply
-refusal_is : (refused : Refused) (local : Local) (bytes : List ℕ) → refusal_of refused.fault ≡ Some local
+refusal_is : (refused : InputRefusal) (local : Local) (bytes : List ℕ) → refusal_of refused.fault ≡ Some local
     → bytes ≡ (if refused.rendered then local_wire local (clamped_reading refused.now) true else memory_response (clamped_reading refused.now) true) → bytes ≡ refusal_response refused
 refusal_is refused local bytes answered is =
     is ∙ ap (λ (o : Option Local). if refused.rendered then option_map_or (λ local. local_wire local (clamped_reading refused.now) true) o [] else memory_response (clamped_reading refused.now) true) (sym answered)

@@ -1,6 +1,6 @@
 use Rattle.std.specs.Prelude.{ℕ, List, Contains}
 use Rattle.std.proofs.Common.{sym, subst, ◌∙◌}
-use Rattle.ss_site.specs.Sites.{Lent}
+use Rattle.ss_site.specs.Sites.{LentParts}
 use Rattle.ss_run_serve.proofs.Given.{was_given}
 use Rattle.ss_run_serve.proofs.Opened.{opened_account}
 use Rattle.ss_run_serve.proofs.opening.open_account.Goals as goal
@@ -15,5 +15,5 @@ open_kept-requires-clause-given g c = was_given (g.X.Site.lent c.args.site.now).
 
 pub begin-requires-clause-given : goal.begin-requires-clause-given
 begin-requires-clause-given g c =
-    subst (λ (l : Lent). Contains l.keepers (c.args.folder.now, c.args.uid)) (sym c.in-Ok-open_kept.ensures.lent)
+    subst (λ (l : LentParts). Contains l.keepers (c.args.folder.now, c.args.uid)) (sym c.in-Ok-open_kept.ensures.lent)
     (was_given (g.X.Site.lent c.args.site.now).keepers (g.X.Site.lent c.keeper.new.self).keepers c.args.folder.now c.args.uid c.in-Ok.ensures.lent.3)

@@ -4,9 +4,9 @@ use Rattle.std.proofs.lemmas.List.{map-append, take_more}
 use Rattle.std.proofs.lemmas.List.Elements.{All-push, All-weaker, Contains-get_or}
 use Rattle.ss_booked.specs.declared.booked.Booked.{Booked}
 use Rattle.ss_site.specs.Sites.{Counts, Entries, IsEntry}
-use Rattle.ss_run_serve.specs.Hosted.{Hosted, hosted, hosted_at}
+use Rattle.ss_run_serve.specs.Hosted.{HostedAccount, hosted_account, hosted_at}
 use Rattle.ss_run_serve.specs.Lending.{keepers_at}
-use Rattle.ss_run_serve.specs.Opening.{AreAsBefore, CountsFaults, OpensAccount, IsUnopened}
+use Rattle.ss_run_serve.specs.Opening.{AreAsBefore, CountsFaults, OpensAccount, IsWhyUnopened}
 use Rattle.ss_run_serve.proofs.Opened.{take_whole}
 use Rattle.ss_run_serve.proofs.Lent.{all_back, out_as, out_then}
 use Rattle.ss_run_serve.proofs.Given.{given_still, hosted_uids, keepers_more, opened_so_far}
@@ -18,18 +18,18 @@ pub returns-in-Err-clause-refused : goal.returns-in-Err-clause-refused
 returns-in-Err-clause-refused g c =
     let uid : ℕ = get_or c.args.uids.now c.loop-uid.uid-index 0 in
     let inside : c.loop-uid.uid-index < length c.args.uids.now = omega arith in
-    let why = subst (λ (k : Option Entries). IsUnopened c.args.folder.now k (g.X.Site.counts c.args.site.now) (g.X.Site.counts c.open_account.new.site) uid c.in-Err.stop) c.loop-uid.invariant.kept
-    (subst (λ (n : Counts). IsUnopened c.args.folder.now (g.X.Site.kept c.loop-uid.site) n (g.X.Site.counts c.open_account.new.site) uid c.in-Err.stop) c.loop-uid.invariant.counts c.in-Err.ensures.refused) in
+    let why = subst (λ (k : Option Entries). IsWhyUnopened c.args.folder.now k (g.X.Site.counts c.args.site.now) (g.X.Site.counts c.open_account.new.site) uid c.in-Err.stop) c.loop-uid.invariant.kept
+    (subst (λ (n : Counts). IsWhyUnopened c.args.folder.now (g.X.Site.kept c.loop-uid.site) n (g.X.Site.counts c.open_account.new.site) uid c.in-Err.stop) c.loop-uid.invariant.counts c.in-Err.ensures.refused) in
     refused_then c.args.folder.now (g.X.Site.kept c.args.site.now) (g.X.Site.counts c.args.site.now) (g.X.Site.counts c.open_account.new.site) (g.X.Site.counts c.retire_all.new.site) (map (hosted_at g.X.Keeper.Keeper.told g.X.Keeper.Keeper.keep_faults) c.loop-uid.accounts.items) c.args.uids.now uid c.in-Err.stop
     why c.retire_all.ensures.counted (Contains-get_or c.args.uids.now c.loop-uid.uid-index 0 inside)
 
 pub returns-in-Err-clause-as_before : goal.returns-in-Err-clause-as_before
 returns-in-Err-clause-as_before g c =
-    let accounts : List (ℕ × Hosted) = map (hosted_at g.X.Keeper.Keeper.told g.X.Keeper.Keeper.keep_faults) c.loop-uid.accounts.items in
+    let accounts : List (ℕ × HostedAccount) = map (hosted_at g.X.Keeper.Keeper.told g.X.Keeper.Keeper.keep_faults) c.loop-uid.accounts.items in
     let before : AreAsBefore (g.X.Site.kept c.args.site.now) (g.X.Site.kept c.open_account.new.site) =
     subst (λ (k : Option Entries). AreAsBefore k (g.X.Site.kept c.open_account.new.site)) c.loop-uid.invariant.kept c.in-Err.ensures.as_before in
-    let entries : All (λ (a : ℕ × Hosted). IsEntry c.args.folder.now a.0 a.1.told (g.X.Site.kept c.open_account.new.site)) accounts =
-    All-weaker (OpensAccount c.args.folder.now (g.X.Site.kept c.args.site.now)) (λ (a : ℕ × Hosted). IsEntry c.args.folder.now a.0 a.1.told (g.X.Site.kept c.open_account.new.site))
+    let entries : All (λ (a : ℕ × HostedAccount). IsEntry c.args.folder.now a.0 a.1.told (g.X.Site.kept c.open_account.new.site)) accounts =
+    All-weaker (OpensAccount c.args.folder.now (g.X.Site.kept c.args.site.now)) (λ (a : ℕ × HostedAccount). IsEntry c.args.folder.now a.0 a.1.told (g.X.Site.kept c.open_account.new.site))
     (λ a opened. entry_as_before c.args.folder.now a.0 a.1.told (g.X.Site.kept c.args.site.now) (g.X.Site.kept c.open_account.new.site) before opened.entry) accounts c.loop-uid.invariant.opened in
     as_before_then (g.X.Site.kept c.args.site.now) (g.X.Site.kept c.open_account.new.site) (g.X.Site.kept c.retire_all.new.site) before
     (all_as_before c.args.folder.now accounts (g.X.Site.kept c.open_account.new.site) (g.X.Site.kept c.retire_all.new.site) entries c.retire_all.ensures.entries)
@@ -58,7 +58,7 @@ pub retire_all-requires : goal.retire_all-requires
 retire_all-requires g c = record {
   given =
       given_still c.args.folder.now (map (hosted_at g.X.Keeper.Keeper.told g.X.Keeper.Keeper.keep_faults) c.loop-uid.accounts.items) (get_or c.args.uids.now c.loop-uid.uid-index 0) (g.X.Site.lent c.args.site.now).keepers (g.X.Site.lent c.loop-uid.site).keepers (g.X.Site.lent c.open_account.new.site).keepers
-      (c.loop-uid.invariant.keepers ∙ ap (λ (us : List ℕ). (g.X.Site.lent c.args.site.now).keepers ++ keepers_at c.args.folder.now us) (sym c.loop-uid.invariant.uids ∙ sym (hosted_uids (hosted g.X.Keeper.Keeper.told g.X.Keeper.Keeper.keep_faults) c.loop-uid.accounts.items))) c.open_account.ensures.keepers;
+      (c.loop-uid.invariant.keepers ∙ ap (λ (us : List ℕ). (g.X.Site.lent c.args.site.now).keepers ++ keepers_at c.args.folder.now us) (sym c.loop-uid.invariant.uids ∙ sym (hosted_uids (hosted_account g.X.Keeper.Keeper.told g.X.Keeper.Keeper.keep_faults) c.loop-uid.accounts.items))) c.open_account.ensures.keepers;
 }
 
 pub returns-clause-given : goal.returns-clause-given
@@ -91,7 +91,7 @@ loop-uid-preserved g c =
     record {
       uids = ap (λ (accounts : List (ℕ × Booked g.row.X-Keeper.Denot g.X.Keeper.Keeper)). map (λ (a : ℕ × Booked g.row.X-Keeper.Denot g.X.Keeper.Keeper). a.0) accounts) c.push_reserved.ensures.items ∙ map-append (λ (a : ℕ × Booked g.row.X-Keeper.Denot g.X.Keeper.Keeper). a.0) c.loop-uid.accounts.items one
           ∙ ap (λ (us : List ℕ). us ++ uid ∷ []) invariant.uids ∙ sym (take_more c.args.uids.now c.loop-uid.uid-index 0 inside);
-      opened = subst (λ (accounts : List (ℕ × Hosted)). All (OpensAccount c.args.folder.now (g.X.Site.kept c.args.site.now)) accounts)
+      opened = subst (λ (accounts : List (ℕ × HostedAccount)). All (OpensAccount c.args.folder.now (g.X.Site.kept c.args.site.now)) accounts)
           (sym (ap (λ (accounts : List (ℕ × Booked g.row.X-Keeper.Denot g.X.Keeper.Keeper)). map (hosted_at g.X.Keeper.Keeper.told g.X.Keeper.Keeper.keep_faults) accounts) c.push_reserved.ensures.items ∙ map-append (hosted_at g.X.Keeper.Keeper.told g.X.Keeper.Keeper.keep_faults) c.loop-uid.accounts.items one))
           (All-push (OpensAccount c.args.folder.now (g.X.Site.kept c.args.site.now)) (map (hosted_at g.X.Keeper.Keeper.told g.X.Keeper.Keeper.keep_faults) c.loop-uid.accounts.items) (hosted_at g.X.Keeper.Keeper.told g.X.Keeper.Keeper.keep_faults (uid, c.in-Ok-open_account.booked)) invariant.opened
           (subst (λ (k : Option Entries). OpensAccount c.args.folder.now k (hosted_at g.X.Keeper.Keeper.told g.X.Keeper.Keeper.keep_faults (uid, c.in-Ok-open_account.booked))) invariant.kept c.in-Ok-open_account.ensures.opened));

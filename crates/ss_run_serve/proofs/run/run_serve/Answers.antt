@@ -5,7 +5,7 @@ use Rattle.ss_words.specs.Refused.{AsksNothing}
 use Rattle.ss_words.specs.Commands.{Asks}
 use Rattle.ss_words.specs.declared.commands.ServeCommand.{ServeCommand}
 use Rattle.ss_words.proofs.Asked.{one_command}
-use Rattle.ss_site.specs.Sites.{Lent}
+use Rattle.ss_site.specs.Sites.{LentParts}
 use Rattle.ss_run_serve.specs.Lending.{ListensAsAsked, ListensAt}
 use Rattle.ss_run_serve.specs.Serving.{serves, asks_nothing, out_of_memory}
 use Rattle.ss_run_serve.proofs.run.run_serve.Goals as goal
@@ -22,7 +22,7 @@ pub returns-in_default-clause-runs : goal.returns-in_default-clause-runs
 returns-in_default-clause-runs g c =
     asks_nothing (λ command asks. c.in_default.not-Serve command (one_command (map (λ word. string_bytes word) c.args.words.now) c.in-Ok.command (Serve command) c.in-Ok.ensures.asks asks)) refl refl
 
-as_asked : (words : List (List ℕ)) (command : ServeCommand) (old new : Lent) → Asks words (Serve command) → ListensAt command.address old new → ListensAsAsked words old new
+as_asked : (words : List (List ℕ)) (command : ServeCommand) (old new : LentParts) → Asks words (Serve command) → ListensAt command.address old new → ListensAsAsked words old new
 as_asked words command old new asks (inl none) = inl none
 as_asked words command old new asks (inr one) = inr (command, asks, one)
 

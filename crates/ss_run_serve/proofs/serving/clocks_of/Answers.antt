@@ -1,7 +1,7 @@
 use Rattle.std.specs.Prelude.{◌≡◌, ◌+◌, ◌∷◌, [], ◌++◌, ℕ, List, Option, map, replicate}
 use Rattle.std.proofs.Common.{sym, ap, ◌∙◌, arith}
 use Rattle.std.proofs.lemmas.List.{map-append, replicate_more}
-use Rattle.ss_site.specs.Sites.{Lent}
+use Rattle.ss_site.specs.Sites.{LentParts}
 use Rattle.ss_run_serve.proofs.serving.clocks_of.Goals as goal
 
 -- one clock more, which reads what the site told of all
@@ -17,7 +17,7 @@ loop-worker-preserved g c =
     record {
       count = omega (arith, invariant.count, c.push_reserved.ensures.len);
       unread = one_more g.X.Clock.Clock.coming c.loop-worker.clocks.items c.push_reserved.new.self.items c.clock.result c.loop-worker._worker (g.X.Site.lent c.args.site.now).readings c.push_reserved.ensures.items invariant.unread
-          (c.clock.ensures.unread ∙ ap (λ (l : Lent). l.readings) invariant.lent);
+          (c.clock.ensures.unread ∙ ap (λ (l : LentParts). l.readings) invariant.lent);
       room = omega (arith, invariant.room, c.push_reserved.ensures.capacity);
       counts = c.clock.ensures.counts ∙ invariant.counts;
       terms = c.clock.ensures.terms ∙ invariant.terms;

@@ -1,9 +1,9 @@
 use Rattle.std.specs.Prelude.{◌≡◌, ◌≤◌, ℕ, List, Option, map, replicate, refl}
 use Rattle.std.proofs.Common.{ap, subst, inl}
-use Rattle.ss_site.specs.Sites.{Lent}
+use Rattle.ss_site.specs.Sites.{LentParts}
 use Rattle.ss_run_serve.specs.Hosted.{hosted_at}
 use Rattle.ss_run_serve.specs.Course.{CameTo}
-use Rattle.ss_run_serve.specs.Logs.{logs_of, AreLogged, AreLoggedAt}
+use Rattle.ss_run_serve.specs.Logs.{logs_of, AreLoggedUntil, AreLoggedAt}
 use Rattle.ss_run_serve.specs.Logbooks.{number_in, is_kept, files_in, failures_in}
 use Rattle.ss_run_serve.proofs.Lent.{none_out}
 use Rattle.ss_run_serve.proofs.Saving.{none_logged_still}
@@ -32,7 +32,7 @@ returns-clause-came g c =
     (subst (λ (r : Option (List ℕ)). CameTo c.args.command.now.manner g.X.Port.Link.Told.told g.X.Port.Link.Closable.closed (g.G.Gate.says c.args.gate.now) (map (hosted_at g.X.Keeper.Keeper.told g.X.Keeper.Keeper.keep_faults) c.args.accounts.items) (replicate c.args.command.now.workers r) c.args.command.now.connections c.args.command.now.terms
     (g.X.Site.terms c.open_book.new.site) (g.X.Site.terms c.serve_opened-accounts.new.site) (g.X.Site.counts c.open_book.new.site) (g.X.Site.counts c.serve_opened-accounts.new.site)
     (map (hosted_at g.X.Keeper.Keeper.told g.X.Keeper.Keeper.keep_faults) c.serve_opened-accounts.result.0.items) c.serve_opened-accounts.result.1
-    (λ told. AreLogged c.serve_opened-accounts.result.1 (logs_of (number_in c.in-Ok.book) told) (files_in g.X.Log.Store.held c.in-Ok.book) (files_in g.X.Log.Store.held c.serve_opened-accounts.new.book)))
+    (λ told. AreLoggedUntil c.serve_opened-accounts.result.1 (logs_of (number_in c.in-Ok.book) told) (files_in g.X.Log.Store.held c.in-Ok.book) (files_in g.X.Log.Store.held c.serve_opened-accounts.new.book)))
     (readings_lent (is_kept c.in-Ok.book) (g.X.Site.lent c.args.site.now) (g.X.Site.lent c.open_book.new.site) c.in-Ok.ensures.lent) c.serve_opened-accounts.ensures.came)
 
 pub returns-in-Err-clause-failed : goal.returns-in-Err-clause-failed
@@ -55,7 +55,7 @@ returns-clause-returned g c =
     c.serve_opened-accounts.ensures.same c.in-Ok.ensures.lent c.close_book.ensures.closed c.serve_opened-accounts.ensures.returned
 
 pub returns-in-Err-clause-listens : goal.returns-in-Err-clause-listens
-returns-in-Err-clause-listens g c = inl (ap (λ (l : Lent). l.addresses) c.in-Err.ensures.unlent)
+returns-in-Err-clause-listens g c = inl (ap (λ (l : LentParts). l.addresses) c.in-Err.ensures.unlent)
 
 pub returns-clause-listens : goal.returns-clause-listens
 returns-clause-listens g c =
@@ -64,7 +64,7 @@ returns-clause-listens g c =
     c.in-Ok.ensures.lent c.close_book.ensures.closed c.serve_opened-accounts.ensures.listens
 
 pub returns-in-Err-clause-keepers : goal.returns-in-Err-clause-keepers
-returns-in-Err-clause-keepers g c = ap (λ (l : Lent). l.keepers) c.in-Err.ensures.unlent
+returns-in-Err-clause-keepers g c = ap (λ (l : LentParts). l.keepers) c.in-Err.ensures.unlent
 
 pub returns-clause-keepers : goal.returns-clause-keepers
 returns-clause-keepers g c =

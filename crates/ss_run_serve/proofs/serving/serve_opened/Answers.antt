@@ -1,7 +1,7 @@
 use Rattle.std.specs.Prelude.{◌≡◌, ◌∷◌, [], ◌++◌, ℕ, List, map, replicate, Err, refl}
 use Rattle.std.proofs.Common.{arith, sym, ap, inl, inr, subst, ◌∙◌}
 use Rattle.ss_site.specs.declared.site.SiteFault.{SiteFault}
-use Rattle.ss_site.specs.Sites.{CountsPort, HasCause, Lent}
+use Rattle.ss_site.specs.Sites.{CountsPort, HasCause, LentParts}
 use Rattle.ss_run_serve.specs.declared.stop.Stop.TheVariants as stops
 use Rattle.ss_run_serve.specs.Logbooks.{number_in, files_in}
 use Rattle.ss_run_serve.specs.Watched.{port_in}
@@ -54,30 +54,30 @@ pub returns-in-Err-Memory-clause-returned : goal.returns-in-Err-Memory-clause-re
 returns-in-Err-Memory-clause-returned g c = none_out (g.X.Site.lent c.args.site.now) (g.X.Site.lent c.listen.new.self) (c.in-Err-Memory.ensures.lent ∙ c.clocks_of.ensures.lent)
 
 pub returns-in_default-clause-listens : goal.returns-in_default-clause-listens
-returns-in_default-clause-listens g c = inl (ap (λ (l : Lent). l.addresses) c.clocks_of.ensures.lent)
+returns-in_default-clause-listens g c = inl (ap (λ (l : LentParts). l.addresses) c.clocks_of.ensures.lent)
 
 pub returns-in-Err-Fault-clause-listens : goal.returns-in-Err-Fault-clause-listens
-returns-in-Err-Fault-clause-listens g c = inl (ap (λ (l : Lent). l.addresses) (c.in-Err-Fault.ensures.lent ∙ c.clocks_of.ensures.lent))
+returns-in-Err-Fault-clause-listens g c = inl (ap (λ (l : LentParts). l.addresses) (c.in-Err-Fault.ensures.lent ∙ c.clocks_of.ensures.lent))
 
 pub returns-in-Err-Memory-clause-listens : goal.returns-in-Err-Memory-clause-listens
-returns-in-Err-Memory-clause-listens g c = inl (ap (λ (l : Lent). l.addresses) (c.in-Err-Memory.ensures.lent ∙ c.clocks_of.ensures.lent))
+returns-in-Err-Memory-clause-listens g c = inl (ap (λ (l : LentParts). l.addresses) (c.in-Err-Memory.ensures.lent ∙ c.clocks_of.ensures.lent))
 
 -- the port was given at the address of the command, and the later calls gave none
 pub returns-clause-listens : goal.returns-clause-listens
 returns-clause-listens g c =
-    inr (c.shut.ensures.back.addresses ∙ ap (λ (l : Lent). l.addresses) c.serve_terms-accounts.ensures.lent ∙ c.in-Ok-listen.ensures.lent.2
-    ∙ ap (λ (l : Lent). l.addresses ++ c.as_str.result.now ∷ []) c.clocks_of.ensures.lent
+    inr (c.shut.ensures.back.addresses ∙ ap (λ (l : LentParts). l.addresses) c.serve_terms-accounts.ensures.lent ∙ c.in-Ok-listen.ensures.lent.2
+    ∙ ap (λ (l : LentParts). l.addresses ++ c.as_str.result.now ∷ []) c.clocks_of.ensures.lent
     ∙ ap (λ (address : List ℕ). (g.X.Site.lent c.args.site.now).addresses ++ address ∷ []) c.as_str.ensures)
 
 pub returns-clause-keepers : goal.returns-clause-keepers
 returns-clause-keepers g c =
-    c.shut.ensures.back.keepers ∙ ap (λ (l : Lent). l.keepers) c.serve_terms-accounts.ensures.lent ∙ c.in-Ok-listen.ensures.lent.3 ∙ ap (λ (l : Lent). l.keepers) c.clocks_of.ensures.lent
+    c.shut.ensures.back.keepers ∙ ap (λ (l : LentParts). l.keepers) c.serve_terms-accounts.ensures.lent ∙ c.in-Ok-listen.ensures.lent.3 ∙ ap (λ (l : LentParts). l.keepers) c.clocks_of.ensures.lent
 
 pub returns-in_default-clause-keepers : goal.returns-in_default-clause-keepers
-returns-in_default-clause-keepers g c = ap (λ (l : Lent). l.keepers) c.clocks_of.ensures.lent
+returns-in_default-clause-keepers g c = ap (λ (l : LentParts). l.keepers) c.clocks_of.ensures.lent
 
 pub returns-in-Err-Fault-clause-keepers : goal.returns-in-Err-Fault-clause-keepers
-returns-in-Err-Fault-clause-keepers g c = ap (λ (l : Lent). l.keepers) (c.in-Err-Fault.ensures.lent ∙ c.clocks_of.ensures.lent)
+returns-in-Err-Fault-clause-keepers g c = ap (λ (l : LentParts). l.keepers) (c.in-Err-Fault.ensures.lent ∙ c.clocks_of.ensures.lent)
 
 pub returns-in-Err-Memory-clause-keepers : goal.returns-in-Err-Memory-clause-keepers
-returns-in-Err-Memory-clause-keepers g c = ap (λ (l : Lent). l.keepers) (c.in-Err-Memory.ensures.lent ∙ c.clocks_of.ensures.lent)
+returns-in-Err-Memory-clause-keepers g c = ap (λ (l : LentParts). l.keepers) (c.in-Err-Memory.ensures.lent ∙ c.clocks_of.ensures.lent)

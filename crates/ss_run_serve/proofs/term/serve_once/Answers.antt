@@ -4,7 +4,7 @@ use Rattle.ss_laws.specs.Journal.{Journal}
 use Rattle.ss_booked.specs.declared.booked.Booked.{Booked}
 use Rattle.ss_booked.specs.Booked.{journal_of}
 use Rattle.ss_site.specs.Sites.{HasAdded}
-use Rattle.ss_run_serve.specs.Logs.{logs_of_term, ArePartlySaved, AreSaved}
+use Rattle.ss_run_serve.specs.Logs.{logs_of_term, ArePartlySaved, AreSavedLogs}
 use Rattle.ss_run_serve.specs.Logbooks.{number_in, files_in, failures_in}
 use Rattle.ss_run_serve.specs.Watched.{port_in}
 use Rattle.ss_run_serve.proofs.Ending.{follows_has, once_cut, once_done, once_refused, once_untold}
@@ -25,7 +25,7 @@ returns-in-Ok-save_term-clause-once g c =
     c.in_default.not-Town c.serve_term-accounts.ensures.says
     (subst (λ (accounts : List (ℕ × Booked g.row.X-Keeper.Denot g.X.Keeper.Keeper)). HasAdded (record { reports = c.serve_term-accounts.result.links.items; journals = map {B = ℕ × Journal} (λ (a : ℕ × Booked g.row.X-Keeper.Denot g.X.Keeper.Keeper). (a.0, journal_of a.1)) accounts }) (g.X.Site.terms c.args.site.now) (g.X.Site.terms c.tell.new.site)) c.as_slice-in_default.ensures.value c.in-Ok.ensures.told)
     c.in-Ok.ensures.counts c.serve_term-accounts.ensures.given c.serve_term-accounts.ensures.few c.serve_term-accounts.ensures.gated c.serve_term-accounts.ensures.cause c.stop_after-last.ensures
-    (subst (λ (accounts : List (ℕ × Booked g.row.X-Keeper.Denot g.X.Keeper.Keeper)). AreSaved (logs_of_term (number_in c.args.book.now) (map {B = ℕ × Journal} (λ (a : ℕ × Booked g.row.X-Keeper.Denot g.X.Keeper.Keeper). (a.0, journal_of a.1)) accounts)) (files_in g.X.Log.Store.held c.args.book.now) (files_in g.X.Log.Store.held c.save_term.new.self)) c.as_slice-in-Ok.ensures.value c.in-Ok-save_term.ensures.saved)
+    (subst (λ (accounts : List (ℕ × Booked g.row.X-Keeper.Denot g.X.Keeper.Keeper)). AreSavedLogs (logs_of_term (number_in c.args.book.now) (map {B = ℕ × Journal} (λ (a : ℕ × Booked g.row.X-Keeper.Denot g.X.Keeper.Keeper). (a.0, journal_of a.1)) accounts)) (files_in g.X.Log.Store.held c.args.book.now) (files_in g.X.Log.Store.held c.save_term.new.self)) c.as_slice-in-Ok.ensures.value c.in-Ok-save_term.ensures.saved)
 
 pub returns-in-Err-save_term-clause-once : goal.returns-in-Err-save_term-clause-once
 returns-in-Err-save_term-clause-once g c =

@@ -3,7 +3,7 @@ use Rattle.std.specs.Prelude.{vec_capacity}
 use Rattle.crossbeam_channel.specs.Claims.{view, IsSeatAt}
 use Rattle.crossbeam_channel.specs.Ends.{sends_on}
 use Rattle.ss_links.specs.Counts.{RoseBy}
-use Rattle.ss_links.specs.Links.{IsUnused}
+use Rattle.ss_links.specs.Links.{IsUnusedLink}
 use Rattle.ss_serve.proofs.accept.accept_links.Given as goal
 
 abbrev pub invariant-loop : goal.invariant-loop
@@ -16,7 +16,7 @@ invariant-loop g l = record {
   ends : (g.P.Port.counts l.port).ends ≡ (g.P.Port.counts l.fn.port).ends;
   rests : (g.P.Port.counts l.port).rests ≡ (g.P.Port.counts l.fn.port).rests;
   faults : (g.P.Port.counts l.port).faults ≡ (g.P.Port.counts l.fn.port).faults;
-  left : All (λ x. IsUnused (g.L.Told.told x)) l.left.items;
+  left : All (λ x. IsUnusedLink (g.L.Told.told x)) l.left.items;
   size : vec_len l.left ≤ vec_len l.fn.left + l.counter;
   room : vec_capacity l.left ≡ vec_capacity l.fn.left;
 }

@@ -2,7 +2,7 @@ use Rattle.std.proofs.Common.{rules, refl, subst, sym, ap, ◌∙◌, ◌∷◌,
 use Rattle.std.proofs.lemmas.List.{reverse-append}
 use Rattle.ss_town.specs.Town.{uids_of, desks_of, passes_of}
 use Rattle.ss_serve.specs.Crew.{Works, count_reports}
-use Rattle.ss_serve.specs.Gathering.{Gathered}
+use Rattle.ss_serve.specs.Gathering.{IsGathering}
 use Rattle.ss_serve.proofs.Gatherings.{gather_first, gather_next, place_of, count_end}
 use Rattle.ss_serve.proofs.ending.gather.Goals as goal
 
@@ -17,7 +17,7 @@ loop-worker-init g c = record {
 
 pub back-requires-clause-other : goal.back-requires-clause-other
 back-requires-clause-other g c = let rest = c.pop.new.self.items in let x = c.in-Some.worker in let n = length (uids_of c.args.town.now) in let ps = passes_of c.args.passes.now in let l = c.loop-worker in
-    let h = subst (λ ws. Gathered n ps c.args.crew.items ws (passes_of l.passes) l.reports.items (reverse l.clocks.items)) c.in-Some.ensures.items l.invariant.gathered in
+    let h = subst (λ ws. IsGathering n ps c.args.crew.items ws (passes_of l.passes) l.reports.items (reverse l.clocks.items)) c.in-Some.ensures.items l.invariant.gathered in
     (c.requires.crew.each (length rest) x (place_of n ps (passes_of l.passes) c.args.crew.items rest x l.reports.items (reverse l.clocks.items) h)).0.of
 
 pub move_all-requires : goal.move_all-requires
@@ -28,7 +28,7 @@ move_all-requires g c = let rest = c.pop.new.self.items in let x = c.in-Some.wor
 pub loop-worker-preserved : goal.loop-worker-preserved
 loop-worker-preserved g c = let rest = c.pop.new.self.items in let x = c.in-Some.worker in let town = c.args.town.now in let n = length (uids_of town) in let ps = passes_of c.args.passes.now in let l = c.loop-worker in
     let tells = g.L.Told.told in let closed = g.L.Closable.closed in let coming = g.C.Clock.coming in
-    let h = subst (λ ws. Gathered n ps c.args.crew.items ws (passes_of l.passes) l.reports.items (reverse l.clocks.items)) c.in-Some.ensures.items l.invariant.gathered in
+    let h = subst (λ ws. IsGathering n ps c.args.crew.items ws (passes_of l.passes) l.reports.items (reverse l.clocks.items)) c.in-Some.ensures.items l.invariant.gathered in
     let k = c.requires.crew.each (length rest) x (place_of n ps (passes_of l.passes) c.args.crew.items rest x l.reports.items (reverse l.clocks.items) h) in
     let e = ap count_reports c.in-Some.ensures.items ∙ count_end rest x in
     let works = subst (λ m. Works x.manner tells closed (uids_of town) m (passes_of x.passes) x.reports.items (coming x.start.value) (coming x.clock)) k.1 k.0.works in

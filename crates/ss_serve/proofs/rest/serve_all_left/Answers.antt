@@ -1,7 +1,7 @@
 use Rattle.std.proofs.Common.{sym, subst, ap, ◌∙◌, ◌≡◌, ◌≤◌, arith}
 use Rattle.std.specs.Prelude.{vec_capacity}
 use Rattle.ss_town.specs.Town.{uids_of, desks_of}
-use Rattle.ss_serve.specs.Crew.{HasWorked, IsGated, Sign, sign}
+use Rattle.ss_serve.specs.Crew.{HasWorked, IsGatedWorker, Sign, sign}
 use Rattle.ss_serve.proofs.Crews.{all_first, map_first}
 use Rattle.ss_serve.proofs.Tying.{count_first, count_least}
 use Rattle.ss_serve.proofs.rest.serve_all_left.Goals as goal
@@ -33,4 +33,4 @@ returns-clause-count g c = let l = c.args.crew.now.items in let old = c.index_mu
     omega (arith, first, c.requires.taken, c.serve_rest.ensures.count, c.serve_left.ensures.count, old.reports.ok.0, new.reports.ok.0, c.serve_rest.new.worker.reports.ok.0)
 
 pub returns-clause-gated : goal.returns-clause-gated
-returns-clause-gated g c = all_first (λ w. IsGated (g.G.Gate.says c.args.gate.now) w) c.args.crew.now.items c.serve_left.new.worker c.requires.gated c.serve_left.ensures.gated
+returns-clause-gated g c = all_first (λ w. IsGatedWorker (g.G.Gate.says c.args.gate.now) w) c.args.crew.now.items c.serve_left.new.worker c.requires.gated c.serve_left.ensures.gated

@@ -2,7 +2,7 @@ use Rattle.std.proofs.Common.{ap, subst, ◌∙◌, ◌≡◌, [], length, arith
 use Rattle.ss_town.specs.Town.{uids_of, desks_of, passes_of}
 use Rattle.ss_booked.specs.Booked.{account_of, journal_of, terms_of}
 use Rattle.ss_serve.specs.Crew.{count_reports, sign, starts}
-use Rattle.ss_serve.specs.Terms.{AreServed}
+use Rattle.ss_serve.specs.Terms.{AreServedAccounts}
 use Rattle.ss_serve.proofs.Crews.{none_so}
 use Rattle.ss_serve.proofs.Naming.{no_more}
 use Rattle.ss_serve.proofs.Tying.{have_none, whole_left, served_with}
@@ -20,8 +20,8 @@ pub returns-clause-served : goal.returns-clause-served
 returns-clause-served g c = λ manner. let f = c.finish-accounts in let coming = g.C.Clock.coming in
     let crew = c.new-crew.ensures.items in
     let none : f.result.2.items ≡ [] = no_more f.result.2.items (f.ensures.clocks ∙ ap length crew) in
-    let empty = subst (λ cs. AreServed (λ b. terms_of g.K.Keeper.keep_faults b) (λ b. (journal_of b).entries) (λ b. g.K.Keeper.keep_faults (account_of b).keeper) manner g.L.Told.told g.L.Closable.closed f.result.0.items f.result.1.items [] (map coming cs)) none
-    (subst (λ ws. AreServed (λ b. terms_of g.K.Keeper.keep_faults b) (λ b. (journal_of b).entries) (λ b. g.K.Keeper.keep_faults (account_of b).keeper) manner g.L.Told.told g.L.Closable.closed f.result.0.items f.result.1.items (starts (map (sign coming) ws)) (map coming f.result.2.items)) crew (f.ensures.served manner (none_so (λ w. w.manner ≡ manner) c.new-crew.result.items crew))) in
+    let empty = subst (λ cs. AreServedAccounts (λ b. terms_of g.K.Keeper.keep_faults b) (λ b. (journal_of b).entries) (λ b. g.K.Keeper.keep_faults (account_of b).keeper) manner g.L.Told.told g.L.Closable.closed f.result.0.items f.result.1.items [] (map coming cs)) none
+    (subst (λ ws. AreServedAccounts (λ b. terms_of g.K.Keeper.keep_faults b) (λ b. (journal_of b).entries) (λ b. g.K.Keeper.keep_faults (account_of b).keeper) manner g.L.Told.told g.L.Closable.closed f.result.0.items f.result.1.items (starts (map (sign coming) ws)) (map coming f.result.2.items)) crew (f.ensures.served manner (none_so (λ w. w.manner ≡ manner) c.new-crew.result.items crew))) in
     served_with (λ b. terms_of g.K.Keeper.keep_faults b) (λ b. (journal_of b).entries) (λ b. g.K.Keeper.keep_faults (account_of b).keeper) manner g.L.Told.told g.L.Closable.closed f.result.0.items f.result.1.items [] [] (map coming c.args.clocks.items) empty
 
 pub returns-clause-none : goal.returns-clause-none

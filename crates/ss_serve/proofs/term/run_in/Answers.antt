@@ -2,9 +2,9 @@ use Rattle.std.proofs.Common.{rules, refl, sym, subst, ap, ◌∙◌, ◌≡◌,
 use Rattle.ss_desk.proofs.Lists.{append_nil}
 use Rattle.ss_town.specs.Town.{uids_of, desks_of, passes_of}
 use Rattle.ss_booked.specs.Booked.{account_of, journal_of, terms_of}
-use Rattle.ss_serve.specs.Crew.{Sign, Signed, fixed_at, sign, starts}
+use Rattle.ss_serve.specs.Crew.{Sign, AreWorkerSigns, fixed_at, sign, starts}
 use Rattle.ss_serve.specs.Reports.{AreAllGated}
-use Rattle.ss_serve.specs.Terms.{AreServed}
+use Rattle.ss_serve.specs.Terms.{AreServedAccounts}
 use Rattle.ss_serve.proofs.Crews.{all_same, least_of, one_manner, same_long}
 use Rattle.ss_serve.proofs.Gating.{all_gated, none_gated, nothing_gated}
 use Rattle.ss_serve.proofs.Tying.{by_place, have_left, handed_from, whole_left}
@@ -27,7 +27,7 @@ returns-then-not-recruit_all-clause-handed g c =
 pub returns-then-not-recruit_all-clause-served : goal.returns-then-not-recruit_all-clause-served
 returns-then-not-recruit_all-clause-served g c = let r = c.end_early.result in let e = c.recruit_all.ensures in
     let one = one_manner c.args.connections (fixed_at (passes_of c.args.passes)) c.args.manner (sign g.C.Clock.coming) c.recruit_all.new.jobs.items e.signed in
-    subst (λ (cs : List (Option (List ℕ))). AreServed (λ b. terms_of g.K.Keeper.keep_faults b) (λ b. (journal_of b).entries) (λ b. g.K.Keeper.keep_faults (account_of b).keeper) c.args.manner g.L.Told.told g.L.Closable.closed r.accounts.items r.links.items cs (map g.C.Clock.coming r.clocks.items)) e.starts (c.end_early.ensures.served c.args.manner one)
+    subst (λ (cs : List (Option (List ℕ))). AreServedAccounts (λ b. terms_of g.K.Keeper.keep_faults b) (λ b. (journal_of b).entries) (λ b. g.K.Keeper.keep_faults (account_of b).keeper) c.args.manner g.L.Told.told g.L.Closable.closed r.accounts.items r.links.items cs (map g.C.Clock.coming r.clocks.items)) e.starts (c.end_early.ensures.served c.args.manner one)
 
 pub serve_links-crew-requires-clause-least : goal.serve_links-crew-requires-clause-least
 serve_links-crew-requires-clause-least g c κs within = least_of c.args.connections (fixed_at (passes_of c.args.passes)) c.args.manner (sign g.C.Clock.coming) c.recruit_all.new.jobs.items c.recruit_all.ensures.signed
@@ -36,7 +36,7 @@ pub end_served-requires-clause-crew : goal.end_served-requires-clause-crew
 end_served-requires-clause-crew g c = let e = c.recruit_all.ensures in let town = c.args.town in let opened = passes_of c.args.passes in let jobs = c.recruit_all.new.jobs.items in let l = c.serve_links-crew in
     have_left g.L.Told.told g.L.Closable.closed g.C.Clock.coming (uids_of town) (desks_of town) (length jobs) opened (passes_of c.recruit_all.new.passes) l.result.0.items e.left
     (by_place g.L.Told.told g.L.Closable.closed g.C.Clock.coming (uids_of town) (desks_of town) opened c.args.connections c.args.manner l.result.0.items l.ensures.worked
-    (subst (λ (s : List Sign). Signed c.args.connections (fixed_at opened) c.args.manner s) (sym l.ensures.signs) e.signed))
+    (subst (λ (s : List Sign). AreWorkerSigns c.args.connections (fixed_at opened) c.args.manner s) (sym l.ensures.signs) e.signed))
 
 pub end_served-requires-clause-one : goal.end_served-requires-clause-one
 end_served-requires-clause-one g c = let jobs = c.recruit_all.new.jobs.items in let l = c.serve_links-crew in let coming = g.C.Clock.coming in (
@@ -71,7 +71,7 @@ returns-clause-served g c = let e = c.recruit_all.ensures in let r = c.end_serve
     (one_manner c.args.connections (fixed_at (passes_of c.args.passes)) c.args.manner (sign coming) c.recruit_all.new.jobs.items e.signed) in
     let all : starts (map (sign coming) c.serve_links-crew.result.0.items) ≡ map coming c.args.clocks.items =
     ap starts c.serve_links-crew.ensures.signs ∙ (sym (append_nil (starts signs)) ∙ (ap (λ cs. starts signs ++ map coming cs) (sym none) ∙ e.starts)) in
-    subst (λ (cs : List (Option (List ℕ))). AreServed (λ b. terms_of g.K.Keeper.keep_faults b) (λ b. (journal_of b).entries) (λ b. g.K.Keeper.keep_faults (account_of b).keeper) c.args.manner g.L.Told.told g.L.Closable.closed r.accounts.items r.links.items cs (map coming r.clocks.items)) all (c.end_served.ensures.served c.args.manner one)
+    subst (λ (cs : List (Option (List ℕ))). AreServedAccounts (λ b. terms_of g.K.Keeper.keep_faults b) (λ b. (journal_of b).entries) (λ b. g.K.Keeper.keep_faults (account_of b).keeper) c.args.manner g.L.Told.told g.L.Closable.closed r.accounts.items r.links.items cs (map coming r.clocks.items)) all (c.end_served.ensures.served c.args.manner one)
 
 pub serve_links-crew-requires-clause-gated : goal.serve_links-crew-requires-clause-gated
 serve_links-crew-requires-clause-gated g c κs within = none_gated (g.G.Gate.says c.args.gate.now) c.recruit_all.new.jobs.items c.recruit_all.ensures.none

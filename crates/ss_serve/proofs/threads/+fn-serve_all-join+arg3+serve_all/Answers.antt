@@ -11,7 +11,7 @@ use Rattle.crossbeam_channel.specs.Ends.{receives_on}
 use Rattle.ss_serve.proofs.channel.Job.TheSendSync as job
 use Rattle.ss_town.proofs.town.Town.TheSendSync as town
 use Rattle.ss_town.specs.Town.{uids_of, desks_of}
-use Rattle.ss_serve.specs.Crew.{IsGated, IsReady}
+use Rattle.ss_serve.specs.Crew.{IsGatedWorker, IsReady}
 use Rattle.ss_serve.proofs.Crews.{all_end, all_last, all_front}
 use Rattle.ss_serve.proofs.Crossing.{worker_send}
 use Rattle.ss_serve.proofs.threads.+fn-serve_all-join+arg3+serve_all.Goals as goal
@@ -31,10 +31,10 @@ join-mine-requires-after_bounds g t c κs within = let town = c.args.town.now in
     let split = subst (λ ws. All (λ w. IsReady g.L.Told.told g.L.Closable.closed g.C.Clock.coming (uids_of town) (desks_of town) (receives_on c.args.receiver.now) w) ws) c.in-Some.ensures.items c.requires.jobs in
     let front = all_front (λ w. IsReady g.L.Told.told g.L.Closable.closed g.C.Clock.coming (uids_of town) (desks_of town) (receives_on c.args.receiver.now) w) rest job split in
     let says = g.G.Gate.says c.args.gate.now in
-    let asked = subst (λ ws. All (λ w. IsGated says w) ws) c.in-Some.ensures.items c.requires.gated in
-    let asked_front = all_front (λ w. IsGated says w) rest job asked in
+    let asked = subst (λ ws. All (λ w. IsGatedWorker says w) ws) c.in-Some.ensures.items c.requires.gated in
+    let asked_front = all_front (λ w. IsGatedWorker says w) rest job asked in
     let r = c.requires-raw.1.1.1.1.1.1 in (
-      (all_last (λ w. IsReady g.L.Told.told g.L.Closable.closed g.C.Clock.coming (uids_of town) (desks_of town) (receives_on c.args.receiver.now) w) rest job split, all_last (λ w. IsGated says w) rest job asked),
+      (all_last (λ w. IsReady g.L.Told.told g.L.Closable.closed g.C.Clock.coming (uids_of town) (desks_of town) (receives_on c.args.receiver.now) w) rest job split, all_last (λ w. IsGatedWorker says w) rest job asked),
       search (front, asked_front, r.1.1.1.0, r.1.1.1.1.0, rules),
     )
 
@@ -45,5 +45,5 @@ returns-clause-all g t c = let town = c.args.town.now in let a = c.join-mine.ens
 
 pub returns-clause-gated : goal.returns-clause-gated
 returns-clause-gated g t c = let says = g.G.Gate.says c.args.gate.now in let a = c.join-mine.ensures.first in let b = c.join-mine.ensures.second in
-    subst (λ ws. All (λ w. IsGated says w) ws) (sym c.push_reserved.ensures.items)
-    (all_end (λ w. IsGated says w) c.join-mine.result.1.items c.join-mine.result.0 b.4 a.2)
+    subst (λ ws. All (λ w. IsGatedWorker says w) ws) (sym c.push_reserved.ensures.items)
+    (all_end (λ w. IsGatedWorker says w) c.join-mine.result.1.items c.join-mine.result.0 b.4 a.2)

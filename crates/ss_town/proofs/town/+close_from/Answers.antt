@@ -1,7 +1,7 @@
 use Rattle.std.proofs.Common.{rules, subst, sym, ap, ◌∙◌, ◌++◌, ◌∷◌, [], arith, vec_len, length, length-append, get_or}
 use Rattle.std.proofs.Common.{◌<◌, ◌≡◌, ◌+◌}
 use Rattle.ss_desk.specs.Passes.{AreOf, view_at}
-use Rattle.ss_town.specs.Places.{Handed}
+use Rattle.ss_town.specs.Places.{HandsBack}
 use Rattle.ss_desk.specs.Views.{CoversAll}
 use Rattle.ss_desk.proofs.Lists.{at_get}
 use Rattle.ss_desk.proofs.Beside.{are_but, view_left, view_last, last_long}
@@ -68,5 +68,5 @@ returns-clause-handed g t c = let k = g.T.Journaled in
     let uid = get_or uids c.len.result 0 in
     let h = handed_more k.ticket_of k.pass_of k.fixed k.entries k.legal uids ps p c.close_from-closed.result.items uid c.close.result c.close_from-closed.ensures.handed
     (ap (λ i. get_elem? uids i) (sym at) ∙ at_get uids c.len.result 0 (omega (arith, more, c.requires.uids, c.len.ensures))) c.close.ensures.finished in
-    subst (λ l. Handed k.ticket_of k.pass_of k.fixed k.entries k.legal uids l c.push_reserved.new.self.items) (sym b)
-    (subst (λ l. Handed k.ticket_of k.pass_of k.fixed k.entries k.legal uids (ps ++ p ∷ []) l) (sym c.push_reserved.ensures.items) h)
+    subst (λ l. HandsBack k.ticket_of k.pass_of k.fixed k.entries k.legal uids l c.push_reserved.new.self.items) (sym b)
+    (subst (λ l. HandsBack k.ticket_of k.pass_of k.fixed k.entries k.legal uids (ps ++ p ∷ []) l) (sym c.push_reserved.ensures.items) h)

@@ -12,7 +12,7 @@ use Rattle.ss_laws.specs.Journals.{marked_outcome}
 use Rattle.ss_keeper.specs.declared.calls.KeeperCalls.{KeeperCalls}
 use Rattle.ss_keeper.specs.declared.faults.KeepFault.TheVariants.{Fault, Memory}
 use Rattle.ss_account.specs.declared.ledger.Ledger.{Ledger}
-use Rattle.ss_account.specs.Held.{Held}
+use Rattle.ss_account.specs.Held.{AccountWithKeeper}
 use Rattle.ss_account.specs.Keeping.{AsksOnce, IsHeldBy, IsSound, is_for_keeper}
 use Rattle.ss_account.proofs.Keeping.{kept_by-beside, swept-tick}
 use Rattle.ss_account.proofs.Sound.{sound-held, sound-same, sound-tick}
@@ -104,11 +104,11 @@ invariant_of-self g c = sound g c
 
 pub returns-clause-account : goal.returns-clause-account
 returns-clause-account g c =
-    subst (λ (a : Held _). SameAccount (marked_outcome a.plain c.args.now c.args.request.now (mark_of c.match-answer.result)).account c.answer.new.self) c.self.view_is (stepped g c).same
+    subst (λ (a : AccountWithKeeper _). SameAccount (marked_outcome a.plain c.args.now c.args.request.now (mark_of c.match-answer.result)).account c.answer.new.self) c.self.view_is (stepped g c).same
 
 pub returns-clause-reply : goal.returns-clause-reply
 returns-clause-reply g c =
-    subst (λ (a : Held _). c.match-answer.result ≡ (marked_outcome a.plain c.args.now c.args.request.now (mark_of c.match-answer.result)).reply) c.self.view_is (stepped g c).told
+    subst (λ (a : AccountWithKeeper _). c.match-answer.result ≡ (marked_outcome a.plain c.args.now c.args.request.now (mark_of c.match-answer.result)).reply) c.self.view_is (stepped g c).told
 
 pub returns-clause-valid : goal.returns-clause-valid
 returns-clause-valid g c = (stepped g c).valid
@@ -129,7 +129,7 @@ held g c m e =
 pub returns-clause-held : goal.returns-clause-held
 returns-clause-held g c =
     let request = c.args.request.now in
-    subst (λ (a : Held _). mark_of c.match-answer.result ≡ Done → is_for_keeper (tick a.plain c.args.now) request ≡ true → IsHeldBy (g.K.Keeper.told c.answer.new.ledger.keeper) c.answer.new.self) c.self.view_is
+    subst (λ (a : AccountWithKeeper _). mark_of c.match-answer.result ≡ Done → is_for_keeper (tick a.plain c.args.now) request ≡ true → IsHeldBy (g.K.Keeper.told c.answer.new.ledger.keeper) c.answer.new.self) c.self.view_is
     (λ m e. held g c m (ap (λ (t : Plain). is_for_keeper t request) c.tick.ensures.account ∙ e))
 
 pub returns-clause-again : goal.returns-clause-again
@@ -137,18 +137,18 @@ returns-clause-again g c = (sound g c).again
 
 pub returns-clause-refused : goal.returns-clause-refused
 unfolding sides
-returns-clause-refused g c = λ no. (stepped g c).refused no ∙ ap (λ (a : Held _). g.K.Keeper.told a.keeper) c.self.view_is
+returns-clause-refused g c = λ no. (stepped g c).refused no ∙ ap (λ (a : AccountWithKeeper _). g.K.Keeper.told a.keeper) c.self.view_is
 
 pub returns-clause-unasked : goal.returns-clause-unasked
 returns-clause-unasked g c =
     let request = c.args.request.now in
-    subst (λ (a : Held _). is_for_keeper (tick a.plain c.args.now) request ≡ false → c.answer.new.ledger.keeper ≡ a.keeper) c.self.view_is
+    subst (λ (a : AccountWithKeeper _). is_for_keeper (tick a.plain c.args.now) request ≡ false → c.answer.new.ledger.keeper ≡ a.keeper) c.self.view_is
     (λ e. ap (λ (l : Ledger _). l.keeper) (c.answer.ensures.unasked (ap (λ (t : Plain). is_for_keeper t request) c.tick.ensures.account ∙ e)))
 
 pub returns-clause-cause : goal.returns-clause-cause
 unfolding sides
 returns-clause-cause g c = λ k.
-    subst (λ (a : Held _). Rose (g.K.Keeper.keep_faults a.keeper) (g.K.Keeper.keep_faults c.answer.new.ledger.keeper)) c.self.view_is ((stepped g c).cause k)
+    subst (λ (a : AccountWithKeeper _). Rose (g.K.Keeper.keep_faults a.keeper) (g.K.Keeper.keep_faults c.answer.new.ledger.keeper)) c.self.view_is ((stepped g c).cause k)
 
 quiet : (g : Over) (c : goal.Joined-answer g) → (mark_of c.match-answer.result ≡ KeeperMark → ⊥) → g.K.Keeper.keep_faults c.answer.new.ledger.keeper ≡ g.K.Keeper.keep_faults c.self.inside.ledger.keeper
 quiet g c other =
@@ -159,7 +159,7 @@ quiet g c other =
     ]
 
 pub returns-clause-quiet : goal.returns-clause-quiet
-returns-clause-quiet g c = λ other. quiet g c other ∙ ap (λ (a : Held _). g.K.Keeper.keep_faults a.keeper) c.self.view_is
+returns-clause-quiet g c = λ other. quiet g c other ∙ ap (λ (a : AccountWithKeeper _). g.K.Keeper.keep_faults a.keeper) c.self.view_is
 
 -- memory was wanting in the answer, so the reply says so
 marks_memory : (g : Over) (c : goal.Joined-answer g) → c.answer.result ≡ Err Memory → mark_of c.match-answer.result ≡ MemoryMark
@@ -207,5 +207,5 @@ returns-clause-called g c =
     let request = c.args.request.now in
     let mark = mark_of c.match-answer.result in
     let after : KeeperCalls = g.K.Keeper.calls c.answer.new.ledger.keeper in
-    subst (λ (a : Held _). AsksOnce (tick a.plain c.args.now) request mark (g.K.Keeper.calls a.keeper) after) c.self.view_is
+    subst (λ (a : AccountWithKeeper _). AsksOnce (tick a.plain c.args.now) request mark (g.K.Keeper.calls a.keeper) after) c.self.view_is
     (subst (λ (t : Plain). AsksOnce t request mark (g.K.Keeper.calls c.self.inside.ledger.keeper) after) c.tick.ensures.account (called g c))

@@ -6,7 +6,7 @@ use Rattle.ss_bso.specs.declared.rows.Row.{Row}
 use Rattle.ss_bso.specs.Account.{is_at}
 use Rattle.ss_bso.specs.Changes.{latest}
 use Rattle.ss_bso.specs.Limits.{most_rows_and_collections}
-use Rattle.ss_text.specs.Texts.{Reordered}
+use Rattle.ss_text.specs.Texts.{IsReordering}
 use Rattle.ss_index.specs.Shelved.{rows_in}
 use Rattle.ss_bso.proofs.Full.{within-number}
 use Rattle.ss_bso.proofs.Reordering.{reordered-refl}
@@ -37,9 +37,9 @@ returns-clause-account c =
     let kept = c.args.kept in
     let batches = ap (λ (stage : StageView). stage.batches) c.from_staged.ensures ∙ c.into_vec-3.ensures in
     record {
-      rows = subst (λ (rows : List Row). Reordered rows (rows_in c.in_ok-shelf.shelf)) c.into_vec.ensures c.in_ok-shelf.ensures;
-      collections = subst (λ (times : List (List ℕ × ℕ)). Reordered kept.collections times) (sym c.into_vec-2.ensures) (reordered-refl kept.collections);
-      batches = subst (λ (staged : List Staged). Reordered kept.batches staged) (sym batches) (reordered-refl kept.batches);
+      rows = subst (λ (rows : List Row). IsReordering rows (rows_in c.in_ok-shelf.shelf)) c.into_vec.ensures c.in_ok-shelf.ensures;
+      collections = subst (λ (times : List (List ℕ × ℕ)). IsReordering kept.collections times) (sym c.into_vec-2.ensures) (reordered-refl kept.collections);
+      batches = subst (λ (staged : List Staged). IsReordering kept.batches staged) (sym batches) (reordered-refl kept.batches);
       store = refl;
       last_delete = refl;
       moment = sym (c.latest-moment.ensures ∙ ap (latest kept.store) c.as_slice.ensures);

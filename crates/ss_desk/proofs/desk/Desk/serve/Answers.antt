@@ -1,8 +1,8 @@
 use Rattle.std.proofs.Common.{rules, Some, ap, sym, subst, ◌∙◌, ◌∷◌}
 use Rattle.atomic_table.specs.Table.{rest}
-use Rattle.ss_desk.specs.Views.{Live, turned}
+use Rattle.ss_desk.specs.Views.{Live, view_after_step}
 use Rattle.ss_desk.specs.Journal.{Below}
-use Rattle.ss_desk.specs.Steps.{Made, held_entries}
+use Rattle.ss_desk.specs.Steps.{IsValueAfterCall, held_entries}
 use Rattle.ss_desk.specs.declared.view.Stage.TheVariants.{Idle}
 use Rattle.ss_desk.proofs.Turns.{does}
 use Rattle.ss_desk.proofs.Answering.{all_below, holds_it, value_is, swapped, stage_is, made, stepped, answers}
@@ -29,7 +29,7 @@ fetch_add-requires g c = let k = g.T.Journaled in let took = c.requires.took in 
           (ap (λ z. z.1) now)
           (ap (λ z. z.0.stage) now ∙ stage_is k.ticket_of k.pass_of k.fixed k.entries k.legal k.ask_of k.replies k.full took.0 c.args.ticket m took.1)
           (subst (λ z. Live z.0) (sym now) c.requires.live)
-          (subst (λ z. Made k.ticket_of k.pass_of k.fixed k.entries k.legal z.0 c.args.ticket y) (sym now)
+          (subst (λ z. IsValueAfterCall k.ticket_of k.pass_of k.fixed k.entries k.legal z.0 c.args.ticket y) (sym now)
           (made k.ticket_of k.pass_of k.fixed k.entries k.legal k.ask_of k.replies k.full took.0 c.args.ticket m took.1 x y c.args.number c.args.ask c.step-answer.result is c.step-answer.ensures.fixed c.step-answer.ensures.legal c.requires.number (stepped k.ticket_of k.pass_of k.fixed k.entries k.legal k.ask_of k.replies k.full x y c.args.ticket c.args.number c.args.ask c.step-answer.result c.step-answer.ensures.entered c.step-answer.ensures.reply c.step-answer.ensures.had_room c.step-answer.ensures.unchanged c.step-answer.ensures.full))),
     )
 
@@ -40,4 +40,4 @@ returns-clause-done g c = let k = g.T.Journaled in let took = c.requires.took in
     let is = value_is k.ticket_of k.pass_of k.fixed k.entries k.legal took.0 c.args.ticket m took.1 c.exchange.result x c.exchange.ensures.2 c.unwrap-value.ensures in
     let now = swapped k.ticket_of k.pass_of k.fixed k.entries k.legal m c.exchange.new.seat.me seat.me took.1.value y held c.exchange.ensures.3 c.exchange-2.ensures.3 in
     answers k.ticket_of k.pass_of k.fixed k.entries k.legal k.ask_of k.replies k.full took.0 c.args.ticket m took.1 x y c.args.number c.args.ask c.step-answer.result c.fetch_add.new.seat.me.0 is c.step-answer.ensures.fixed c.step-answer.ensures.legal c.requires.number (stepped k.ticket_of k.pass_of k.fixed k.entries k.legal k.ask_of k.replies k.full x y c.args.ticket c.args.number c.args.ask c.step-answer.result c.step-answer.ensures.entered c.step-answer.ensures.reply c.step-answer.ensures.had_room c.step-answer.ensures.unchanged c.step-answer.ensures.full)
-    (ap (λ z. z.0) c.fetch_add.ensures.2 ∙ ap (λ z. turned z.0 Idle (held_entries k.entries z.1)) now)
+    (ap (λ z. z.0) c.fetch_add.ensures.2 ∙ ap (λ z. view_after_step z.0 Idle (held_entries k.entries z.1)) now)

@@ -1,6 +1,6 @@
 use Rattle.std.proofs.Common.{◌≡◌, sym, subst}
 use Rattle.ss_tree.specs.Entries.{tree}
-use Rattle.ss_dupe.specs.Shapes.{AreShaped}
+use Rattle.ss_dupe.specs.Shapes.{HaveShapes}
 use Rattle.ss_dupe.proofs.Shapes.{shape}
 use Rattle.ss_dupe.proofs.plains.Plains.read.Goals as goal
 
@@ -15,5 +15,5 @@ returns-clause-same c = λ i. record {
 
 pub returns-clause-shaped : goal.returns-clause-shaped
 returns-clause-shaped c =
-    subst AreShaped (sym (returns-clause-same c))
+    subst HaveShapes (sym (returns-clause-same c))
     (record { local = shape (tree c.args.sides.now.local.now) c.in_ok-read-2.ensures.valid; remote = shape (tree c.args.sides.now.remote.now) c.in_ok-read-3.ensures.valid })

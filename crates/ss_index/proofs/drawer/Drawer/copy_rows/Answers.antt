@@ -3,7 +3,7 @@ use Rattle.std.proofs.lemmas.Result.{on_ok_weaker}
 use Rattle.std.specs.Map.{values_of}
 use Rattle.std.specs.Prelude.{List, filter}
 use Rattle.ss_bso.specs.declared.rows.Row.{Row}
-use Rattle.ss_text.specs.Texts.{Reordered}
+use Rattle.ss_text.specs.Texts.{IsReordering}
 use Rattle.ss_bso.proofs.Reordering.{reordered-append_left, reordered-filter}
 use Rattle.ss_query.specs.declared.requests.Query.{Query}
 use Rattle.ss_query.specs.declared.requests.Sort.TheVariants.{Newest}
@@ -20,7 +20,7 @@ returns g c =
     let all : Query = record { ids = None; newer = None; older = None; limit = None; offset = 0; sort = Newest; full = true } in
     let found = map (λ row. row.now) c.in_ok-found.found.items in
     let is = enough-all Later _ found c.in_ok-found.ensures.rows in
-    let same : Reordered rows found = subst (λ l. Reordered l found) (asks_all all rows refl refl refl) (subst (λ (l : List Row). Reordered (filter (is_asked all) rows) l) (sym is) (reordered-filter (is_asked all) (reordered-reverse rows))) in
+    let same : IsReordering rows found = subst (λ l. IsReordering l found) (asks_all all rows refl refl refl) (subst (λ (l : List Row). IsReordering (filter (is_asked all) rows) l) (sym is) (reordered-filter (is_asked all) (reordered-reverse rows))) in
     rw (← c.self.view_is)
     (on_ok_weaker c.copy_each.result
-    (λ e. subst (λ l. Reordered (c.args.rows.now.items ++ rows) l) (sym (rw c.as_slice.ensures.value at e)) (reordered-append_left c.args.rows.now.items same)) c.copy_each.ensures)
+    (λ e. subst (λ l. IsReordering (c.args.rows.now.items ++ rows) l) (sym (rw c.as_slice.ensures.value at e)) (reordered-append_left c.args.rows.now.items same)) c.copy_each.ensures)

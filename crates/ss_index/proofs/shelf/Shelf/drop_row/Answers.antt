@@ -1,5 +1,5 @@
 use Rattle.std.proofs.Common.{◌≤◌, ◌-◌, List, [], not, length, sym, ap, subst, arith, append-nil, ◌∙◌}
-use Rattle.ss_text.specs.Texts.{Reordered}
+use Rattle.ss_text.specs.Texts.{IsReordering}
 use Rattle.ss_bso.specs.declared.rows.Row.{Row}
 use Rattle.ss_bso.specs.Limits.{row_bytes}
 use Rattle.ss_bso.specs.Changes.{rows_but}
@@ -53,7 +53,7 @@ returns-in-Some-clause-rows c =
     let held = c.in-Some.drawer.now in
     let now = c.take.new.self in
     let w = c.get_mut.follows.holds now in
-    rw (← c.self.view_is) (subst (λ l. Reordered (rows_in (c.get_mut.follows.lender now).entries) l) (append-nil (rows_but c.args.collection c.args.id (rows_in c.self.inside.drawers.entries)))
+    rw (← c.self.view_is) (subst (λ l. IsReordering (rows_in (c.get_mut.follows.lender now).entries) l) (append-nil (rows_but c.args.collection c.args.id (rows_in c.self.inside.drawers.entries)))
     (edit_rows c.self.invariant c.args.collection c.args.id held now [] (c.get_mut.follows.lender now).entries (sym c.in-Some.ensures.value) w.0 (c.take.ensures.rows ∙ sym (append-nil (rows_but_id c.args.id held.rows)))))
 
 pub returns-in-Some-clause-room : goal.returns-in-Some-clause-room

@@ -1,5 +1,5 @@
 use Rattle.std.proofs.Common.{ℕ, List, length, arith, sym, ap, ◌∙◌}
-use Rattle.ss_index.specs.Held.{Held}
+use Rattle.ss_index.specs.Held.{HeldRows}
 use Rattle.ss_index.specs.Sweep.{Outlives}
 use Rattle.ss_index.proofs.Shelves.{weaker_ends}
 use Rattle.ss_index.proofs.SweepingAll.{alive_end, holds_end, holds_imp}
@@ -20,10 +20,10 @@ loop-i-preserved c =
 pub set_ends-requires : goal.set_ends-requires
 set_ends-requires c =
     let inv = c.loop-i.invariant in
-    holds_end (Outlives c.loop-i.least) c.loop-i.self c.loop-i.i (omega (arith, inv.number, c.loop-i-test.false, c.len-i-end.ensures.len, ap (λ (drawers : List (List ℕ × Held)). length drawers) c.self.view_is)) inv.ends
+    holds_end (Outlives c.loop-i.least) c.loop-i.self c.loop-i.i (omega (arith, inv.number, c.loop-i-test.false, c.len-i-end.ensures.len, ap (λ (drawers : List (List ℕ × HeldRows)). length drawers) c.self.view_is)) inv.ends
 
 pub returns-clause-rows : goal.returns-clause-rows
 returns-clause-rows c =
     let inv = c.loop-i.invariant in
-    let past = alive_end c.args.moment c.loop-i.self c.loop-i.i (omega (arith, inv.number, c.loop-i-test.false, c.len-i-end.ensures.len, ap (λ (drawers : List (List ℕ × Held)). length drawers) c.self.view_is)) inv.alive in
+    let past = alive_end c.args.moment c.loop-i.self c.loop-i.i (omega (arith, inv.number, c.loop-i-test.false, c.len-i-end.ensures.len, ap (λ (drawers : List (List ℕ × HeldRows)). length drawers) c.self.view_is)) inv.alive in
     rw c.set_ends.ensures (sym past ∙ inv.rows)

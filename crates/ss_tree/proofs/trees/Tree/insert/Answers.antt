@@ -4,7 +4,7 @@ use Rattle.ss_tree.specs.declared.entries.Entry.{Entry}
 use Rattle.ss_tree.specs.Entries.{insert_fault}
 use Rattle.ss_tree.specs.declared.cells.TheConstants.{END}
 use Rattle.ss_tree.specs.declared.cells.Cell.{Cell}
-use Rattle.ss_tree.specs.Cells.{cell_at, link_of, listing, seat_at, Attaches, Hangs, Seats, IsLinked}
+use Rattle.ss_tree.specs.Cells.{cell_at, link_of, listing, seat_at, Attaches, Hangs, Seats, IsLinkedTree}
 use Rattle.ss_tree.proofs.Changed.{holds_linked, insert_places, insert_under, inserted, inserted_entry, inserted_kids}
 use Rattle.ss_tree.proofs.Changed.{inserted_ids}
 use Rattle.ss_tree.proofs.Hanging.{inserted_hangs}
@@ -17,7 +17,7 @@ attach-requires-clause-parent c =
     let b = c.args.before in
     let k = c.place_for-place.result in
     let e : Entry = record { node = k; parent = Some p; item = c.args.item; time = c.args.time } in
-    let linked : IsLinked cells = c.self.invariant.0 in
+    let linked : IsLinkedTree cells = c.self.invariant.0 in
     let free : insert_fault (listing cells) p b e.item.id ≡ None = rw (c.self.view_is, ← c.id.ensures.id) (sym c.insert_fault.ensures ∙ c.in_default.is) in
     let room : length cells + 1 < END = omega (arith, c.if-len.false) in
     let blank_there : seat_at cells k ≡ None = rw (c.deref.ensures.value, c.reserve.ensures.items) at c.place_for-place.ensures.blank in
@@ -32,7 +32,7 @@ attach-requires-clause-right c =
     let b = c.args.before in
     let k = c.place_for-place.result in
     let e : Entry = record { node = k; parent = Some p; item = c.args.item; time = c.args.time } in
-    let linked : IsLinked cells = c.self.invariant.0 in
+    let linked : IsLinkedTree cells = c.self.invariant.0 in
     let free : insert_fault (listing cells) p b e.item.id ≡ None = rw (c.self.view_is, ← c.id.ensures.id) (sym c.insert_fault.ensures ∙ c.in_default.is) in
     let room : length cells + 1 < END = omega (arith, c.if-len.false) in
     let blank_there : seat_at cells k ≡ None = rw (c.deref.ensures.value, c.reserve.ensures.items) at c.place_for-place.ensures.blank in
@@ -47,7 +47,7 @@ attach-requires-clause-left c =
     let b = c.args.before in
     let k = c.place_for-place.result in
     let e : Entry = record { node = k; parent = Some p; item = c.args.item; time = c.args.time } in
-    let linked : IsLinked cells = c.self.invariant.0 in
+    let linked : IsLinkedTree cells = c.self.invariant.0 in
     let free : insert_fault (listing cells) p b e.item.id ≡ None = rw (c.self.view_is, ← c.id.ensures.id) (sym c.insert_fault.ensures ∙ c.in_default.is) in
     let room : length cells + 1 < END = omega (arith, c.if-len.false) in
     let blank_there : seat_at cells k ≡ None = rw (c.deref.ensures.value, c.reserve.ensures.items) at c.place_for-place.ensures.blank in
@@ -62,7 +62,7 @@ invariant_of-self-2 c =
     let b = c.args.before in
     let k = c.place_for-place.result in
     let e : Entry = record { node = k; parent = Some p; item = c.args.item; time = c.args.time } in
-    let linked : IsLinked cells = c.self.invariant.0 in
+    let linked : IsLinkedTree cells = c.self.invariant.0 in
     let free : insert_fault (listing cells) p b e.item.id ≡ None = rw (c.self.view_is, ← c.id.ensures.id) (sym c.insert_fault.ensures ∙ c.in_default.is) in
     let room : length cells + 1 < END = omega (arith, c.if-len.false) in
     let blank_there : seat_at cells k ≡ None = rw (c.deref.ensures.value, c.reserve.ensures.items) at c.place_for-place.ensures.blank in
@@ -85,7 +85,7 @@ returns-clause-entries c =
     let b = c.args.before in
     let k = c.place_for-place.result in
     let e : Entry = record { node = k; parent = Some p; item = c.args.item; time = c.args.time } in
-    let linked : IsLinked cells = c.self.invariant.0 in
+    let linked : IsLinkedTree cells = c.self.invariant.0 in
     let free : insert_fault (listing cells) p b e.item.id ≡ None = rw (c.self.view_is, ← c.id.ensures.id) (sym c.insert_fault.ensures ∙ c.in_default.is) in
     let room : length cells + 1 < END = omega (arith, c.if-len.false) in
     let blank_there : seat_at cells k ≡ None = rw (c.deref.ensures.value, c.reserve.ensures.items) at c.place_for-place.ensures.blank in
@@ -103,7 +103,7 @@ returns-clause-kids c =
     let b = c.args.before in
     let k = c.place_for-place.result in
     let e : Entry = record { node = k; parent = Some p; item = c.args.item; time = c.args.time } in
-    let linked : IsLinked cells = c.self.invariant.0 in
+    let linked : IsLinkedTree cells = c.self.invariant.0 in
     let free : insert_fault (listing cells) p b e.item.id ≡ None = rw (c.self.view_is, ← c.id.ensures.id) (sym c.insert_fault.ensures ∙ c.in_default.is) in
     let room : length cells + 1 < END = omega (arith, c.if-len.false) in
     let blank_there : seat_at cells k ≡ None = rw (c.deref.ensures.value, c.reserve.ensures.items) at c.place_for-place.ensures.blank in

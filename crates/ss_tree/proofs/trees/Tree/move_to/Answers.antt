@@ -3,7 +3,7 @@ use Rattle.ss_list.proofs.Calls.{whole_slice}
 use Rattle.ss_tree.specs.declared.entries.Entry.{Entry}
 use Rattle.ss_tree.specs.Entries.{above, entry, move_fault, under}
 use Rattle.ss_tree.specs.declared.cells.Cell.{Cell}
-use Rattle.ss_tree.specs.Cells.{next_of, prev_of, link_of, seat_at, listing, Joins, Attaches, SameLinks, IsLinked}
+use Rattle.ss_tree.specs.Cells.{next_of, prev_of, link_of, seat_at, listing, Joins, Attaches, SameLinks, IsLinkedTree}
 use Rattle.ss_tree.proofs.Changed.{holds_linked, move_parent, move_loose, has_parent, leave_places, moved}
 use Rattle.ss_tree.proofs.Changed.{moved_entries, moved_kids, moved_ids, move_places}
 use Rattle.ss_tree.proofs.Hanging.{moved_hangs}
@@ -16,7 +16,7 @@ unreachable-requires c =
     let k = c.args.node in
     let q = c.args.parent in
     let b = c.args.before in
-    let linked : IsLinked cells = c.self.invariant.0 in
+    let linked : IsLinkedTree cells = c.self.invariant.0 in
     let free : move_fault (listing cells) k q b ≡ None = rw c.self.view_is (sym c.move_fault.ensures ∙ c.in_default.is) in
     has_parent (listing cells) linked.kept.is_tree k (rw c.self.view_is c.requires) (move_loose (listing cells) k q b free) (rw c.self.view_is (sym c.parent.ensures.node ∙ c.in_default-parent.is))
 
@@ -26,7 +26,7 @@ detach-requires-clause-left c =
     let k = c.args.node in
     let q = c.args.parent in
     let b = c.args.before in
-    let linked : IsLinked cells = c.self.invariant.0 in
+    let linked : IsLinkedTree cells = c.self.invariant.0 in
     let free : move_fault (listing cells) k q b ≡ None = rw c.self.view_is (sym c.move_fault.ensures ∙ c.in_default.is) in
     let p = c.in-Some-parent.above in
     let up : above (listing cells) k ≡ Some p = rw c.self.view_is (sym c.parent.ensures.node ∙ c.in-Some-parent.is) in
@@ -38,7 +38,7 @@ detach-requires-clause-right c =
     let k = c.args.node in
     let q = c.args.parent in
     let b = c.args.before in
-    let linked : IsLinked cells = c.self.invariant.0 in
+    let linked : IsLinkedTree cells = c.self.invariant.0 in
     let free : move_fault (listing cells) k q b ≡ None = rw c.self.view_is (sym c.move_fault.ensures ∙ c.in_default.is) in
     let p = c.in-Some-parent.above in
     let up : above (listing cells) k ≡ Some p = rw c.self.view_is (sym c.parent.ensures.node ∙ c.in-Some-parent.is) in
@@ -50,7 +50,7 @@ attach-requires-clause-parent c =
     let k = c.args.node in
     let q = c.args.parent in
     let b = c.args.before in
-    let linked : IsLinked cells = c.self.invariant.0 in
+    let linked : IsLinkedTree cells = c.self.invariant.0 in
     let free : move_fault (listing cells) k q b ≡ None = rw c.self.view_is (sym c.move_fault.ensures ∙ c.in_default.is) in
     let p = c.in-Some-parent.above in
     let up : above (listing cells) k ≡ Some p = rw c.self.view_is (sym c.parent.ensures.node ∙ c.in-Some-parent.is) in
@@ -69,7 +69,7 @@ attach-requires-clause-right c =
     let k = c.args.node in
     let q = c.args.parent in
     let b = c.args.before in
-    let linked : IsLinked cells = c.self.invariant.0 in
+    let linked : IsLinkedTree cells = c.self.invariant.0 in
     let free : move_fault (listing cells) k q b ≡ None = rw c.self.view_is (sym c.move_fault.ensures ∙ c.in_default.is) in
     let p = c.in-Some-parent.above in
     let up : above (listing cells) k ≡ Some p = rw c.self.view_is (sym c.parent.ensures.node ∙ c.in-Some-parent.is) in
@@ -87,7 +87,7 @@ attach-requires-clause-left c =
     let k = c.args.node in
     let q = c.args.parent in
     let b = c.args.before in
-    let linked : IsLinked cells = c.self.invariant.0 in
+    let linked : IsLinkedTree cells = c.self.invariant.0 in
     let free : move_fault (listing cells) k q b ≡ None = rw c.self.view_is (sym c.move_fault.ensures ∙ c.in_default.is) in
     let p = c.in-Some-parent.above in
     let up : above (listing cells) k ≡ Some p = rw c.self.view_is (sym c.parent.ensures.node ∙ c.in-Some-parent.is) in
@@ -105,7 +105,7 @@ invariant_of-self c =
     let k = c.args.node in
     let q = c.args.parent in
     let b = c.args.before in
-    let linked : IsLinked cells = c.self.invariant.0 in
+    let linked : IsLinkedTree cells = c.self.invariant.0 in
     let free : move_fault (listing cells) k q b ≡ None = rw c.self.view_is (sym c.move_fault.ensures ∙ c.in_default.is) in
     let p = c.in-Some-parent.above in
     let up : above (listing cells) k ≡ Some p = rw c.self.view_is (sym c.parent.ensures.node ∙ c.in-Some-parent.is) in
@@ -126,7 +126,7 @@ returns-clause-entries c =
     let k = c.args.node in
     let q = c.args.parent in
     let b = c.args.before in
-    let linked : IsLinked cells = c.self.invariant.0 in
+    let linked : IsLinkedTree cells = c.self.invariant.0 in
     let free : move_fault (listing cells) k q b ≡ None = rw c.self.view_is (sym c.move_fault.ensures ∙ c.in_default.is) in
     let p = c.in-Some-parent.above in
     let up : above (listing cells) k ≡ Some p = rw c.self.view_is (sym c.parent.ensures.node ∙ c.in-Some-parent.is) in
@@ -147,7 +147,7 @@ returns-clause-kids c =
     let k = c.args.node in
     let q = c.args.parent in
     let b = c.args.before in
-    let linked : IsLinked cells = c.self.invariant.0 in
+    let linked : IsLinkedTree cells = c.self.invariant.0 in
     let free : move_fault (listing cells) k q b ≡ None = rw c.self.view_is (sym c.move_fault.ensures ∙ c.in_default.is) in
     let p = c.in-Some-parent.above in
     let up : above (listing cells) k ≡ Some p = rw c.self.view_is (sym c.parent.ensures.node ∙ c.in-Some-parent.is) in

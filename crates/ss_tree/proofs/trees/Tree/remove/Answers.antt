@@ -3,7 +3,7 @@ use Rattle.ss_list.proofs.Calls.{whole_slice}
 use Rattle.ss_tree.specs.declared.entries.Entry.{Entry}
 use Rattle.ss_tree.specs.Entries.{above, entry, remove_fault}
 use Rattle.ss_tree.specs.declared.cells.Cell.{Cell}
-use Rattle.ss_tree.specs.Cells.{cell_at, next_of, prev_of, seat_at, listing, Joins, Frees, IsLinked}
+use Rattle.ss_tree.specs.Cells.{cell_at, next_of, prev_of, seat_at, listing, Joins, Frees, IsLinkedTree}
 use Rattle.ss_tree.proofs.Changed.{holds_linked, remove_loose, has_parent, leave_places, removed, removed_entries}
 use Rattle.ss_tree.proofs.Changed.{removed_kids, removed_ids}
 use Rattle.ss_tree.proofs.Hanging.{removed_hangs}
@@ -13,7 +13,7 @@ pub unreachable-requires : goal.unreachable-requires
 unreachable-requires c =
     let cells = c.self.inside.cells.items in
     let k = c.args.node in
-    let linked : IsLinked cells = c.self.invariant.0 in
+    let linked : IsLinkedTree cells = c.self.invariant.0 in
     let free : remove_fault (listing cells) k ≡ None = rw c.self.view_is (sym c.remove_fault.ensures ∙ c.in_default.is) in
     has_parent (listing cells) linked.kept.is_tree k (rw c.self.view_is c.requires) (remove_loose (listing cells) k free) (rw c.self.view_is (sym c.parent.ensures.node ∙ c.in_default-parent.is))
 
@@ -21,7 +21,7 @@ pub detach-requires-clause-left : goal.detach-requires-clause-left
 detach-requires-clause-left c =
     let cells = c.self.inside.cells.items in
     let k = c.args.node in
-    let linked : IsLinked cells = c.self.invariant.0 in
+    let linked : IsLinkedTree cells = c.self.invariant.0 in
     let free : remove_fault (listing cells) k ≡ None = rw c.self.view_is (sym c.remove_fault.ensures ∙ c.in_default.is) in
     let p = c.in-Some-parent.above in
     let up : above (listing cells) k ≡ Some p = rw c.self.view_is (sym c.parent.ensures.node ∙ c.in-Some-parent.is) in
@@ -31,7 +31,7 @@ pub detach-requires-clause-right : goal.detach-requires-clause-right
 detach-requires-clause-right c =
     let cells = c.self.inside.cells.items in
     let k = c.args.node in
-    let linked : IsLinked cells = c.self.invariant.0 in
+    let linked : IsLinkedTree cells = c.self.invariant.0 in
     let free : remove_fault (listing cells) k ≡ None = rw c.self.view_is (sym c.remove_fault.ensures ∙ c.in_default.is) in
     let p = c.in-Some-parent.above in
     let up : above (listing cells) k ≡ Some p = rw c.self.view_is (sym c.parent.ensures.node ∙ c.in-Some-parent.is) in
@@ -41,7 +41,7 @@ pub invariant_of-self : goal.invariant_of-self
 invariant_of-self c =
     let cells = c.self.inside.cells.items in
     let k = c.args.node in
-    let linked : IsLinked cells = c.self.invariant.0 in
+    let linked : IsLinkedTree cells = c.self.invariant.0 in
     let free : remove_fault (listing cells) k ≡ None = rw c.self.view_is (sym c.remove_fault.ensures ∙ c.in_default.is) in
     let p = c.in-Some-parent.above in
     let up : above (listing cells) k ≡ Some p = rw c.self.view_is (sym c.parent.ensures.node ∙ c.in-Some-parent.is) in
@@ -66,7 +66,7 @@ pub returns-clause-entries : goal.returns-clause-entries
 returns-clause-entries c =
     let cells = c.self.inside.cells.items in
     let k = c.args.node in
-    let linked : IsLinked cells = c.self.invariant.0 in
+    let linked : IsLinkedTree cells = c.self.invariant.0 in
     let free : remove_fault (listing cells) k ≡ None = rw c.self.view_is (sym c.remove_fault.ensures ∙ c.in_default.is) in
     let p = c.in-Some-parent.above in
     let up : above (listing cells) k ≡ Some p = rw c.self.view_is (sym c.parent.ensures.node ∙ c.in-Some-parent.is) in
@@ -83,7 +83,7 @@ pub returns-clause-kids : goal.returns-clause-kids
 returns-clause-kids c =
     let cells = c.self.inside.cells.items in
     let k = c.args.node in
-    let linked : IsLinked cells = c.self.invariant.0 in
+    let linked : IsLinkedTree cells = c.self.invariant.0 in
     let free : remove_fault (listing cells) k ≡ None = rw c.self.view_is (sym c.remove_fault.ensures ∙ c.in_default.is) in
     let p = c.in-Some-parent.above in
     let up : above (listing cells) k ≡ Some p = rw c.self.view_is (sym c.parent.ensures.node ∙ c.in-Some-parent.is) in

@@ -3,7 +3,7 @@ use Rattle.ss_list.proofs.Calls.{whole_slice}
 use Rattle.ss_tree.specs.Entries.{is_fit_with, revised_entry}
 use Rattle.ss_tree.proofs.Edits.{live_entry}
 use Rattle.ss_tree.specs.declared.cells.Cell.{Cell}
-use Rattle.ss_tree.specs.Cells.{seat_at, listing, SameLinks, IsLinked}
+use Rattle.ss_tree.specs.Cells.{seat_at, listing, SameLinks, IsLinkedTree}
 use Rattle.ss_tree.proofs.Seen.{fit_item}
 use Rattle.ss_tree.proofs.Changed.{holds_linked, revised_holds, revised_entries, revised_kids, revised_ids}
 use Rattle.ss_tree.proofs.Hanging.{revised_hangs}
@@ -13,7 +13,7 @@ pub revise-requires-clause-node : goal.revise-requires-clause-node
 revise-requires-clause-node c =
     let cells = c.self.inside.cells.items in
     let k = c.args.node in
-    let linked : IsLinked cells = c.self.invariant.0 in
+    let linked : IsLinkedTree cells = c.self.invariant.0 in
     let fit : is_fit_with c.args.content k (listing cells) ≡ true = rw c.self.view_is c.requires.fit in
     rw (c.as_mut_slice.ensures.value, c.number.ensures) (linked.kept.below k (live_entry k (listing cells) c.args.content fit))
 
@@ -21,7 +21,7 @@ pub revise-requires-clause-fit : goal.revise-requires-clause-fit
 revise-requires-clause-fit c =
     let cells = c.self.inside.cells.items in
     let k = c.args.node in
-    let linked : IsLinked cells = c.self.invariant.0 in
+    let linked : IsLinkedTree cells = c.self.invariant.0 in
     let fit : is_fit_with c.args.content k (listing cells) ≡ true = rw c.self.view_is c.requires.fit in
     rw (c.as_mut_slice.ensures.value, c.number.ensures) (fit_item cells linked k c.args.content fit)
 
@@ -29,7 +29,7 @@ pub invariant_of-self : goal.invariant_of-self
 invariant_of-self c =
     let cells = c.self.inside.cells.items in
     let k = c.args.node in
-    let linked : IsLinked cells = c.self.invariant.0 in
+    let linked : IsLinkedTree cells = c.self.invariant.0 in
     let fit : is_fit_with c.args.content k (listing cells) ≡ true = rw c.self.view_is c.requires.fit in
     let new : List Cell = c.revise.new.cells in
     let same : SameLinks cells new = rw c.as_mut_slice.ensures.value at c.revise.ensures.links in
@@ -41,7 +41,7 @@ pub returns-clause-entries : goal.returns-clause-entries
 returns-clause-entries c =
     let cells = c.self.inside.cells.items in
     let k = c.args.node in
-    let linked : IsLinked cells = c.self.invariant.0 in
+    let linked : IsLinkedTree cells = c.self.invariant.0 in
     let fit : is_fit_with c.args.content k (listing cells) ≡ true = rw c.self.view_is c.requires.fit in
     let new : List Cell = c.revise.new.cells in
     let same : SameLinks cells new = rw c.as_mut_slice.ensures.value at c.revise.ensures.links in
@@ -53,7 +53,7 @@ pub returns-clause-kids : goal.returns-clause-kids
 returns-clause-kids c =
     let cells = c.self.inside.cells.items in
     let k = c.args.node in
-    let linked : IsLinked cells = c.self.invariant.0 in
+    let linked : IsLinkedTree cells = c.self.invariant.0 in
     let fit : is_fit_with c.args.content k (listing cells) ≡ true = rw c.self.view_is c.requires.fit in
     let new : List Cell = c.revise.new.cells in
     let same : SameLinks cells new = rw c.as_mut_slice.ensures.value at c.revise.ensures.links in

@@ -12,6 +12,7 @@ ghost use Rattle.ss_run_serve.specs.Logbooks.{number_in, is_kept, files_in, fail
 ghost use Rattle.ss_run_serve.specs.Watched.{port_in};
 ghost use Rattle.ss_run_serve.specs.Hosted.{hosted_at, HasEmptyJournal};
 ghost use Rattle.ss_run_serve.specs.Once.{Follows, IsOnce, IsUntold};
+ghost use Rattle.ss_town.specs.Limits.{most_connections, most_workers};
 
 use crate::lines;
 use crate::logbook::Logbook;
@@ -120,8 +121,8 @@ where
     G: Gate + Sync,
     T: Sink,
     R: Threads + Wait + Sync,
-    requires clocks { (0 < vec_len crew.clocks) × (vec_len crew.clocks ≤ 16) }
-    requires connections { connections ≤ 1000 }
+    requires clocks { (0 < vec_len crew.clocks) × (vec_len crew.clocks ≤ most_workers) }
+    requires connections { connections ≤ most_connections }
     requires bare { AreBare (λ b. (journal_of b).entries) crew.accounts.items }
     requires begun { All (λ account. HasEmptyJournal account.1) (map (hosted_at X.Keeper.told X.Keeper.keep_faults)
         crew.accounts.items) }

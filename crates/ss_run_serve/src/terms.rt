@@ -9,6 +9,7 @@ ghost use Rattle.ss_run_serve.specs.Watched.{port_in};
 ghost use Rattle.ss_run_serve.specs.Hosted.{hosted_account, hosted_at, HasEmptyJournal};
 ghost use Rattle.ss_run_serve.specs.Terms.{BeginsAnew};
 ghost use Rattle.ss_run_serve.specs.Course.{Course, SameKeeper};
+ghost use Rattle.ss_town.specs.Limits.{most_connections, most_workers};
 
 use crate::logbook::Logbook;
 use crate::stop::Stop;
@@ -69,8 +70,8 @@ where
     G: Gate + Sync,
     T: Sink,
     R: Threads + Wait + Sync,
-    requires clocks { (0 < vec_len crew.clocks) × (vec_len crew.clocks ≤ 16) }
-    requires connections { command.now.connections ≤ 1000 }
+    requires clocks { (0 < vec_len crew.clocks) × (vec_len crew.clocks ≤ most_workers) }
+    requires connections { command.now.connections ≤ most_connections }
     requires terms { command.now.terms ≤ 999999999999 }
     requires begun { All (λ account. HasEmptyJournal account.1) (map (hosted_at X.Keeper.told X.Keeper.keep_faults)
         crew.accounts.items) }

@@ -10,6 +10,7 @@ ghost use Rattle.ss_serve.specs.Tallies.{tally};
 ghost use Rattle.ss_serve.specs.Crew.{IsReady, HasWorked, IsStart, AreHalvedPasses, AreWorkerSigns, fixed_at, sign};
 ghost use Rattle.ss_serve.specs.Crew.{starts};
 ghost use Rattle.ss_serve.specs.Crew.{count_reports};
+ghost use Rattle.ss_town.specs.Limits.{most_workers};
 
 use crate::channel::{Bare, Cut, Job, Links, Tally};
 use crate::worker::Worker;
@@ -97,7 +98,7 @@ pub(crate) fn recruit_all<L: Closable + Drop, C: Clock + Drop, K: Keeper + Drop>
     requires seat { IsSeatAt (sends_on sender.now) place.old }
     requires whole { view place.old ≡ tally 32 0 0 }
     requires none { jobs.old.items ≡ [] }
-    requires few { vec_len clocks.old ≤ 16 }
+    requires few { vec_len clocks.old ≤ most_workers }
     requires room { vec_len clocks.old ≤ vec_capacity jobs.old }
     ensures of { AreOf (desks_of town.now) (passes_of passes.new) }
     ensures left { AreHalvedPasses (length jobs.new.items) (passes_of passes.old) (passes_of passes.new) }

@@ -8,6 +8,7 @@ ghost use Rattle.ss_route.specs.declared.manner.Manner.{Manner};
 ghost use Rattle.ss_serve.specs.Terms.{AreServedAccounts};
 ghost use Rattle.ss_serve.specs.Crew.{Have, IsWhole, AreHandedBack, count_reports, sign, starts};
 ghost use Rattle.ss_serve.specs.Gathering.{IsGathering, reports_in};
+ghost use Rattle.ss_town.specs.Limits.{most_workers};
 
 use crate::report::LinkReport;
 use crate::worker::Worker;
@@ -77,7 +78,7 @@ pub(crate) fn finish<L: Closable + Drop, C: Clock + Drop, K: Keeper + Drop>(
     requires of { AreOf (desks_of town) (passes_of passes) }
     requires crew { Have L.Told.told L.closed C.coming (uids_of town) (desks_of town) (passes_of passes) crew.items }
     requires whole { (i : ℕ) → i < length (uids_of town) → IsWhole (length crew.items) (view_at (passes_of passes) i) }
-    requires few { length crew.items ≤ 16 }
+    requires few { length crew.items ≤ most_workers }
     requires none { (reports.items ≡ []) × (clocks.items ≡ []) }
     requires room { count_reports crew.items ≤ vec_capacity reports }
     requires clocks { vec_len crew ≤ vec_capacity clocks }

@@ -4,6 +4,7 @@ ghost use Rattle.std.specs.Prelude.{◌≡◌, ◌≤◌, ◌<◌, ◌+◌, [], 
 ghost use Rattle.crossbeam_channel.specs.Claims.{view, IsSeatAt};
 ghost use Rattle.crossbeam_channel.specs.Ends.{sends_on, receives_on};
 ghost use Rattle.ss_serve.specs.Tallies.{tally};
+ghost use Rattle.ss_town.specs.Limits.{most_connections, most_workers};
 
 use crate::channel::{Job, Links, Tally};
 use crate::report::LinkReport;
@@ -31,8 +32,8 @@ pub(crate) fn room_for<L: Closable + Drop, C: Drop, T: Journaled>(
     workers: usize,
     connections: usize,
 ) -> Result<Room<L, C, T>, AllocError>
-    requires workers { (0 < workers) × (workers ≤ 16) }
-    requires connections { connections ≤ 1000 }
+    requires workers { (0 < workers) × (workers ≤ most_workers) }
+    requires connections { connections ≤ most_connections }
     ensures jobs { IfOk result (λ r. (r.jobs.items ≡ []) × (workers ≤ vec_capacity r.jobs)) }
     ensures done { IfOk result (λ r. (r.done.items ≡ []) × (workers ≤ vec_capacity r.done)) }
     ensures left { IfOk result (λ r. (r.left.items ≡ []) × (connections ≤ vec_capacity r.left)) }

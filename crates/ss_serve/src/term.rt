@@ -19,6 +19,7 @@ ghost use Rattle.ss_serve.specs.Reports.{AreAllGated};
 ghost use Rattle.ss_serve.specs.Tallies.{tally};
 ghost use Rattle.ss_serve.specs.Terms.{TermSays, FullSays, HasEnded, AreServedAccounts};
 ghost use Rattle.ss_serve.specs.Fullness.{IsOpenStop, FullKind};
+ghost use Rattle.ss_town.specs.Limits.{most_connections, most_workers};
 
 use crate::accept::Stopped;
 use crate::channel::{Job, Links, Tally};
@@ -119,7 +120,7 @@ fn end_early<L: Closable + Drop, C: Clock + Drop, K: Keeper + Drop>(
     requires of { AreOf (desks_of town) (passes_of passes) }
     requires crew { Have L.Told.told L.closed C.coming (uids_of town) (desks_of town) (passes_of passes) crew.items }
     requires whole { (i : ℕ) → i < length (uids_of town) → IsWhole (length crew.items) (view_at (passes_of passes) i) }
-    requires few { length crew.items ≤ 16 }
+    requires few { length crew.items ≤ most_workers }
     requires none { (reports.items ≡ []) × (served.items ≡ []) }
     requires unserved { count_reports crew.items ≡ 0 }
     requires room { vec_len crew + vec_len others ≤ vec_capacity served }
@@ -154,7 +155,7 @@ fn end_served<L: Closable + Drop, C: Clock + Drop, K: Keeper + Drop>(
     requires one { (manner : Manner) × All (λ w. w.manner ≡ manner) crew.items }
     requires crew { Have L.Told.told L.closed C.coming (uids_of town) (desks_of town) (passes_of passes) crew.items }
     requires whole { (i : ℕ) → i < length (uids_of town) → IsWhole (length crew.items) (view_at (passes_of passes) i) }
-    requires few { length crew.items ≤ 16 }
+    requires few { length crew.items ≤ most_workers }
     requires none { (reports.items ≡ []) × (clocks.items ≡ []) }
     requires room { count_reports crew.items ≤ vec_capacity reports }
     requires clocks { vec_len crew ≤ vec_capacity clocks }
@@ -207,7 +208,7 @@ fn serve_links<
     requires left { front.left.items ≡ [] }
     requires room { connections ≤ vec_capacity front.left }
     requires done { (vec_len crew.done + vec_len crew.jobs ≤ vec_capacity crew.done) × (crew.done.items ≡ []) }
-    requires some { (0 < length crew.jobs.items) × (length crew.jobs.items ≤ 16) }
+    requires some { (0 < length crew.jobs.items) × (length crew.jobs.items ≤ most_workers) }
     requires jobs { All (λ w. IsReady L.Told.told L.closed C.coming (uids_of town.now) (desks_of town.now)
         (sends_on sender.now) w) crew.jobs.items }
     requires least { All (λ w. connections ≤ vec_capacity w.reports) crew.jobs.items }
@@ -269,8 +270,8 @@ fn run_in<
     connections: u32,
     room: Room<L, C, Booked<K>>,
 ) -> TermEnd<L, C, K>
-    requires clocks { (0 < vec_len clocks) × (vec_len clocks ≤ 16) }
-    requires connections { connections ≤ 1000 }
+    requires clocks { (0 < vec_len clocks) × (vec_len clocks ≤ most_workers) }
+    requires connections { connections ≤ most_connections }
     requires of { AreOf (desks_of town) (passes_of passes) }
     requires start { AreHalvedPasses 0 (passes_of passes) (passes_of passes) }
     requires jobs { (room.jobs.items ≡ []) × (vec_len clocks ≤ vec_capacity room.jobs) }
@@ -349,8 +350,8 @@ fn run_term<
     passes: Passes<Booked<K>>,
     connections: u32,
 ) -> TermEnd<L, C, K>
-    requires clocks { (0 < vec_len clocks) × (vec_len clocks ≤ 16) }
-    requires connections { connections ≤ 1000 }
+    requires clocks { (0 < vec_len clocks) × (vec_len clocks ≤ most_workers) }
+    requires connections { connections ≤ most_connections }
     requires of { AreOf (desks_of town) (passes_of passes) }
     requires start { AreHalvedPasses 0 (passes_of passes) (passes_of passes) }
     ensures handed { AreHandedBack (λ b. terms_of K.keep_faults b) (uids_of town) (passes_of passes) result.accounts.items }
@@ -403,8 +404,8 @@ pub fn serve_term<
     accounts: Vec<(u32, Booked<K>)>,
     connections: u32,
 ) -> TermEnd<L, C, K>
-    requires clocks { (0 < vec_len clocks) × (vec_len clocks ≤ 16) }
-    requires connections { connections ≤ 1000 }
+    requires clocks { (0 < vec_len clocks) × (vec_len clocks ≤ most_workers) }
+    requires connections { connections ≤ most_connections }
     requires bare { AreBare (λ b. (journal_of b).entries) accounts.items }
     // What comes back, and what the reports say of it.
     ensures says { TermSays (λ b. terms_of K.keep_faults b) (λ b. (journal_of b).entries)

@@ -153,7 +153,7 @@ each-at P (y ∷ ys) zero x lt is e = subst P (sym is) e.0
 each-at P (y ∷ ys) (suc i) x lt is e = each-at P ys i x (omega arith) is e.1
 
 before-at : {X : Type 0} (R : X → X → Type 0) (xs : List X) (i : ℕ) (x : X) → i < length xs → x ≡ get_or xs i x → Pairs R xs → Each (λ (one : X). R one x) (take i xs)
-before-at R [] i x lt is p = tt
+before-at R [] i x lt is p = absurd (omega arith)
 before-at R (y ∷ ys) zero x lt is p = tt
 before-at R (y ∷ ys) (suc i) x lt is p = (each-at (R y) ys i x (omega arith) is p.0, before-at R ys i x (omega arith) is p.1)
 

@@ -6,8 +6,8 @@ use Rattle.ss_outside.proofs.Telling.{HasRead-append}
 use Rattle.ss_input.specs.Inputs.{Gets, IsPart}
 use Rattle.ss_input.proofs.Pieces.{gets_more, part_append}
 use Rattle.ss_run_move.specs.declared.endings.Ending.{Ending}
-use Rattle.ss_run_move.specs.declared.endings.Ending.TheVariants.{Done, Site, Damaged, Keeper, Output, Input, NoAccount}
-use Rattle.ss_run_move.specs.declared.endings.Ending.TheVariants.{NotFresh, NoDump, TooLong, Memory}
+use Rattle.ss_run_move.specs.declared.endings.Ending.TheVariants.{Done, OtherWords, Site, Keeper, Output, Damaged}
+use Rattle.ss_run_move.specs.declared.endings.Ending.TheVariants.{NoAccount, NotFresh, NoDump, TooLong, Input, Memory}
 use Rattle.ss_run_move.specs.Inputs.{IsUnread, IsWhole, most_bytes}
 
 longer : (s t : List ℕ) → most_bytes < length t → most_bytes < length (s ++ t)
@@ -19,6 +19,7 @@ unread_later s Input a b c p u = (s ++ u.0, HasRead-append s u.0 a b c p.read u.
 unread_later s TooLong a b c p u = (s ++ u.0, part_append s u.0 a b c p u.1, longer s u.0 u.2)
 unread_later s Memory a b c p u = (s ++ u.0, part_append s u.0 a b c p u.1)
 unread_later s Done a b c p u = absurd u
+unread_later s OtherWords a b c p u = absurd u
 unread_later s Site a b c p u = absurd u
 unread_later s Damaged a b c p u = absurd u
 unread_later s Keeper a b c p u = absurd u

@@ -5,8 +5,8 @@ use Rattle.ss_dump.specs.declared.faults.DumpFault.{DumpFault}
 use Rattle.ss_dump.specs.Undumped.{IsWhyNoDump}
 use Rattle.ss_site.specs.Sites.{Counts, TellsStill}
 use Rattle.ss_run_move.specs.declared.endings.Ending.{Ending}
-use Rattle.ss_run_move.specs.declared.endings.Ending.TheVariants.{Done, Site, Damaged, Keeper, Output, Input, NoAccount}
-use Rattle.ss_run_move.specs.declared.endings.Ending.TheVariants.{NotFresh, NoDump, TooLong, Memory}
+use Rattle.ss_run_move.specs.declared.endings.Ending.TheVariants.{Done, OtherWords, Site, Keeper, Output, Damaged}
+use Rattle.ss_run_move.specs.declared.endings.Ending.TheVariants.{NoAccount, NotFresh, NoDump, TooLong, Input, Memory}
 use Rattle.ss_run_move.specs.declared.words.Verb.{Verb}
 use Rattle.ss_run_move.specs.declared.words.Verb.TheVariants.{Restore}
 use Rattle.ss_run_move.specs.Endings.{Wrote, at_dump}
@@ -35,6 +35,7 @@ does_restore verb folder uid ending site site' input input' output is restores =
 quiet_ending : (text : List ℕ) (ending : Ending) (output output' : Meanings) (old new : Counts) → Wrote text ending output output' → new ≡ old → CountsEnding ending old new
 quiet_ending text Done output output' old new wrote same = same
 quiet_ending text Output output output' old new wrote same = same
+quiet_ending text OtherWords output output' old new wrote same = absurd wrote
 quiet_ending text Site output output' old new wrote same = absurd wrote
 quiet_ending text Damaged output output' old new wrote same = absurd wrote
 quiet_ending text Keeper output output' old new wrote same = absurd wrote

@@ -11,11 +11,12 @@ use Rattle.ss_dump.specs.declared.faults.RefillFault.TheVariants as refilled
 use Rattle.ss_site.specs.declared.site.NoKeeper.{NoKeeper}
 use Rattle.ss_site.specs.declared.site.NoKeeper.TheVariants as missing
 use Rattle.ss_run_move.specs.declared.endings.Ending.{Ending}
-use Rattle.ss_run_move.specs.declared.endings.Ending.TheVariants.{Done, Site, Damaged, Keeper, Output, Input, NoAccount}
-use Rattle.ss_run_move.specs.declared.endings.Ending.TheVariants.{NotFresh, NoDump, TooLong, Memory}
+use Rattle.ss_run_move.specs.declared.endings.Ending.TheVariants.{Done, OtherWords, Site, Keeper, Output, Damaged}
+use Rattle.ss_run_move.specs.declared.endings.Ending.TheVariants.{NoAccount, NotFresh, NoDump, TooLong, Input, Memory}
 
 abbrev pub status_of : Ending → ℕ
 status_of Done = 0
+status_of OtherWords = 1
 status_of Site = 2
 status_of Keeper = 2
 status_of Output = 3

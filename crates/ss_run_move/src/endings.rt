@@ -13,37 +13,40 @@ use std::fmt::{self, Display, Formatter, Write};
 /// How a run of `dump` or `restore` ended.
 #[derive(Drop, Debug)]
 pub enum Ending {
-    /// All was written, or the account is restored.
+    /// All was written, or the account is restored: status 0.
     Done,
 
-    /// A call of the site failed.
+    /// The words ask for neither, the site was not asked, and nothing was read or written: status 1.
+    OtherWords,
+
+    /// A call of the site failed: status 2.
     Site,
 
-    /// What is kept is no account that can be read.
-    Damaged,
-
-    /// The keeper of the account failed.
+    /// The keeper of the account failed: status 2.
     Keeper,
 
-    /// A write of the output failed.
+    /// A write of the output failed: status 3.
     Output,
 
-    /// A read of the input failed.
-    Input,
+    /// What is kept is no account that can be read: status 4.
+    Damaged,
 
-    /// No account can be opened from what is kept, for a collection, a row or a batch.
+    /// No account can be opened from what is kept, for a collection, a row or a batch: status 4.
     NoAccount { fault: OpenFault },
 
-    /// The account that is to be restored has something already.
+    /// The account that is to be restored has something already: status 4.
     NotFresh,
 
-    /// The input is no dump.
+    /// The input is no dump: status 5.
     NoDump { fault: DumpFault },
 
-    /// The input has more than 1,073,741,824 bytes.
+    /// The input has more than 1,073,741,824 bytes: status 6.
     TooLong,
 
-    /// No memory.
+    /// A read of the input failed: status 7.
+    Input,
+
+    /// No memory: status 8.
     Memory,
 }
 
@@ -54,6 +57,7 @@ impl Ending {
     {
         match self {
             Ending::Done => 0,
+            Ending::OtherWords => 1,
             Ending::Site | Ending::Keeper => 2,
             Ending::Output => 3,
             Ending::Damaged | Ending::NoAccount { .. } | Ending::NotFresh => 4,
@@ -124,6 +128,7 @@ impl Display for Ending {
     fn fmt<W: Write>(&self, f: &mut Formatter<W>) -> fmt::Result {
         match self {
             Ending::Done => f.write_str("done"),
+            Ending::OtherWords => f.write_str("the words ask for something else"),
             Ending::Site => f.write_str("the folder or the file failed"),
             Ending::Damaged => f.write_str("it holds no account"),
             Ending::Keeper => f.write_str("the file failed"),

@@ -1,13 +1,12 @@
 //! Moving an account: the commands `dump` and `restore`, over any site. `dump` writes the text of the account that a
 //! keeper of the site holds; `restore` reads such a text, and fills a keeper that holds nothing. Its contract, on
-//! `run_move`: what is written and what is filled, each status by its cause, and that the keeper comes back.
+//! `run_move`: what is written and what is filled, each end by its cause, and that the keeper comes back.
 #![tactic(auto)]
 
 mod dumping;
 mod endings;
 mod inputs;
 mod laws;
-mod lines;
 mod restoring;
 mod running;
 mod words;

@@ -7,10 +7,7 @@ ghost use Rattle.ss_words.specs.Lines.{is_dashed};
 ghost use Rattle.ss_run_move.specs.Asked.{Asks, AsksBehind, name_of};
 ghost use Rattle.ss_run_move.specs.declared.words.Verb.{Verb as VerbView};
 
-use ss_outside::{Sink, write_all};
 use ss_text::read_number;
-use ss_words::{Cause, Refusal};
-use std::alloc::{AllocError, Global};
 
 /// What ends the words of a command that may begin with a dash.
 const DASHES: &str = "--";
@@ -141,29 +138,5 @@ pub fn read_move(words: &[String]) -> Option<MoveCommand<'_>>
             None => None,
         },
         _ => None,
-    }
-}
-
-/// Why words ask for neither, for people.
-fn reason(alloc: Global, words: &[String]) -> Result<String, AllocError> {
-    let (cause, word) = match words {
-        [] | [_] | [_, _] => (Cause::TooFew, None),
-        [_, folder, _] if is_dashed(folder.as_str()) => (Cause::NoOption, Some(folder.as_str())),
-        [_, _, number] => (Cause::Account, Some(number.as_str())),
-        [_, .., last] => (Cause::TooMany, Some(last.as_str())),
-    };
-    format!(in alloc; "{}", Refusal { cause, word })
-}
-
-/// Tells people why words ask for neither.
-pub(crate) fn explain<E: Sink>(alloc: Global, words: &[String], err: &mut E) {
-    if let Ok(reason) = reason(alloc, words) {
-        let name = match words.first() {
-            Some(word) => word.as_str(),
-            None => "",
-        };
-        if let Ok(line) = format!(in alloc; "syncstore: {reason}; try syncstore {name} --help\n") {
-            let _ = write_all(err, line.as_bytes());
-        }
     }
 }

@@ -16,7 +16,8 @@ use Rattle.ss_words.specs.Commands.{Asks}
 use Rattle.ss_serve.specs.declared.report.LinkReport.{LinkReport}
 use Rattle.ss_run_serve.specs.declared.stop.Stop.{Stop}
 use Rattle.ss_run_serve.specs.declared.stop.Stop.TheVariants as stops
-use Rattle.ss_run_serve.specs.Statuses.{status_of}
+use Rattle.ss_run_serve.specs.declared.endings.Ending.{Ending}
+use Rattle.ss_run_serve.specs.declared.endings.Ending.TheVariants.{Stopped, OtherWords, Memory}
 use Rattle.ss_run_serve.specs.Hosted.{HostedAccount, left_by}
 use Rattle.ss_run_serve.specs.Opening.{AreAsBefore, IsBad, OpensAccount, IsWhyUnopened}
 use Rattle.ss_run_serve.specs.Refusals.{IsRefusedAs}
@@ -101,9 +102,9 @@ module _ {L : Type 0} where
       -- under its account's name and its term's number: all, or after a fault of their store or for want of memory some that come first
       pub logged : AreLoggedAt command.logs stop told old.logs new.logs
 
-    -- The words ask for a server, and it was one; or they ask none, and nothing was done. The same with 8, where no memory was found
-    -- to read them
-    pub data Runs (words : List (List ℕ)) (status : ℕ) (old new : ServedSite (LinkReport L)) : Type 0 where
-      serves : (command : ServeCommand) (stop : Stop) → Asks words (Serve command) → status ≡ status_of stop → IsServerRun command stop old new → Runs words status old new
-      asks_nothing : ((command : ServeCommand) → Asks words (Serve command) → ⊥) → status ≡ 1 → new ≡ old → Runs words status old new
-      out_of_memory : status ≡ 8 → new ≡ old → Runs words status old new
+    -- The words ask for a server, it was one, and the run ends with why it stopped; or they ask none, and nothing was done. The same
+    -- where no memory was found to read them
+    pub data Runs (words : List (List ℕ)) (ending : Ending) (old new : ServedSite (LinkReport L)) : Type 0 where
+      serves : (command : ServeCommand) (stop : Stop) → Asks words (Serve command) → ending ≡ Stopped stop → IsServerRun command stop old new → Runs words ending old new
+      asks_nothing : ((command : ServeCommand) → Asks words (Serve command) → ⊥) → ending ≡ OtherWords → new ≡ old → Runs words ending old new
+      out_of_memory : ending ≡ Memory → new ≡ old → Runs words ending old new

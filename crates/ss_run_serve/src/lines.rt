@@ -1,7 +1,6 @@
 //! What a server tells an operator: lines of which no contract speaks. A line that can't be made or written is passed
 //! over.
 
-use crate::stop::Stop;
 use ss_connection::{End, Turn};
 use ss_links::Closable;
 use ss_outside::{Sink, write_all};
@@ -129,20 +128,6 @@ pub(crate) fn tell_term<L: Closable, T: Sink>(
             format!(in alloc; "syncstore: the journal of account {uid} was full\n"),
         );
     }
-}
-
-fn stopping(alloc: Global, folder: &str, stop: Stop) -> Result<String, AllocError> {
-    match stop {
-        Stop::Damaged { uid } | Stop::Keeper { uid } | Stop::Account { uid, .. } => {
-            format!(in alloc; "syncstore: stopped: {stop}; it is kept in {folder}/{uid}.db\n")
-        }
-        _ => format!(in alloc; "syncstore: stopped: {stop}\n"),
-    }
-}
-
-/// Why the server stops, and the file where it is one's fault.
-pub(crate) fn tell_stop<T: Sink>(alloc: Global, err: &mut T, command: &ServeCommand, stop: Stop) {
-    say(err, stopping(alloc, command.folder.as_str(), stop));
 }
 
 /// That the log with this name is saved, or can't be.

@@ -4,7 +4,7 @@ ghost use Rattle.std.specs.Prelude.{map, string_bytes};
 ghost use Rattle.ss_run_serve.specs.Lending.{AllAreBack, ListensAsAsked, OpensAsAsked};
 ghost use Rattle.ss_run_serve.specs.Serving.{Runs};
 
-use crate::lines;
+use crate::endings::Ending;
 use crate::serving::serve;
 use ss_links::{Gate, Port};
 use ss_outside::Sink;
@@ -15,11 +15,10 @@ use std::alloc::Global;
 use std::sync::Wait;
 use std::thread::Threads;
 
-/// Serves the accounts that the words ask for, from what a site keeps, and answers the status: 0 where the port ended
-/// or as many terms were served as was asked; 1 where the words ask for no server; 2 where a call of the site failed,
-/// or a keeper while its account was opened; 3 where the port failed; 4 where what is kept is no account; 7 where
-/// a log couldn't be saved; 8 where no memory was found outside a reply. Every keeper that the site gave is given back to
-/// it, the port is shut, and the store of logs is shelved. What `err` is told is for people, and nothing is said of it.
+/// Serves the accounts that the words ask for, from what a site keeps, and answers how that ended: `Stopped`, with why
+/// the server stopped, where they ask for one; `OtherWords` where they ask for none, and `Memory` where no memory was
+/// found to read them, and then nothing is done. Every keeper that the site gave is given back to it, the port is shut,
+/// and the store of logs is shelved. What `err` is told while it serves is for people, and nothing is said of it.
 pub fn run_serve<X, G, T, R>(
     rt: &R,
     alloc: Global,
@@ -27,7 +26,7 @@ pub fn run_serve<X, G, T, R>(
     site: &mut X,
     gate: &G,
     err: &mut T,
-) -> u8
+) -> Ending
 where
     X: Site<Report = LinkReport<<<X as Site>::Port as Port>::Link>>,
     X::Keeper: Send,
@@ -51,7 +50,7 @@ where
           logs = X.logs site.new;
           readings = (X.lent site.new).readings;
         }) }
-    // Every keeper, port and store that the site gave came back to it, whatever the status.
+    // Every keeper, port and store that the site gave came back to it, however it ends.
     ensures returned { AllAreBack (X.lent site.old) (X.lent site.new) }
     // It listens at the address of the words, and nowhere else.
     ensures listens { ListensAsAsked (map (λ word. string_bytes word) words.now) (X.lent site.old) (X.lent site.new) }
@@ -60,13 +59,12 @@ where
 {
     let command = match read_command(alloc, words) {
         Ok(command) => command,
-        Err(WordsFault::Refused(_)) => return 1,
-        Err(WordsFault::Memory) => return 8,
+        Err(WordsFault::Refused(_)) => return Ending::OtherWords,
+        Err(WordsFault::Memory) => return Ending::Memory,
     };
     let Command::Serve(command) = command else {
-        return 1;
+        return Ending::OtherWords;
     };
     let stop = serve(rt, alloc, site, gate, err, &command);
-    lines::tell_stop(alloc, err, &command, stop);
-    stop.status()
+    Ending::Stopped(stop)
 }

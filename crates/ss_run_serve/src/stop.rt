@@ -8,48 +8,48 @@ use std::fmt::{self, Display, Formatter, Write};
 /// Why a server stopped.
 #[derive(Clone, Copy, Debug, PartialEq, Eq)]
 pub enum Stop {
-    /// The port ended.
+    /// The port ended: status 0.
     PortEnded,
 
-    /// As many terms were served as was asked.
+    /// As many terms were served as was asked: status 0.
     Terms,
 
-    /// A call of the site failed.
+    /// A call of the site failed: status 2.
     Site,
 
-    /// What is kept under this uid is no account that can be read.
-    Damaged { uid: u32 },
-
-    /// The keeper of this account failed while the account was opened.
+    /// The keeper of this account failed while the account was opened: status 2.
     Keeper { uid: u32 },
 
-    /// The port failed.
+    /// The port failed: status 3.
     Port,
 
-    /// What is kept of this account can't be opened.
+    /// What is kept under this uid is no account that can be read: status 4.
+    Damaged { uid: u32 },
+
+    /// What is kept of this account can't be opened: status 4.
     Account { uid: u32, fault: OpenFault },
 
-    /// No memory was found, outside a reply.
-    Memory,
-
-    /// The store of the logs failed.
+    /// The store of the logs failed: status 7.
     Logs,
+
+    /// No memory was found, outside a reply: status 8.
+    Memory,
 }
 
 impl Stop {
-    ghost use Rattle.ss_run_serve.specs.Statuses.{status_of};
+    ghost use Rattle.ss_run_serve.specs.Statuses.{status_of_stop};
 
-    /// The program's status.
-    pub fn status(self) -> u8
-        ensures { result ≡ status_of self }
+    /// The status of a run that stopped so.
+    pub(crate) fn status(self) -> u8
+        ensures { result ≡ status_of_stop self }
     {
         match self {
             Stop::PortEnded | Stop::Terms => 0,
             Stop::Site | Stop::Keeper { .. } => 2,
             Stop::Port => 3,
             Stop::Damaged { .. } | Stop::Account { .. } => 4,
-            Stop::Memory => 8,
             Stop::Logs => 7,
+            Stop::Memory => 8,
         }
     }
 }

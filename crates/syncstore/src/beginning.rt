@@ -5,7 +5,7 @@ use crate::limits::tell_limits;
 use ss_http::Buffer;
 use ss_real_site::RealSite;
 use ss_site::{Site, SiteFault};
-use ss_words::{Command, ServeCommand, read_command};
+use ss_words::{Command, ServeCommand, WordsFault, read_command};
 use std::alloc::{AllocError, Global};
 use std::fs;
 
@@ -84,7 +84,7 @@ fn try_logs(system: &HostRuntime, command: &ServeCommand) -> Result<(), u8> {
 }
 
 /// Looks whether a server can begin, and tells of limits that its accounts may meet; else says why not, and answers the
-/// status. Of words that ask for no server nothing is said.
+/// status. Of words that ask for no server nothing is said here.
 pub fn prepare(
     system: &HostRuntime,
     site: &mut RealSite<'_, HostRuntime>,
@@ -99,6 +99,10 @@ pub fn prepare(
             tell_limits(system, command.uids.as_slice().len() as u64);
             Ok(())
         }
-        _ => Ok(()),
+        Ok(_) | Err(WordsFault::Refused(_)) => Ok(()),
+        Err(WordsFault::Memory) => {
+            explain_memory(system);
+            Err(8)
+        }
     }
 }

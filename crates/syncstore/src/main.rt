@@ -130,7 +130,7 @@ fn main(rt: HostRuntime) -> ExitCode {
                 return ExitCode::from(status);
             }
             let mut err = StdSink::new(rt.stderr());
-            let status = run_serve(
+            let ending = run_serve(
                 &rt,
                 rt.alloc(),
                 words.as_slice(),
@@ -138,8 +138,9 @@ fn main(rt: HostRuntime) -> ExitCode {
                 &TcpGate::new(&rt, &traffic),
                 &mut err,
             );
-            explain::explain_serve(&rt, rt.alloc(), words.as_slice(), site.trouble());
-            status
+            let trouble = site.trouble();
+            explain::explain_serve(&rt, rt.alloc(), words.as_slice(), ending, trouble);
+            ending.status()
         }
         Some(Name::Sync) => online::sync(&rt, words.as_slice()),
         Some(Name::Edit) | Some(Name::Merge) => run_device(&rt, words.as_slice()),

@@ -20,15 +20,7 @@ pub fn move_account(system: &HostRuntime, verb: Verb, words: &[String]) -> u8 {
     let mut site = RealSite::new(system, system, &traffic, folders_for(verb));
     let mut input = StdSource::new(system.stdin());
     let mut output = StdSink::new(system.stdout());
-    let mut err = StdSink::new(system.stderr());
-    let status = run_move(
-        system.alloc(),
-        words,
-        &mut site,
-        &mut input,
-        &mut output,
-        &mut err,
-    );
-    explain_move(system, words, site.trouble(), site.made());
-    status
+    let ending = run_move(system.alloc(), words, &mut site, &mut input, &mut output);
+    explain_move(system, words, &ending, site.trouble(), site.made());
+    ending.status()
 }

@@ -141,6 +141,22 @@ impl<'a> WrongWords<'a> {
     }
 }
 
+/// Whether a word has two or more characters and begins with a dash.
+fn is_dashed(word: &str) -> bool {
+    matches!(word.as_bytes(), [b'-', _, ..])
+}
+
+/// Why the words of `dump` and `restore` ask for neither.
+pub fn refusal_of_move(words: &[String]) -> Refusal<'_> {
+    let (cause, word) = match words {
+        [] | [_] | [_, _] => (Cause::TooFew, None),
+        [_, folder, _] if is_dashed(folder.as_str()) => (Cause::NoOption, Some(folder.as_str())),
+        [_, _, number] => (Cause::Account, Some(number.as_str())),
+        [_, .., last] => (Cause::TooMany, Some(last.as_str())),
+    };
+    Refusal { cause, word }
+}
+
 /// What is wrong with the words of a command, or with words that name none.
 fn reason(
     alloc: Global,

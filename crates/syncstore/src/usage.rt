@@ -4,7 +4,7 @@ use ss_run_audit::NAME as AUDIT_NAME;
 use ss_run_flat::NAME as FLAT_NAME;
 use ss_run_move::Verb;
 use ss_words::Name;
-use std::io::Print;
+use std::io::{Eprint, Print};
 
 /// The text of `--version`.
 const VERSION: &str = "syncstore 0.1.0\n";
@@ -248,10 +248,13 @@ pub fn asked_for(words: &[String]) -> Option<&'static str> {
     }
 }
 
-/// Prints a text to standard output, and answers the status.
-pub fn print(rt: &impl Print, text: &str) -> u8 {
+/// Prints a text to standard output, and answers the status; where that fails it is said on standard error.
+pub fn print<R: Print + Eprint>(rt: &R, text: &str) -> u8 {
     match print!(rt; "{text}") {
         Ok(()) => 0,
-        Err(_) => 3,
+        Err(_) => {
+            let _ = eprintln!(rt; "syncstore: writing the output failed");
+            3
+        }
     }
 }

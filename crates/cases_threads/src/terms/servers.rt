@@ -98,8 +98,8 @@ fn served<R: Threads + Wait + Sync>(
     let mut err = SureSink::new(alloc, 4096)?;
     let gate = Ending { from: case.gate };
     let mut site = site(alloc, case)?;
-    let status = run_serve(rt, alloc, words.as_slice(), &mut site, &gate, &mut err);
-    Ok((site, status))
+    let ending = run_serve(rt, alloc, words.as_slice(), &mut site, &gate, &mut err);
+    Ok((site, ending.status()))
 }
 
 /// What is told of a server: its status, and how many terms the site was told.

@@ -16,7 +16,7 @@ returns-in-Err-Refused-clause-runs g c =
 
 pub returns-clause-runs : goal.returns-clause-runs
 returns-clause-runs g c =
-    serves c.in-Serve.command c.serve-stop.result (subst (λ command. Asks (map (λ word. string_bytes word) c.args.words.now) command) c.in-Serve.is c.in-Ok.ensures.asks) c.status.ensures c.serve-stop.ensures.served
+    serves c.in-Serve.command c.serve-stop.result (subst (λ command. Asks (map (λ word. string_bytes word) c.args.words.now) command) c.in-Serve.is c.in-Ok.ensures.asks) refl c.serve-stop.ensures.served
 
 pub returns-in_default-clause-runs : goal.returns-in_default-clause-runs
 returns-in_default-clause-runs g c =

@@ -10,5 +10,5 @@ pub mod Progress
 pub mod Shutting
 pub mod Closing
 pub mod Whole
-pub mod Ending
+pub mod OneTerm
 pub mod Sounding

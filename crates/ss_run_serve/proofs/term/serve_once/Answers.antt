@@ -7,7 +7,7 @@ use Rattle.ss_site.specs.Sites.{HasAdded}
 use Rattle.ss_run_serve.specs.Logs.{logs_of_term, ArePartlySaved, AreSavedLogs}
 use Rattle.ss_run_serve.specs.Logbooks.{number_in, files_in, failures_in}
 use Rattle.ss_run_serve.specs.Watched.{port_in}
-use Rattle.ss_run_serve.proofs.Ending.{follows_has, once_cut, once_done, once_refused, once_untold}
+use Rattle.ss_run_serve.proofs.OneTerm.{follows_has, once_cut, once_done, once_refused, once_untold}
 use Rattle.ss_run_serve.proofs.Saving.{cut_has, if_none, untold_has}
 use Rattle.ss_run_serve.proofs.term.serve_once.Goals as goal
 

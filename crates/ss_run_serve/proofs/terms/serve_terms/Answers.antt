@@ -8,7 +8,7 @@ use Rattle.ss_run_serve.specs.Hosted.{hosted_at}
 use Rattle.ss_run_serve.specs.Terms.{BeginsAnew}
 use Rattle.ss_run_serve.specs.Course.{SameKeeper}
 use Rattle.ss_run_serve.proofs.Opened.{zip_written}
-use Rattle.ss_run_serve.proofs.Ending.{are_bare}
+use Rattle.ss_run_serve.proofs.OneTerm.{are_bare}
 use Rattle.ss_run_serve.proofs.Progress.{all_begun, once_on, progress_first, progress_on, progress_short, progress_stop}
 use Rattle.ss_run_serve.proofs.Progress.{progress_terms}
 use Rattle.ss_run_serve.proofs.Saving.{none_holds, some_holds}

@@ -21,7 +21,7 @@ use Rattle.ss_plan.specs.declared.limits.PlanFault.{PlanFault}
 use Rattle.ss_plan.specs.Plan.{plan}
 use Rattle.ss_plan.specs.Refusals.{body_bytes, first_over, lone_body, or_else, payload_bytes}
 use Rattle.ss_plan.specs.Refusals.{refusal}
-use Rattle.ss_bso.specs.Put.{payload_set as payload_planned}
+use Rattle.ss_bso.specs.Put.{payload_set}
 use Rattle.ss_plan.proofs.Bodies.{body_text}
 use Rattle.ss_route.specs.Sending.{upload_text, uploads_text}
 use Rattle.ss_route.specs.Texts.{json_text, list_text}
@@ -57,11 +57,6 @@ IsOffset offset = IfSome offset (λ k. k ≤ 999999999)
 
 -- ---- bodies
 
-same_payload : (f : Field (List ℕ)) → payload_set f ≡ payload_planned f
-same_payload Keep = refl
-same_payload Clear = refl
-same_payload (Set text) = refl
-
 glued : (i p : List ℕ) → codes "[" ++ (codes "{\"id\":" ++ i ++ codes ",\"payload\":" ++ p ++ codes "}") ++ codes "]" ≡ codes "[{\"id\":" ++ (i ++ (codes ",\"payload\":" ++ (p ++ codes "}]")))
 glued i p = simp append_assoc
 
@@ -70,8 +65,7 @@ lone_is : (part : Part) → uploads_text (part ∷ []) ≡ lone_body part
 unfolding lone_body list_text upload_text json_text
 lone_is part =
     glued (compact_text (string part.id)) (compact_text (string (payload_set part.fields.payload)))
-    ∙ ap (λ payload. codes "[{\"id\":" ++ (compact_text (string part.id) ++ (codes ",\"payload\":" ++ (compact_text (string payload) ++ codes "}]")))) (same_payload part.fields.payload)
-    ∙ body_text part.id (payload_planned part.fields.payload)
+    ∙ body_text part.id (payload_set part.fields.payload)
 
 none_over : (most : ℕ) (parts : List Part) → most ≤ most_body_bytes → find (λ p. nat_lt most (body_bytes p)) parts ≡ None → All IsLone parts
 none_over most [] room e = λ k d h. absurd (omega arith)

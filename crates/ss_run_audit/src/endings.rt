@@ -10,6 +10,9 @@ use ss_logs::LogFault;
 use std::alloc::AllocError;
 use std::fmt::{self, Display, Formatter, Write};
 
+/// What people are told where no memory is found to tell them more.
+pub(crate) const NO_MEMORY: &str = "syncstore: no memory was found\n";
+
 /// How a run of `audit` ended. Lines are counted from 1.
 #[derive(Clone, Copy, Debug, PartialEq, Eq)]
 pub enum Ending {

@@ -5,7 +5,7 @@ ghost use Rattle.ss_logs.specs.Logs.{IsWhyNoLogs};
 ghost use Rattle.ss_run_audit.specs.Endings.{Wrote, told_end};
 ghost use Rattle.ss_run_audit.specs.Runs.{Audits, IsAuditOf, Runs};
 
-use crate::endings::Ending;
+use crate::endings::{Ending, NO_MEMORY};
 use crate::tellings::telling;
 use crate::words::{asks, explain};
 use ss_audit::{Verdict, audit};
@@ -56,9 +56,10 @@ fn tell<E: Sink>(alloc: Global, err: &mut E, ending: Ending) {
     if let Ending::Sound | Ending::Unsound = ending {
         return;
     }
-    if let Ok(line) = format!(in alloc; "syncstore: {ending}\n") {
-        let _ = write_all(err, line.as_bytes());
-    }
+    let _ = match format!(in alloc; "syncstore: {ending}\n") {
+        Ok(line) => write_all(err, line.as_bytes()),
+        Err(_) => write_all(err, NO_MEMORY.as_bytes()),
+    };
 }
 
 /// Runs the word `audit`, and answers how that ended: `Sound` and `Unsound` where the verdict was written, yes and no;

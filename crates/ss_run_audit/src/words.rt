@@ -3,6 +3,7 @@
 ghost use Rattle.std.specs.Prelude.{◌≡◌, ◌≢◌, ◌↔◌, codes, map, string_bytes, IsTrue, IsFalse};
 ghost use Rattle.ss_run_audit.specs.Runs.{Asks};
 
+use crate::endings::NO_MEMORY;
 use ss_outside::{Sink, write_all};
 use ss_words::Cause;
 use std::alloc::Global;
@@ -50,7 +51,8 @@ pub(crate) fn explain<E: Sink>(alloc: Global, words: &[String], err: &mut E) {
         ),
         _ => format!(in alloc; "syncstore: no audit is asked for; try syncstore audit --help\n"),
     };
-    if let Ok(line) = told {
-        let _ = write_all(err, line.as_bytes());
-    }
+    let _ = match told {
+        Ok(line) => write_all(err, line.as_bytes()),
+        Err(_) => write_all(err, NO_MEMORY.as_bytes()),
+    };
 }

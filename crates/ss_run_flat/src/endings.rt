@@ -8,6 +8,9 @@ use ss_input::InputFault;
 use std::alloc::AllocError;
 use std::fmt::{self, Display, Formatter, Write};
 
+/// What people are told where no memory is found to tell them more.
+pub(crate) const NO_MEMORY: &str = "syncstore: no memory was found\n";
+
 /// How a run of `flat` ended. Lines are counted from 1.
 #[derive(Clone, Copy, Debug, PartialEq, Eq)]
 pub enum Ending {

@@ -5,7 +5,7 @@ ghost use Rattle.ss_run_flat.specs.Endings.{Wrote};
 ghost use Rattle.ss_run_flat.specs.Files.{IsNoFile};
 ghost use Rattle.ss_run_flat.specs.Runs.{Flattens, IsFlatOf, Runs};
 
-use crate::endings::Ending;
+use crate::endings::{Ending, NO_MEMORY};
 use crate::files::state_of;
 use crate::tellings::telling;
 use crate::words::{explain, kind_asked};
@@ -58,9 +58,10 @@ fn tell<E: Sink>(alloc: Global, err: &mut E, ending: Ending) {
     if let Ending::Done = ending {
         return;
     }
-    if let Ok(line) = format!(in alloc; "syncstore: {ending}\n") {
-        let _ = write_all(err, line.as_bytes());
-    }
+    let _ = match format!(in alloc; "syncstore: {ending}\n") {
+        Ok(line) => write_all(err, line.as_bytes()),
+        Err(_) => write_all(err, NO_MEMORY.as_bytes()),
+    };
 }
 
 /// Runs the words `flat history` and `flat forms`, and answers how that ended: `Done` where all was written;

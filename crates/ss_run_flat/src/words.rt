@@ -5,6 +5,7 @@ ghost use Rattle.ss_flat.specs.declared.kinds.FlatKind.{FlatKind as Kind};
 ghost use Rattle.ss_run_flat.specs.Files.{name_of};
 ghost use Rattle.ss_run_flat.specs.Runs.{Asks, AsksBehind};
 
+use crate::endings::NO_MEMORY;
 use ss_flat::FlatKind;
 use ss_outside::{Sink, write_all};
 use ss_words::{Cause, Refusal};
@@ -95,9 +96,12 @@ fn reason(alloc: Global, words: &[String]) -> Result<String, AllocError> {
 
 /// Tells people why words ask for no kind.
 pub(crate) fn explain<E: Sink>(alloc: Global, words: &[String], err: &mut E) {
-    if let Ok(reason) = reason(alloc, words) {
-        if let Ok(line) = format!(in alloc; "syncstore: {reason}; try syncstore flat --help\n") {
-            let _ = write_all(err, line.as_bytes());
-        }
-    }
+    let line = match reason(alloc, words) {
+        Ok(reason) => format!(in alloc; "syncstore: {reason}; try syncstore flat --help\n"),
+        Err(fault) => Err(fault),
+    };
+    let _ = match line {
+        Ok(line) => write_all(err, line.as_bytes()),
+        Err(_) => write_all(err, NO_MEMORY.as_bytes()),
+    };
 }

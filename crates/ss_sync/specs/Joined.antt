@@ -4,7 +4,7 @@ use Rattle.ss_record.specs.declared.readings.Sheet.{Sheet}
 use Rattle.ss_record.specs.Ids.{by_id, firsts}
 use Rattle.ss_tree.specs.declared.entries.Entry.{Entry}
 use Rattle.ss_tree.specs.Trees.{PlacedItem, IsSame, IsValidTree, node_ids}
-use Rattle.ss_tree.specs.Entries.{tree}
+use Rattle.ss_tree.specs.Entries.{IsTree, tree}
 use Rattle.ss_build.specs.Rows.{rows_of, dead}
 use Rattle.ss_build.specs.Built.{built}
 use Rattle.ss_dupe.specs.Looks.{Id}
@@ -24,7 +24,8 @@ counting mirror [] = []
 counting mirror (row ∷ rows) = mirror
 
 -- A tree is what merging makes of a device's mirror, tree and deleted ids, and of fetched rows with their tombstones. The
--- mirror and the remote tree are those that are built from rows, with the times of the rows; trees are compared by ids.
+-- mirror and the remote tree are those that are built from rows, with the times of the rows; trees are compared by ids. Its entries are
+-- a tree, so there is one walk of it.
 pub record IsJoinedTree (mirror : List Sheet) (local : List Entry) (local_dead : List Id) (rows : List Sheet) (joined : List Entry) : Type 0 where
   pub before : List Entry
   pub remote : List Entry
@@ -34,3 +35,4 @@ pub record IsJoinedTree (mirror : List Sheet) (local : List Entry) (local_dead :
   pub are_pairs : ArePairs (sides (tree before) (tree local) (tree remote) local_dead (dead (rows_of rows))) pairs
   pub joined_is : IsSame (tree joined) (merged_of pairs (tree before) (tree local) (tree remote) local_dead (dead (rows_of rows)))
   pub valid : IsValidTree (tree joined)
+  pub is_tree : IsTree joined

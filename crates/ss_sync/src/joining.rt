@@ -1,6 +1,6 @@
 //! What a merge makes of a device's tree and of fetched rows.
 
-ghost use Rattle.std.specs.Prelude.{◌≡◌, ◌↔◌, IsTrue, IfOk};
+ghost use Rattle.std.specs.Prelude.{◌≡◌, ◌↔◌, IsTrue, IfOk, OnOk};
 ghost use Rattle.ss_record.specs.Ids.{Apart};
 ghost use Rattle.ss_tree.specs.Entries.{IsTree};
 ghost use Rattle.ss_build.specs.Rows.{readings, rows_of};
@@ -10,7 +10,7 @@ ghost use Rattle.ss_sync.specs.Joined.{IsJoinedTree, counting};
 use ss_build::{Built, build};
 use ss_merge::merge;
 use ss_record::Sheet;
-use ss_text::Ids;
+use ss_text::{Id, Ids};
 use ss_tree::{Sides, Tree};
 use std::alloc::{AllocError, Global};
 
@@ -54,6 +54,18 @@ fn are_same(sheets: &[Sheet], others: &[Sheet]) -> bool
     true
 }
 
+/// Looks `places` up: the entries are a tree, as those of every `Tree` are.
+#[tactic(auto, unfolding(ss_record::specs::Ids::places))]
+fn find_places(alloc: Global, tree: &Tree) -> Result<(), AllocError>
+    ensures { OnOk result (IsTree tree.now) }
+{
+    let Some(places) = Id::new(alloc, b"places")? else {
+        unreachable!();
+    };
+    let _top = tree.find(&places);
+    Ok(())
+}
+
 /// Merges a device's tree with the tree of fetched rows, both against the tree of the mirror.
 pub fn join(
     alloc: Global,
@@ -79,6 +91,7 @@ pub fn join(
             remote_dead: &remote.dead,
         };
         let merged = merge(alloc, &sides)?;
+        find_places(alloc, &merged.tree)?;
         return Ok(Joined {
             tree: merged.tree,
             remote,
@@ -93,6 +106,7 @@ pub fn join(
         remote_dead: &remote.dead,
     };
     let merged = merge(alloc, &sides)?;
+    find_places(alloc, &merged.tree)?;
     Ok(Joined {
         tree: merged.tree,
         remote,

@@ -25,6 +25,7 @@ returns-then-are_same-clause-joined c =
       are_pairs = subst (λ dead. ArePairs (sides remote local remote c.args.local_dead.now dead) pairs) c.in_ok-remote.ensures.dead c.in_ok-merged.ensures.renamed;
       joined_is = subst (λ dead. IsSame (tree c.in_ok-merged.merged.tree) (merged_of pairs remote local remote c.args.local_dead.now dead)) c.in_ok-remote.ensures.dead c.in_ok-merged.ensures.tree;
       valid = c.in_ok-merged.ensures.valid;
+      is_tree = c.in_ok-find_places.ensures;
     }
 
 pub returns-clause-joined : goal.returns-clause-joined
@@ -43,4 +44,5 @@ returns-clause-joined c =
       are_pairs = subst (λ dead. ArePairs (sides before local remote c.args.local_dead.now dead) pairs) c.in_ok-remote.ensures.dead c.in_ok-merged-2.ensures.renamed;
       joined_is = subst (λ dead. IsSame (tree c.in_ok-merged-2.merged.tree) (merged_of pairs before local remote c.args.local_dead.now dead)) c.in_ok-remote.ensures.dead c.in_ok-merged-2.ensures.tree;
       valid = c.in_ok-merged-2.ensures.valid;
+      is_tree = c.in_ok-find_places-2.ensures;
     }

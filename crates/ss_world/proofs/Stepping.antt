@@ -103,7 +103,7 @@ module _ (w : WorldView) (server : Server) (seats new : List Seat) (n now : ℕ)
       by : (x : Seat) → (changed : Seat) × IsEditedSeat now edit changed x × (new ≡ set seats n changed) → EditsAtSeat (world server seats) n now edit (world server new) x
       by (Idle d) h =
           subst (λ o. MatchOption o (Edits (world server seats) n now edit d (world server new)) (λ f. world server new ≡ world server seats)) (sym h.1.taken)
-          (record { device = h.1.device; changed = h.1.changed; valid = h.1.valid; is = ap (world server) (h.2 ∙ ap (set seats n) h.1.is) })
+          (record { device = h.1.device; changed = h.1.changed; valid = h.1.valid; is_tree = h.1.is_tree; is = ap (world server) (h.2 ∙ ap (set seats n) h.1.is) })
       by (Syncs m) h = absurd h.1
 
   pub editable : at_device w.seats n (change_fault n edit) ≡ None

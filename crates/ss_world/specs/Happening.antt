@@ -3,7 +3,7 @@ use Rattle.std.specs.Prelude.{◌≡◌, ℕ, List, [], ◌∷◌, slice_get, Op
 use Rattle.std.specs.Bool.{MatchBool}
 use Rattle.ss_query.specs.declared.requests.Request.{Request}
 use Rattle.ss_query.specs.Api.{api}
-use Rattle.ss_tree.specs.Entries.{tree}
+use Rattle.ss_tree.specs.Entries.{IsTree, tree}
 use Rattle.ss_device.specs.Device.{DeviceView, IsDevice}
 use Rattle.ss_device.specs.Edits.{AddsItem, RenamesItem, MovesItem, DeletesItem, add_fault, change_fault, move_fault}
 use Rattle.ss_device.specs.declared.faults.EditFault.{EditFault}
@@ -39,11 +39,12 @@ ChangesDevice now (edits.Rename id title) old new = RenamesItem now id title old
 ChangesDevice now (edits.Move id parent) old new = MovesItem now id parent old new
 ChangesDevice now (edits.Delete id) old new = DeletesItem now id old new
 
--- an idle device is edited
+-- an idle device is edited; the entries of its tree are one
 pub record Edits (w : WorldView) (n now : ℕ) (edit : Edit) (d : DeviceView) (v : WorldView) : Type 0 where
   pub device : DeviceView
   pub changed : ChangesDevice now edit d device
   pub valid : IsDevice device
+  pub is_tree : IsTree device.tree
   pub is : v ≡ world_with_seat w w.server n (Idle device)
 
 -- ---- a device's request

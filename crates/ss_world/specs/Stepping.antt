@@ -2,7 +2,7 @@
 use Rattle.std.specs.Prelude.{◌≡◌, ◌⊎◌, ℕ, List, set, slice_get, Option, Some, None, option_map, if◌then◌else◌, true, ⊤}
 use Rattle.std.specs.Option.{option_map_or}
 use Rattle.ss_hearing.specs.declared.answer.Answer.{Answer}
-use Rattle.ss_tree.specs.Entries.{tree}
+use Rattle.ss_tree.specs.Entries.{IsTree, tree}
 use Rattle.ss_device.specs.Device.{DeviceView, IsDevice}
 use Rattle.ss_device.specs.Edits.{change_fault as item_fault}
 use Rattle.ss_device.specs.declared.faults.EditFault.{EditFault}
@@ -152,6 +152,7 @@ pub record IsEditOf (now : ℕ) (edit : Edit) (new : Seat) (d : DeviceView) : Ty
   pub taken : edit_fault d edit ≡ None
   pub changed : ChangesDevice now edit d device
   pub valid : IsDevice device
+  pub is_tree : IsTree device.tree
   pub is : new ≡ Idle device
 
 abbrev pub IsEditedSeat : ℕ → Edit → Seat → Seat → Type 0

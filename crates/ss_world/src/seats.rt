@@ -4,6 +4,7 @@ ghost use Rattle.std.specs.Prelude.{◌≡◌, ◌⊎◌, slice_get, Some, None,
 ghost use Rattle.ss_client.specs.Sound.{TellsOurs};
 ghost use Rattle.ss_hearing.specs.Hearing.{status_of};
 ghost use Rattle.ss_serving.specs.Asking.{told_by};
+ghost use Rattle.ss_tree.specs.Entries.{IsTree};
 ghost use Rattle.ss_device.specs.Device.{IsDevice};
 ghost use Rattle.ss_world.specs.Seats.{device_of, seat_after_start};
 ghost use Rattle.ss_world.specs.Stepping.{Begins, Changes, GivesUp, Hears, IsEditedSeat, HearsAtSeat, LeadsOn};
@@ -21,6 +22,7 @@ use ss_client::{Do, Fetch, Machine, SyncFault};
 use ss_device::{Device, EditFault};
 use ss_hearing::{Answer, Awaited};
 use ss_query::Reply;
+use ss_tree::{Node, Tree};
 use std::alloc::{AllocError, Global};
 
 /// A device of a world.
@@ -184,9 +186,22 @@ fn apply(alloc: Global, device: &mut Device, now: u64, edit: &Edit) -> Result<()
     }
 }
 
+/// The node of the item of an edit. It is looked up: the entries are a tree, as those of every `Tree` are.
+fn find_edited(tree: &Tree, edit: &Edit) -> Option<Node>
+    ensures { IsTree tree.now }
+{
+    match edit {
+        Edit::Add { item, .. } => tree.find(item.id()),
+        Edit::Rename { id, .. } => tree.find(id),
+        Edit::Move { id, .. } => tree.find(id),
+        Edit::Delete { id } => tree.find(id),
+    }
+}
+
 /// Edits a device, which is valid then.
 fn edit(alloc: Global, device: &mut Device, now: u64, edit: &Edit) -> Result<(), EditFault>
     ensures valid { IsDevice device.new }
+    ensures is_tree { IsTree device.new.tree }
     ensures changed { OnOk result (ChangesDevice now edit.now device.old device.new) }
     ensures edits { OnOk result (edit_fault device.old edit.now ≡ None) }
     ensures refused { IfErr result (λ e. (e ≡ EditFault.Memory) ⊎ (edit_fault device.old edit.now ≡ Some e)) }
@@ -194,7 +209,8 @@ fn edit(alloc: Global, device: &mut Device, now: u64, edit: &Edit) -> Result<(),
     ensures left { OnErr result (device.new ≡ device.old) }
 {
     let done = apply(alloc, device, now, edit);
-    let _valid = device.tree();
+    let tree = device.tree();
+    let _node = find_edited(tree, edit);
     done
 }
 

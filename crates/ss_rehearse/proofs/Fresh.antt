@@ -1,9 +1,10 @@
 -- The opening of a rehearsal.
-use Rattle.std.proofs.Common.{◌≡◌, ◌⊎◌, ℕ, zero, suc, List, [], ◌∷◌, length, slice_get, Option, Some, refl, sym, ap}
+use Rattle.std.proofs.Common.{◌≡◌, ◌⊎◌, ℕ, zero, suc, List, [], ◌∷◌, length, slice_get, Some, sym, ap}
 use Rattle.std.proofs.Common.{subst, ◌∙◌, inl, inr}
 use Rattle.std.proofs.lemmas.Option.{none-some, same_Some}
 use Rattle.ss_bso.specs.Changes.{fresh_kept, account_at_opening}
 use Rattle.ss_bso.specs.Validity.{SameAccount}
+use Rattle.ss_tree.specs.Entries.{IsTree}
 use Rattle.ss_device.specs.Device.{DeviceView, IsNew}
 use Rattle.ss_world.specs.Reaching.{IsOpenable}
 use Rattle.ss_world.specs.Worlds.{WorldView}
@@ -13,8 +14,8 @@ use Rattle.ss_world.proofs.Fresh.{fresh_openable}
 use Rattle.ss_rehearse.specs.Rehearsals.{IsFresh, all_trusted}
 use Rattle.ss_rehearse.specs.Syncing.{AreIdle}
 
-pub fresh_is : (w : WorldView) (a b : DeviceView) → SameAccount (account_at_opening fresh_kept) w.server.account → w.server.kept ≡ fresh_kept → w.seats ≡ Idle a ∷ Idle b ∷ [] → IsNew a → IsNew b → IsFresh w
-fresh_is w a b same kept seats x y = record { account = same; kept = kept; first = a; second = b; first_new = x; second_new = y; seats = seats }
+pub fresh_is : (w : WorldView) (a b : DeviceView) → SameAccount (account_at_opening fresh_kept) w.server.account → w.server.kept ≡ fresh_kept → w.seats ≡ Idle a ∷ Idle b ∷ [] → IsNew a → IsNew b → IsTree a.tree → IsTree b.tree → IsFresh w
+fresh_is w a b same kept seats x y t u = record { account = same; kept = kept; first = a; second = b; first_new = x; second_new = y; first_tree = t; second_tree = u; seats = seats }
 
 seat_of : (a b : DeviceView) (n : ℕ) (s : Seat) → slice_get (Idle a ∷ Idle b ∷ []) n ≡ Some s → (s ≡ Idle a) ⊎ (s ≡ Idle b)
 seat_of a b zero s e = inl (sym (same_Some (Idle a) s e))

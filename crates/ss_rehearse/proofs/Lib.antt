@@ -3,8 +3,13 @@ pub mod Delivering
 pub mod Editing
 pub mod Fit
 pub mod Fresh
+pub mod Machines
 pub mod Merging
+pub mod OnePost
+pub mod OneRows
+pub mod OneText
 pub mod Orders
 pub mod Playing
 pub mod Steps
 pub mod Told
+pub mod Worlds

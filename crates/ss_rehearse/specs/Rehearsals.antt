@@ -1,8 +1,9 @@
 -- A rehearsal: what is written of it, and what is promised of each of its steps (this project's).
-use Rattle.std.specs.Prelude.{◌≡◌, ℕ, ◌≤◌, List, [], ◌∷◌, Bool, true, slice_get, option_map, unwrap_or, ⊤}
+use Rattle.std.specs.Prelude.{◌≡◌, ℕ, List, [], ◌∷◌, Bool, true, slice_get, option_map, unwrap_or, ⊤}
 use Rattle.ss_bso.specs.Changes.{fresh_kept, account_at_opening}
 use Rattle.ss_bso.specs.Validity.{SameAccount}
 use Rattle.ss_tree.specs.declared.entries.Entry.{Entry}
+use Rattle.ss_tree.specs.Entries.{IsTree}
 use Rattle.ss_device.specs.Device.{DeviceView, IsNew}
 use Rattle.ss_world.specs.Seats.{device_of}
 use Rattle.ss_world.specs.Worlds.{WorldView}
@@ -19,7 +20,7 @@ all_trusted n = true
 
 -- ---- the opening
 
--- an account that nothing was asked of, and two devices that were never synced
+-- an account that nothing was asked of, and two devices that were never synced; the entries of each one's tree are a tree
 pub record IsFresh (w : WorldView) : Type 0 where
   pub account : SameAccount (account_at_opening fresh_kept) w.server.account
   pub kept : w.server.kept ≡ fresh_kept
@@ -27,6 +28,8 @@ pub record IsFresh (w : WorldView) : Type 0 where
   pub second : DeviceView
   pub first_new : IsNew first
   pub second_new : IsNew second
+  pub first_tree : IsTree first.tree
+  pub second_tree : IsTree second.tree
   pub seats : w.seats ≡ Idle first ∷ Idle second ∷ []
 
 -- the opening of a rehearsal: no sync was counted, and the clock reads 100 first

@@ -1,4 +1,4 @@
-//! What doesn't depend on the order in which the entries of a tree lie.
+//! What doesn't depend on the order in which the entries of a tree lie: so a rehearsal has one summary.
 
 ghost use Rattle.std.specs.Prelude.{◌≡◌, List, ℕ, map};
 ghost use Rattle.ss_record.specs.declared.readings.Sheet.{Sheet};
@@ -11,6 +11,7 @@ ghost use Rattle.ss_plan.specs.Plan.{Readings, plan};
 ghost use Rattle.ss_sync.specs.Joined.{IsJoinedTree};
 ghost use Rattle.ss_world.specs.declared.events.Edit.{Edit};
 ghost use Rattle.ss_rehearse.specs.Alike.{AreAlike, AreEditedAlike};
+ghost use Rattle.ss_rehearse.specs.Rehearsals.{IsSummary};
 ghost use Rattle.ss_rehearse.specs.Summaries.{summary_of};
 
 /// An edit of devices that are told alike is refused alike, or makes of them devices that are told alike. Their trees
@@ -40,4 +41,10 @@ pub fn trees_have_one_summary()
     ensures { (first second other another : List Entry) → IsTree first → IsTree second → IsTree other
         → IsTree another → IsSame (tree first) (tree other) → IsSame (tree second) (tree another)
         → summary_of first second ≡ summary_of other another }
+{}
+
+/// Two summaries of rehearsals with as many items and the same seed are equal: the words of a rehearsal have one text.
+pub fn rehearsals_have_one_summary()
+    ensures { (items seed : ℕ) (text other : List ℕ) → IsSummary items seed text → IsSummary items seed other
+        → text ≡ other }
 {}

@@ -21,7 +21,8 @@ mod syncing;
 
 pub use endings::Ending;
 pub use laws::{
-    devices_are_edited_alike, devices_are_merged_alike, trees_have_one_plan, trees_have_one_summary,
+    devices_are_edited_alike, devices_are_merged_alike, rehearsals_have_one_summary,
+    trees_have_one_plan, trees_have_one_summary,
 };
 pub use rehearsing::rehearse;
 pub use running::run_rehearsal;

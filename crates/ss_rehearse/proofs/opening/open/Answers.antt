@@ -9,7 +9,7 @@ use Rattle.ss_rehearse.proofs.opening.open.Goals as goal
 pub returns-in-Ok-clause-fresh : goal.returns-in-Ok-clause-fresh
 returns-in-Ok-clause-fresh c =
     fresh_is c.in-Ok.world c.in_ok-first.first c.in_ok-second.second (subst (λ k. SameAccount (account_at_opening k) c.in-Ok.world.server.account) c.fresh.ensures c.in-Ok.ensures.opened) (c.in-Ok.ensures.kept ∙ c.fresh.ensures)
-    (c.in-Ok.ensures.devices ∙ ap (map Idle) c.in_ok-devices.ensures.items) c.in_ok-first.ensures c.in_ok-second.ensures
+    (c.in-Ok.ensures.devices ∙ ap (map Idle) c.in_ok-devices.ensures.items) c.in_ok-first.ensures.new c.in_ok-second.ensures.new c.in_ok-first.ensures.is_tree c.in_ok-second.ensures.is_tree
 
 pub returns-in-Ok-clause-reached : goal.returns-in-Ok-clause-reached
 returns-in-Ok-clause-reached c = c.in-Ok.ensures.reached all_trusted (openable c.in-Ok.world (returns-in-Ok-clause-fresh c))

@@ -1,5 +1,5 @@
 -- Changes of a device, one after the other.
-use Rattle.std.proofs.Common.{◌≡◌, ℕ, suc, ◌+◌, ◌*◌, ◌≤◌, ◌%◌, ◌==◌, List, [], ◌∷◌, ◌++◌, map, length, set, length-set}
+use Rattle.std.proofs.Common.{◌≡◌, ℕ, suc, ◌+◌, ◌*◌, ◌≤◌, ◌%◌, ◌==◌, List, [], ◌∷◌, ◌++◌, map, length, length-set}
 use Rattle.std.proofs.Common.{slice_get, Bool, true, false, cond, Option, Some, None, refl, sym, ap, subst, ◌∙◌, arith}
 use Rattle.std.proofs.Common.{inl, inr}
 use Rattle.std.proofs.lemmas.Bool.Decides.{nat_tests}
@@ -18,7 +18,7 @@ use Rattle.ss_world.specs.Happening.{Edits, Happens, EditsAtSeat, Step, edit_fau
 use Rattle.ss_world.proofs.Lists.{at_set}
 use Rattle.ss_rehearse.specs.Draws.{drawn_number, drawn_after}
 use Rattle.ss_rehearse.specs.Scripts.{addition, additions, change_events, move, moves, numbers, renaming, renamings}
-use Rattle.ss_rehearse.specs.Plays.{PlaysChanges, Leads}
+use Rattle.ss_rehearse.specs.Plays.{PlaysChanges}
 use Rattle.ss_rehearse.specs.Syncing.{AreIdle}
 use Rattle.ss_rehearse.proofs.Steps.{leads_on, leads_one}
 

@@ -1,6 +1,6 @@
 -- Requests of a device that come to the account, until its run ends.
 use Rattle.std.proofs.Common.{◌≡◌, ◌≢◌, ◌⊎◌, ◌&&◌, ℕ, ◌+◌, ◌*◌, ◌<◌, ◌≤◌, ◌==◌, suc, le_refl, List, [], ◌∷◌, ◌++◌}
-use Rattle.std.proofs.Common.{length, set, length-set, slice_get, Bool, true, false, cond, Option, Some, None}
+use Rattle.std.proofs.Common.{length, length-set, slice_get, Bool, true, false, cond, Option, Some, None}
 use Rattle.std.proofs.Common.{option_and_then, map, unwrap_or, refl, sym, ap, subst, ◌∙◌, arith, inl, inr}
 use Rattle.std.specs.Prelude.{MatchOption, Result, Ok, Err, IfOk, OnOk}
 use Rattle.std.specs.Option.{option_map_or}
@@ -16,7 +16,7 @@ use Rattle.ss_hearing.specs.declared.answer.Answer.{Answer}
 use Rattle.ss_hearing.specs.declared.answer.Answer.TheVariants.{Changed, Held, Paged, Refused, Unread, Written}
 use Rattle.ss_hearing.specs.declared.answer.Awaited.{Awaited}
 use Rattle.ss_hearing.specs.declared.answer.Awaited.TheVariants as awaited
-use Rattle.ss_hearing.specs.Hearing.{is_conditional, status_of, answer_or_failure}
+use Rattle.ss_hearing.specs.Hearing.{is_conditional, status_of}
 use Rattle.ss_device.specs.Device.{DeviceView}
 use Rattle.ss_client.specs.declared.summaries.Fetch.TheVariants.{Newer}
 use Rattle.ss_client.specs.declared.runs.Stage.TheVariants.{Asks as AsksStage}

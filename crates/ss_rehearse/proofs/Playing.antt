@@ -1,10 +1,9 @@
 -- A rehearsal from its opening to its end.
-use Rattle.std.proofs.Common.{◌≡◌, ℕ, zero, suc, ◌+◌, ◌<◌, List, [], ◌∷◌, ◌++◌, length, slice_get, Bool, true, Option}
+use Rattle.std.proofs.Common.{◌≡◌, ℕ, zero, suc, ◌+◌, ◌<◌, List, [], ◌∷◌, ◌++◌, length, slice_get, Option}
 use Rattle.std.proofs.Common.{Some, None, option_map, unwrap_or, refl, sym, ap, subst, ◌∙◌, arith}
 use Rattle.std.specs.Prelude.{Result, Ok, Err, IfOk}
 use Rattle.std.proofs.lemmas.List.{append_assoc, append-nil}
 use Rattle.std.proofs.lemmas.Option.{none-some, same_Some}
-use Rattle.ss_tree.specs.declared.entries.Entry.{Entry}
 use Rattle.ss_device.specs.Device.{DeviceView}
 use Rattle.ss_client.specs.declared.summaries.Fetch.TheVariants.{Newer}
 use Rattle.ss_world.specs.declared.events.Edit.{Edit}
@@ -13,15 +12,14 @@ use Rattle.ss_world.specs.declared.events.Event.TheVariants.{Start}
 use Rattle.ss_world.specs.Seats.{device_of}
 use Rattle.ss_world.specs.Worlds.{WorldView}
 use Rattle.ss_world.specs.declared.seats.Seat.{Seat}
-use Rattle.ss_world.specs.declared.seats.Seat.TheVariants.{Idle, Syncs}
-use Rattle.ss_world.specs.Happening.{Happens, Runs, Step, last}
+use Rattle.ss_world.specs.Happening.{Runs, Step}
 use Rattle.ss_world.specs.Promises.{IsTrustedEvent}
 use Rattle.ss_world.specs.Reaching.{IsReachedWorld, KeepsPromises}
 use Rattle.ss_world.proofs.Reaching as reaching
 use Rattle.ss_rehearse.specs.Summaries.{summary_of, summary_text}
 use Rattle.ss_rehearse.specs.Scripts.{Act, changes, sync, script}
 use Rattle.ss_rehearse.specs.Plays.{Acts, Asks, PlaysChanges, PlaysSync, Leads, PlayView, Plays}
-use Rattle.ss_rehearse.specs.Rehearsals.{ArePromisedSteps, IsFresh, IsOpen, IsPromisedStep, IsSummary, all_trusted}
+use Rattle.ss_rehearse.specs.Rehearsals.{ArePromisedSteps, IsFresh, IsSummary, all_trusted}
 use Rattle.ss_rehearse.specs.Rehearsals.{tree_at}
 use Rattle.ss_rehearse.specs.Syncing.{AreIdle, LeadsByActs}
 use Rattle.ss_rehearse.proofs.Steps.{leads_on}

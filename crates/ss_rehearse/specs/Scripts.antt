@@ -1,5 +1,5 @@
 -- The script of a rehearsal: what two devices do, one after the other (this project's).
-use Rattle.std.specs.Prelude.{ℕ, zero, suc, ◌+◌, ◌*◌, ◌%◌, ◌==◌, List, [], ◌∷◌, ◌++◌, map, filter, codes}
+use Rattle.std.specs.Prelude.{ℕ, zero, suc, ◌+◌, ◌%◌, ◌==◌, List, [], ◌∷◌, ◌++◌, map, filter, codes}
 use Rattle.ss_world.specs.declared.events.Edit.{Edit}
 use Rattle.ss_world.specs.declared.events.Edit.TheVariants as edit
 use Rattle.ss_world.specs.declared.events.Event.{Event}

@@ -1,7 +1,6 @@
 -- Syncs under way, for private clauses.
 use Rattle.std.specs.Prelude.{◌≡◌, ◌≢◌, ℕ, ◌+◌, ◌*◌, ◌≤◌, List, ◌++◌, length, slice_get, Bool, Option, Some, None}
 use Rattle.std.specs.Prelude.{Result, Ok, Err, ⊤}
-use Rattle.ss_device.specs.Device.{DeviceView}
 use Rattle.ss_client.specs.Asking.{awaits}
 use Rattle.ss_client.specs.Bounds.{IsBoundedRun, to_follow}
 use Rattle.ss_world.specs.Worlds.{WorldView}

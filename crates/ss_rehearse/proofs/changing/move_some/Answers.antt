@@ -1,6 +1,6 @@
-use Rattle.std.proofs.Common.{◌≡◌, ◌≤◌, ◌+◌, ◌*◌, [], sym, ap, ap₂, ◌∙◌, refl, subst, arith, rules}
+use Rattle.std.proofs.Common.{◌+◌, sym, ap₂, subst}
 use Rattle.ss_world.specs.declared.events.Edit.TheVariants as edit
-use Rattle.ss_rehearse.specs.Scripts.{move, moves}
+use Rattle.ss_rehearse.specs.Scripts.{moves}
 use Rattle.ss_rehearse.proofs.Changes.{AreChanged, moved_more, moved_same}
 use Rattle.ss_rehearse.proofs.changing.move_some.Goals as goal
 use Rattle.ss_rehearse.proofs.changing.move_some.Goals.{then-number-eq0+in_ok-id+in_ok-parent+in_ok-change}

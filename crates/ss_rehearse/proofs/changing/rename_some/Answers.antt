@@ -1,6 +1,6 @@
-use Rattle.std.proofs.Common.{◌≡◌, ◌≤◌, ◌+◌, ◌*◌, [], sym, ap, ap₂, ◌∙◌, refl, subst, arith, rules}
+use Rattle.std.proofs.Common.{◌+◌, sym, ap₂, subst}
 use Rattle.ss_world.specs.declared.events.Edit.TheVariants as edit
-use Rattle.ss_rehearse.specs.Scripts.{renaming, renamings}
+use Rattle.ss_rehearse.specs.Scripts.{renamings}
 use Rattle.ss_rehearse.proofs.Changes.{AreChanged, renamed_more, renamed_same}
 use Rattle.ss_rehearse.proofs.changing.rename_some.Goals as goal
 use Rattle.ss_rehearse.proofs.changing.rename_some.Goals.{then-number-eq0+in_ok-id+in_ok-title+in_ok-change}

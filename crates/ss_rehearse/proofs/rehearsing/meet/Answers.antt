@@ -1,5 +1,4 @@
 use Rattle.std.specs.Prelude.{[], ◌∷◌}
-use Rattle.std.proofs.Common.{◌≤◌, ◌+◌, arith}
 use Rattle.ss_rehearse.specs.Scripts.{sync}
 use Rattle.ss_rehearse.proofs.Playing.{played_on, sync_played}
 use Rattle.ss_rehearse.proofs.rehearsing.meet.Goals as goal

@@ -1,12 +1,11 @@
 //! Ids of records and names of collections, which contracts see as lists of bytes.
 
-ghost use Rattle.std.specs.Prelude.{◌≡◌, true, refl, IfOk, Some, None, if◌then◌else◌, bytes_eq};
+ghost use Rattle.std.specs.Prelude.{◌≡◌, ◌∷◌, [], true, refl, IfOk, Some, None, if◌then◌else◌, bytes_eq};
 ghost use Rattle.std.specs.List.{list_all};
 ghost use Rattle.std.specs.Cmp as order;
 ghost use Rattle.std.specs.Cmp.Lexicographic.{nat_list_cmp_total, nat_list_eq_equiv, texts_po, texts_ties, pointwise};
 ghost use Rattle.std.specs.Cmp.Lexicographic.{lists_equiv};
 ghost use Rattle.std.specs.Cmp.Rules.{hashing};
-ghost use Rattle.std.specs.Hash as fed;
 ghost use Rattle.std.proofs.Common.{rules};
 ghost use Rattle.ss_text.specs.Names.{is_id, is_name, is_visible, is_name_byte};
 ghost use Rattle.ss_text.specs.Texts.{text_cmp};
@@ -128,12 +127,12 @@ impl Ord for Id {
 }
 
 impl Hash for Id {
-    ghost hash_input = { fed.slice fed.u8 };
+    ghost hash_input = { λ bytes. bytes ∷ [] };
 
     ghost respects_eq = { Prim.search (hashing, rules) };
 
     fn hash<H: Hasher>(&self, state: &mut H) {
-        self.text.as_bytes().hash(state);
+        state.write(self.text.as_bytes());
     }
 }
 
@@ -225,12 +224,12 @@ impl Ord for Name {
 }
 
 impl Hash for Name {
-    ghost hash_input = { fed.slice fed.u8 };
+    ghost hash_input = { λ bytes. bytes ∷ [] };
 
     ghost respects_eq = { Prim.search (hashing, rules) };
 
     fn hash<H: Hasher>(&self, state: &mut H) {
-        self.text.as_bytes().hash(state);
+        state.write(self.text.as_bytes());
     }
 }
 

@@ -1,15 +1,17 @@
-//! Cases of texts and of messages, as a program: standard input has them, and standard output what comes of each. A
-//! line `== PART` is told as it stands; it says whose the lines behind it are, up to the next one. The program has no
-//! contract: its stored run is the test.
+//! Cases of texts, messages, flat collections, dumps and logs, as a program: standard input has them, and standard output
+//! what comes of each. A line `== PART` is told as it stands; it says whose the lines behind it are, up to the next one.
+//! The program has no contract: its stored run is the test.
 #![tactic(auto)]
 
+mod flat;
 mod messages;
+mod moves;
 mod reading;
 mod texts;
 
 use anyhow::bail;
 
-/// What a case of a part tells: its kind, and what stands behind that.
+/// What a case of a line tells: its kind, and what stands behind that.
 fn case_line(rt: &HostRuntime, heading: &str, kind: &str, text: &str) -> anyhow::Result<String> {
     match heading {
         "== texts" => texts::case_line(rt, kind, text),
@@ -32,6 +34,11 @@ fn tell(rt: &HostRuntime, heading: &str, line: &str) -> anyhow::Result<()> {
 /// Tells a part's heading and its lines.
 fn tell_part(rt: &HostRuntime, heading: &str, lines: &[String]) -> anyhow::Result<()> {
     rt.println(heading)?;
+    match heading {
+        "== flat" => return flat::tell_cases(rt, lines),
+        "== moves" => return moves::tell_cases(rt, lines),
+        _ => {}
+    }
     for line in lines {
         tell(rt, heading, line.as_str())?;
     }

@@ -1,8 +1,8 @@
 //! The record of an item that is shown.
 
 ghost use Rattle.std.specs.Prelude.{◌≡◌, List, IfOk};
-ghost use Rattle.serde_json.specs.Data.{array, number, put, string, unsigned};
-ghost use Rattle.serde_json.specs.View.{members_view, view};
+ghost use Rattle.serde_json.specs.Data.{array, number, string, unsigned};
+ghost use Rattle.serde_json.specs.View.{view};
 ghost use Rattle.ss_flat.specs.declared.kinds.FlatKind.TheVariants.{Forms, History};
 ghost use Rattle.ss_flat.specs.declared.visits.Visit.{Visit as VisitView};
 ghost use Rattle.ss_flat.specs.Texts.{record_data, record_text, visit_data, visit_items};
@@ -11,21 +11,9 @@ use crate::face::Face;
 use crate::kinds::FlatKind;
 use crate::visits::Visit;
 use serde_json::{Map, Number, Value};
+use ss_record::with_member;
 use ss_text::{Id, Word};
 use std::alloc::{AllocError, Global};
-
-/// The object with this member, in place of an earlier one of its name.
-fn with_member(
-    alloc: Global,
-    mut members: Map<String, Value>,
-    name: &str,
-    value: Value,
-) -> Result<Map<String, Value>, AllocError>
-    ensures { IfOk result (λ m. members_view m.entries ≡ put name.now (view value) (members_view members.entries)) }
-{
-    members.insert(String::from_str(alloc, name)?, value)?;
-    Ok(members)
-}
 
 fn text(alloc: Global, text: &str) -> Result<Value, AllocError>
     ensures { IfOk result (λ v. view v ≡ string text.now) }

@@ -230,15 +230,24 @@ committed-effect account collection records number condition e = by (is_empty (s
     by true is h = cc
     by false is h = sym (ap (λ b. record (cond b account (write account collection (staged_parts account collection number ++ records.parts) (stamp_in account))) { batches = batches_without number account.batches; counter = account.counter }) is)
 
--- a commit with staged parts is a write
+-- a commit with staged parts is a write, and so is one with parts of its own
 pub commit-writes : (account : Plain) (collection : List ℕ) (records : Records) (number : ℕ) (condition : Cond) (staged : List Part) (empty : Bool) → staged ≡ staged_parts account collection number → empty ≡ (length staged == 0) → not empty ≡ true
-    → not empty ≡ is_write account (Post collection records (Commit number) condition)
+    → is_write account (Post collection records (Commit number) condition) ≡ true
 commit-writes account collection records number condition staged empty e f g =
-    g ∙ sym (ap (λ parts. not (is_empty (parts ++ records.parts))) (sym e) ∙ by staged (sym (ap not f) ∙ g))
+    ap (λ parts. not (is_empty (parts ++ records.parts))) (sym e) ∙ by staged (sym (ap not f) ∙ g)
   where
     by : (parts : List Part) → not (length parts == 0) ≡ true → not (is_empty (parts ++ records.parts)) ≡ true
     by [] h = cc
     by (part ∷ parts) h = refl
+
+pub commit-writes-own : (account : Plain) (collection : List ℕ) (records : Records) (number : ℕ) (condition : Cond) (empty : Bool) → empty ≡ (length records.parts == 0) → not empty ≡ true
+    → is_write account (Post collection records (Commit number) condition) ≡ true
+commit-writes-own account collection records number condition empty f g = by (staged_parts account collection number) records.parts (sym (ap not f) ∙ g)
+  where
+    by : (staged parts : List Part) → not (length parts == 0) ≡ true → not (is_empty (staged ++ parts)) ≡ true
+    by (part ∷ staged) parts h = refl
+    by [] [] h = cc
+    by [] (part ∷ parts) h = refl
 
 -- the refusals by batch in the midst of the others
 after-batch : (a b c : Option Refusal) (others : List (Option Refusal)) → first_some (a ∷ b ∷ c ∷ []) ≡ None → first_some (a ∷ b ∷ c ∷ others) ≡ first_some others

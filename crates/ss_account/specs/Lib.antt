@@ -1,5 +1,6 @@
 pub mod Held
 pub mod Keeping
+pub mod Kinds
 pub mod Opening
 pub mod Places
 pub mod Steps

@@ -6,11 +6,15 @@
 mod account;
 mod faults;
 mod infos;
+mod kinds;
 mod ledger;
 mod opening;
 mod places;
+mod reading;
+mod staging;
 mod state;
 mod telling;
+mod writing;
 
 pub use account::Account;
 pub use faults::OpenFault;

@@ -9,14 +9,13 @@ ghost use Rattle.ss_query.specs.Api.{why_stopped};
 ghost use Rattle.ss_query.specs.Refused.{condition_of, said_by};
 ghost use Rattle.ss_query.specs.Told.{first_failures, rows_body};
 ghost use Rattle.ss_index.specs.Shelved.{rows_in};
-ghost use Rattle.ss_laws.specs.Laws.{is_of_batch};
 ghost use Rattle.ss_account.specs.Steps.{fault_body};
 
 use ss_batch::StageFault;
 use ss_bso::{Failures, Records};
 use ss_index::Shelf;
 use ss_list::Steps;
-use ss_query::{Body, Cond, Mode, Picked, PickedIds, Query, Request, Said};
+use ss_query::{Body, Cond, Picked, PickedIds, Query, Request, Said};
 use ss_text::{Ids, Name, Stamp};
 use ss_writes::{Targets, first_failures};
 use std::alloc::{AllocError, Global};
@@ -48,16 +47,6 @@ pub(crate) fn stop_body(status: u16) -> Body
         Body::Empty
     } else {
         Body::Said(Said::Modified)
-    }
-}
-
-/// Whether a request is of a batch: a begin, an append or a commit.
-pub(crate) fn is_of_batch(request: &Request) -> bool
-    ensures { result ≡ is_of_batch request.now }
-{
-    match request {
-        Request::Post { mode, .. } => *mode != Mode::Plain,
-        _ => false,
     }
 }
 

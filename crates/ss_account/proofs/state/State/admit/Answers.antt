@@ -1,5 +1,5 @@
-use Rattle.std.proofs.Common.{◌≡◌, sym, ◌∙◌}
-use Rattle.ss_account.proofs.Batching.{ComesIn, IsRefusedSo, comes_in, refused-by_batch}
+use Rattle.std.proofs.Common.{sym, ◌∙◌}
+use Rattle.ss_account.proofs.Batching.{IsRefusedSo, comes_in, refused-by_batch}
 use Rattle.ss_account.proofs.state.State.admit.Goals as goal
 
 refused : (c : goal.After-refuse-in-Some-batch_refusal) → IsRefusedSo c.args.self.now c.args.request.now c.in-Some-batch_refusal.body

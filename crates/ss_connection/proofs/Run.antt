@@ -23,7 +23,7 @@ use Rattle.ss_http.proofs.MessageLemmas.{reads_append}
 use Rattle.ss_route.specs.Wire.{refusal_of}
 use Rattle.ss_route.specs.declared.manner.Manner.{Manner}
 use Rattle.ss_connection.specs.Known.{KnownAccount, KnowsMore}
-use Rattle.ss_connection.specs.Sending.{WasSent, WasCut}
+use Rattle.ss_route.specs.Ready.{WasSent, WasCut}
 use Rattle.ss_connection.specs.Turns.{AreGatedTurns, Exchange, SaysEach, SaysTurn, closes, most_messages}
 use Rattle.ss_connection.specs.Calls.{turns_added}
 use Rattle.ss_connection.specs.Ends.{ReadsExchanges, AreReadings, Cause, IsFewer, IsSparing, RefusesRest, Sends}

@@ -1,5 +1,4 @@
 pub mod Known
-pub mod Sending
 pub mod Turns
 pub mod Calls
 pub mod Ends

@@ -10,7 +10,7 @@ use Rattle.ss_route.specs.declared.manner.Manner.{Manner}
 use Rattle.ss_route.specs.declared.routed.Local.{Local}
 use Rattle.ss_route.specs.Wire.{local_wire, refusal_of}
 use Rattle.ss_connection.specs.Known.{KnownAccount}
-use Rattle.ss_connection.specs.Sending.{OrMemory, WasSent, WasCut}
+use Rattle.ss_route.specs.Ready.{OrMemory, WasSent, WasCut}
 use Rattle.ss_text.specs.Time.{clamped_reading}
 use Rattle.ss_connection.specs.Turns.{Exchange, SaysEach, most_messages}
 use Rattle.ss_connection.specs.Ends.{ReadsExchanges, AreReadings, GoesOn}

@@ -23,7 +23,7 @@ use Rattle.ss_route.specs.Refusals.{local_with_word}
 use Rattle.ss_route.specs.Routing.{routing_of_message}
 use Rattle.ss_route.specs.Wire.{wire, local_wire, not_listed}
 use Rattle.ss_connection.specs.Known.{KnownAccount}
-use Rattle.ss_connection.specs.Sending.{OrMemory}
+use Rattle.ss_route.specs.Ready.{OrMemory}
 use Rattle.ss_text.specs.Time.{clamped_reading}
 use Rattle.ss_connection.specs.declared.notes.Turn.{Turn}
 use Rattle.ss_connection.specs.declared.notes.Turn.TheVariants as turns

@@ -8,7 +8,6 @@ mod answering;
 mod connection;
 mod limits;
 mod notes;
-mod response;
 
 pub use connection::serve_connection;
 pub use limits::MOST_MESSAGES;

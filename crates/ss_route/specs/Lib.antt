@@ -3,6 +3,7 @@ pub mod Bodies
 pub mod Conditions
 pub mod Fields
 pub mod Posts
+pub mod Ready
 pub mod Refusals
 pub mod Routing
 pub mod Sending

@@ -13,6 +13,7 @@ mod laws;
 mod manner;
 mod methods;
 mod posts;
+mod ready;
 mod requests;
 mod responses;
 mod routed;
@@ -23,6 +24,7 @@ mod texts;
 
 pub use laws::{batch_ids_are_given_out, replies_are_heard, requests_are_routed};
 pub use manner::Manner;
+pub use ready::Response;
 pub use requests::write_request;
 pub use responses::{heard_of, not_listed, refused, render, render_local};
 pub use routed::{Local, Routed};

@@ -28,8 +28,9 @@ use Rattle.ss_run_answer.specs.declared.endings.Ending.TheVariants as endings
 use Rattle.ss_run_answer.specs.Turns.{RequestOrLocal, asks, told, asked_by_message, Course, entered, unread, IsCourseOf}
 use Rattle.ss_run_answer.specs.Turns.{left_by}
 use Rattle.ss_run_answer.specs.Turns.{response_to, Turn, AreTurns, closes, account_after, responses, RefusesBytes}
-use Rattle.ss_run_answer.specs.Turns.{refusal_response, IsReading, AreReadings, GoesOn, AnswersInput, IsTurn, WasSent}
-use Rattle.ss_run_answer.specs.Turns.{WasCut, Progress, ending_of, Refuses, refusal, Stops, most_messages}
+use Rattle.ss_route.specs.Ready.{WasSent, WasCut}
+use Rattle.ss_run_answer.specs.Turns.{refusal_response, IsReading, AreReadings, GoesOn, AnswersInput, IsTurn}
+use Rattle.ss_run_answer.specs.Turns.{Progress, ending_of, Refuses, refusal, Stops, most_messages}
 use Rattle.ss_route.proofs.Quiet.{quiet}
 
 -- one turn more

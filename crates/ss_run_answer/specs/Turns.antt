@@ -24,13 +24,12 @@ use Rattle.ss_route.specs.declared.manner.Manner.TheVariants.{Profile}
 use Rattle.ss_route.specs.declared.routed.Local.{Local}
 use Rattle.ss_route.specs.declared.routed.Routed.{Routed}
 use Rattle.ss_route.specs.declared.routed.Routed.TheVariants as routes
+use Rattle.ss_route.specs.Ready.{WasSent, WasCut}
 use Rattle.ss_route.specs.Refusals.{local_with_word}
 use Rattle.ss_route.specs.Routing.{routing_of_message}
 use Rattle.ss_route.specs.Wire.{wire, local_wire, not_listed, refusal_of}
 use Rattle.ss_run_answer.specs.declared.endings.Ending.{Ending}
 use Rattle.ss_run_answer.specs.declared.endings.Ending.TheVariants as endings
-use Rattle.ss_run_answer.specs.declared.response.Response.{Response}
-use Rattle.ss_run_answer.specs.declared.response.Response.TheVariants.{Whole, Short}
 use Rattle.ss_text.specs.Time.{clamped_reading}
 
 -- what a message asks of the account that is served, and whether lists are wanted in lines; or what it is told at once
@@ -222,15 +221,6 @@ pub record AnswersInput (uid : ℕ) (at : Option ℕ) (ending : Ending) (input i
   pub faults : RaisesOnlyEnding ending input input' output output'
   pub fewer : IsFewer ending (length turns)
 
--- the bytes of a response that is ready
-abbrev pub bytes_of : Response → List ℕ
-bytes_of (Whole text) = text.items
-bytes_of (Short moment last) = memory_response moment last
-
--- the bytes, or the fixed 507 in their place
-abbrev pub OrMemory : List ℕ → ℕ → Bool → List ℕ → Type 0
-OrMemory whole moment last bytes = (rendered : Bool) × (bytes ≡ (if rendered then whole else memory_response moment last))
-
 -- one turn for what a message asks, and its response
 pub record IsTurn (question : RequestOrLocal) (now : ℕ) (last : Bool) (old new : Plain) (bytes : List ℕ) : Type 0 where
   pub course : Course
@@ -238,19 +228,6 @@ pub record IsTurn (question : RequestOrLocal) (now : ℕ) (last : Bool) (old new
   pub is : IsCourseOf course question
   pub left : SameAccount (left_by course question old now) new
   pub sent : bytes ≡ response_to rendered course question old now last
-
--- a response was written whole
-pub record WasSent (bytes : List ℕ) (output output' : Meanings) : Type 0 where
-  pub write : HasWritten bytes output output'
-  pub faults : output'.write_faults ≡ output.write_faults
-
--- of a response only a front was written
-pub record WasCut (bytes : List ℕ) (output output' : Meanings) : Type 0 where
-  pub sent : List ℕ
-  pub rest : List ℕ
-  pub cut : bytes ≡ sent ++ rest
-  pub write : HasWritten sent output output'
-  pub rose : Rose output.write_faults output'.write_faults
 
 -- the ending that a fault of the input is
 abbrev pub ending_of : MsgFault → Ending

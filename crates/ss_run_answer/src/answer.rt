@@ -4,18 +4,18 @@ ghost use Rattle.std.specs.Prelude.{◌≡◌, ◌≤◌, ◌<◌, IfSome};
 ghost use Rattle.ss_bso.specs.declared.account.Plain.{Plain};
 ghost use Rattle.ss_bso.specs.Validity.{IsValid};
 ghost use Rattle.ss_query.specs.Fit.{IsFitRequest};
+ghost use Rattle.ss_route.specs.Ready.{bytes_of};
 ghost use Rattle.ss_run_answer.specs.Turns.{AnswersInput, IsReading, IsTurn, Stops, asked_by_message, asks, told};
-ghost use Rattle.ss_run_answer.specs.Turns.{bytes_of, closes, ending_of};
+ghost use Rattle.ss_run_answer.specs.Turns.{closes, ending_of};
 
 use crate::endings::Ending;
-use crate::response::Response;
 use ss_account::Account;
 use ss_bso::Kept;
 use ss_http::{Buffer, Message, MsgFault, read_message};
 use ss_keeper::SureKeeper;
 use ss_outside::{Clock, Sink, Source};
 use ss_query::Request;
-use ss_route::{Local, Manner, Routed, not_listed, refused, route};
+use ss_route::{Local, Manner, Response, Routed, not_listed, refused, route};
 use ss_words::AnswerCommand;
 use std::alloc::Global;
 

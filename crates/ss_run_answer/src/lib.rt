@@ -6,7 +6,6 @@
 mod answer;
 mod endings;
 mod offline;
-mod response;
 
 pub use endings::Ending;
 pub use offline::run_offline;

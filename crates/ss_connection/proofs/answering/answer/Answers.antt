@@ -3,7 +3,7 @@ use Rattle.ss_desk.specs.Passes.{view_at}
 use Rattle.ss_booked.specs.declared.booked.Asked.{Asked}
 use Rattle.ss_route.specs.declared.routed.Local.{Local}
 use Rattle.ss_route.specs.Wire.{local_wire}
-use Rattle.ss_connection.specs.Sending.{bytes_of, OrMemory}
+use Rattle.ss_route.specs.Ready.{bytes_of, OrMemory}
 use Rattle.ss_text.specs.Time.{clamped_reading}
 use Rattle.ss_connection.proofs.Passing.{one_steps, entered_steps, denied_steps, called_by, was_full_by, enters_call}
 use Rattle.ss_connection.proofs.Passing.{enters_full}

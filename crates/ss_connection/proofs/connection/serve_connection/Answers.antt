@@ -1,7 +1,7 @@
 use Rattle.std.proofs.Common.{◌≡◌, ◌+◌, ◌++◌, ◌∷◌, [], Bool, List, sym, subst}
 use Rattle.ss_http.specs.Buffers.{KeptBytes}
 use Rattle.ss_connection.specs.Known.{known_by}
-use Rattle.ss_connection.specs.Sending.{bytes_of}
+use Rattle.ss_route.specs.Ready.{bytes_of}
 use Rattle.ss_connection.specs.Turns.{AreGatedTurns, SaysTurn}
 use Rattle.ss_connection.specs.Calls.{turns_added, Enters}
 use Rattle.ss_connection.specs.Ends.{IsServedConnection}
@@ -52,7 +52,7 @@ returns-in-Err-write-clause-served g c =
     let m = c.in-Ok-read_message.message in
     let note : TurnNote = record { now = c.now-now.result; closed_by_gate = c.pass-closed_by_gate.result; turn = c.answer-turn.result.0 } in
     let turns : c.push_reserved.new.self.items ≡ c.messages.turns.items ++ note ∷ [] = pushed_on c.push_reserved.new.self.items c.reserve.new.self.items c.messages.turns.items note c.push_reserved.ensures.items c.reserve.ensures.items in
-    let link = g.L.Told.told c.args.link.now in let link' = g.L.Told.told c.messages.link in let link2 = g.L.Told.told c.read_message.new.source in let link3 = g.L.Told.told c.write.new.link in
+    let link = g.L.Told.told c.args.link.now in let link' = g.L.Told.told c.messages.link in let link2 = g.L.Told.told c.read_message.new.source in let link3 = g.L.Told.told c.write.new.output in
     let coming = g.C.Clock.coming c.args.clock.now in let coming' = g.C.Clock.coming c.messages.clock in let coming2 = g.C.Clock.coming c.now-now.new.self in
     let takes = rw p.going_on at c.in-Ok-read_message.ensures.takes in
     let cause = rw p.going_on at c.in-Ok-read_message.ensures.cause in
@@ -98,7 +98,7 @@ returns-then-message-clause-served g c =
     let m = c.in-Ok-read_message.message in
     let note : TurnNote = record { now = c.now-now.result; closed_by_gate = c.pass-closed_by_gate.result; turn = c.answer-turn.result.0 } in
     let turns : c.push_reserved.new.self.items ≡ c.messages.turns.items ++ note ∷ [] = pushed_on c.push_reserved.new.self.items c.reserve.new.self.items c.messages.turns.items note c.push_reserved.ensures.items c.reserve.ensures.items in
-    let link = g.L.Told.told c.args.link.now in let link' = g.L.Told.told c.messages.link in let link2 = g.L.Told.told c.read_message.new.source in let link3 = g.L.Told.told c.write.new.link in
+    let link = g.L.Told.told c.args.link.now in let link' = g.L.Told.told c.messages.link in let link2 = g.L.Told.told c.read_message.new.source in let link3 = g.L.Told.told c.write.new.output in
     let coming = g.C.Clock.coming c.args.clock.now in let coming' = g.C.Clock.coming c.messages.clock in let coming2 = g.C.Clock.coming c.now-now.new.self in
     let takes = rw p.going_on at c.in-Ok-read_message.ensures.takes in
     let cause = rw p.going_on at c.in-Ok-read_message.ensures.cause in
@@ -144,7 +144,7 @@ returns-then-closed_by_gate-clause-served g c =
     let m = c.in-Ok-read_message.message in
     let note : TurnNote = record { now = c.now-now.result; closed_by_gate = c.pass-closed_by_gate.result; turn = c.answer-turn.result.0 } in
     let turns : c.push_reserved.new.self.items ≡ c.messages.turns.items ++ note ∷ [] = pushed_on c.push_reserved.new.self.items c.reserve.new.self.items c.messages.turns.items note c.push_reserved.ensures.items c.reserve.ensures.items in
-    let link = g.L.Told.told c.args.link.now in let link' = g.L.Told.told c.messages.link in let link2 = g.L.Told.told c.read_message.new.source in let link3 = g.L.Told.told c.write.new.link in
+    let link = g.L.Told.told c.args.link.now in let link' = g.L.Told.told c.messages.link in let link2 = g.L.Told.told c.read_message.new.source in let link3 = g.L.Told.told c.write.new.output in
     let coming = g.C.Clock.coming c.args.clock.now in let coming' = g.C.Clock.coming c.messages.clock in let coming2 = g.C.Clock.coming c.now-now.new.self in
     let takes = rw p.going_on at c.in-Ok-read_message.ensures.takes in
     let cause = rw p.going_on at c.in-Ok-read_message.ensures.cause in
@@ -187,7 +187,7 @@ messages-preserved g c =
     let m = c.in-Ok-read_message.message in
     let note : TurnNote = record { now = c.now-now.result; closed_by_gate = c.pass-closed_by_gate.result; turn = c.answer-turn.result.0 } in
     let turns : c.push_reserved.new.self.items ≡ c.messages.turns.items ++ note ∷ [] = pushed_on c.push_reserved.new.self.items c.reserve.new.self.items c.messages.turns.items note c.push_reserved.ensures.items c.reserve.ensures.items in
-    let link = g.L.Told.told c.args.link.now in let link' = g.L.Told.told c.messages.link in let link2 = g.L.Told.told c.read_message.new.source in let link3 = g.L.Told.told c.write.new.link in
+    let link = g.L.Told.told c.args.link.now in let link' = g.L.Told.told c.messages.link in let link2 = g.L.Told.told c.read_message.new.source in let link3 = g.L.Told.told c.write.new.output in
     let coming = g.C.Clock.coming c.args.clock.now in let coming' = g.C.Clock.coming c.messages.clock in let coming2 = g.C.Clock.coming c.now-now.new.self in
     let takes = rw p.going_on at c.in-Ok-read_message.ensures.takes in
     let cause = rw p.going_on at c.in-Ok-read_message.ensures.cause in

@@ -4,7 +4,8 @@ use Rattle.ss_bso.specs.Account.{fresh}
 use Rattle.ss_bso.specs.Changes.{account_at_opening}
 use Rattle.ss_bso.specs.Validity.{SameAccount}
 use Rattle.ss_http.specs.Buffers.{KeptBytes}
-use Rattle.ss_run_answer.specs.Turns.{Progress, IsTurn, asked_by_message, bytes_of}
+use Rattle.ss_route.specs.Ready.{bytes_of}
+use Rattle.ss_run_answer.specs.Turns.{Progress, IsTurn, asked_by_message}
 use Rattle.ss_run_answer.proofs.Run.{begun, turned, ended_asking, ended_cut, stopped, ended_counting, ended_early}
 use Rattle.ss_run_answer.proofs.Run.{fresh-alone, valid_fresh, unread_further, unread_at_first}
 use Rattle.ss_run_answer.proofs.answer.answer.Goals as goal

@@ -12,9 +12,9 @@ use Rattle.ss_account.proofs.Rising.{never-rose}
 pub returns-clause-turn : goal.returns-clause-turn
 returns-clause-turn c = record {
   course = entered (mark_of c.step-reply.result);
-  rendered = c.to_reply.ensures.0;
+  rendered = c.to_reply.ensures.rendered;
   is = λ k. never-rose (ap (λ keeper. fault_count keeper.plan) (sym c.keeper.ensures) ∙ c.never_fails.ensures) (c.step-reply.ensures.cause k);
   left = c.step-reply.ensures.account;
-  sent = c.to_reply.ensures.1
-      ∙ ap (λ (reply : Reply). if c.to_reply.ensures.0 then wire reply c.args.newlines c.args.last else memory_response reply.moment c.args.last) c.step-reply.ensures.reply;
+  sent = c.to_reply.ensures.are
+      ∙ ap (λ (reply : Reply). if c.to_reply.ensures.rendered then wire reply c.args.newlines c.args.last else memory_response reply.moment c.args.last) c.step-reply.ensures.reply;
 }

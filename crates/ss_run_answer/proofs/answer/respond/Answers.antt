@@ -5,7 +5,8 @@ use Rattle.ss_bso.proofs.Reordering.{same-self}
 use Rattle.ss_route.specs.declared.routed.Local.{Local}
 use Rattle.ss_route.specs.declared.routed.Routed.{Routed}
 use Rattle.ss_route.specs.Wire.{not_listed}
-use Rattle.ss_run_answer.specs.Turns.{RequestOrLocal, asked_by_message, asked_of, asks, told, unread, IsTurn, bytes_of}
+use Rattle.ss_route.specs.Ready.{bytes_of}
+use Rattle.ss_run_answer.specs.Turns.{RequestOrLocal, asked_by_message, asked_of, asks, told, unread, IsTurn}
 use Rattle.ss_run_answer.proofs.answer.respond.Goals as goal
 
 pub returns-in-Memory-clause-turn : goal.returns-in-Memory-clause-turn

@@ -4,7 +4,8 @@ use Rattle.std.specs.Option.{option_map_or}
 use Rattle.ss_http.specs.Responses.{memory_response}
 use Rattle.ss_route.specs.declared.routed.Local.{Local}
 use Rattle.ss_route.specs.Wire.{local_wire, refusal_of}
-use Rattle.ss_run_answer.specs.Turns.{InputRefusal, refusal_response, WasSent, WasCut, bytes_of}
+use Rattle.ss_route.specs.Ready.{WasSent, WasCut, bytes_of}
+use Rattle.ss_run_answer.specs.Turns.{InputRefusal, refusal_response}
 use Rattle.ss_text.specs.Time.{clamped_reading}
 use Rattle.ss_run_answer.proofs.answer.stop.Goals as goal
 
@@ -18,18 +19,18 @@ pub returns-in-Ok-clause-stops : goal.returns-in-Ok-clause-stops
 returns-in-Ok-clause-stops g c =
     let answered : refusal_of c.args.fault ≡ Some c.in-Some.local = sym c.refused.ensures ∙ c.in-Some.is in
     let now = c.reading-now.result in
-    let rendered = c.to_local.ensures.0 in
+    let rendered = c.to_local.ensures.rendered in
     let W : List ℕ → Type 0 = λ bytes. WasSent bytes (g.T.Told.told c.args.output.now) (g.T.Told.told c.write.new.output) in (
       record { now = now; rendered = rendered; local = c.in-Some.local; answered = answered; reading = c.reading-now.ensures.reading },
-      subst W (refusal_is (record { fault = c.args.fault; now = now; rendered = rendered }) c.in-Some.local (bytes_of c.to_local.result) answered c.to_local.ensures.1) c.in-Ok.ensures.sent,
+      subst W (refusal_is (record { fault = c.args.fault; now = now; rendered = rendered }) c.in-Some.local (bytes_of c.to_local.result) answered c.to_local.ensures.are) c.in-Ok.ensures.sent,
     )
 
 pub returns-clause-stops : goal.returns-clause-stops
 returns-clause-stops g c =
     let answered : refusal_of c.args.fault ≡ Some c.in-Some.local = sym c.refused.ensures ∙ c.in-Some.is in
     let now = c.reading-now.result in
-    let rendered = c.to_local.ensures.0 in
+    let rendered = c.to_local.ensures.rendered in
     let W : List ℕ → Type 0 = λ bytes. WasCut bytes (g.T.Told.told c.args.output.now) (g.T.Told.told c.write.new.output) in (
       record { now = now; rendered = rendered; local = c.in-Some.local; answered = answered; reading = c.reading-now.ensures.reading },
-      subst W (refusal_is (record { fault = c.args.fault; now = now; rendered = rendered }) c.in-Some.local (bytes_of c.to_local.result) answered c.to_local.ensures.1) c.in-Err.ensures.cut,
+      subst W (refusal_is (record { fault = c.args.fault; now = now; rendered = rendered }) c.in-Some.local (bytes_of c.to_local.result) answered c.to_local.ensures.are) c.in-Err.ensures.cut,
     )

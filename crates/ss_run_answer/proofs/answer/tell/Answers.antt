@@ -5,4 +5,4 @@ use Rattle.ss_run_answer.specs.Turns.{entered}
 use Rattle.ss_run_answer.proofs.answer.tell.Goals as goal
 
 pub returns : goal.returns
-returns c = λ account. record { course = entered Done; rendered = c.to_local.ensures.0; is = refl; left = same-self account; sent = c.to_local.ensures.1 }
+returns c = λ account. record { course = entered Done; rendered = c.to_local.ensures.rendered; is = refl; left = same-self account; sent = c.to_local.ensures.are }

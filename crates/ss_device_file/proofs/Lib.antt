@@ -23,3 +23,4 @@ pub mod Standing
 pub mod Again
 pub mod Alike
 pub mod Fronts
+pub mod Said

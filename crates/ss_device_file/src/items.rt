@@ -1,8 +1,11 @@
 //! The lines of items.
 
-ghost use Rattle.std.specs.Prelude.{◌≡◌, IfOk, IfSome, Some, option_map};
+ghost use Rattle.std.specs.Prelude.{◌≡◌, IfOk, IfSome, Some, option_map, true};
 ghost use Rattle.std.specs.Str.{IsUtf8};
 ghost use Rattle.serde_json.specs.View.{members_view};
+ghost use Rattle.ss_text.specs.Names.{is_id};
+ghost use Rattle.ss_record.specs.Records.{reading};
+ghost use Rattle.ss_build.specs.Rows.{is_item};
 ghost use Rattle.ss_device.specs.Writing.{item_line};
 ghost use Rattle.ss_device_file.specs.Lines.{IsItemLine, record_in};
 ghost use Rattle.ss_device_file.specs.Records.{all_ids, id_told, in_place, item_from, read_item, record_id};
@@ -112,21 +115,55 @@ fn read_item(alloc: Global, time: Stamp, reading: Reading) -> Result<Option<Item
     }
 }
 
-/// What a record says as an item's line; perhaps the line isn't written so.
-#[tactic(auto, unfolding(crate::specs::Records::item_from))]
-fn item_from(alloc: Global, time: Stamp, text: &str) -> Result<Option<ItemLine>, AllocError>
-    ensures { IfOk result (λ o. o ≡ item_from time text.now) }
+/// The id behind the first `"id":"` of a text, which is mostly the one that its record says.
+fn likely_id(alloc: Global, text: &str) -> Result<Option<Id>, AllocError>
+    ensures { IfOk result (λ id. IfSome id (λ x. is_id x ≡ true)) }
 {
-    let Some(id) = record_id(alloc, text)? else {
+    let Some((_, rest)) = text.split_once("\"id\":\"") else {
         return Ok(None);
     };
+    match rest.split_once('"') {
+        Some((id, _)) => Id::new(alloc, id.as_bytes()),
+        None => Ok(None),
+    }
+}
+
+/// Whether a reading is an item.
+pub(crate) fn is_item(reading: &Reading) -> bool
+    ensures { result ≡ is_item reading.now }
+{
+    matches!(reading, Reading::Item { .. })
+}
+
+/// What a record says of an id.
+fn reading_of(alloc: Global, time: Stamp, id: Id, text: &str) -> Result<Reading, AllocError>
+    ensures { IfOk result (λ r. r ≡ reading id text.now) }
+{
     let sheet = Sheet {
         id,
         modified: time,
         payload: Word::new(String::from_str(alloc, text)?),
     };
-    let reading = read_record(alloc, &sheet)?;
-    read_item(alloc, time, reading)
+    read_record(alloc, &sheet)
+}
+
+/// What a record says as an item's line; perhaps the line isn't written so. Where it reads as an item of the likely id,
+/// that is the id that it says.
+#[tactic(auto, unfolding(crate::specs::Records::item_from))]
+fn item_from(alloc: Global, time: Stamp, text: &str) -> Result<Option<ItemLine>, AllocError>
+    ensures { IfOk result (λ o. o ≡ item_from time text.now) }
+{
+    if let Some(id) = likely_id(alloc, text)? {
+        let likely = reading_of(alloc, time, id, text)?;
+        if is_item(&likely) {
+            return read_item(alloc, time, likely);
+        }
+    }
+    let Some(id) = record_id(alloc, text)? else {
+        return Ok(None);
+    };
+    let told = reading_of(alloc, time, id, text)?;
+    read_item(alloc, time, told)
 }
 
 /// What a line says as an item's; perhaps it isn't written so.

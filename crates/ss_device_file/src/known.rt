@@ -1,16 +1,14 @@
 //! Items of the mirror that a device has lost.
 
-ghost use Rattle.std.specs.Prelude.{◌≡◌, ◌||◌, IfOk, find};
+ghost use Rattle.std.specs.Prelude.{◌≡◌, ◌||◌, IfOk, find, option_map};
 ghost use Rattle.ss_record.specs.Ids.{has};
 ghost use Rattle.ss_tree.specs.Trees.{node_ids};
 ghost use Rattle.ss_tree.specs.Entries.{tree as tree_of};
-ghost use Rattle.ss_build.specs.Built.{built};
-ghost use Rattle.ss_build.specs.Rows.{rows_of};
 ghost use Rattle.ss_device.specs.Device.{AreById, dead_ids, row_ids};
-ghost use Rattle.ss_device_file.specs.Files.{is_lost};
+ghost use Rattle.ss_device_file.specs.Joining.{HasRoots, loses, lost_of};
 
-use ss_build::build;
-use ss_record::Sheet;
+use crate::items::is_item;
+use ss_record::{Sheet, read_record};
 use ss_text::{Id, Stamp};
 use ss_tree::Tree;
 use std::alloc::{AllocError, Global};
@@ -37,26 +35,35 @@ fn is_known(tree: &Tree, dead: &BTreeMap<Id, Stamp>, id: &Id) -> bool
     is_there(tree, id) || is_dead(dead, id)
 }
 
-/// Whether an item of a tree is neither in another one nor among the deleted.
-fn is_lost(built: &Tree, tree: &Tree, dead: &BTreeMap<Id, Stamp>, id: &Id) -> bool
-    ensures { result ≡ is_lost (tree_of built.now) (tree_of tree.now) dead.now.entries id.now }
+/// Whether a row reads as an item that is neither in the tree nor among the deleted. It is read only where its id is in
+/// neither.
+#[tactic(auto, unfolding(crate::specs::Joining::loses))]
+fn is_lost(
+    alloc: Global,
+    tree: &Tree,
+    dead: &BTreeMap<Id, Stamp>,
+    row: &Sheet,
+) -> Result<bool, AllocError>
+    ensures { IfOk result (λ lost. lost ≡ loses (tree_of tree.now) dead.now.entries row.now) }
 {
-    is_there(built, id) && !is_known(tree, dead, id)
+    if is_known(tree, dead, &row.id) {
+        return Ok(false);
+    }
+    Ok(is_item(&read_record(alloc, row)?))
 }
 
 /// The first of the rows whose item is lost.
 fn first_lost(
     alloc: Global,
-    built: &Tree,
     tree: &Tree,
     dead: &BTreeMap<Id, Stamp>,
     rows: &[Sheet],
 ) -> Result<Option<Id>, AllocError>
-    ensures { IfOk result (λ id. id ≡ find (is_lost (tree_of built.now) (tree_of tree.now) dead.now.entries)
-        (row_ids rows.now)) }
+    ensures { IfOk result (λ id. id ≡ option_map (λ r. r.id) (find (loses (tree_of tree.now) dead.now.entries)
+        rows.now)) }
 {
     for row in rows {
-        if is_lost(built, tree, dead, &row.id) {
+        if is_lost(alloc, tree, dead, row)? {
             return Ok(Some(row.id.copy(alloc)?));
         }
     }
@@ -70,10 +77,10 @@ pub(crate) fn lost(
     dead: &BTreeMap<Id, Stamp>,
     mirror: &[Sheet],
 ) -> Result<Option<Id>, AllocError>
-    requires { AreById (row_ids mirror.now) }
-    ensures { IfOk result (λ id. id ≡ find (is_lost (built (rows_of mirror.now)) (tree_of tree.now) dead.now.entries)
-        (row_ids mirror.now)) }
+    requires by_id { AreById (row_ids mirror.now) }
+    requires roots { HasRoots (tree_of tree.now) }
+    ensures { IfOk result (λ id. id ≡ lost_of mirror.now (tree_of tree.now) dead.now.entries) }
 {
-    let built = build(alloc, mirror)?;
-    first_lost(alloc, &built.tree, tree, dead, mirror)
+    let id = first_lost(alloc, tree, dead, mirror)?;
+    Ok(id)
 }

@@ -2,11 +2,14 @@
 
 ghost use Rattle.std.specs.Prelude.{◌≡◌, ◌↔◌, IsTrue, IfOk, OnOk};
 ghost use Rattle.ss_record.specs.Ids.{Apart};
-ghost use Rattle.ss_tree.specs.Entries.{IsTree};
+ghost use Rattle.ss_tree.specs.Entries.{IsTree, tree as by_ids};
+ghost use Rattle.ss_tree.specs.Trees.{IsValidTree};
 ghost use Rattle.ss_build.specs.Rows.{readings, rows_of};
 ghost use Rattle.ss_sync.specs.Rows.{ids_of};
 ghost use Rattle.ss_sync.specs.Joined.{IsJoinedTree, counting};
+ghost use Rattle.ss_sync.specs.Equal.{IsMergeOf};
 
+use crate::alike::is_untimed;
 use ss_build::{Built, build};
 use ss_merge::merge;
 use ss_record::Sheet;
@@ -66,6 +69,47 @@ fn find_places(alloc: Global, tree: &Tree) -> Result<(), AllocError>
     Ok(())
 }
 
+/// The tree that merging makes of a mirror, a device's tree and a tree that was built of rows.
+fn merged(
+    alloc: Global,
+    mirror: &Tree,
+    local: &Tree,
+    local_dead: &Ids,
+    remote: &Built,
+) -> Result<Tree, AllocError>
+    ensures { IfOk result (IsMergeOf (by_ids mirror.now) (by_ids local.now) (by_ids remote.now.tree) local_dead.now
+        remote.now.dead) }
+{
+    let sides = Sides {
+        mirror,
+        local,
+        remote: &remote.tree,
+        local_dead,
+        remote_dead: &remote.dead,
+    };
+    let merged = merge(alloc, &sides)?;
+    find_places(alloc, &merged.tree)?;
+    Ok(merged.tree)
+}
+
+/// The same where the tree of the rows is the mirror too: a device's tree that is that tree is left by merging.
+fn merged_alone(
+    alloc: Global,
+    local: &Tree,
+    local_dead: &Ids,
+    remote: &Built,
+) -> Result<Tree, AllocError>
+    requires { IsValidTree (by_ids remote.now.tree) }
+    ensures { IfOk result (IsMergeOf (by_ids remote.now.tree) (by_ids local.now) (by_ids remote.now.tree) local_dead.now
+        remote.now.dead) }
+{
+    if is_untimed(alloc, local, &remote.tree)? {
+        find_places(alloc, local)?;
+        return local.copy(alloc);
+    }
+    merged(alloc, &remote.tree, local, local_dead, remote)
+}
+
 /// Merges a device's tree with the tree of fetched rows, both against the tree of the mirror.
 pub fn join(
     alloc: Global,
@@ -81,34 +125,12 @@ pub fn join(
 {
     let remote = build(alloc, rows)?;
     let counted = counting(mirror, rows);
-    if are_same(counted, rows) {
+    let tree = if are_same(counted, rows) {
         // (nothing came: one tree is that of both)
-        let sides = Sides {
-            mirror: &remote.tree,
-            local,
-            remote: &remote.tree,
-            local_dead,
-            remote_dead: &remote.dead,
-        };
-        let merged = merge(alloc, &sides)?;
-        find_places(alloc, &merged.tree)?;
-        return Ok(Joined {
-            tree: merged.tree,
-            remote,
-        });
-    }
-    let before = build(alloc, counted)?;
-    let sides = Sides {
-        mirror: &before.tree,
-        local,
-        remote: &remote.tree,
-        local_dead,
-        remote_dead: &remote.dead,
+        merged_alone(alloc, local, local_dead, &remote)?
+    } else {
+        let before = build(alloc, counted)?;
+        merged(alloc, &before.tree, local, local_dead, &remote)?
     };
-    let merged = merge(alloc, &sides)?;
-    find_places(alloc, &merged.tree)?;
-    Ok(Joined {
-        tree: merged.tree,
-        remote,
-    })
+    Ok(Joined { tree, remote })
 }

@@ -4,12 +4,15 @@
 //! are those after the plan, by id.
 #![tactic(auto)]
 
+mod alike;
 mod fetched;
 mod joining;
+mod laws;
 mod posts;
 mod written;
 
 pub use fetched::{Fetched, are_known};
 pub use joining::{Joined, join};
+pub use laws::one_tree_is_left_alone;
 pub use posts::next_post;
 pub use written::rows_after;

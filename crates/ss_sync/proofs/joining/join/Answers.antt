@@ -3,46 +3,23 @@ use Rattle.ss_tree.specs.Trees.{IsSame}
 use Rattle.ss_tree.specs.Entries.{tree}
 use Rattle.ss_build.specs.Rows.{rows_of}
 use Rattle.ss_build.specs.Built.{built}
-use Rattle.ss_dupe.specs.Sides.{sides}
-use Rattle.ss_dupe.specs.Pairs.{ArePairs}
-use Rattle.ss_merge.specs.Merged.{all_ids}
-use Rattle.ss_sync.specs.Joined.{merged_of}
+use Rattle.ss_sync.specs.Joined.{IsJoinedTree}
+use Rattle.ss_sync.proofs.Equal.{joined_by}
 use Rattle.ss_sync.proofs.joining.join.Goals as goal
+use Rattle.ss_sync.proofs.joining.join.Goals.{then-are_same+in_ok-tree, else-are_same+in_ok-before+in_ok-tree-2}
 
--- nothing came: the tree that was built of the rows is that of the mirror too
-pub returns-then-are_same-clause-joined : goal.returns-then-are_same-clause-joined
-unfolding all_ids
-returns-then-are_same-clause-joined c =
-    let local = tree c.args.local.now in
-    let remote = tree c.in_ok-remote.remote.tree in
-    let pairs = c.in_ok-merged.merged.renamed.items in
-    record {
-      before = c.in_ok-remote.remote.tree;
-      remote = c.in_ok-remote.remote.tree;
-      pairs = pairs;
-      before_is = subst (λ rows. IsSame remote (built (rows_of rows))) (sym (c.are_same.ensures.0 c.if-are_same.true) ∙ c.counting-counted.ensures) c.in_ok-remote.ensures.tree;
-      remote_is = c.in_ok-remote.ensures.tree;
-      are_pairs = subst (λ dead. ArePairs (sides remote local remote c.args.local_dead.now dead) pairs) c.in_ok-remote.ensures.dead c.in_ok-merged.ensures.renamed;
-      joined_is = subst (λ dead. IsSame (tree c.in_ok-merged.merged.tree) (merged_of pairs remote local remote c.args.local_dead.now dead)) c.in_ok-remote.ensures.dead c.in_ok-merged.ensures.tree;
-      valid = c.in_ok-merged.ensures.valid;
-      is_tree = c.in_ok-find_places.ensures;
-    }
-
+-- where nothing came, the tree that was built of the rows is that of the mirror too
 pub returns-clause-joined : goal.returns-clause-joined
-unfolding all_ids
 returns-clause-joined c =
-    let local = tree c.args.local.now in
-    let before = tree c.in_ok-before.before.tree in
-    let remote = tree c.in_ok-remote.remote.tree in
-    let pairs = c.in_ok-merged-2.merged.renamed.items in
-    record {
-      before = c.in_ok-before.before.tree;
-      remote = c.in_ok-remote.remote.tree;
-      pairs = pairs;
-      before_is = subst (λ rows. IsSame before (built (rows_of rows))) c.counting-counted.ensures c.in_ok-before.ensures.tree;
-      remote_is = c.in_ok-remote.ensures.tree;
-      are_pairs = subst (λ dead. ArePairs (sides before local remote c.args.local_dead.now dead) pairs) c.in_ok-remote.ensures.dead c.in_ok-merged-2.ensures.renamed;
-      joined_is = subst (λ dead. IsSame (tree c.in_ok-merged-2.merged.tree) (merged_of pairs before local remote c.args.local_dead.now dead)) c.in_ok-remote.ensures.dead c.in_ok-merged-2.ensures.tree;
-      valid = c.in_ok-merged-2.ensures.valid;
-      is_tree = c.in_ok-find_places-2.ensures;
-    }
+    let remote = c.in_ok-remote.remote in
+    elim c.if-are_same.branch [
+      | then-are_same+in_ok-tree w ↦
+          let same = c.are_same.ensures.0 w.if-are_same.true in
+          subst (IsJoinedTree c.args.mirror.now c.args.local.now c.args.local_dead.now c.args.rows.now) (sym w.tree-is)
+          (joined_by c.args.mirror.now c.args.rows.now c.args.local.now remote.tree remote.tree w.in_ok-tree.tree c.args.local_dead.now remote.dead
+          (subst (λ rows. IsSame (tree remote.tree) (built (rows_of rows))) (sym same ∙ c.counting-counted.ensures) c.in_ok-remote.ensures.tree) c.in_ok-remote.ensures.tree c.in_ok-remote.ensures.dead w.in_ok-tree.ensures)
+      | else-are_same+in_ok-before+in_ok-tree-2 w ↦
+          subst (IsJoinedTree c.args.mirror.now c.args.local.now c.args.local_dead.now c.args.rows.now) (sym w.tree-is)
+          (joined_by c.args.mirror.now c.args.rows.now c.args.local.now w.in_ok-before.before.tree remote.tree w.in_ok-tree-2.tree c.args.local_dead.now remote.dead
+          (subst (λ rows. IsSame (tree w.in_ok-before.before.tree) (built (rows_of rows))) c.counting-counted.ensures w.in_ok-before.ensures.tree) c.in_ok-remote.ensures.tree c.in_ok-remote.ensures.dead w.in_ok-tree-2.ensures)
+    ]

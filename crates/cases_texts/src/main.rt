@@ -1,8 +1,9 @@
-//! Cases of texts, messages, flat collections, dumps and logs, as a program: standard input has them, and standard output
-//! what comes of each. A line `== PART` is told as it stands; it says whose the lines behind it are, up to the next one.
-//! The program has no contract: its stored run is the test.
+//! Cases of texts, messages, flat collections, dumps and logs, and the examples of the libraries, as a program: standard
+//! input has them, and standard output what comes of each. A line `== PART` is told as it stands; it says whose the lines
+//! behind it are, up to the next one. The program has no contract: its stored run is the test.
 #![tactic(auto)]
 
+mod examples;
 mod flat;
 mod messages;
 mod moves;
@@ -35,6 +36,7 @@ fn tell(rt: &HostRuntime, heading: &str, line: &str) -> anyhow::Result<()> {
 fn tell_part(rt: &HostRuntime, heading: &str, lines: &[String]) -> anyhow::Result<()> {
     rt.println(heading)?;
     match heading {
+        "== examples" => return examples::tell_cases(rt, lines),
         "== flat" => return flat::tell_cases(rt, lines),
         "== moves" => return moves::tell_cases(rt, lines),
         _ => {}

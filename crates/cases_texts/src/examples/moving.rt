@@ -1,6 +1,6 @@
 //! An account is written as a text, and read back.
 
-use crate::answering::{fresh, id, name, put};
+use crate::examples::answering::{fresh, id, name, put};
 use anyhow::bail;
 use ss_bso::Kept;
 use ss_dump::{dump, undump};

@@ -1,10 +1,12 @@
 //! Why a database isn't taken as an account's, and why what it holds isn't read or written.
 
-ghost use Rattle.std.specs.Prelude.{◌≡◌, ◌≢◌, ◌↔◌, ℤ, IsOkAnd, IsTrue, IfOk, OnOk, Ok, Err};
+ghost use Rattle.std.specs.Prelude.{◌≡◌, ◌≢◌, ◌↔◌, ℤ, IsTrue, IfOk, Ok, Err};
 ghost use Rattle.ss_keep_sql.specs.Opening.{HasVersion, IsOther, IsTakenVersion, TellsVersion};
 
 use crate::places::Place;
-use crate::tables::{VERSION, VERSION_WITHOUT_BATCHES, VERSION_WITHOUT_COMMITS};
+use crate::tables::{
+    VERSION, VERSION_WITHOUT_BATCHES, VERSION_WITHOUT_COMMITS, VERSION_WITHOUT_NUMBERS,
+};
 use sqlite::{Error, ErrorCode};
 use std::alloc::AllocError;
 use thiserror::Error;
@@ -19,12 +21,12 @@ pub enum SqlFault {
     #[error("the database was refused")]
     Fault,
 
-    /// Its tables are of a version that is none of 1, 2 and 3.
+    /// Its tables are of a version that is none of 1, 2, 3 and 4.
     #[error("the database has version {found}")]
     Version { found: i64 },
 
     /// What a row holds is out of form: a name, an id or a payload that is no UTF-8, a value of another type or beyond its
-    /// range, the text of no commit, or a further row of `about`.
+    /// range, the text of no commit, a further row of `about`, or a further record of one collection and id.
     #[error("{place} is out of form")]
     Damaged { place: Place },
 
@@ -115,14 +117,19 @@ pub(crate) fn fault_of_file(fault: FileFault) -> SqlFault
     }
 }
 
-/// Whether a database is taken of which this version was read, or could not be read.
-pub(crate) fn taken(read: Result<i64, Error>) -> Result<(), SqlFault>
-    ensures ok { OnOk result (IsOkAnd read IsTakenVersion) }
+/// Whether a database is taken of which this version was read, or could not be read; and the version.
+pub(crate) fn taken(read: Result<i64, Error>) -> Result<i64, SqlFault>
+    ensures ok { IfOk result (λ found. (read ≡ Ok found) × IsTakenVersion found) }
     ensures version { (found : ℤ) → result ≡ Err (SqlFault.Version found) → (read ≡ Ok found) × IsOther found }
-    ensures refused { IfOk read (λ found. IsTakenVersion found → result ≡ Ok tt) }
+    ensures refused { IfOk read (λ found. IsTakenVersion found → result ≡ Ok found) }
 {
     match read {
-        Ok(VERSION | VERSION_WITHOUT_COMMITS | VERSION_WITHOUT_BATCHES) => Ok(()),
+        Ok(
+            found @ (VERSION
+            | VERSION_WITHOUT_NUMBERS
+            | VERSION_WITHOUT_COMMITS
+            | VERSION_WITHOUT_BATCHES),
+        ) => Ok(found),
         Ok(found) => Err(SqlFault::Version { found }),
         Err(error) => Err(fault_of(error)),
     }

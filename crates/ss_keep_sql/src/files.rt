@@ -22,7 +22,7 @@ use std::hash::{BuildHasher, RandomState};
 use std::io::ErrorKind;
 
 /// The bytes of a page in a file that is made.
-const PAGE_BYTES: usize = 1024;
+const PAGE_BYTES: usize = 2048;
 
 /// How many bytes of pages are held in memory at most: of those that were read, and of those that a transaction writes.
 const HELD_BYTES: usize = 8_388_608;
@@ -158,7 +158,7 @@ fn open_made<D: Disk + Drop>(
 }
 
 /// Opens the database in files: in empty ones, and in those that a stop left half made, it makes one with pages of
-/// 1,024 bytes. The files come back where it can't be opened. The seed is a random number.
+/// 2,048 bytes. The files come back where it can't be opened. The seed is a random number.
 pub fn open_files<D: Disk + Drop>(
     alloc: Global,
     mut files: Files<D>,
@@ -221,7 +221,7 @@ pub(crate) fn open_beside(
     }
 }
 
-/// Opens the database at a path, and makes it where there is no file or an empty one, with pages of 1,024 bytes. One
+/// Opens the database at a path, and makes it where there is no file or an empty one, with pages of 2,048 bytes. One
 /// connection at a time has a file. One that can't be opened has no log beside it that wasn't there, unless the log has
 /// pages.
 pub fn open_file(rt: &HostRuntime, path: &str) -> Result<Connection<FileStore<File>>, Error> {

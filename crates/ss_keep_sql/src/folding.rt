@@ -2,11 +2,12 @@
 
 use crate::faults::Refusal;
 use crate::reading::{read_begun, read_tables};
+use crate::row_numbers::{numbers_of_keys, numbers_of_rows, read_keys};
 use crate::stored::read_all;
 use crate::tables::{IN_TRANSACTION, clear_commits};
 use crate::writing::write;
 use sqlite::{Alter, Connection, Transaction};
-use ss_bso::{Batches, Changes, Kept, Staged};
+use ss_bso::{Batches, Changes, Kept, Row, Staged};
 use ss_keeper::make;
 use std::alloc::{AllocError, Global};
 use std::slice;
@@ -29,17 +30,62 @@ fn numbers_of(alloc: Global, batches: &[Staged]) -> Result<Vec<u64>, AllocError>
     Ok(numbers)
 }
 
+/// The numbers of the batches in the table, and what commits make of these without their parts, and of nothing else.
+fn outcome<S: Alter>(
+    alloc: Global,
+    transaction: &mut Transaction<'_, S>,
+    commits: &[Changes],
+) -> Result<(Vec<u64>, Kept), Refusal> {
+    let begun = read_begun(alloc, transaction)?;
+    let stored = numbers_of(alloc, begun.as_slice())?;
+    let made = made(alloc, commits, begun)?;
+    Ok((stored, made))
+}
+
 /// Writes what commits make of the tables, and empties the table of commits: each row, time and batch that they touch is
-/// written once, however often it was changed.
+/// written once, however often it was changed. The rows of the table were read with these numbers, and of two with one
+/// key one is refused, also where there are no commits.
+fn settle_read<S: Alter>(
+    alloc: Global,
+    transaction: &mut Transaction<'_, S>,
+    commits: &[Changes],
+    rows: &[Row],
+    numbers: &[i64],
+) -> Result<(), Refusal> {
+    let (stored, made) = outcome(alloc, transaction, commits)?;
+    let numbers = numbers_of_rows(alloc, rows, numbers)?;
+    if commits.is_empty() {
+        return Ok(());
+    }
+    write(
+        alloc,
+        transaction,
+        commits,
+        &numbers,
+        stored.as_slice(),
+        &made,
+    )?;
+    clear_commits(transaction)?;
+    Ok(())
+}
+
+/// The same, where the rows of the table weren't read.
 fn settle<S: Alter>(
     alloc: Global,
     transaction: &mut Transaction<'_, S>,
     commits: &[Changes],
 ) -> Result<(), Refusal> {
-    let begun = read_begun(alloc, transaction)?;
-    let stored = numbers_of(alloc, begun.as_slice())?;
-    let made = made(alloc, commits, begun)?;
-    write(alloc, transaction, commits, stored.as_slice(), &made)?;
+    let (stored, made) = outcome(alloc, transaction, commits)?;
+    let keys = read_keys(alloc, transaction)?;
+    let numbers = numbers_of_keys(alloc, keys.as_slice())?;
+    write(
+        alloc,
+        transaction,
+        commits,
+        &numbers,
+        stored.as_slice(),
+        &made,
+    )?;
     clear_commits(transaction)?;
     Ok(())
 }
@@ -49,10 +95,16 @@ pub(crate) fn read_folding<S: Alter>(
     alloc: Global,
     transaction: &mut Transaction<'_, S>,
 ) -> Result<Kept, Refusal> {
-    let mut kept = read_tables(alloc, transaction)?;
+    let (mut kept, numbers) = read_tables(alloc, transaction)?;
     let commits: Vec<Changes> = read_all(alloc, transaction, &[])?;
+    settle_read(
+        alloc,
+        transaction,
+        commits.as_slice(),
+        kept.rows.as_slice(),
+        numbers.as_slice(),
+    )?;
     if !commits.is_empty() {
-        settle(alloc, transaction, commits.as_slice())?;
         make(alloc, &mut kept, commits.as_slice())?;
     }
     Ok(kept)

@@ -80,8 +80,8 @@ impl SqlKeeper {
 }
 
 impl<S: Alter + Drop> SqlKeeper<S> {
-    /// Takes the database of a connection, and reads it whole. One without tables gets them; one with tables of version 1
-    /// or 2 gets those of version 3, and one with tables of another version is refused, as is one that holds something
+    /// Takes the database of a connection, and reads it whole. One without tables gets them; one with tables of version 1,
+    /// 2 or 3 gets those of version 4, and one with tables of another version is refused, as is one that holds something
     /// out of form. Commits that stand beside the tables are made to them. The connection comes back where it isn't
     /// taken, its database as it was.
     pub fn adopt(

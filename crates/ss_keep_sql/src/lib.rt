@@ -15,6 +15,7 @@ mod numbers;
 mod opening;
 mod places;
 mod reading;
+mod row_numbers;
 mod rows;
 mod stored;
 mod tables;

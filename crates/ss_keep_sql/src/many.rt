@@ -61,7 +61,7 @@ fn number_or_null(number: Option<i64>) -> ValueRef<'static> {
 }
 
 /// Appends the values of a stored record.
-pub(crate) fn push_row<'a>(values: &mut Vec<ValueRef<'a>>, row: &'a Row) -> Result<(), AllocError> {
+fn push_row<'a>(values: &mut Vec<ValueRef<'a>>, row: &'a Row) -> Result<(), AllocError> {
     values.push(ValueRef::Text(row.collection.as_str().as_bytes()))?;
     values.push(ValueRef::Text(row.id.as_str().as_bytes()))?;
     values.push(ValueRef::Int(integer(row.modified.get())))?;
@@ -71,12 +71,21 @@ pub(crate) fn push_row<'a>(values: &mut Vec<ValueRef<'a>>, row: &'a Row) -> Resu
     Ok(())
 }
 
-/// Inserts stored records that have these values, of which none is there.
+fn row_values<'a>(alloc: Global, rows: &[&'a Row]) -> Result<Vec<ValueRef<'a>>, AllocError> {
+    let mut values = Vec::new(alloc);
+    for row in rows {
+        push_row(&mut values, row)?;
+    }
+    Ok(values)
+}
+
+/// Inserts stored records, of which none is there.
 pub(crate) fn insert_rows<S: Alter>(
     alloc: Global,
     transaction: &mut Transaction<'_, S>,
-    values: &[ValueRef<'_>],
-) -> Result<(), Error> {
+    rows: &[&Row],
+) -> Result<(), Refusal> {
+    let values = row_values(alloc, rows)?;
     for some in values.chunks(MOST_ROWS * ROW_COLUMNS) {
         let count = some.len() / ROW_COLUMNS;
         insert(alloc, transaction, INSERT_ROWS, ROW, count, some)?;

@@ -33,7 +33,8 @@ impl fmt::Display for Table {
     }
 }
 
-/// A row of a table: `SELECT * FROM table WHERE rowid = row` shows it. In `batches` and `commits` it is the row's number.
+/// A row of a table: `SELECT * FROM table WHERE rowid = row` shows it. In `rows`, `batches` and `commits` it is the row's
+/// number.
 #[derive(Clone, Copy, Debug, PartialEq, Eq)]
 pub struct Place {
     pub table: Table,

@@ -3,10 +3,11 @@
 use crate::faults::{NO_MEMORY, Refusal};
 use crate::numbers::{integer, number};
 use crate::places::{Place, Table};
+use crate::row_numbers::read_rows;
 use crate::stored::{Stored, Unread, flag_at, id_at, name_at, read_all, stamp_at};
 use crate::tables::IN_TRANSACTION;
 use sqlite::{Alter, Connection, Error, Row as Values, Transaction, params};
-use ss_bso::{Batches, Changes, Field, Fields, Kept, Part, Parts, Row, Rows, Staged, Times};
+use ss_bso::{Batches, Changes, Field, Fields, Kept, Part, Parts, Rows, Staged, Times};
 use ss_keeper::make;
 use ss_text::{Name, Stamp, Word};
 use std::alloc::Global;
@@ -47,25 +48,6 @@ impl Stored for (Name, Stamp) {
 
     fn read(alloc: Global, values: &Values) -> Result<(Name, Stamp), Unread> {
         Ok((name_at(alloc, values, 1)?, stamp_at(values, 2)?))
-    }
-}
-
-impl Stored for Row {
-    const TABLE: Table = Table::Rows;
-
-    const SELECT: &'static str =
-        "SELECT rowid, collection, id, modified, sortindex, payload, expires FROM rows";
-
-    fn read(alloc: Global, values: &Values) -> Result<Row, Unread> {
-        let expires: Option<i64> = values.get(6)?;
-        Ok(Row {
-            collection: name_at(alloc, values, 1)?,
-            id: id_at(alloc, values, 2)?,
-            modified: stamp_at(values, 3)?,
-            sortindex: values.get(4)?,
-            payload: Word::new(values.get(5)?),
-            expires: expires.map(number),
-        })
     }
 }
 
@@ -177,20 +159,22 @@ fn read_batches<S: Alter>(
     Ok(batches)
 }
 
-/// What the tables have.
+/// What the tables have, and the numbers of its rows in their order.
 pub(crate) fn read_tables<S: Alter>(
     alloc: Global,
     transaction: &mut Transaction<'_, S>,
-) -> Result<Kept, Refusal> {
+) -> Result<(Kept, Vec<i64>), Refusal> {
     let about = read_about(alloc, transaction)?;
-    Ok(Kept {
-        rows: Rows::new(read_all(alloc, transaction, &[])?),
+    let (rows, numbers) = read_rows(alloc, transaction)?;
+    let kept = Kept {
+        rows: Rows::new(rows),
         collections: Times::new(read_all(alloc, transaction, &[])?),
         store: about.store,
         last_delete: about.last_delete,
         counter: about.counter,
         batches: Batches::new(read_batches(alloc, transaction)?),
-    })
+    };
+    Ok((kept, numbers))
 }
 
 /// All that is held: what the tables have, with the changes of the commits made to it.
@@ -202,7 +186,7 @@ pub(crate) fn read<S: Alter>(
         return Err(Refusal::Statement(IN_TRANSACTION));
     }
     let mut transaction = connection.transaction();
-    let mut kept = read_tables(alloc, &mut transaction)?;
+    let (mut kept, _numbers) = read_tables(alloc, &mut transaction)?;
     let commits: Vec<Changes> = read_all(alloc, &mut transaction, &[])?;
     make(alloc, &mut kept, commits.as_slice())?;
     Ok(kept)

@@ -3,6 +3,7 @@
 use crate::faults::Refusal;
 use crate::many::insert_parts;
 use crate::numbers::integer;
+use crate::row_numbers::Numbers;
 use crate::rows::write_rows;
 use sqlite::{Alter, Error, Transaction, params};
 use ss_bso::{BatchChange, Changes, CollectionChange, Kept, Staged, Times};
@@ -12,8 +13,6 @@ use std::collections::HashSet;
 
 /// An expiry from 2^63 on stands below 0, and no moment reaches it.
 const DROP_ENDED: &str = "DELETE FROM rows WHERE expires BETWEEN 0 AND ?1";
-
-const DROP_ROWS: &str = "DELETE FROM rows WHERE collection = ?1";
 
 const DROP_COLLECTION: &str = "DELETE FROM collections WHERE name = ?1";
 
@@ -65,14 +64,12 @@ fn note_dropped<'a>(
     Ok(())
 }
 
-/// Drops collections with their rows.
+/// Drops collections, whose rows are dropped with the other rows.
 fn drop_collections<S: Alter>(
-    alloc: Global,
     transaction: &mut Transaction<'_, S>,
-    commits: &[Changes],
-) -> Result<(), Refusal> {
-    for name in dropped(alloc, commits)? {
-        let _rows = transaction.execute(DROP_ROWS, params![name.as_str()])?;
+    dropped: &HashSet<&Name>,
+) -> Result<(), Error> {
+    for name in dropped {
         let _collections = transaction.execute(DROP_COLLECTION, params![name.as_str()])?;
     }
     Ok(())
@@ -229,17 +226,27 @@ fn write_batches<S: Alter>(
 }
 
 /// Writes what commits make of the tables. Of what they bring, `made` has what is there in the end: the rows, the times of
-/// collections, and of the batches the parts that aren't in the tables. `stored` are the numbers of the batches that are.
-pub(crate) fn write<S: Alter>(
+/// collections, and of the batches the parts that aren't in the tables. `stored` are the numbers of the batches that are,
+/// and `numbers` those of the rows.
+pub(crate) fn write<'a, S: Alter>(
     alloc: Global,
     transaction: &mut Transaction<'_, S>,
-    commits: &[Changes],
+    commits: &'a [Changes],
+    numbers: &Numbers<'a>,
     stored: &[u64],
-    made: &Kept,
+    made: &'a Kept,
 ) -> Result<(), Refusal> {
+    let dropped = dropped(alloc, commits)?;
     drop_ended(transaction, last_moment(commits))?;
-    drop_collections(alloc, transaction, commits)?;
-    write_rows(alloc, transaction, commits, made.rows.as_slice())?;
+    drop_collections(transaction, &dropped)?;
+    write_rows(
+        alloc,
+        transaction,
+        commits,
+        &dropped,
+        &*numbers,
+        made.rows.as_slice(),
+    )?;
     set_collections(transaction, &made.collections)?;
     write_batches(alloc, transaction, commits, stored, made.batches.as_slice())?;
     set_about(transaction, made)?;

@@ -99,15 +99,16 @@ impl Served {
         message: &Message,
         last: bool,
     ) -> anyhow::Result<Response> {
-        let response = match route(alloc, self.manner, message) {
-            Routed::Memory => bail!("no memory"),
-            Routed::Ask { uid, request, .. } if uid == UID => {
-                asked(alloc, &mut self.account, now, &request, last)?
+        let routed = route(alloc, self.manner, message);
+        let response = match &routed {
+            Routed::Memory => Err(AllocError),
+            Routed::Ask { uid, request, .. } if *uid == UID => {
+                asked(alloc, &mut self.account, now, request, last)
             }
-            Routed::Ask { .. } => local(alloc, &not_listed(), now, last)?,
-            Routed::Local(said) => local(alloc, &said, now, last)?,
+            Routed::Ask { .. } => local(alloc, &not_listed(), now, last),
+            Routed::Local(said) => local(alloc, said, now, last),
         };
-        Ok(response)
+        Ok(response?)
     }
 
     /// The account reads its clock.

@@ -142,19 +142,25 @@ fn verdict(alloc: Global, logs: Vec<Vec<u8>>) -> anyhow::Result<String> {
     }
 }
 
-/// What is told of the logs that a server kept from the term 3 on: its status, and of the accounts 7 and 8 how many logs
-/// there are, and what `audit` says of them and its status.
-pub fn logs<R: Threads + Wait + Sync>(rt: &R, alloc: Global, case: Case) -> anyhow::Result<String> {
-    let (site, status) = served(rt, alloc, case)?;
+/// A server's status, and of the accounts 7 and 8 how many logs there are from the term 3 on, and what `audit` says of them and
+/// its status.
+fn audited(alloc: Global, site: &Terms, status: u8) -> anyhow::Result<String> {
     let mut text = format!(in alloc; "status {status}")?;
     for uid in [7, 8] {
-        let logs = logs_of(alloc, &site, uid, 3)?;
+        let logs = logs_of(alloc, site, uid, 3)?;
         let count = logs.len();
         let verdict = verdict(alloc, logs)?;
         text.push_str(format!(in alloc; "\n {uid}: {count} logs, {verdict}")?.as_str())?;
     }
-    drop(site);
     Ok(text)
+}
+
+/// What is told of the logs that a server kept.
+pub fn logs<R: Threads + Wait + Sync>(rt: &R, alloc: Global, case: Case) -> anyhow::Result<String> {
+    let (site, status) = served(rt, alloc, case)?;
+    let text = audited(alloc, &site, status);
+    drop(site);
+    text
 }
 
 /// A line on a term, and one on each of its links: each journal's account, and how many entries it has.

@@ -7,8 +7,7 @@ ghost use Rattle.ss_query.specs.Fit.{IsFitRequest};
 
 use crate::turns::account::{Told, call, call_both, fresh_desk, put};
 use anyhow::bail;
-use ss_booked::{Asked, Booked, MOST_ENTRIES};
-use ss_keeper::SureKeeper;
+use ss_booked::{Asked, MOST_ENTRIES};
 use ss_laws::Journal;
 use ss_query::{Cond, Request};
 use ss_text::{Id, Name};
@@ -34,14 +33,14 @@ fn get(alloc: Global, now: u64, id: &str) -> anyhow::Result<Asked>
     Ok(Asked { now, request })
 }
 
-/// The account after two calls by two passes side by side, and what each is told.
+/// The tickets of the journal's entries after two calls by two passes side by side, and what each is told.
 fn called_both<R: Threads + Wait + Sync>(
     rt: &R,
     alloc: Global,
     most: u32,
     ask: Asked,
     other: Asked,
-) -> anyhow::Result<(Booked<SureKeeper>, Told, Told)>
+) -> anyhow::Result<(String, Told, Told)>
     requires fits { IsFitRequest ask.request }
     requires other_fits { IsFitRequest other.request }
     requires shared { IsSync R.row }
@@ -49,7 +48,9 @@ fn called_both<R: Threads + Wait + Sync>(
     let (desk, pass) = fresh_desk(alloc, most)?;
     let (pass, told, other_told) = call_both(rt, &desk, pass, ask, other);
     let booked = desk.close(pass);
-    Ok((booked, told, other_told))
+    let tickets = tickets(alloc, booked.journal());
+    drop(booked);
+    Ok((tickets?, told, other_told))
 }
 
 /// What each of two calls by one pass is told, one after the other.
@@ -126,8 +127,7 @@ pub fn pair_line<R: Threads + Wait + Sync>(
     }
     let now = u64::from(*now);
     let (ask, other) = (put(alloc, now, "a")?, get(alloc, now, "a")?);
-    let (booked, put, get) = called_both(rt, alloc, *most, ask, other)?;
-    let tickets = tickets(alloc, booked.journal())?;
+    let (tickets, put, get) = called_both(rt, alloc, *most, ask, other)?;
     Ok(format!(in alloc;
         "two passes, tickets{tickets}\n  the PUT {:?}\n  the GET by its place {}",
         status(&put),

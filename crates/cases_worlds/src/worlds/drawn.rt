@@ -253,14 +253,30 @@ fn is_over_bytes(number: u64) -> bool {
     number < OVER_BYTES
 }
 
-fn outcome_of(alloc: Global, way: Way, number: u64) -> anyhow::Result<Played> {
-    let mut watch = Watch::new(alloc, DEVICES as usize, is_over_bytes(number))?;
-    let mut play = fresh(alloc, way, DEVICES)?;
-    let agree = play_list(alloc, &mut watch, &mut play, number)?;
+/// Plays a list, and tells the devices where it is told what comes of its events; whether they agree in the end.
+fn agree_in(
+    alloc: Global,
+    watch: &mut Watch,
+    play: &mut Play,
+    number: u64,
+) -> anyhow::Result<bool> {
+    let agree = play_list(alloc, watch, play, number)?;
     if is_over_bytes(number) {
-        tell_all(alloc, &mut watch, &play)?;
+        tell_all(alloc, watch, play)?;
     }
+    Ok(agree)
+}
+
+/// What comes of a list in a play that begins.
+fn watched(alloc: Global, play: &mut Play, number: u64) -> anyhow::Result<Played> {
+    let mut watch = Watch::new(alloc, DEVICES as usize, is_over_bytes(number))?;
+    let agree = agree_in(alloc, &mut watch, play, number)?;
     Ok(Played { watch, agree })
+}
+
+fn outcome_of(alloc: Global, way: Way, number: u64) -> anyhow::Result<Played> {
+    let mut play = fresh(alloc, way, DEVICES)?;
+    watched(alloc, &mut play, number)
 }
 
 /// What all lists come to.

@@ -93,8 +93,13 @@ fn upload(alloc: Global, play: &mut Play) -> anyhow::Result<String> {
     )?)
 }
 
-pub fn uploads_line(alloc: Global, way: Way) -> anyhow::Result<String> {
+/// The play of one device with its bookmarks.
+fn begun(alloc: Global, way: Way) -> anyhow::Result<Play> {
     let devices = vec![in alloc; device(alloc)?]?;
-    let mut play = Play::fresh(alloc, way, devices)?;
+    Play::fresh(alloc, way, devices)
+}
+
+pub fn uploads_line(alloc: Global, way: Way) -> anyhow::Result<String> {
+    let mut play = begun(alloc, way)?;
     upload(alloc, &mut play)
 }

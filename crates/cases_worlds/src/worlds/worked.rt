@@ -207,13 +207,16 @@ pub fn list(alloc: Global, collection: &str) -> anyhow::Result<Request> {
     })
 }
 
+/// Whether an event is refused since it touches the bookmarks.
+fn touches(alloc: Global, play: &mut Play, event: &Event) -> anyhow::Result<bool> {
+    let fault = play.step(alloc, event)?;
+    Ok(matches!(fault, Some(WorldFault::Touches)))
+}
+
 /// Whether a request of others is refused since it touches the bookmarks.
 fn is_refused(alloc: Global, play: &mut Play, request: Request) -> anyhow::Result<bool> {
     let event = Event::Other { now: 1000, request };
-    match play.step(alloc, &event)? {
-        Some(WorldFault::Touches) => Ok(true),
-        _ => Ok(false),
-    }
+    touches(alloc, play, &event)
 }
 
 /// How many requests of others are refused of these.
@@ -335,37 +338,48 @@ fn refusals(alloc: Global, play: &mut Play) -> anyhow::Result<Vec<String>> {
     Ok(lines)
 }
 
-fn told_of_three(alloc: Global, way: Way) -> anyhow::Result<String> {
-    let mut play = fresh(alloc, way, 1)?;
-    three(alloc, &mut play)
+/// A worked play, which begins anew.
+#[derive(Clone, Copy)]
+enum Part {
+    Three,
+    Lost,
+    Both,
+    Others,
+    Refusals,
+}
+
+impl Part {
+    /// How many devices it has.
+    fn devices(self) -> u32 {
+        match self {
+            Part::Both => 2,
+            _ => 1,
+        }
+    }
 }
 
 fn lost_twice(alloc: Global, play: &mut Play) -> anyhow::Result<Vec<String>> {
     Ok(vec![in alloc; lost(alloc, play)?, lost_again(alloc, play)?]?)
 }
 
-fn told_of_lost(alloc: Global, way: Way) -> anyhow::Result<Vec<String>> {
-    let mut play = fresh(alloc, way, 1)?;
-    lost_twice(alloc, &mut play)
-}
-
 fn both_twice(alloc: Global, play: &mut Play) -> anyhow::Result<Vec<String>> {
     Ok(vec![in alloc; both(alloc, play)?, both_again(alloc, play)?]?)
 }
 
-fn told_of_both(alloc: Global, way: Way) -> anyhow::Result<Vec<String>> {
-    let mut play = fresh(alloc, way, 2)?;
-    both_twice(alloc, &mut play)
+/// What a part tells of a play that begins.
+fn told_by(alloc: Global, play: &mut Play, part: Part) -> anyhow::Result<Vec<String>> {
+    match part {
+        Part::Three => Ok(vec![in alloc; three(alloc, play)?]?),
+        Part::Lost => lost_twice(alloc, play),
+        Part::Both => both_twice(alloc, play),
+        Part::Others => Ok(vec![in alloc; others(alloc, play)?]?),
+        Part::Refusals => refusals(alloc, play),
+    }
 }
 
-fn told_of_others(alloc: Global, way: Way) -> anyhow::Result<String> {
-    let mut play = fresh(alloc, way, 1)?;
-    others(alloc, &mut play)
-}
-
-fn told_of_refusals(alloc: Global, way: Way) -> anyhow::Result<Vec<String>> {
-    let mut play = fresh(alloc, way, 1)?;
-    refusals(alloc, &mut play)
+fn told_of(alloc: Global, way: Way, part: Part) -> anyhow::Result<Vec<String>> {
+    let mut play = fresh(alloc, way, part.devices())?;
+    told_by(alloc, &mut play, part)
 }
 
 /// Puts lines behind others, in their order.
@@ -379,10 +393,14 @@ fn append(lines: &mut Vec<String>, more: Vec<String>) -> anyhow::Result<()> {
 /// The lines of the worked plays.
 pub fn worked_lines(alloc: Global, way: Way) -> anyhow::Result<Vec<String>> {
     let mut lines = Vec::new(alloc);
-    lines.push(told_of_three(alloc, way)?)?;
-    append(&mut lines, told_of_lost(alloc, way)?)?;
-    append(&mut lines, told_of_both(alloc, way)?)?;
-    lines.push(told_of_others(alloc, way)?)?;
-    append(&mut lines, told_of_refusals(alloc, way)?)?;
+    for part in [
+        Part::Three,
+        Part::Lost,
+        Part::Both,
+        Part::Others,
+        Part::Refusals,
+    ] {
+        append(&mut lines, told_of(alloc, way, part)?)?;
+    }
     Ok(lines)
 }

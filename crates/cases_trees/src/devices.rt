@@ -66,11 +66,16 @@ impl Cases {
     }
 }
 
-/// Tells what comes of each line.
-pub fn tell_cases(rt: &HostRuntime, lines: &[String]) -> anyhow::Result<()> {
-    let mut cases = Cases::new(rt.alloc())?;
+/// Takes the lines, one after the other.
+fn take_all(rt: &HostRuntime, cases: &mut Cases, lines: &[String]) -> anyhow::Result<()> {
     for line in lines {
         cases.take(rt, line.as_str())?;
     }
     Ok(())
+}
+
+/// Tells what comes of each line.
+pub fn tell_cases(rt: &HostRuntime, lines: &[String]) -> anyhow::Result<()> {
+    let mut cases = Cases::new(rt.alloc())?;
+    take_all(rt, &mut cases, lines)
 }

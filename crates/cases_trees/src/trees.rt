@@ -20,6 +20,13 @@ mod random_rows;
 mod random_sides;
 
 use desk::Desk;
+use std::alloc::Global;
+
+/// Begins a case.
+fn begin(alloc: Global, desk: &mut Desk) -> anyhow::Result<()> {
+    *desk = Desk::new(alloc)?;
+    Ok(())
+}
 
 /// Takes a line: a part of the case, or a call, of which it tells the outcome.
 fn take(rt: &HostRuntime, desk: &mut Desk, line: &str) -> anyhow::Result<()> {
@@ -27,9 +34,19 @@ fn take(rt: &HostRuntime, desk: &mut Desk, line: &str) -> anyhow::Result<()> {
     let (word, rest) = notation::cut(line);
     if word == "case" {
         println!(rt; "{line}")?;
-        *desk = Desk::new(alloc)?;
+        begin(alloc, desk)?;
     } else if !desk.lay(alloc, word, rest)? {
         println!(rt; "{line}: {}", outcomes::outcome(alloc, desk, word, rest)?)?;
+    }
+    Ok(())
+}
+
+/// Takes the lines, one after the other.
+fn take_all(rt: &HostRuntime, desk: &mut Desk, lines: &[String]) -> anyhow::Result<()> {
+    for line in lines {
+        if !line.is_empty() {
+            take(rt, desk, line.as_str())?;
+        }
     }
     Ok(())
 }
@@ -37,10 +54,5 @@ fn take(rt: &HostRuntime, desk: &mut Desk, line: &str) -> anyhow::Result<()> {
 /// Tells what comes of each call.
 pub fn tell_cases(rt: &HostRuntime, lines: &[String]) -> anyhow::Result<()> {
     let mut desk = Desk::new(rt.alloc())?;
-    for line in lines {
-        if !line.is_empty() {
-            take(rt, &mut desk, line.as_str())?;
-        }
-    }
-    Ok(())
+    take_all(rt, &mut desk, lines)
 }

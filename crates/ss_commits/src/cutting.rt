@@ -1,10 +1,11 @@
 //! The line at the front of a text.
 
-ghost use Rattle.std.specs.Prelude.{◌≡◌, ◌≤◌, ◌<◌, ◌==◌, ◌++◌, ℕ, List, IfOk, IfSome, Some, length, position};
+ghost use Rattle.std.specs.Prelude.{◌≡◌, ◌≤◌, ◌<◌, ◌++◌, ℕ, List, IfOk, IfSome, Some, length};
 ghost use Rattle.ss_commits.specs.Commits.{IsNote, note_text};
 ghost use Rattle.ss_commits.specs.declared.notes.Note.{Note as NoteView};
 
 use crate::notes::{Note, read_note};
+use ss_text::line_end;
 use std::alloc::{AllocError, Global};
 
 /// What the line at the front of a text says, and how many bytes it is, its newline included.
@@ -12,13 +13,6 @@ use std::alloc::{AllocError, Global};
 pub(crate) struct Front {
     pub(crate) note: Note,
     pub(crate) used: usize,
-}
-
-/// The place of the first newline.
-fn line_end(text: &[u8]) -> Option<usize>
-    ensures { result ≡ position (λ b. b == 10) text.now }
-{
-    text.iter().position(|b| *b == b'\n')
 }
 
 /// Reads the line at the front of a text, in place; perhaps the line isn't written so.

@@ -1,10 +1,11 @@
 //! The line at the front of a text.
 
-ghost use Rattle.std.specs.Prelude.{◌≡◌, ◌==◌, IfOk, IfSome, IfNone, position};
+ghost use Rattle.std.specs.Prelude.{◌≡◌, IfOk, IfSome, IfNone};
 ghost use Rattle.ss_lines.specs.Lines.{IsFront, NoneBegins};
 
 use crate::lines::Line;
 use crate::reading::read_line;
+use ss_text::line_end;
 use std::alloc::{AllocError, Global};
 
 /// The line at the front of a text, and how many bytes it is, its newline included.
@@ -12,13 +13,6 @@ use std::alloc::{AllocError, Global};
 pub struct Front {
     pub line: Line,
     pub used: usize,
-}
-
-/// The place of the first newline.
-fn line_end(text: &[u8]) -> Option<usize>
-    ensures { result ≡ position (λ b. b == 10) text.now }
-{
-    text.iter().position(|b| *b == b'\n')
 }
 
 /// Reads the line at the front of a text, in place; None exactly where none is there.

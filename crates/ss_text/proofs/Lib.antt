@@ -7,10 +7,10 @@ pub mod Pieces
 pub mod Points
 pub mod Printed
 pub mod Scans
+pub mod Searches
 pub mod Sorting
 pub mod StampTexts
 pub mod StringTokens
-pub mod Strings
 pub mod TokensStay
 pub mod Whole
 pub mod WholeTokens

@@ -1,9 +1,10 @@
 -- What the scan finds: the end of a string, the end of a run, and the piece that begins at a place.
-use Rattle.std.proofs.Common.{◌≡◌, ℕ, suc, ◌+◌, ◌-◌, ◌<◌, ◌≤◌, List, [], ◌∷◌, ◌++◌, length, take, drop, get_or, Bool}
-use Rattle.std.proofs.Common.{true, false, cond, ◌&&◌, ◌==◌, refl, sym, ap, ap₂, ◌∙◌, subst, arith, lit≤, append_assoc}
+use Rattle.std.proofs.Common.{◌≡◌, ℕ, zero, suc, ◌+◌, ◌-◌, ◌<◌, ◌≤◌, List, [], ◌∷◌, ◌++◌, length, take, drop, get_or, Bool}
+use Rattle.std.proofs.Common.{true, false, cond, ◌&&◌, ◌||◌, ◌==◌, refl, sym, ap, ap₂, ◌∙◌, subst, arith, lit≤, append_assoc}
 use Rattle.std.proofs.Common.{filter}
-use Rattle.std.proofs.lemmas.Bool.{eqb-true}
-use Rattle.std.proofs.lemmas.List.{take-append-drop, drop_more, drop-drop, drop_all, length-drop, length-take}
+use Rattle.std.proofs.lemmas.Bool.{eqb-true, true≢false, false_from_ne_true}
+use Rattle.memchr.specs.Find.{is_byte2}
+use Rattle.std.proofs.lemmas.List.{take-append-drop, drop_more, drop-drop, drop_all, length-drop, length-take, take_rest}
 use Rattle.std.proofs.lemmas.List.{get_or-take}
 use Rattle.std.proofs.lemmas.List.Sums.{prefix_len_passes, prefix_len-drop_yes, prefix_len-le-length}
 use Rattle.std.specs.List.{prefix_len, list_all, AllPass, flat_map}
@@ -185,3 +186,40 @@ pub two_more : (t : List ℕ) (at : ℕ) → at + 1 < length t → get_or t at 0
 two_more t at h e =
     ap (inside_len inside) (drop_more t at 0 (omega arith) ∙ ap₂ (λ c r. c ∷ r) e (drop_more t (at + 1) 0 h))
     ∙ ap (λ n. suc (suc (inside_len inside (drop n t)))) (let two : at + 1 + 1 ≡ at + 2 = omega arith in two)
+
+-- at the end it takes none
+pub one_more : (t : List ℕ) (at : ℕ) → at + 1 ≡ length t → get_or t at 0 ≡ 92 → inside_len inside (drop at t) ≡ 1
+one_more t at h e = ap (inside_len inside) (drop_more t at 0 (omega arith) ∙ ap₂ (λ c r. c ∷ r) e (drop_all (at + 1) t (omega arith)))
+
+-- a quote ends the string
+pub no_more : (t : List ℕ) (at : ℕ) → at < length t → get_or t at 0 ≡ 34 → inside_len inside (drop at t) ≡ 0
+no_more t at h e = ap (inside_len inside) (drop_more t at 0 h ∙ ap (λ c. c ∷ drop (at + 1) t) e)
+
+-- other bytes are passed, each for one
+passed_one : (q b : Bool) (x : ℕ) (xs : List ℕ) → (x == 34) ≡ q → (x == 92) ≡ b → (q || b) ≡ false → inside_len inside (x ∷ xs) ≡ suc (inside_len inside xs)
+passed_one true b x xs e f h = absurd (true≢false h)
+passed_one false true x xs e f h = absurd (true≢false h)
+passed_one false false x xs e f h = ap₂ (λ q b. cond q 0 (suc (inside_len (cond q outside (cond b escaped inside)) xs))) e f
+
+passed_all : (n : ℕ) (xs : List ℕ) → n ≤ length xs → ((k : ℕ) → k < n → is_byte2 34 92 (get_or xs k 0) ≡ false) → inside_len inside xs ≡ n + inside_len inside (drop n xs)
+passed_all zero xs h none = omega arith
+passed_all (suc n) [] h none = let never : ⊥ = omega arith in absurd never
+passed_all (suc n) (x ∷ xs) h none =
+    omega (arith, passed_one (x == 34) (x == 92) x xs refl refl (none 0 (omega arith)), passed_all n xs (omega arith) (λ k m. none (suc k) (omega arith)))
+
+-- what a search for quotes and backslashes passes from a place on
+pub passed_from : (t : List ℕ) (start n : ℕ) → start + n ≤ length t → ((k : ℕ) → 0 ≤ k → k < n → is_byte2 34 92 (get_or (take (length t - start) (drop start t)) k 0) ≡ true → ⊥)
+    → start + inside_len inside (drop start t) ≡ (start + n) + inside_len inside (drop (start + n) t)
+passed_from t start n h none =
+    let rest = drop start t in
+    let all = passed_all n rest (omega (arith, length-drop start t)) (λ k m. false_from_ne_true _ (λ e. none k (omega arith) m (ap (λ l. is_byte2 34 92 (get_or l k 0)) (take_rest t start) ∙ e))) in
+    omega (arith, all ∙ ap (λ r. n + inside_len inside r) (drop-drop n start t))
+
+-- what such a search found and is no backslash is a quote
+pub a_quote : (x : ℕ) → is_byte2 34 92 x ≡ true → (x ≡ 92 → ⊥) → x ≡ 34
+a_quote x found other = go (x == 34) (x == 92) refl refl found
+  where
+    go : (q b : Bool) → (x == 34) ≡ q → (x == 92) ≡ b → (q || b) ≡ true → x ≡ 34
+    go true b e f h = eqb-true x 34 e
+    go false true e f h = absurd (other (eqb-true x 92 f))
+    go false false e f h = absurd (true≢false (sym h))

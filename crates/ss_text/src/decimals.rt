@@ -1,12 +1,13 @@
 //! Numbers that serde_json would read as floats: wrapped, each a list of one string; or marked, each a string that
 //! begins with U+0001.
 
-ghost use Rattle.std.specs.Prelude.{◌≡◌, ◌∷◌, ◌+◌, ◌<◌, ◌≤◌, ◌++◌, ◌==◌, not, false, length, drop, slice_index};
+ghost use Rattle.std.specs.Prelude.{◌≡◌, ◌∷◌, ◌+◌, ◌<◌, ◌≤◌, ◌++◌, ◌==◌, not, false, true, length, drop, slice_index};
 ghost use Rattle.std.specs.Prelude.{count_by, filter, IfOk, OnOk};
 ghost use Rattle.std.specs.List.{prefix_len, list_any, AllPass, flat_map};
 ghost use Rattle.std.specs.Char.{is_ascii_digit};
 ghost use Rattle.std.specs.Str.{IsUtf8};
 ghost use Rattle.json.specs.Word.{after_number};
+ghost use Rattle.memchr.specs.Find.{is_byte2};
 ghost use Rattle.ss_text.specs.Decimals.{is_number_byte, outside, inside, pieces, bytes_of_piece, is_all, is_point};
 ghost use Rattle.ss_text.specs.Decimals.{is_inexact, is_decimal, begins_marked, changed_piece, changed_text};
 ghost use Rattle.ss_text.specs.Decimals.{wrapped_text};
@@ -14,6 +15,7 @@ ghost use Rattle.ss_text.specs.Decimals.{marked_text, unmarked_text, is_wrapped,
 ghost use Rattle.ss_text.specs.Decimals as cut;
 ghost use Rattle.ss_text.specs.Scan.{inside_len, scanned_piece, HasRun};
 
+use memchr::memchr2;
 use std::alloc::{AllocError, Global};
 
 /// The escape of U+0001, which marks a number among strings.
@@ -73,18 +75,33 @@ fn run_end(text: &[u8], start: usize) -> usize
     end
 }
 
+/// Where the next quote or backslash stands, or the text's end.
+fn quote_or_backslash(text: &[u8], start: usize) -> usize
+    requires { start ≤ length text.now }
+    ensures later { start ≤ result }
+    ensures within { result ≤ length text.now }
+    ensures passed { start + inside_len inside (drop start text.now) ≡ result + inside_len inside (drop result text.now) }
+    ensures stops { result < length text.now → is_byte2 34 92 (slice_index text.now result) ≡ true }
+{
+    match memchr2(b'"', b'\\', &text[start..]) {
+        Some(passed) => start + passed,
+        None => text.len(),
+    }
+}
+
 /// Where the quote stands that ends a string, or the text's end; a byte behind a backslash ends none.
 fn inside_end(text: &[u8], start: usize) -> usize
     requires { start ≤ length text.now }
     ensures { result ≡ start + inside_len inside (drop start text.now) }
 {
-    let mut end = start;
-    while end < text.len() && text[end] != b'"' {
-        if text[end] == b'\\' && end + 1 < text.len() {
-            end += 2;
+    let mut end = quote_or_backslash(text, start);
+    while end < text.len() && text[end] == b'\\' {
+        let behind = if end + 1 < text.len() {
+            end + 2
         } else {
-            end += 1;
-        }
+            end + 1
+        };
+        end = quote_or_backslash(text, behind);
     }
     end
 }

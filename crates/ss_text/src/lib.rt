@@ -19,7 +19,7 @@ pub use json_texts::push_json_text;
 pub use laws::{
     marked_is_whole, tokens_stay, unmarking_undoes_marking, unwrapped_is_same, wrapped_is_whole,
 };
-pub use lines::{cut_lines, lines_in};
+pub use lines::{cut_lines, line_end, lines_in};
 pub use names::{Id, Ids, Name};
 pub use numbers::read_number;
 pub use stamps::{Cond, LAST, Stamp, push_stamp, read_stamp};

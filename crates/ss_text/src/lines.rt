@@ -1,10 +1,18 @@
 //! The lines of a text.
 
-ghost use Rattle.std.specs.Prelude.{◌≡◌, IfOk, map};
+ghost use Rattle.std.specs.Prelude.{◌≡◌, ◌==◌, IfOk, map, position};
 ghost use Rattle.ss_text.specs.Texts.{lines_of};
 
 use crate::texts::Bytes;
+use memchr::memchr;
 use std::alloc::{AllocError, Global};
+
+/// The place of the first newline.
+pub fn line_end(text: &[u8]) -> Option<usize>
+    ensures { result ≡ position (λ b. b == 10) text.now }
+{
+    memchr(b'\n', text)
+}
 
 /// The pieces of a text between newlines, empty ones dropped, lent.
 pub fn lines_in(alloc: Global, text: &[u8]) -> Result<Vec<&[u8]>, AllocError>

@@ -68,6 +68,19 @@ impl Cases {
     }
 }
 
+/// Takes lines, one after the other.
+fn take_lines<L: Ledger>(
+    rt: &HostRuntime,
+    cases: &mut Cases,
+    lines: &[String],
+    steps: &mut Steps<L>,
+) -> anyhow::Result<()> {
+    for line in lines {
+        cases.take(rt, line.as_str(), steps)?;
+    }
+    Ok(())
+}
+
 /// Takes all lines, and counts steps on a blank.
 fn take_all<L: Ledger>(rt: &HostRuntime, lines: &[String], blank: Blank) -> anyhow::Result<()>
     requires name { blank.name ≡ L.name }
@@ -76,10 +89,7 @@ fn take_all<L: Ledger>(rt: &HostRuntime, lines: &[String], blank: Blank) -> anyh
 {
     let mut steps = Steps::<L>::new(blank);
     let mut cases = Cases::new(rt.alloc());
-    for line in lines {
-        cases.take(rt, line.as_str(), &mut steps)?;
-    }
-    Ok(())
+    take_lines(rt, &mut cases, lines, &mut steps)
 }
 
 /// Tells what comes of each line.

@@ -39,19 +39,21 @@ fn marked(text: &str, mark: char) -> anyhow::Result<(&str, Option<&str>)> {
 fn put(alloc: Global, place: (&str, &str), text: &str) -> anyhow::Result<RowChange> {
     let (text, expiry) = marked(text, '~')?;
     let (text, sortindex) = marked(text, '^')?;
+    let expires = match expiry {
+        Some(number) => Some(number.parse::<u64>()?),
+        None => None,
+    };
+    let sortindex = match sortindex {
+        Some(number) => Some(number.parse::<i32>()?),
+        None => None,
+    };
     Ok(RowChange::Put(Row {
+        modified: Stamp::clamp(999_999_999_999),
+        sortindex,
+        expires,
         collection: name(alloc, place.0)?,
         id: id(alloc, place.1)?,
-        modified: Stamp::clamp(999_999_999_999),
-        sortindex: match sortindex {
-            Some(number) => Some(number.parse::<i32>()?),
-            None => None,
-        },
         payload: payload(alloc, text)?,
-        expires: match expiry {
-            Some(number) => Some(number.parse::<u64>()?),
-            None => None,
-        },
     }))
 }
 
@@ -114,37 +116,48 @@ fn time_changes(alloc: Global, words: &str) -> anyhow::Result<CollectionChanges>
     Ok(CollectionChanges::new(changes))
 }
 
-fn part(alloc: Global, text: &str) -> anyhow::Result<Part> {
-    if let Some((of, _)) = text.split_once('!') {
-        return Ok(Part {
-            id: id(alloc, of)?,
-            fields: Fields {
-                payload: Field::Clear,
-                sortindex: Field::Clear,
-                ttl: Field::Clear,
-            },
-        });
-    }
-    let (text, ttl) = marked(text, '~')?;
-    let (text, sortindex) = marked(text, '^')?;
-    let (of, text) = marked(text, '=')?;
+/// A part that clears its fields.
+fn cleared(alloc: Global, of: &str) -> anyhow::Result<Part> {
     Ok(Part {
         id: id(alloc, of)?,
         fields: Fields {
-            payload: match text {
-                Some(text) => Field::Set(payload(alloc, text)?),
-                None => Field::Keep,
-            },
-            sortindex: match sortindex {
-                Some(number) => Field::Set(number.parse::<i32>()?),
-                None => Field::Keep,
-            },
-            ttl: match ttl {
-                Some(number) => Field::Set(number.parse::<u32>()?),
-                None => Field::Keep,
-            },
+            payload: Field::Clear,
+            sortindex: Field::Clear,
+            ttl: Field::Clear,
         },
     })
+}
+
+/// A part that sets what its text tells.
+fn set(alloc: Global, text: &str) -> anyhow::Result<Part> {
+    let (text, ttl) = marked(text, '~')?;
+    let (text, sortindex) = marked(text, '^')?;
+    let (of, text) = marked(text, '=')?;
+    let fields = Fields {
+        ttl: match ttl {
+            Some(number) => Field::Set(number.parse::<u32>()?),
+            None => Field::Keep,
+        },
+        sortindex: match sortindex {
+            Some(number) => Field::Set(number.parse::<i32>()?),
+            None => Field::Keep,
+        },
+        payload: match text {
+            Some(text) => Field::Set(payload(alloc, text)?),
+            None => Field::Keep,
+        },
+    };
+    Ok(Part {
+        id: id(alloc, of)?,
+        fields,
+    })
+}
+
+fn part(alloc: Global, text: &str) -> anyhow::Result<Part> {
+    match text.split_once('!') {
+        Some((of, _)) => cleared(alloc, of),
+        None => set(alloc, text),
+    }
 }
 
 fn parts(alloc: Global, text: &str) -> anyhow::Result<Parts> {
@@ -157,21 +170,29 @@ fn parts(alloc: Global, text: &str) -> anyhow::Result<Parts> {
     Ok(Parts::new(parts))
 }
 
+fn batch_begin(alloc: Global, number: &str, text: &str) -> anyhow::Result<BatchChange> {
+    let (collection, text) = text.split_once('/').context("parts")?;
+    Ok(BatchChange::Begin(Staged {
+        number: number.parse::<u64>()?,
+        begun: Stamp::clamp(999_999_999_999),
+        collection: name(alloc, collection)?,
+        parts: parts(alloc, text)?,
+    }))
+}
+
+fn batch_append(alloc: Global, number: &str, text: &str) -> anyhow::Result<BatchChange> {
+    Ok(BatchChange::Append {
+        number: number.parse::<u64>()?,
+        parts: parts(alloc, text)?,
+    })
+}
+
 fn batch_change(alloc: Global, word: &str) -> anyhow::Result<BatchChange> {
     if let Some((number, text)) = word.split_once(':') {
-        let (collection, text) = text.split_once('/').context("parts")?;
-        return Ok(BatchChange::Begin(Staged {
-            number: number.parse::<u64>()?,
-            collection: name(alloc, collection)?,
-            begun: Stamp::clamp(999_999_999_999),
-            parts: parts(alloc, text)?,
-        }));
+        return batch_begin(alloc, number, text);
     }
     match word.split_once('+') {
-        Some((number, text)) => Ok(BatchChange::Append {
-            number: number.parse::<u64>()?,
-            parts: parts(alloc, text)?,
-        }),
+        Some((number, text)) => batch_append(alloc, number, text),
         None => Ok(BatchChange::End {
             number: word.parse::<u64>()?,
         }),
@@ -210,6 +231,15 @@ fn text_in(alloc: Global, line: &Value, at: usize) -> anyhow::Result<String> {
     Ok(String::from_str(alloc, text)?)
 }
 
+/// The commit of a line, a JSON list of its three texts.
+fn read_commit(alloc: Global, line: &Value) -> anyhow::Result<Commit> {
+    Ok(Commit {
+        rows: text_in(alloc, line, 0)?,
+        collections: text_in(alloc, line, 1)?,
+        batches: text_in(alloc, line, 2)?,
+    })
+}
+
 impl Commits {
     pub fn new(alloc: Global) -> Commits {
         Commits {
@@ -221,11 +251,7 @@ impl Commits {
     /// Adds the commit of a line, a JSON list of its three texts.
     pub fn add(&mut self, alloc: Global, json: &str) -> anyhow::Result<()> {
         let line = Value::from_str(alloc, json)?;
-        self.commits.push(Commit {
-            rows: text_in(alloc, &line, 0)?,
-            collections: text_in(alloc, &line, 1)?,
-            batches: text_in(alloc, &line, 2)?,
-        })?;
+        self.commits.push(read_commit(alloc, &line)?)?;
         Ok(())
     }
 

@@ -60,7 +60,9 @@ pub fn is_done<S: Alter + Drop>(
     match step {
         Step::Commit(number) => {
             let changes = commits.changes(alloc, number)?;
-            Ok(keeper.commit(alloc, &changes).is_ok())
+            let is_ok = keeper.commit(alloc, &changes).is_ok();
+            drop(changes);
+            Ok(is_ok)
         }
         Step::Fold => Ok(keeper.fold(alloc).is_ok()),
         Step::Load => Ok(keeper.load(alloc).is_ok()),
@@ -87,23 +89,52 @@ pub fn done<S: Alter + Drop>(
 /// What a keeper gives, as lines; none for a refusal.
 pub fn loaded<K: Keeper>(alloc: Global, keeper: &mut K) -> anyhow::Result<Vec<String>> {
     match keeper.load(alloc) {
-        Ok(kept) => lines(alloc, &kept),
+        Ok(kept) => {
+            let lines = lines(alloc, &kept);
+            drop(kept);
+            lines
+        }
         Err(_) => Ok(Vec::new(alloc)),
     }
 }
 
+/// A keeper in memory makes a commit.
+fn commit_to(
+    alloc: Global,
+    commits: &Commits,
+    keeper: &mut SureKeeper,
+    number: u64,
+) -> anyhow::Result<()> {
+    let changes = commits.changes(alloc, number)?;
+    let done = keeper.commit(alloc, &changes);
+    drop(changes);
+    match done {
+        Ok(()) => Ok(()),
+        Err(_) => bail!("no memory"),
+    }
+}
+
 /// What a keeper in memory gives after the commits among steps.
-pub fn in_memory(alloc: Global, commits: &Commits, steps: &[Step]) -> anyhow::Result<Vec<String>> {
-    let mut keeper = SureKeeper::new(Kept::fresh(alloc));
+fn told_by(
+    alloc: Global,
+    commits: &Commits,
+    keeper: &mut SureKeeper,
+    steps: &[Step],
+) -> anyhow::Result<Vec<String>> {
     for step in steps {
         if let Step::Commit(number) = step {
-            let changes = commits.changes(alloc, *number)?;
-            if keeper.commit(alloc, &changes).is_err() {
-                bail!("no memory");
-            }
+            commit_to(alloc, commits, keeper, *number)?;
         }
     }
-    loaded(alloc, &mut keeper)
+    loaded(alloc, keeper)
+}
+
+/// What a fresh keeper in memory gives after the commits among steps.
+pub fn in_memory(alloc: Global, commits: &Commits, steps: &[Step]) -> anyhow::Result<Vec<String>> {
+    let mut keeper = SureKeeper::new(Kept::fresh(alloc));
+    let told = told_by(alloc, commits, &mut keeper, steps);
+    drop(keeper);
+    told
 }
 
 /// Whether what was found is what a keeper in memory gives after steps; or else what was found.

@@ -3,7 +3,7 @@
 use crate::commits::Commits;
 use crate::comparing::{Step, compared, done, loaded};
 use anyhow::{Context, bail};
-use sqlite::Connection;
+use sqlite::{Alter, Connection, Row};
 use ss_keep_sql::{SqlFault, SqlKeeper};
 use std::alloc::Global;
 use std::fs;
@@ -20,15 +20,19 @@ const NAMED: &str = "SELECT name FROM sqlite_schema WHERE sql IS NOT NULL ORDER 
 /// Opens a file, takes a step and closes it.
 fn written(rt: &HostRuntime, commits: &Commits, step: Step) -> anyhow::Result<usize> {
     let mut keeper = SqlKeeper::open(rt, FILE)?;
-    let count = done(rt.alloc(), commits, &mut keeper, &[step])?;
+    let count = done(rt.alloc(), commits, &mut keeper, &[step]);
     keeper.into_connection().close()?;
-    Ok(count)
+    count
 }
 
 /// What opening a file answers, and what is then held.
 fn opened(rt: &HostRuntime, path: &str) -> anyhow::Result<Result<Vec<String>, SqlFault>> {
     match SqlKeeper::open(rt, path) {
-        Ok(mut keeper) => Ok(Ok(loaded(rt.alloc(), &mut keeper)?)),
+        Ok(mut keeper) => {
+            let found = loaded(rt.alloc(), &mut keeper);
+            drop(keeper);
+            Ok(Ok(found?))
+        }
         Err(fault) => Ok(Err(fault)),
     }
 }
@@ -63,9 +67,9 @@ fn reopened(rt: &HostRuntime, commits: &Commits, steps: &[Step]) -> anyhow::Resu
 /// What opening a file answers while a keeper has it.
 fn opened_twice(rt: &HostRuntime, commits: &Commits) -> anyhow::Result<String> {
     let keeper = SqlKeeper::open(rt, FILE)?;
-    let told = told_opened(rt, commits, FILE, &[])?;
+    let told = told_opened(rt, commits, FILE, &[]);
     keeper.into_connection().close()?;
-    Ok(told)
+    told
 }
 
 /// What opening a file of text answers, and whether it is then as it was.
@@ -80,20 +84,39 @@ fn opened_text(rt: &HostRuntime, commits: &Commits) -> anyhow::Result<String> {
     Ok(format!(in rt.alloc(); "{told}, the file {left}")?)
 }
 
-/// The version that a file tells, and the names of its tables and indexes.
-fn version_of(rt: &HostRuntime) -> anyhow::Result<String> {
-    let alloc = rt.alloc();
-    let mut connection = Connection::open(rt, FILE)?;
+/// Adds a name that a query gave.
+fn push_name(alloc: Global, told: &mut String, values: &Row) -> anyhow::Result<()> {
+    let name: String = values.get(0)?;
+    told.push_str(format!(in alloc; " {name}")?.as_str())?;
+    Ok(())
+}
+
+/// The version that a database tells, and the names of its tables and indexes.
+fn version_in<S: Alter>(alloc: Global, connection: &mut Connection<S>) -> anyhow::Result<String> {
     let version: i64 = connection
         .query_row("SELECT version FROM about", &[])?
         .get(0)?;
     let mut told = format!(in alloc; "version {version} with")?;
     for values in connection.query_all(NAMED, &[])? {
-        let name: String = values.get(0)?;
-        told.push_str(format!(in alloc; " {name}")?.as_str())?;
+        push_name(alloc, &mut told, &values)?;
     }
-    connection.close()?;
     Ok(told)
+}
+
+/// The version that a file tells, and the names of its tables and indexes.
+fn version_of(rt: &HostRuntime) -> anyhow::Result<String> {
+    let mut connection = Connection::open(rt, FILE)?;
+    let told = version_in(rt.alloc(), &mut connection);
+    connection.close()?;
+    told
+}
+
+/// Makes a file by statements.
+pub fn make_by(rt: &HostRuntime, path: &str, sql: &str) -> anyhow::Result<()> {
+    let mut connection = Connection::open(rt, path)?;
+    let made = connection.execute_batch(sql);
+    connection.close()?;
+    Ok(made?)
 }
 
 /// Makes a file by the statements of an older database.
@@ -101,11 +124,11 @@ fn make_old(rt: &HostRuntime, commits: &Commits, step: Step) -> anyhow::Result<(
     let Step::Commit(number) = step else {
         bail!("no commit");
     };
-    let sql = commits.old_tables(number).context("older tables")?;
-    let mut connection = Connection::open(rt, FILE)?;
-    connection.execute_batch(sql)?;
-    connection.close()?;
-    Ok(())
+    make_by(
+        rt,
+        FILE,
+        commits.old_tables(number).context("older tables")?,
+    )
 }
 
 /// The version of a file before and after it is opened, whose statements make what a commit makes.

@@ -1,10 +1,10 @@
 //! Files that no keeper takes, in a folder of their own, and what is changed there.
 
+use crate::files::make_by;
 use anyhow::Context;
-use sqlite::Connection;
 use ss_keep_sql::{SqlFault, SqlKeeper};
-use std::alloc::Global;
 use std::fs;
+use std::fs::DirEntry;
 
 const FOLDER: &str = "foreign";
 
@@ -16,14 +16,17 @@ const LOG: &str = "foreign/a.db-wal";
 /// (SQLite, "Database File Format", 1.3).
 const JOURNALS: [usize; 2] = [18, 19];
 
+/// The name of a file with its bytes.
+fn read(rt: &HostRuntime, entry: &DirEntry) -> anyhow::Result<(String, Vec<u8>)> {
+    let bytes = fs::read(rt, entry.path())?;
+    Ok((String::from_str(rt.alloc(), entry.file_name())?, bytes))
+}
+
 /// The names of the files in the folder with their bytes.
 fn listed(rt: &HostRuntime) -> anyhow::Result<Vec<(String, Vec<u8>)>> {
     let mut files = Vec::new(rt.alloc());
     for entry in fs::read_dir(rt, FOLDER)? {
-        let entry = entry?;
-        let name = String::from_str(rt.alloc(), entry.file_name())?;
-        let bytes = fs::read(rt, entry.path())?;
-        files.push((name, bytes))?;
+        files.push(read(rt, &entry?)?)?;
     }
     files.sort()?;
     Ok(files)
@@ -31,9 +34,7 @@ fn listed(rt: &HostRuntime) -> anyhow::Result<Vec<(String, Vec<u8>)>> {
 
 /// Makes the file by statements, which has such a journal and no log beside it.
 fn make(rt: &HostRuntime, sql: &str, journal: u8) -> anyhow::Result<()> {
-    let mut connection = Connection::open(rt, FILE)?;
-    connection.execute_batch(sql)?;
-    connection.close()?;
+    make_by(rt, FILE, sql)?;
     let mut bytes = fs::read(rt, FILE)?;
     for at in JOURNALS {
         *bytes.get_mut(at).context("a header")? = journal;
@@ -43,21 +44,30 @@ fn make(rt: &HostRuntime, sql: &str, journal: u8) -> anyhow::Result<()> {
     Ok(())
 }
 
-/// Why a keeper doesn't take the file, and whether its folder is then as it was.
-fn opened(rt: &HostRuntime) -> anyhow::Result<String> {
-    let before = listed(rt)?;
-    let alloc = rt.alloc();
-    let told = match SqlKeeper::open(rt, FILE) {
-        Ok(_) => String::from_str(alloc, "taken")?,
-        Err(SqlFault::Damaged { place }) => format!(in alloc; "{place}")?,
-        Err(fault) => format!(in alloc; "{fault:?}")?,
-    };
-    let left = if listed(rt)? == before {
+/// Why a keeper doesn't take the file.
+fn told_opening(rt: &HostRuntime) -> anyhow::Result<String> {
+    match SqlKeeper::open(rt, FILE) {
+        Ok(_) => Ok(String::from_str(rt.alloc(), "taken")?),
+        Err(SqlFault::Damaged { place }) => Ok(format!(in rt.alloc(); "{place}")?),
+        Err(fault) => Ok(format!(in rt.alloc(); "{fault:?}")?),
+    }
+}
+
+/// Whether the folder is as it was, as a word.
+fn left(rt: &HostRuntime, before: &[(String, Vec<u8>)]) -> anyhow::Result<&'static str> {
+    Ok(if listed(rt)?.as_slice() == before {
         "as it was"
     } else {
         "CHANGED"
-    };
-    Ok(format!(in alloc; "{told}, the folder {left}")?)
+    })
+}
+
+/// Why a keeper doesn't take the file, and whether its folder is then as it was.
+fn opened(rt: &HostRuntime) -> anyhow::Result<String> {
+    let before = listed(rt)?;
+    let told = told_opening(rt)?;
+    let left = left(rt, before.as_slice())?;
+    Ok(format!(in rt.alloc(); "{told}, the folder {left}")?)
 }
 
 fn told_with(rt: &HostRuntime, sql: &str, journal: u8) -> anyhow::Result<String> {

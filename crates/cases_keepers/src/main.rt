@@ -32,7 +32,7 @@ mod tables;
 mod words;
 
 use commits::Commits;
-use comparing::steps;
+use comparing::{Step, steps};
 use std::alloc::Global;
 use tables::Tables;
 
@@ -41,6 +41,22 @@ use tables::Tables;
 struct Bench {
     commits: Commits,
     tables: Tables,
+}
+
+/// What a case of steps tells.
+fn steps_line(
+    rt: &HostRuntime,
+    bench: &mut Bench,
+    kind: &str,
+    steps: &[Step],
+) -> anyhow::Result<String> {
+    let alloc = rt.alloc();
+    match kind {
+        "loads" => databases::loads(alloc, &bench.commits, steps),
+        "keep" => bench.tables.keep(alloc, &bench.commits, steps),
+        "memory" => databases::steps_line(alloc, &bench.commits, steps),
+        _ => files::file_line(rt, &bench.commits, kind, steps),
+    }
 }
 
 /// What a case tells.
@@ -55,14 +71,9 @@ fn case_line(
         "refused" => databases::refused(alloc, text),
         "damaged" => databases::damaged(alloc, text),
         "foreign" => folders::folder_line(rt, text),
-        "loads" => databases::loads(alloc, &bench.commits, steps(alloc, text)?.as_slice()),
         "ask" => bench.tables.ask(alloc, text),
-        "keep" => bench
-            .tables
-            .keep(alloc, &bench.commits, steps(alloc, text)?.as_slice()),
-        "memory" => databases::steps_line(alloc, &bench.commits, steps(alloc, text)?.as_slice()),
         "stops" => stops::stops_line(alloc, &bench.commits, text),
-        _ => files::file_line(rt, &bench.commits, kind, steps(alloc, text)?.as_slice()),
+        _ => steps_line(rt, bench, kind, steps(alloc, text)?.as_slice()),
     }
 }
 
@@ -73,10 +84,18 @@ fn take(rt: &HostRuntime, bench: &mut Bench, line: &str) -> anyhow::Result<()> {
         "" | "#" => println!(rt; "{line}")?,
         "commit" => bench.commits.add(rt.alloc(), text)?,
         "tables" => bench.commits.add_old(rt.alloc(), text)?,
-        "new" => bench.tables = Tables::new(rt.alloc())?,
+        "new" => bench.tables.renew(rt.alloc())?,
         "sql" => bench.tables.run(text)?,
         "text" => bench.tables.add(rt.alloc(), text)?,
         _ => println!(rt; "{line}: {}", case_line(rt, bench, kind, text)?)?,
+    }
+    Ok(())
+}
+
+/// Takes the lines, one after the other.
+fn take_all(rt: &HostRuntime, bench: &mut Bench) -> anyhow::Result<()> {
+    for line in rt.lines(rt.alloc()) {
+        take(rt, bench, line?.as_str())?;
     }
     Ok(())
 }
@@ -86,8 +105,7 @@ fn main(rt: HostRuntime) -> anyhow::Result<()> {
         commits: Commits::new(rt.alloc()),
         tables: Tables::new(rt.alloc())?,
     };
-    for line in rt.lines(rt.alloc()) {
-        take(&rt, &mut bench, line?.as_str())?;
-    }
-    Ok(())
+    let taken = take_all(&rt, &mut bench);
+    drop(bench);
+    taken
 }

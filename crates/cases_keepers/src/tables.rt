@@ -4,7 +4,7 @@ use crate::commits::Commits;
 use crate::comparing::{Step, done};
 use crate::words::number;
 use anyhow::Context;
-use sqlite::{Connection, MemStore, params};
+use sqlite::{Connection, MemStore, Row, params};
 use ss_keep_sql::SqlKeeper;
 use std::alloc::Global;
 
@@ -28,11 +28,24 @@ fn ended(alloc: Global, text: &str) -> anyhow::Result<String> {
     Ok(lines)
 }
 
+/// Adds a text that a query gave.
+fn push_text(alloc: Global, told: &mut String, values: &Row) -> anyhow::Result<()> {
+    let text: String = values.get(0)?;
+    told.push_str(format!(in alloc; "{text:?} ")?.as_str())?;
+    Ok(())
+}
+
 impl Tables {
     pub fn new(alloc: Global) -> anyhow::Result<Tables> {
         Ok(Tables {
             connection: Some(Connection::open_in_memory(alloc)?),
         })
+    }
+
+    /// Begins with a new database.
+    pub fn renew(&mut self, alloc: Global) -> anyhow::Result<()> {
+        self.connection = Some(Connection::open_in_memory(alloc)?);
+        Ok(())
     }
 
     /// Runs statements.
@@ -57,11 +70,23 @@ impl Tables {
         let connection = self.connection.as_mut().context("a database")?;
         let mut told = String::new(alloc);
         for values in connection.query_all(sql, &[])? {
-            let text: String = values.get(0)?;
-            told.push_str(format!(in alloc; "{text:?} ")?.as_str())?;
+            push_text(alloc, &mut told, &values)?;
         }
         told.push_str("and no more")?;
         Ok(told)
+    }
+
+    /// How many steps a keeper answers Ok, which then gives the database back.
+    fn keep_by(
+        &mut self,
+        alloc: Global,
+        commits: &Commits,
+        mut keeper: SqlKeeper<MemStore>,
+        steps: &[Step],
+    ) -> anyhow::Result<usize> {
+        let count = done(alloc, commits, &mut keeper, steps);
+        self.connection = Some(keeper.into_connection());
+        count
     }
 
     /// How many steps a keeper answers Ok that takes the database; or why it doesn't take it.
@@ -73,9 +98,8 @@ impl Tables {
     ) -> anyhow::Result<String> {
         let connection = self.connection.take().context("a database")?;
         match SqlKeeper::adopt(alloc, connection) {
-            Ok(mut keeper) => {
-                let count = done(alloc, commits, &mut keeper, steps)?;
-                self.connection = Some(keeper.into_connection());
+            Ok(keeper) => {
+                let count = self.keep_by(alloc, commits, keeper, steps)?;
                 Ok(format!(in alloc; "{count} of {} done", steps.len())?)
             }
             Err((connection, fault)) => {

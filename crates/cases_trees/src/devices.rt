@@ -77,5 +77,7 @@ fn take_all(rt: &HostRuntime, cases: &mut Cases, lines: &[String]) -> anyhow::Re
 /// Tells what comes of each line.
 pub fn tell_cases(rt: &HostRuntime, lines: &[String]) -> anyhow::Result<()> {
     let mut cases = Cases::new(rt.alloc())?;
-    take_all(rt, &mut cases, lines)
+    let told = take_all(rt, &mut cases, lines);
+    drop(cases);
+    told
 }

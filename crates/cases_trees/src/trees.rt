@@ -21,10 +21,12 @@ mod random_sides;
 
 use desk::Desk;
 use std::alloc::Global;
+use std::mem::replace;
 
 /// Begins a case.
 fn begin(alloc: Global, desk: &mut Desk) -> anyhow::Result<()> {
-    *desk = Desk::new(alloc)?;
+    let fresh = Desk::new(alloc)?;
+    drop(replace(desk, fresh));
     Ok(())
 }
 
@@ -54,5 +56,7 @@ fn take_all(rt: &HostRuntime, desk: &mut Desk, lines: &[String]) -> anyhow::Resu
 /// Tells what comes of each call.
 pub fn tell_cases(rt: &HostRuntime, lines: &[String]) -> anyhow::Result<()> {
     let mut desk = Desk::new(rt.alloc())?;
-    take_all(rt, &mut desk, lines)
+    let told = take_all(rt, &mut desk, lines);
+    drop(desk);
+    told
 }

@@ -1,6 +1,7 @@
 //! An account in memory behind a server's reader and its routing.
 
 ghost use Rattle.ss_query.specs.Fit.{IsFitRequest};
+ghost use Rattle.ss_route.specs.Routing.{AsksFit};
 
 use anyhow::bail;
 use ss_account::Account;
@@ -54,10 +55,13 @@ fn asked(
     requires fit { IsFitRequest request.now }
 {
     let reply = account.step(alloc, now, request);
+    let (status, count) = (reply.status, reply.count);
+    let rendered = render(alloc, &reply, false, last);
+    drop(reply);
     Ok(Response {
-        bytes: render(alloc, &reply, false, last)?,
-        status: reply.status,
-        count: reply.count,
+        bytes: rendered?,
+        status,
+        count,
     })
 }
 
@@ -91,6 +95,26 @@ impl Served {
         }
     }
 
+    /// The response to what a message asks, at a reading of the clock, and whether it is its link's last.
+    fn respond_to(
+        &mut self,
+        alloc: Global,
+        now: u64,
+        routed: &Routed,
+        last: bool,
+    ) -> Result<Response, AllocError>
+        requires fit { AsksFit routed.now }
+    {
+        match routed {
+            Routed::Memory => Err(AllocError),
+            Routed::Ask { uid, request, .. } if *uid == UID => {
+                asked(alloc, &mut self.account, now, request, last)
+            }
+            Routed::Ask { .. } => local(alloc, &not_listed(), now, last),
+            Routed::Local(said) => local(alloc, said, now, last),
+        }
+    }
+
     /// The response to a message at a reading of the clock, and whether it is its link's last.
     pub fn respond(
         &mut self,
@@ -98,17 +122,11 @@ impl Served {
         now: u64,
         message: &Message,
         last: bool,
-    ) -> anyhow::Result<Response> {
+    ) -> Result<Response, AllocError> {
         let routed = route(alloc, self.manner, message);
-        let response = match &routed {
-            Routed::Memory => Err(AllocError),
-            Routed::Ask { uid, request, .. } if *uid == UID => {
-                asked(alloc, &mut self.account, now, request, last)
-            }
-            Routed::Ask { .. } => local(alloc, &not_listed(), now, last),
-            Routed::Local(said) => local(alloc, said, now, last),
-        };
-        Ok(response?)
+        let response = self.respond_to(alloc, now, &routed, last);
+        drop(routed);
+        response
     }
 
     /// The account reads its clock.

@@ -15,5 +15,8 @@ use play::Play;
 
 /// Tells how each sync went.
 pub fn tell_cases(rt: &HostRuntime, lines: &[String]) -> anyhow::Result<()> {
-    script::tell(rt, &mut Play::new(rt.alloc())?, lines)
+    let mut play = Play::new(rt.alloc())?;
+    let told = script::tell(rt, &mut play, lines);
+    drop(play);
+    told
 }

@@ -20,13 +20,7 @@ use comparing::count_same;
 use plays::Way;
 use ss_route::Manner;
 use std::alloc::Global;
-
-/// What the worked plays and the long upload come to.
-fn worked_lines(alloc: Global, way: Way) -> anyhow::Result<Vec<String>> {
-    let mut lines = worked::worked_lines(alloc, way)?;
-    lines.push(uploads::uploads_line(alloc, way)?)?;
-    Ok(lines)
-}
+use worked::worked_lines;
 
 /// How many of the lines are the same over bytes.
 fn same_over(alloc: Global, manner: Manner, lines: &[String]) -> anyhow::Result<usize> {

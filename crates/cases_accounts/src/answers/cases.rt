@@ -60,6 +60,26 @@ fn cut(alloc: Global, texts: &[String]) -> anyhow::Result<Vec<Vec<u8>>> {
     Ok(pieces)
 }
 
+/// The pieces in which the input of a line comes.
+fn pieces_in(alloc: Global, line: &[Value], is_cut: bool) -> anyhow::Result<Vec<Vec<u8>>> {
+    let input = texts(alloc, line, 1)?;
+    if is_cut {
+        cut(alloc, input.as_slice())
+    } else {
+        whole(alloc, input.as_slice())
+    }
+}
+
+/// The run that a line's list has.
+fn case_of(alloc: Global, line: &[Value], is_cut: bool) -> anyhow::Result<Case> {
+    Ok(Case {
+        failing_read: number(line, 2)?,
+        failing_write: number(line, 3)?,
+        pieces: pieces_in(alloc, line, is_cut)?,
+        words: texts(alloc, line, 0)?,
+    })
+}
+
 /// Reads a line.
 pub fn read(alloc: Global, line: &str) -> anyhow::Result<Case> {
     let (is_cut, list) = match line.strip_prefix("cut ") {
@@ -67,19 +87,8 @@ pub fn read(alloc: Global, line: &str) -> anyhow::Result<Case> {
         None => (false, line),
     };
     let value = Value::from_str(alloc, list)?;
-    let Some(list) = value.as_array() else {
-        bail!("no list");
-    };
-    let input = texts(alloc, list, 1)?;
-    let pieces = if is_cut {
-        cut(alloc, input.as_slice())?
-    } else {
-        whole(alloc, input.as_slice())?
-    };
-    Ok(Case {
-        words: texts(alloc, list, 0)?,
-        pieces,
-        failing_read: number(list, 2)?,
-        failing_write: number(list, 3)?,
-    })
+    match value.as_array() {
+        Some(list) => case_of(alloc, list.as_slice(), is_cut),
+        None => bail!("no list"),
+    }
 }

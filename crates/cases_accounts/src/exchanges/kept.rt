@@ -29,6 +29,15 @@ fn part(alloc: Global, size: u64) -> anyhow::Result<Part> {
     })
 }
 
+/// So many records with payloads of so many letters.
+fn parts_of(alloc: Global, records: u64, size: u64) -> anyhow::Result<Vec<Part>> {
+    let mut parts = Vec::new(alloc);
+    for _ in 0..records {
+        parts.push(part(alloc, size)?)?;
+    }
+    Ok(parts)
+}
+
 impl Gathered {
     pub fn new(alloc: Global) -> Gathered {
         Gathered {
@@ -66,10 +75,11 @@ impl Gathered {
         of: &str,
         time: &str,
     ) -> anyhow::Result<()> {
+        let modified = Stamp::clamp(number(time)?);
         self.rows.push(Row {
             collection: name(alloc, collection)?,
             id: id(alloc, of)?,
-            modified: Stamp::clamp(number(time)?),
+            modified,
             sortindex: None,
             payload: Word::new(String::new(alloc)),
             expires: None,
@@ -101,14 +111,12 @@ impl Gathered {
         records: &str,
         size: &str,
     ) -> anyhow::Result<()> {
-        let mut parts = Vec::new(alloc);
-        for _ in 0..number(records)? {
-            parts.push(part(alloc, number(size)?)?)?;
-        }
+        let (of, begun) = (number(of)?, Stamp::clamp(number(begun)?));
+        let parts = parts_of(alloc, number(records)?, number(size)?)?;
         self.batches.push(Staged {
-            number: number(of)?,
+            number: of,
             collection: name(alloc, collection)?,
-            begun: Stamp::clamp(number(begun)?),
+            begun,
             parts: Parts::new(parts),
         })?;
         Ok(())
@@ -116,35 +124,33 @@ impl Gathered {
 
     /// One more record in the last batch, of so many payload bytes.
     fn add_part(&mut self, alloc: Global, size: &str) -> anyhow::Result<()> {
-        let Some(
-            Staged {
-                number: of,
-                collection,
-                begun,
-                parts,
-            },
-        ) = self.batches.pop()
-        else {
+        let part = part(alloc, number(size)?)?;
+        let Some(staged) = self.batches.last_mut() else {
             bail!("no batch");
         };
-        let mut parts = parts.into_vec();
-        parts.push(part(alloc, number(size)?)?)?;
-        self.batches.push(Staged {
-            number: of,
-            collection,
-            begun,
-            parts: Parts::new(parts),
-        })?;
+        let none = Parts::new(Vec::new(alloc));
+        let mut parts = std::mem::replace(&mut staged.parts, none).into_vec();
+        parts.push(part)?;
+        staged.parts = Parts::new(parts);
         Ok(())
     }
 
-    /// Takes a line, and says whether it is one of these.
-    pub fn take(&mut self, alloc: Global, line: &str) -> anyhow::Result<bool> {
-        let words = split(alloc, line)?;
-        match words.as_slice() {
-            ["collection", collection, time] => self
-                .collections
-                .push((name(alloc, collection)?, Stamp::clamp(number(time)?)))?,
+    /// A collection with its time.
+    fn add_collection(
+        &mut self,
+        alloc: Global,
+        collection: &str,
+        time: &str,
+    ) -> anyhow::Result<()> {
+        let time = Stamp::clamp(number(time)?);
+        self.collections.push((name(alloc, collection)?, time))?;
+        Ok(())
+    }
+
+    /// Takes a line by its words, and says whether it is one of these.
+    fn take_words(&mut self, alloc: Global, words: &[&str]) -> anyhow::Result<bool> {
+        match words {
+            ["collection", collection, time] => self.add_collection(alloc, collection, time)?,
             ["row", collection, of, time] => self.add_row(alloc, collection, of, time)?,
             ["rows", collection, count, time] => self.add_rows(alloc, collection, count, time)?,
             ["batch", of, collection, begun, records, size] => {
@@ -156,5 +162,11 @@ impl Gathered {
             _ => return Ok(false),
         }
         Ok(true)
+    }
+
+    /// Takes a line, and says whether it is one of these.
+    pub fn take(&mut self, alloc: Global, line: &str) -> anyhow::Result<bool> {
+        let words = split(alloc, line)?;
+        self.take_words(alloc, words.as_slice())
     }
 }

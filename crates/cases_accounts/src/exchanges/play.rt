@@ -1,6 +1,7 @@
 //! Playing an exchange over a keeper: what is answered, and what is then kept.
 
 ghost use Rattle.ss_query.specs.Fit.{IsFitRequest};
+ghost use Rattle.ss_route.specs.Routing.{AsksFit};
 
 use crate::exchanges::exchange::{Exchange, Timed};
 use crate::exchanges::wire::response_line;
@@ -48,27 +49,37 @@ fn local(alloc: Global, local: &Local, now: u64) -> anyhow::Result<Vec<u8>> {
     Ok(render_local(alloc, local, Stamp::clamp(now), false)?)
 }
 
+/// The bytes of the response to what a message asks.
+fn response_to<K: Keeper>(
+    alloc: Global,
+    account: &mut Account<K>,
+    timed: &Timed,
+    routed: &Routed,
+) -> anyhow::Result<Vec<u8>>
+    requires fit { AsksFit routed.now }
+{
+    match routed {
+        Routed::Memory => bail!("no memory"),
+        Routed::Local(told) => local(alloc, told, timed.now),
+        Routed::Ask {
+            uid,
+            request,
+            newlines,
+        } if *uid == 7 => reply(alloc, account, timed.now, request, *newlines),
+        Routed::Ask { .. } => local(alloc, &not_listed(), timed.now),
+    }
+}
+
 /// The bytes of the response to a message.
 fn response<K: Keeper>(
     alloc: Global,
     account: &mut Account<K>,
     timed: &Timed,
 ) -> anyhow::Result<Vec<u8>> {
-    match route(alloc, timed.manner, &timed.message) {
-        Routed::Memory => bail!("no memory"),
-        Routed::Local(told) => local(alloc, &told, timed.now),
-        Routed::Ask {
-            uid,
-            request,
-            newlines,
-        } => {
-            if uid == 7 {
-                reply(alloc, account, timed.now, &request, newlines)
-            } else {
-                local(alloc, &not_listed(), timed.now)
-            }
-        }
-    }
+    let routed = route(alloc, timed.manner, &timed.message);
+    let response = response_to(alloc, account, timed, &routed);
+    drop(routed);
+    response
 }
 
 /// The answer to a message as a line.
@@ -109,6 +120,17 @@ fn play<K: Keeper>(
     }
 }
 
+/// Whether an account answers a message and then keeps as another one did.
+fn is_alike<K: Keeper>(
+    alloc: Global,
+    account: &mut Account<K>,
+    timed: &Timed,
+    played: &Played,
+) -> anyhow::Result<bool> {
+    let other = play(alloc, account, timed)?;
+    Ok(played.is_same(&other))
+}
+
 /// An account that answers all messages, and one of the same kind that is opened anew before each.
 #[derive(Drop)]
 struct Both<K: Keeper + Drop> {
@@ -125,15 +147,33 @@ impl<K: Keeper + Drop> Both<K> {
         })
     }
 
-    /// What the first answers, and whether the other one answers and keeps the same.
-    fn play(&mut self, alloc: Global, timed: &Timed) -> anyhow::Result<(Played, bool)> {
-        let played = play(alloc, &mut self.whole, timed)?;
+    /// Opens the other one anew.
+    fn open_again(&mut self, alloc: Global) -> anyhow::Result<()> {
         let Some(account) = self.anew.take() else {
             bail!("no account to open anew");
         };
-        let mut account = again(alloc, account)?;
-        let is_same = played.is_same(&play(alloc, &mut account, timed)?);
-        self.anew = Some(account);
+        self.anew = Some(again(alloc, account)?);
+        Ok(())
+    }
+
+    /// Whether the other one, opened anew, answers and keeps as the first did.
+    fn is_alike_anew(
+        &mut self,
+        alloc: Global,
+        timed: &Timed,
+        played: &Played,
+    ) -> anyhow::Result<bool> {
+        self.open_again(alloc)?;
+        match &mut self.anew {
+            Some(account) => is_alike(alloc, account, timed, played),
+            None => bail!("no account that was opened anew"),
+        }
+    }
+
+    /// What the first answers, and whether the other one answers and keeps the same.
+    fn play(&mut self, alloc: Global, timed: &Timed) -> anyhow::Result<(Played, bool)> {
+        let played = play(alloc, &mut self.whole, timed)?;
+        let is_same = self.is_alike_anew(alloc, timed, &played)?;
         Ok((played, is_same))
     }
 }

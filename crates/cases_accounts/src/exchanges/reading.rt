@@ -12,8 +12,44 @@ use ss_route::Manner;
 use ss_text::Bytes;
 use std::alloc::Global;
 
-/// The message of a line: a reading, a method, a target behind the account's number or a whole one behind `=`, and a
-/// body. In the target `#` stands for the turn of a line that is repeated.
+/// The target that a word tells: behind the account's number, or a whole one behind `=`; `#` stands for the turn of a line
+/// that is repeated.
+fn target_of(alloc: Global, word: &str, turn: u64) -> anyhow::Result<Bytes> {
+    let target = match word.strip_prefix("=") {
+        Some(whole) => String::from_str(alloc, whole)?,
+        None => format!(in alloc; "/1.5/7{word}")?,
+    };
+    let target = target
+        .as_str()
+        .replace(alloc, "#", turn.to_string(alloc)?.as_str())?;
+    Ok(Bytes::from_slice(alloc, target.as_str().as_bytes())?)
+}
+
+/// The body that a text tells.
+fn body_of(alloc: Global, text: &str, turn: u64) -> anyhow::Result<Bytes> {
+    let body = body(alloc, text, turn)?;
+    Ok(Bytes::from_slice(alloc, body.as_str().as_bytes())?)
+}
+
+/// A message with these fields, by what tells its method, its target and its body.
+fn with_fields(
+    alloc: Global,
+    method: &str,
+    rest: &str,
+    fields: Vec<(Bytes, Bytes)>,
+    turn: u64,
+) -> anyhow::Result<Message> {
+    let (target, text) = rest.split_once(' ').unwrap_or((rest, ""));
+    Ok(Message {
+        method: Bytes::from_slice(alloc, method.as_bytes())?,
+        target: target_of(alloc, target, turn)?,
+        fields: FieldLines::new(fields),
+        body: body_of(alloc, text, turn)?,
+        last: false,
+    })
+}
+
+/// The message of a line: a reading, a method, a target and a body.
 fn message(
     alloc: Global,
     manner: Manner,
@@ -28,27 +64,10 @@ fn message(
     let Some((method, rest)) = rest.split_once(' ') else {
         bail!("no method");
     };
-    let (target, text) = match rest.split_once(' ') {
-        Some(both) => both,
-        None => (rest, ""),
-    };
-    let target = match target.strip_prefix("=") {
-        Some(whole) => String::from_str(alloc, whole)?,
-        None => format!(in alloc; "/1.5/7{target}")?,
-    };
-    let target = target
-        .as_str()
-        .replace(alloc, "#", turn.to_string(alloc)?.as_str())?;
     Ok(Timed {
         now: number(now)?,
         manner,
-        message: Message {
-            method: Bytes::from_slice(alloc, method.as_bytes())?,
-            target: Bytes::from_slice(alloc, target.as_str().as_bytes())?,
-            fields: FieldLines::new(fields),
-            body: Bytes::from_slice(alloc, body(alloc, text, turn)?.as_str().as_bytes())?,
-            last: false,
-        },
+        message: with_fields(alloc, method, rest, fields, turn)?,
         is_quiet,
     })
 }
@@ -145,25 +164,41 @@ impl Reader {
     }
 }
 
-/// The exchanges that lines tell; empty lines are passed over.
+/// Adds an exchange that was read, where one was.
+fn add(alloc: Global, exchanges: &mut Vec<Exchange>, reader: Option<Reader>) -> anyhow::Result<()> {
+    if let Some(done) = reader {
+        exchanges.push(done.finish(alloc))?;
+    }
+    Ok(())
+}
+
+/// Takes a line, which begins an exchange or belongs to the one that is read; an empty one is passed over.
+fn take_line(
+    alloc: Global,
+    exchanges: &mut Vec<Exchange>,
+    reader: &mut Option<Reader>,
+    line: &str,
+) -> anyhow::Result<()> {
+    if let Some(title) = line.strip_prefix("exchange ") {
+        let next = Some(Reader::new(alloc, title)?);
+        return add(alloc, exchanges, std::mem::replace(reader, next));
+    }
+    if line.is_empty() {
+        return Ok(());
+    }
+    match reader {
+        Some(reader) => reader.take(alloc, line),
+        None => bail!("a line before the first exchange"),
+    }
+}
+
+/// The exchanges that lines tell.
 pub fn read(alloc: Global, lines: &[String]) -> anyhow::Result<Vec<Exchange>> {
     let mut exchanges = Vec::new(alloc);
     let mut reader = None;
     for line in lines {
-        if let Some(title) = line.as_str().strip_prefix("exchange ") {
-            let next = Some(Reader::new(alloc, title)?);
-            if let Some(done) = std::mem::replace(&mut reader, next) {
-                exchanges.push(done.finish(alloc))?;
-            }
-        } else if !line.is_empty() {
-            match &mut reader {
-                Some(reader) => reader.take(alloc, line.as_str())?,
-                None => bail!("a line before the first exchange"),
-            }
-        }
+        take_line(alloc, &mut exchanges, &mut reader, line.as_str())?;
     }
-    if let Some(done) = reader {
-        exchanges.push(done.finish(alloc))?;
-    }
+    add(alloc, &mut exchanges, reader)?;
     Ok(exchanges)
 }

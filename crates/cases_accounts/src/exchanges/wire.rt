@@ -5,7 +5,7 @@ ghost use Rattle.ss_query.specs.Fit.{IsFitRequest};
 ghost use Rattle.ss_route.specs.Sending.{IsSentRequest};
 
 use anyhow::bail;
-use ss_http::{Buffer, Heard, read_message, read_response};
+use ss_http::{Buffer, Heard, Message, read_message, read_response};
 use ss_outside::SureSource;
 use ss_query::{Body, Info, Query, Reply, Request, Said, Sort};
 use ss_route::{Manner, Routed, heard_of, render, route, write_request};
@@ -91,21 +91,43 @@ fn later_page(alloc: Global) -> Result<Request, AllocError>
     })
 }
 
+/// A source of bytes in one piece.
+fn source_of(alloc: Global, bytes: Vec<u8>) -> Result<SureSource, AllocError> {
+    let mut pieces = Vec::new(alloc);
+    pieces.push(bytes)?;
+    Ok(SureSource::new(pieces))
+}
+
+/// The message that a server reads of a source.
+fn message_in(alloc: Global, source: &mut SureSource) -> anyhow::Result<Message> {
+    let mut buffer = Buffer::new(alloc)?;
+    match read_message(alloc, &mut buffer, source) {
+        Ok(message) => Ok(message),
+        Err(_) => bail!("no message"),
+    }
+}
+
+/// The message that a server reads of bytes.
+fn message_of(alloc: Global, bytes: Vec<u8>) -> anyhow::Result<Message> {
+    let mut source = source_of(alloc, bytes)?;
+    message_in(alloc, &mut source)
+}
+
+/// Tells what a message asks.
+fn tell_message(rt: &HostRuntime, message: &Message) -> anyhow::Result<()> {
+    let routed = route(rt.alloc(), Manner::Profile, message);
+    match &routed {
+        Routed::Ask { uid, request, .. } => tell_asked(rt, *uid, request),
+        Routed::Local(_) | Routed::Memory => bail!("a request that isn't routed"),
+    }
+}
+
 /// Tells what a server reads of a written request.
 fn tell_read(rt: &HostRuntime, bytes: Vec<u8>) -> anyhow::Result<()> {
     let alloc = rt.alloc();
     print!(rt; "{}", String::from_utf8_lossy(alloc, bytes.as_slice())?)?;
-    let mut pieces = Vec::new(alloc);
-    pieces.push(bytes)?;
-    let mut source = SureSource::new(pieces);
-    let mut buffer = Buffer::new(alloc)?;
-    let Ok(message) = read_message(alloc, &mut buffer, &mut source) else {
-        bail!("no message");
-    };
-    match route(alloc, Manner::Profile, &message) {
-        Routed::Ask { uid, request, .. } => tell_asked(rt, uid, &request),
-        Routed::Local(_) | Routed::Memory => bail!("a request that isn't routed"),
-    }
+    let message = message_of(alloc, bytes)?;
+    tell_message(rt, &message)
 }
 
 /// Tells what a request of account `uid` asks.
@@ -151,16 +173,19 @@ fn tell_heard(rt: &HostRuntime, word: &str, heard: &Heard) -> anyhow::Result<()>
     Ok(())
 }
 
+/// What a client hears of a reply, read from its bytes.
+fn read_of(alloc: Global, reply: &Reply) -> anyhow::Result<Heard> {
+    let mut source = source_of(alloc, render(alloc, reply, false, true)?)?;
+    match read_response(alloc, &mut source) {
+        Ok(heard) => Ok(heard),
+        Err(_) => bail!("a response that isn't read"),
+    }
+}
+
 /// Tells what a client hears of a reply, read from its bytes, and what it is said to hear.
 fn tell_reply(rt: &HostRuntime, reply: &Reply) -> anyhow::Result<()> {
     let alloc = rt.alloc();
-    let mut pieces = Vec::new(alloc);
-    pieces.push(render(alloc, reply, false, true)?)?;
-    let mut source = SureSource::new(pieces);
-    let Ok(heard) = read_response(alloc, &mut source) else {
-        bail!("a response that isn't read");
-    };
-    tell_heard(rt, "heard", &heard)?;
+    tell_heard(rt, "heard", &read_of(alloc, reply)?)?;
     tell_heard(
         rt,
         "said to be heard",
@@ -168,9 +193,19 @@ fn tell_reply(rt: &HostRuntime, reply: &Reply) -> anyhow::Result<()> {
     )
 }
 
+/// Tells the response to which a reply is rendered where a journal is full.
+fn tell_refused(rt: &HostRuntime, full: &Reply) -> anyhow::Result<()> {
+    let alloc = rt.alloc();
+    let response = render(alloc, full, false, false)?;
+    println!(rt;
+        "a full journal: {}",
+        response_line(alloc, response.as_slice(), false)?
+    )?;
+    Ok(())
+}
+
 /// Tells the response where a journal is full.
 fn tell_full(rt: &HostRuntime) -> anyhow::Result<()> {
-    let alloc = rt.alloc();
     let full = Reply {
         status: 503,
         moment: Stamp::clamp(1000),
@@ -179,12 +214,7 @@ fn tell_full(rt: &HostRuntime) -> anyhow::Result<()> {
         next: None,
         body: Body::Said(Said::Term),
     };
-    let response = render(alloc, &full, false, false)?;
-    println!(rt;
-        "a full journal: {}",
-        response_line(alloc, response.as_slice(), false)?
-    )?;
-    Ok(())
+    tell_refused(rt, &full)
 }
 
 /// Tells what a client hears of a reply with all its fields.

@@ -144,6 +144,37 @@ impl Draws {
         }
         Ok(())
     }
+
+    /// So many turns.
+    fn play_all<L: Ledger>(
+        &mut self,
+        alloc: Global,
+        turns: u64,
+        steps: &mut Steps<L>,
+    ) -> anyhow::Result<()> {
+        for number in 0..turns {
+            self.play(alloc, number, steps)?;
+        }
+        Ok(())
+    }
+
+    /// What was compared, what differs, and what the chain has at last.
+    fn line<L: Ledger>(
+        &self,
+        alloc: Global,
+        turns: u64,
+        steps: &mut Steps<L>,
+    ) -> anyhow::Result<String> {
+        let last = chain_line(alloc, &self.chain, steps)?;
+        let mut told = format!(in alloc;
+            "{turns} turns compared with a list, {} differ; at last {last}",
+            self.differing.len()
+        )?;
+        for found in self.differing.iter() {
+            told.push_str(found.as_str())?;
+        }
+        Ok(told)
+    }
 }
 
 /// What comes of so many random calls, each compared with what a plain list has.
@@ -154,16 +185,6 @@ pub fn run<L: Ledger>(
     steps: &mut Steps<L>,
 ) -> anyhow::Result<String> {
     let mut draws = Draws::new(alloc, seed);
-    for number in 0..turns {
-        draws.play(alloc, number, steps)?;
-    }
-    let last = chain_line(alloc, &draws.chain, steps)?;
-    let mut told = format!(in alloc;
-        "{turns} turns compared with a list, {} differ; at last {last}",
-        draws.differing.len()
-    )?;
-    for found in draws.differing.iter() {
-        told.push_str(found.as_str())?;
-    }
-    Ok(told)
+    draws.play_all(alloc, turns, steps)?;
+    draws.line(alloc, turns, steps)
 }

@@ -26,13 +26,12 @@ fn put(alloc: Global, shelf: &mut Shelf, number: u32) -> anyhow::Result<()> {
     Ok(())
 }
 
-/// Rows of one collection, written at 10.00 to 10.04.
-fn five(alloc: Global) -> anyhow::Result<Shelf> {
-    let mut shelf = Shelf::new(alloc);
+/// Puts five rows of one collection on a shelf, written at 10.00 to 10.04.
+fn put_five(alloc: Global, shelf: &mut Shelf) -> anyhow::Result<()> {
     for number in 0..5u32 {
-        put(alloc, &mut shelf, number)?;
+        put(alloc, shelf, number)?;
     }
-    Ok(shelf)
+    Ok(())
 }
 
 /// How many rows are newer than a time.
@@ -77,13 +76,29 @@ fn few_newer<L: Ledger>(
     Ok(shelf.select(alloc, &name, &query, steps)?)
 }
 
-/// The times of the rows among five that are newer than a time.
-pub fn times<L: Ledger>(alloc: Global, newer: u64, steps: &mut Steps<L>) -> anyhow::Result<String> {
-    let shelf = five(alloc)?;
-    let picked = few_newer(alloc, &shelf, Stamp::clamp(newer), steps)?;
-    let mut told = format!(in alloc; "{} of {} rows:", picked.rows.as_slice().len(), shelf.len())?;
-    for row in picked.rows.as_slice() {
+/// The times of these rows among so many.
+fn times_of(alloc: Global, rows: &[Row], all: u64) -> anyhow::Result<String> {
+    let mut told = format!(in alloc; "{} of {all} rows:", rows.len())?;
+    for row in rows {
         told.push_str(format!(in alloc; " {}", row.modified.get())?.as_str())?;
     }
     Ok(told)
+}
+
+/// The times of the rows on a shelf that are newer than a time.
+fn times_on<L: Ledger>(
+    alloc: Global,
+    shelf: &Shelf,
+    newer: u64,
+    steps: &mut Steps<L>,
+) -> anyhow::Result<String> {
+    let picked = few_newer(alloc, shelf, Stamp::clamp(newer), steps)?;
+    times_of(alloc, picked.rows.as_slice(), shelf.len())
+}
+
+/// The times of the rows among five that are newer than a time.
+pub fn times<L: Ledger>(alloc: Global, newer: u64, steps: &mut Steps<L>) -> anyhow::Result<String> {
+    let mut shelf = Shelf::new(alloc);
+    put_five(alloc, &mut shelf)?;
+    times_on(alloc, &shelf, newer, steps)
 }

@@ -69,10 +69,13 @@ fn same_ids(ids: &PickedIds, picked: &Picked) -> bool {
         && ids_are.iter().zip(rows).all(|(id, row)| *id == row.id)
 }
 
-/// The rows and bytes of each collection by `counts`, `usage` and `total`.
-fn sizes_told(alloc: Global, shelf: &Shelf) -> anyhow::Result<String> {
-    let (counts, usage) = (shelf.counts(alloc)?, shelf.usage(alloc)?);
-    let (counts, usage) = (counts.as_slice(), usage.as_slice());
+/// The rows and bytes of each collection, by what a shelf's `counts`, `usage` and `total` tell.
+fn sizes_line(
+    alloc: Global,
+    counts: &[(Name, u64)],
+    usage: &[(Name, u64)],
+    total: u64,
+) -> anyhow::Result<String> {
     if counts.len() != usage.len() {
         return Ok(String::from_str(alloc, "other collections")?);
     }
@@ -84,7 +87,28 @@ fn sizes_told(alloc: Global, shelf: &Shelf) -> anyhow::Result<String> {
         let word = format!(in alloc; "{}={},{} ", count.0.as_str(), count.1, bytes.1)?;
         line.push_str(word.as_str())?;
     }
-    Ok(format!(in alloc; "{line}total={}", shelf.total())?)
+    Ok(format!(in alloc; "{line}total={total}")?)
+}
+
+/// The rows and bytes of each collection by `counts`, `usage` and `total`.
+fn sizes_told(alloc: Global, shelf: &Shelf) -> anyhow::Result<String> {
+    let (counts, usage) = (shelf.counts(alloc)?, shelf.usage(alloc)?);
+    sizes_line(alloc, counts.as_slice(), usage.as_slice(), shelf.total())
+}
+
+/// What a query is answered: over a plain list, and by a shelf with rows and with ids.
+#[derive(Drop)]
+struct Answers {
+    wanted: Picked,
+    found: Picked,
+    ids: PickedIds,
+}
+
+impl Answers {
+    /// Whether they are alike.
+    fn are_same(&self) -> bool {
+        same_rows(&self.found, &self.wanted) && same_ids(&self.ids, &self.wanted)
+    }
 }
 
 /// A shelf and a list that must be alike, and what was compared and found.
@@ -114,19 +138,50 @@ impl Draws {
         }
     }
 
-    /// One random change of both.
-    fn turn(&mut self, alloc: Global, time: u64) -> anyhow::Result<()> {
-        let changes = random_changes(alloc, &mut self.dice, time)?;
-        if !change(alloc, &mut self.shelf, &changes)? {
+    /// Makes changes in both.
+    fn make(&mut self, alloc: Global, changes: &Changes) -> anyhow::Result<()> {
+        if !change(alloc, &mut self.shelf, changes)? {
             bail!("changes out of time");
         }
         let rows = std::mem::replace(&mut self.rows, Vec::new(alloc));
-        self.rows = listed(alloc, rows, &changes)?;
+        self.rows = listed(alloc, rows, changes)?;
+        Ok(())
+    }
+
+    /// One random change of both.
+    fn turn(&mut self, alloc: Global, time: u64) -> anyhow::Result<()> {
+        let changes = random_changes(alloc, &mut self.dice, time)?;
+        self.make(alloc, &changes)?;
         self.lengths = self.lengths.saturating_add(1);
         let (length, wanted) = (self.shelf.len(), self.rows.len());
         if length != wanted as u64 {
             self.differing.push(format!(in alloc; "\n{time}: {length} rows and not {wanted}")?)?;
         }
+        Ok(())
+    }
+
+    /// What a query is answered over a collection's rows and by the shelf.
+    fn answers<L: Ledger>(
+        &self,
+        alloc: Global,
+        name: &Name,
+        rows: &[Row],
+        query: &Query,
+        steps: &mut Steps<L>,
+    ) -> anyhow::Result<Answers> {
+        Ok(Answers {
+            wanted: answer_query(alloc, rows, query)?,
+            found: self.shelf.select(alloc, name, query, steps)?,
+            ids: self.shelf.select_ids(alloc, name, query, steps)?,
+        })
+    }
+
+    /// Notes answers that differ, behind the query that was asked.
+    fn note(&mut self, alloc: Global, asked: &str, answers: &Answers) -> anyhow::Result<()> {
+        let Answers { wanted, found, ids } = answers;
+        self.differing.push(format!(in alloc;
+            "\n{asked}: {found:?} and {ids:?}, and not {wanted:?}"
+        )?)?;
         Ok(())
     }
 
@@ -141,16 +196,11 @@ impl Draws {
         steps: &mut Steps<L>,
     ) -> anyhow::Result<()> {
         let query = query(alloc, text, base)?;
-        let wanted = answer_query(alloc, rows, &query)?;
-        let found = self.shelf.select(alloc, name, &query, steps)?;
-        let ids = self.shelf.select_ids(alloc, name, &query, steps)?;
+        let answers = self.answers(alloc, name, rows, &query, steps)?;
         self.queries = self.queries.saturating_add(1);
-        if !same_rows(&found, &wanted) || !same_ids(&ids, &wanted) {
-            let line = format!(in alloc;
-                "\n{} {text} from {base}: {found:?} and {ids:?}, and not {wanted:?}",
-                name.as_str()
-            )?;
-            self.differing.push(line)?;
+        if !answers.are_same() {
+            let asked = format!(in alloc; "{} {text} from {base}", name.as_str())?;
+            self.note(alloc, asked.as_str(), &answers)?;
         }
         Ok(())
     }
@@ -246,15 +296,15 @@ impl Shelves {
         }
     }
 
-    fn run<L: Ledger>(
+    /// Makes so many changes, and compares after each so many.
+    fn play<L: Ledger>(
         &self,
         alloc: Global,
-        seed: u32,
+        draws: &mut Draws,
         rounds: u64,
         every: u64,
         steps: &mut Steps<L>,
-    ) -> anyhow::Result<String> {
-        let mut draws = Draws::new(alloc, seed);
+    ) -> anyhow::Result<()> {
         let mut left = every;
         for round in 0..rounds {
             draws.turn(alloc, round / 3)?;
@@ -264,6 +314,19 @@ impl Shelves {
                 left = every;
             }
         }
+        Ok(())
+    }
+
+    fn run<L: Ledger>(
+        &self,
+        alloc: Global,
+        seed: u32,
+        rounds: u64,
+        every: u64,
+        steps: &mut Steps<L>,
+    ) -> anyhow::Result<String> {
+        let mut draws = Draws::new(alloc, seed);
+        self.play(alloc, &mut draws, rounds, every, steps)?;
         draws.shelf_line(alloc)
     }
 

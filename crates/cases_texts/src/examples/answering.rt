@@ -61,19 +61,38 @@ fn reply_line(alloc: Global, reply: &Reply) -> anyhow::Result<String> {
     Ok(format!(in alloc; "{} at {}: {payload}", reply.status, reply.moment.get())?)
 }
 
-/// Puts a record, gets it, and gets it once more under the condition that it has changed since.
-pub fn answered(alloc: Global) -> anyhow::Result<Vec<String>> {
-    let mut account = fresh(alloc)?;
-    let mut lines = Vec::new(alloc);
+/// Puts a record.
+fn put_line(alloc: Global, account: &mut Account<SureKeeper>) -> anyhow::Result<String> {
     let put = put(alloc, name(alloc, "notes")?, id(alloc, "a")?, "hello")?;
-    lines.push(reply_line(alloc, &account.step(alloc, 1_000, &put))?)?;
+    reply_line(alloc, &account.step(alloc, 1_000, &put))
+}
+
+/// Gets the record under a condition.
+fn get_line(
+    alloc: Global,
+    account: &mut Account<SureKeeper>,
+    cond: Cond,
+) -> anyhow::Result<String> {
+    let get = Request::Get {
+        collection: name(alloc, "notes")?,
+        id: id(alloc, "a")?,
+        cond,
+    };
+    reply_line(alloc, &account.step(alloc, 2_000, &get))
+}
+
+/// Puts a record, gets it, and gets it once more under the condition that it has changed since.
+fn reply_lines(alloc: Global, account: &mut Account<SureKeeper>) -> anyhow::Result<Vec<String>> {
+    let mut lines = Vec::new(alloc);
+    lines.push(put_line(alloc, account)?)?;
     for cond in [Cond::Free, Cond::IfModified(Stamp::clamp(1_000))] {
-        let get = Request::Get {
-            collection: name(alloc, "notes")?,
-            id: id(alloc, "a")?,
-            cond,
-        };
-        lines.push(reply_line(alloc, &account.step(alloc, 2_000, &get))?)?;
+        lines.push(get_line(alloc, account, cond)?)?;
     }
     Ok(lines)
+}
+
+/// What a new account replies to these requests.
+pub fn answered(alloc: Global) -> anyhow::Result<Vec<String>> {
+    let mut account = fresh(alloc)?;
+    reply_lines(alloc, &mut account)
 }

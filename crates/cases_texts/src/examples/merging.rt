@@ -2,7 +2,7 @@
 
 use anyhow::bail;
 use ss_build::{Built, are_distinct, build};
-use ss_merge::{Origin, merge};
+use ss_merge::{Merged, Origin, merge};
 use ss_record::{Sheet, is_root};
 use ss_text::{Id, Stamp, Word};
 use ss_tree::{Sides, Tree};
@@ -64,6 +64,17 @@ fn item_line(alloc: Global, tree: &Tree, id: &Id, side: Origin) -> anyhow::Resul
     Ok(format!(in alloc; "{side:?} {} in {folder}: {content}", id.as_str())?)
 }
 
+/// Tells each item of what comes of two trees, but for the roots.
+fn item_lines(alloc: Global, merged: &Merged) -> anyhow::Result<Vec<String>> {
+    let mut lines = Vec::new(alloc);
+    for (id, side) in &merged.from {
+        if !is_root(id) {
+            lines.push(item_line(alloc, &merged.tree, id, *side)?)?;
+        }
+    }
+    Ok(lines)
+}
+
 /// Merges the trees, and tells each item of what comes of them, but for the roots.
 pub fn merged(alloc: Global) -> anyhow::Result<Vec<String>> {
     let mirror = built(alloc, 100, &MIRROR)?;
@@ -77,11 +88,5 @@ pub fn merged(alloc: Global) -> anyhow::Result<Vec<String>> {
         remote_dead: &remote.dead,
     };
     let merged = merge(alloc, &sides)?;
-    let mut lines = Vec::new(alloc);
-    for (id, side) in &merged.from {
-        if !is_root(id) {
-            lines.push(item_line(alloc, &merged.tree, id, *side)?)?;
-        }
-    }
-    Ok(lines)
+    item_lines(alloc, &merged)
 }

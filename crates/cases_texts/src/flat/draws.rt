@@ -84,6 +84,13 @@ fn summed(mut sum: u64, text: &str) -> u64 {
     sum
 }
 
+/// Draws a set of rows, and gives the sum of what it comes to behind another.
+fn drawn(alloc: Global, chances: &mut Chances, kind: FlatKind, sum: u64) -> anyhow::Result<u64> {
+    let lines = lines(alloc, chances, kind)?;
+    let told = set_line(alloc, kind, lines.as_slice())?;
+    Ok(summed(sum, told.as_str()))
+}
+
 /// Draws sets of rows, and tells the sum of what they come to; the words are a seed and their number.
 pub fn draws(alloc: Global, kind: FlatKind, text: &str) -> anyhow::Result<String> {
     let Some((seed, count)) = text.split_once(' ') else {
@@ -93,8 +100,7 @@ pub fn draws(alloc: Global, kind: FlatKind, text: &str) -> anyhow::Result<String
     let count = count.parse::<u64>()?;
     let mut sum = 14_695_981_039_346_656_037;
     for _ in 0..count {
-        let lines = lines(alloc, &mut chances, kind)?;
-        sum = summed(sum, set_line(alloc, kind, lines.as_slice())?.as_str());
+        sum = drawn(alloc, &mut chances, kind, sum)?;
     }
     Ok(format!(in alloc; "{count} sets of rows, sum {sum}\n")?)
 }

@@ -47,6 +47,23 @@ fn state(alloc: Global, kind: FlatKind, file: &str) -> anyhow::Result<Flat>
     }
 }
 
+/// The state of the file of some lines.
+fn state_in(alloc: Global, kind: FlatKind, lines: &[String]) -> anyhow::Result<Flat>
+    ensures { IfOk result (λ flat. flat.kind ≡ kind) }
+{
+    let file = file(alloc, lines)?;
+    state(alloc, kind, file.as_str())
+}
+
+/// Whether a state and another one, joined, tell this.
+fn tells(alloc: Global, flat: &mut Flat, other: &Flat, wanted: &[u8]) -> anyhow::Result<bool>
+    requires { other.now.kind ≡ flat.old.kind }
+{
+    flat.join(alloc, other)?;
+    let told = telling(alloc, flat)?;
+    Ok(told.as_slice() == wanted)
+}
+
 /// Whether the states of two parts of some rows, joined, tell this.
 fn joined(
     alloc: Global,
@@ -55,10 +72,9 @@ fn joined(
     back: &[String],
     wanted: &[u8],
 ) -> anyhow::Result<bool> {
-    let mut flat = state(alloc, kind, file(alloc, front)?.as_str())?;
-    let other = state(alloc, kind, file(alloc, back)?.as_str())?;
-    flat.join(alloc, &other)?;
-    Ok(telling(alloc, &flat)?.as_slice() == wanted)
+    let mut flat = state_in(alloc, kind, front)?;
+    let other = state_in(alloc, kind, back)?;
+    tells(alloc, &mut flat, &other, wanted)
 }
 
 /// Whether every two parts of some rows, joined either way, tell this.
@@ -79,10 +95,23 @@ fn all_joined(
     Ok(true)
 }
 
+/// What the state of some lines tells.
+fn told_of(alloc: Global, kind: FlatKind, lines: &[String]) -> anyhow::Result<Vec<u8>> {
+    let flat = state_in(alloc, kind, lines)?;
+    Ok(telling(alloc, &flat)?)
+}
+
+/// What the state of some lines tells that are turned round and doubled.
+fn turned_told(alloc: Global, kind: FlatKind, lines: &[String]) -> anyhow::Result<Vec<u8>> {
+    let file = turned(alloc, lines)?;
+    let flat = state(alloc, kind, file.as_str())?;
+    Ok(telling(alloc, &flat)?)
+}
+
 /// What some rows come to, where all ways to their set tell the same.
 pub fn set_line(alloc: Global, kind: FlatKind, lines: &[String]) -> anyhow::Result<String> {
-    let told = telling(alloc, &state(alloc, kind, file(alloc, lines)?.as_str())?)?;
-    let other = telling(alloc, &state(alloc, kind, turned(alloc, lines)?.as_str())?)?;
+    let told = told_of(alloc, kind, lines)?;
+    let other = turned_told(alloc, kind, lines)?;
     if told.as_slice() != other.as_slice() || !all_joined(alloc, kind, lines, told.as_slice())? {
         return Ok(String::from_str(alloc, OTHERWISE)?);
     }

@@ -44,38 +44,59 @@ fn turned(kept: Kept) -> Kept {
     }
 }
 
-/// A keeper in memory that was filled with this; a second time it is refused.
+/// Fills a fresh keeper in memory with this; a second time it is refused.
+fn fill(alloc: Global, keeper: &mut SureKeeper, kept: &Kept) -> Result<()>
+    requires { IsGood kept.now }
+{
+    if refill(alloc, keeper, kept).is_err() {
+        bail!("a fresh keeper was not filled");
+    }
+    let again = refill(alloc, keeper, kept);
+    if again != Err(RefillFault::NotFresh) && again.is_err() {
+        bail!("a keeper that is filled was refused otherwise");
+    }
+    Ok(())
+}
+
+/// A keeper in memory that was filled with this.
 fn refilled(alloc: Global, kept: &Kept) -> Result<SureKeeper>
     requires { IsGood kept.now }
 {
     let mut keeper = SureKeeper::new(Kept::fresh(alloc));
-    if refill(alloc, &mut keeper, kept).is_err() {
-        bail!("a fresh keeper was not filled");
-    }
-    let again = refill(alloc, &mut keeper, kept);
-    if again != Err(RefillFault::NotFresh) && again.is_err() {
-        bail!("a keeper that is filled was refused otherwise");
-    }
+    fill(alloc, &mut keeper, kept)?;
     Ok(keeper)
 }
 
-/// What a keeper holds.
-fn held_by(alloc: Global, mut keeper: SureKeeper) -> Result<Kept> {
+/// Whether this is dumped as a text.
+fn is_dumped(alloc: Global, text: &[u8], kept: &Kept) -> Result<bool> {
+    let dumped = dump(alloc, kept)?;
+    Ok(dumped.as_slice() == text)
+}
+
+/// Whether what a keeper holds is dumped as a text.
+fn is_held(alloc: Global, text: &[u8], keeper: &mut SureKeeper) -> Result<bool> {
     match keeper.load(alloc) {
-        Ok(held) => Ok(held),
+        Ok(held) => is_dumped(alloc, text, &held),
         Err(_) => bail!("a keeper in memory failed"),
     }
+}
+
+/// Whether a keeper that was filled with this is dumped as a text.
+fn is_filled(alloc: Global, text: &[u8], kept: &Kept) -> Result<bool>
+    requires { IsGood kept.now }
+{
+    let mut keeper = refilled(alloc, kept)?;
+    is_held(alloc, text, &mut keeper)
 }
 
 /// Whether an account is dumped as the text from which it was read: as it is, turned, and by a keeper that was filled.
 fn is_same(alloc: Global, text: &[u8], kept: Kept) -> Result<bool>
     requires { IsGood kept }
 {
-    let held = held_by(alloc, refilled(alloc, &kept)?)?;
-    let first = dump(alloc, &kept)?;
-    let second = dump(alloc, &held)?;
-    let third = dump(alloc, &turned(kept))?;
-    Ok(first.as_slice() == text && second.as_slice() == text && third.as_slice() == text)
+    let filled = is_filled(alloc, text, &kept)?;
+    let first = is_dumped(alloc, text, &kept)?;
+    let turned = is_dumped(alloc, text, &turned(kept))?;
+    Ok(first && filled && turned)
 }
 
 /// What a fault says.
@@ -94,20 +115,34 @@ fn fault_told(alloc: Global, fault: &DumpFault) -> Result<String> {
     })
 }
 
-/// What comes of a dump: whether it is written as it was read, or, where a commit is asked for, what the moved account
-/// answers.
-fn dump_told(alloc: Global, text: &[u8], kept: Kept, commit: Option<Commit>) -> Result<String>
+/// What the account of a dump answers to a commit, once it is moved.
+fn moved_told(alloc: Global, kept: &Kept, commit: Commit) -> Result<String>
+    requires { IsGood kept.now }
+{
+    answered(alloc, refilled(alloc, kept)?, commit)
+}
+
+/// Whether a dump is written as it was read.
+fn same_told(alloc: Global, text: &[u8], kept: Kept) -> Result<String>
     requires { IsGood kept }
 {
-    if let Some(commit) = commit {
-        return answered(alloc, refilled(alloc, &kept)?, commit);
-    }
     let told = if is_same(alloc, text, kept)? {
         "a dump"
     } else {
         "another dump"
     };
     Ok(String::from_str(alloc, told)?)
+}
+
+/// What comes of a dump: whether it is written as it was read, or, where a commit is asked for, what the moved account
+/// answers.
+fn dump_told(alloc: Global, text: &[u8], kept: Kept, commit: Option<Commit>) -> Result<String>
+    requires { IsGood kept }
+{
+    match commit {
+        Some(commit) => moved_told(alloc, &kept, commit),
+        None => same_told(alloc, text, kept),
+    }
 }
 
 /// What comes of the text of a case.

@@ -97,14 +97,34 @@ fn ids_in(alloc: Global, reply: &Reply) -> Result<String> {
     Ok(told)
 }
 
+/// The status and the time of an account's reply to a commit.
+fn committed(
+    alloc: Global,
+    account: &mut Account<SureKeeper>,
+    commit: &Commit,
+) -> Result<(u16, u64)> {
+    let request = commit.request(alloc)?;
+    let reply = account.step(alloc, commit.now, &request);
+    Ok((reply.status, reply.moment.get()))
+}
+
+/// The ids that an account has in the collection of a commit.
+fn listed(alloc: Global, account: &mut Account<SureKeeper>, commit: Commit) -> Result<String> {
+    let list = account.step(alloc, commit.now, &ids_of(commit.collection));
+    ids_in(alloc, &list)
+}
+
+/// What an account answers to a commit, and which ids its collection has then.
+fn asked(alloc: Global, account: &mut Account<SureKeeper>, commit: Commit) -> Result<String> {
+    let (status, moment) = committed(alloc, account, &commit)?;
+    let ids = listed(alloc, account, commit)?;
+    Ok(format!(in alloc; "{status} at {moment}, then{ids}")?)
+}
+
 /// What the account that a keeper holds answers to a commit, and which ids its collection has then.
 pub fn answered(alloc: Global, keeper: SureKeeper, commit: Commit) -> Result<String> {
-    let Ok(mut account) = Account::open(alloc, keeper) else {
-        bail!("an account that was moved isn't opened");
-    };
-    let reply = account.step(alloc, commit.now, &commit.request(alloc)?);
-    let now = commit.now;
-    let list = account.step(alloc, now, &ids_of(commit.collection));
-    let ids = ids_in(alloc, &list)?;
-    Ok(format!(in alloc; "{} at {}, then{ids}", reply.status, reply.moment.get())?)
+    match Account::open(alloc, keeper) {
+        Ok(mut account) => asked(alloc, &mut account, commit),
+        Err(_) => bail!("an account that was moved isn't opened"),
+    }
 }

@@ -78,9 +78,11 @@ fn serve<R: Threads + Wait + Sync>(rt: &R, alloc: Global) -> anyhow::Result<Ende
     ]?;
     let accounts = accounts(alloc)?;
     let manner = Manner::Profile;
-    Ok(serve_term(
+    let ended = serve_term(
         rt, alloc, manner, &mut port, clocks, &OpenGate, accounts, LINKS,
-    ))
+    );
+    drop(port);
+    Ok(ended)
 }
 
 /// The replies at the places of the journals of the accounts, each with its ticket.
@@ -148,14 +150,13 @@ fn is_as_told(
     )
 }
 
-/// What a term comes to: how many links were served and how many turns there were, and how many links are as told.
-fn tell(alloc: Global, ended: &Ended) -> anyhow::Result<String> {
-    let places = Places::of(alloc, ended.accounts.as_slice())?;
+/// How many links a term served and how many turns there were, and how many links are as the places tell.
+fn compared(alloc: Global, places: &Places, ended: &Ended) -> anyhow::Result<String> {
     let mut told: u32 = 0;
     let mut turns: usize = 0;
     for report in ended.links.iter() {
         turns = turns.saturating_add(report.turns.len());
-        if is_as_told(alloc, &places, report)? {
+        if is_as_told(alloc, places, report)? {
             told = told.saturating_add(1);
         }
     }
@@ -168,7 +169,18 @@ fn tell(alloc: Global, ended: &Ended) -> anyhow::Result<String> {
     )?)
 }
 
+/// What a term comes to.
+fn tell(alloc: Global, ended: &Ended) -> anyhow::Result<String> {
+    let places = Places::of(alloc, ended.accounts.as_slice())?;
+    let told = compared(alloc, &places, ended);
+    drop(places);
+    told
+}
+
 /// Serves a crowd, and compares what each link wrote with the plain program.
 pub fn crowd_line<R: Threads + Wait + Sync>(rt: &R, alloc: Global) -> anyhow::Result<String> {
-    tell(alloc, &serve(rt, alloc)?)
+    let ended = serve(rt, alloc)?;
+    let told = tell(alloc, &ended);
+    drop(ended);
+    told
 }

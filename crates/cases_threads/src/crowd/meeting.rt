@@ -1,6 +1,6 @@
 //! Two keepers, each of whose commits waits until the other one was asked to commit.
 
-ghost use Rattle.std.specs.Prelude.{◌≡◌, IfOk};
+ghost use Rattle.std.specs.Prelude.{◌≡◌, All, IfOk};
 ghost use Rattle.ss_booked.specs.Booked.{journal_of};
 ghost use Rattle.ss_links.specs.Links.{IsUnusedLink, link_tells};
 ghost use Rattle.ss_town.specs.Opening.{AreBare};
@@ -12,7 +12,7 @@ use ss_keeper::{KeepFault, Keeper, SureKeeper};
 use ss_links::{MemLink, MemPort, OpenGate};
 use ss_outside::CountClock;
 use ss_route::Manner;
-use ss_serve::serve_term;
+use ss_serve::{LinkReport, TermEnd, serve_term};
 use std::alloc::{AllocError, Global};
 use std::sync::Wait;
 use std::sync::atomic::{AtomicU64, Ordering};
@@ -20,6 +20,8 @@ use std::thread::{Threads, yield_now};
 
 /// How often a commit that waits looks whether the other keeper was asked.
 const LOOKS: u64 = 10_000_000;
+
+type Ended<'a> = TermEnd<MemLink, CountClock, Guest<'a>>;
 
 /// How many commits each of two keepers was asked for, and how many waited in vain.
 #[derive(Drop)]
@@ -80,26 +82,92 @@ fn link(alloc: Global, uid: u32) -> Result<MemLink, AllocError>
     MemLink::new(alloc, pieces, 4096, Vec::new(alloc))
 }
 
+/// A link for each of the accounts 7 and 8.
+fn links(alloc: Global) -> Result<Vec<MemLink>, AllocError>
+    ensures { IfOk result (λ links. All (λ link. IsUnusedLink (link_tells link)) links.items) }
+{
+    let seven = link(alloc, 7)?;
+    let eight = link(alloc, 8)?;
+    Ok(vec![in alloc; seven, eight]?)
+}
+
+/// Adds a fresh account of this uid, which a guest keeps.
+fn add_guest<'a>(
+    alloc: Global,
+    accounts: &mut Vec<(u32, Booked<Guest<'a>>)>,
+    uid: u32,
+    mine: &'a AtomicU64,
+    other: &'a AtomicU64,
+    late: &'a AtomicU64,
+) -> anyhow::Result<()>
+    requires bare { AreBare (λ b. (journal_of b).entries) accounts.old.items }
+    ensures bare { IfOk result (λ done. AreBare (λ b. (journal_of b).entries) accounts.new.items) }
+{
+    let guest = Guest {
+        keeper: SureKeeper::new(Kept::fresh(alloc)),
+        mine,
+        other,
+        late,
+    };
+    let booked = booked(alloc, uid, guest, 2)?;
+    add(accounts, uid, booked)?;
+    Ok(())
+}
+
+/// Adds the accounts 7 and 8, whose keepers meet.
+fn add_both<'a>(
+    alloc: Global,
+    accounts: &mut Vec<(u32, Booked<Guest<'a>>)>,
+    meeting: &'a Meeting,
+) -> anyhow::Result<()>
+    requires bare { AreBare (λ b. (journal_of b).entries) accounts.old.items }
+    ensures bare { IfOk result (λ done. AreBare (λ b. (journal_of b).entries) accounts.new.items) }
+{
+    let (seven, eight) = (&meeting.seven, &meeting.eight);
+    add_guest(alloc, accounts, 7, seven, eight, &meeting.late)?;
+    add_guest(alloc, accounts, 8, eight, seven, &meeting.late)?;
+    Ok(())
+}
+
 /// The accounts 7 and 8, whose keepers meet.
 fn accounts(alloc: Global, meeting: &Meeting) -> anyhow::Result<Vec<(u32, Booked<Guest<'_>>)>>
     ensures bare { IfOk result (λ accounts. AreBare (λ b. (journal_of b).entries) accounts.items) }
 {
-    let seven = Guest {
-        keeper: SureKeeper::new(Kept::fresh(alloc)),
-        mine: &meeting.seven,
-        other: &meeting.eight,
-        late: &meeting.late,
-    };
-    let eight = Guest {
-        keeper: SureKeeper::new(Kept::fresh(alloc)),
-        mine: &meeting.eight,
-        other: &meeting.seven,
-        late: &meeting.late,
-    };
     let mut accounts = Vec::new(alloc);
-    add(&mut accounts, 7, booked(alloc, 7, seven, 2)?)?;
-    add(&mut accounts, 8, booked(alloc, 8, eight, 2)?)?;
-    Ok(accounts)
+    match add_both(alloc, &mut accounts, meeting) {
+        Ok(()) => Ok(accounts),
+        Err(error) => {
+            drop(accounts);
+            Err(error)
+        }
+    }
+}
+
+/// The term of these accounts and links, of two workers.
+fn serve<'a, R: Threads + Wait + Sync>(
+    rt: &R,
+    alloc: Global,
+    meeting: &'a Meeting,
+) -> anyhow::Result<Ended<'a>> {
+    let mut port = MemPort::new(links(alloc)?, Vec::new(alloc));
+    let clocks = vec![in alloc; CountClock::new(1000), CountClock::new(1000)]?;
+    let accounts = accounts(alloc, meeting)?;
+    let manner = Manner::Profile;
+    let ended = serve_term(rt, alloc, manner, &mut port, clocks, &OpenGate, accounts, 2);
+    drop(port);
+    Ok(ended)
+}
+
+/// How many links were answered with 200.
+fn answered(reports: &[LinkReport<MemLink>]) -> u32 {
+    let mut answered: u32 = 0;
+    for report in reports {
+        let written = report.link.written().unwrap_or(b"untold");
+        if written.starts_with(b"HTTP/1.1 200 OK\r\n") {
+            answered = answered.saturating_add(1);
+        }
+    }
+    answered
 }
 
 /// How two PUTs are answered, to two accounts whose keepers wait for each other, by two workers.
@@ -109,19 +177,9 @@ pub fn meeting_line<R: Threads + Wait + Sync>(rt: &R, alloc: Global) -> anyhow::
         eight: AtomicU64::new(0),
         late: AtomicU64::new(0),
     };
-    let links = vec![in alloc; link(alloc, 7)?, link(alloc, 8)?]?;
-    let mut port = MemPort::new(links, Vec::new(alloc));
-    let clocks = vec![in alloc; CountClock::new(1000), CountClock::new(1000)]?;
-    let accounts = accounts(alloc, &meeting)?;
-    let manner = Manner::Profile;
-    let ended = serve_term(rt, alloc, manner, &mut port, clocks, &OpenGate, accounts, 2);
-    let mut answered: u32 = 0;
-    for report in ended.links.iter() {
-        let written = report.link.written().unwrap_or(b"untold");
-        if written.starts_with(b"HTTP/1.1 200 OK\r\n") {
-            answered = answered.saturating_add(1);
-        }
-    }
+    let ended = serve(rt, alloc, &meeting)?;
+    let answered = answered(ended.links.as_slice());
+    drop(ended);
     let late = meeting.late.load(Ordering::SeqCst);
     Ok(format!(in alloc;
         "two keepers wait for each other: {answered} PUTs are answered with 200, and {late} waited in vain"

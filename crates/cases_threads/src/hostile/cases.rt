@@ -53,11 +53,10 @@ fn show<R: Threads + Wait + Sync>(
 ) -> anyhow::Result<String>
     requires unused { All (λ link. IsUnusedLink (link_tells link)) links.items }
 {
-    ended_line(
-        alloc,
-        title,
-        &serve(rt, alloc, links, accounts(alloc, setting)?)?,
-    )
+    let ended = serve(rt, alloc, links, accounts(alloc, setting)?)?;
+    let line = ended_line(alloc, title, &ended);
+    drop(ended);
+    line
 }
 
 /// The call of a link with this number fails; a second link then asks for what the first one put.
@@ -80,11 +79,10 @@ pub fn cut_anywhere<R: Threads + Wait + Sync>(rt: &R, alloc: Global) -> anyhow::
         "each front of a browser's request of {} bytes",
         BROWSER.len()
     )?;
-    cut(
-        alloc,
-        title.as_str(),
-        &serve(rt, alloc, links, accounts(alloc, SOUND)?)?,
-    )
+    let ended = serve(rt, alloc, links, accounts(alloc, SOUND)?)?;
+    let line = cut(alloc, title.as_str(), &ended);
+    drop(ended);
+    line
 }
 
 /// The same request comes whole, byte by byte, and a GET of what it put behind it.
@@ -179,15 +177,17 @@ fn next<R: Threads + Wait + Sync>(
 
 /// A journal has no room for a third call.
 pub fn full<R: Threads + Wait + Sync>(rt: &R, alloc: Global) -> anyhow::Result<String> {
-    ended_line(alloc, "a journal with room for two", &filled(rt, alloc)?)
+    let ended = filled(rt, alloc)?;
+    let line = ended_line(alloc, "a journal with room for two", &ended);
+    drop(ended);
+    line
 }
 
 /// Such a term, and what is answered in the next one.
 pub fn full_before<R: Threads + Wait + Sync>(rt: &R, alloc: Global) -> anyhow::Result<String> {
     let links = vec![in alloc; sound(alloc, &[GET])?]?;
-    ended_line(
-        alloc,
-        "the term after such a one",
-        &next(rt, alloc, links, filled(rt, alloc)?)?,
-    )
+    let ended = next(rt, alloc, links, filled(rt, alloc)?)?;
+    let line = ended_line(alloc, "the term after such a one", &ended);
+    drop(ended);
+    line
 }

@@ -33,7 +33,9 @@ pub fn serve<R: Threads + Wait + Sync>(
     let clocks = vec![in alloc; CountClock::new(1000)]?;
     let mut port = MemPort::new(links, Vec::new(alloc));
     let manner = Manner::Profile;
-    Ok(serve_term(
+    let ended = serve_term(
         rt, alloc, manner, &mut port, clocks, &OpenGate, accounts, LINKS,
-    ))
+    );
+    drop(port);
+    Ok(ended)
 }

@@ -84,7 +84,9 @@ fn served<R: Wait>(
     ensures of { AreOf (desks_of town.now) (passes_of passes.new) }
 {
     let outcome = serve(rt, alloc, manner, gate, town, passes, planned)?;
-    link(alloc, outcome.end, outcome.turns.as_slice(), &outcome.link)
+    let line = link(alloc, outcome.end, outcome.turns.as_slice(), &outcome.link);
+    drop(outcome);
+    line
 }
 
 /// A line on each link.

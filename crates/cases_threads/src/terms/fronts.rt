@@ -47,17 +47,30 @@ fn count_cut<R: Wait>(rt: &R, alloc: Global, text: &[u8]) -> anyhow::Result<u32>
     Ok(count)
 }
 
-/// What is told of the fronts of a text.
-pub fn fronts_line<R: Wait>(rt: &R, alloc: Global, mut case: Case) -> anyhow::Result<String> {
-    let Some(mut planned) = case.links.pop() else {
+/// The last text that comes from the last of these links.
+fn last_text(links: &[Planned]) -> anyhow::Result<&[u8]> {
+    let Some(planned) = links.last() else {
         bail!("no link");
     };
-    let Some(text) = planned.pieces.pop() else {
-        bail!("no text");
-    };
-    let count = count_cut(rt, alloc, text.as_slice())?;
+    match planned.pieces.last() {
+        Some(text) => Ok(text.as_slice()),
+        None => bail!("no text"),
+    }
+}
+
+/// How many fronts of the text of these links are cut, and how many bytes it has.
+fn told<R: Wait>(rt: &R, alloc: Global, links: &[Planned]) -> anyhow::Result<String> {
+    let text = last_text(links)?;
+    let count = count_cut(rt, alloc, text)?;
     Ok(format!(in alloc;
         "{} bytes; after {count} of them: Cut, turns none, wrote nothing",
         text.len()
     )?)
+}
+
+/// What is told of the fronts of a text.
+pub fn fronts_line<R: Wait>(rt: &R, alloc: Global, case: Case) -> anyhow::Result<String> {
+    let told = told(rt, alloc, case.links.as_slice());
+    drop(case);
+    told
 }

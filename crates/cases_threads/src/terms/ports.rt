@@ -24,7 +24,7 @@ where
 /// A line on a link that was served, on the end of the port, or on its fault.
 fn line(
     alloc: Global,
-    served: Result<Accepted<SureLink>, PortFault>,
+    served: &Result<Accepted<SureLink>, PortFault>,
 ) -> Result<String, AllocError> {
     match served {
         Ok(Accepted::Link(link)) => {
@@ -44,12 +44,19 @@ fn line(
     }
 }
 
-/// What is told of a port with one link, from which this text comes, that rests after it and is asked three times.
+/// What is told of a port that is asked three times.
+fn asked(alloc: Global, port: &mut SurePort) -> anyhow::Result<String> {
+    let first = line(alloc, &serve(port))?;
+    let second = line(alloc, &serve(port))?;
+    let third = line(alloc, &serve(port))?;
+    Ok(format!(in alloc; "asked three times{first}{second}{third}")?)
+}
+
+/// What is told of a port with one link, from which this text comes, that rests after it.
 pub fn port_line(alloc: Global, text: &str) -> anyhow::Result<String> {
     let pieces = vec![in alloc; Vec::from_slice(alloc, text.as_bytes())?]?;
     let mut port = SurePort::new(vec![in alloc; SureLink::new(alloc, pieces, 8)?]?).resting();
-    let first = line(alloc, serve(&mut port))?;
-    let second = line(alloc, serve(&mut port))?;
-    let third = line(alloc, serve(&mut port))?;
-    Ok(format!(in alloc; "asked three times{first}{second}{third}")?)
+    let told = asked(alloc, &mut port);
+    drop(port);
+    told
 }

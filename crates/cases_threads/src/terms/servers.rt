@@ -46,6 +46,14 @@ fn ports(
     Ok(vec![in alloc; port]?)
 }
 
+/// The calls of a site that find no memory, that find no account, and that fail.
+fn calls(alloc: Global, failing: Failing) -> Result<(Vec<u64>, Vec<u64>, Vec<u64>), AllocError> {
+    let wanting = vec![in alloc; failing.memory]?;
+    let damaging = vec![in alloc; failing.lost]?;
+    let failing = vec![in alloc; failing.site]?;
+    Ok((wanting, damaging, failing))
+}
+
 /// A site that keeps these entries, some of whose calls fail, find no memory or find no account.
 fn failing_site(
     alloc: Global,
@@ -53,9 +61,7 @@ fn failing_site(
     kept: Vec<(String, u32, Kept)>,
     failing: Failing,
 ) -> Result<Terms, AllocError> {
-    let wanting = vec![in alloc; failing.memory]?;
-    let damaging = vec![in alloc; failing.lost]?;
-    let failing = vec![in alloc; failing.site]?;
+    let (wanting, damaging, failing) = calls(alloc, failing)?;
     let site = MemSite::new(alloc, ports, 1000, kept, failing)?;
     Ok(site.without_memory(wanting).with_damage(damaging))
 }
@@ -73,10 +79,11 @@ fn site(alloc: Global, case: Case) -> anyhow::Result<Terms> {
         connections: _,
         words: _,
     } = case;
+    let logs = vec![in alloc; failing.log]?;
     let ports = ports(alloc, links, failing.port, rests)?;
     let kept = kept_of(alloc, damaged)?;
     let site = failing_site(alloc, ports, kept, failing)?;
-    Ok(site.with_failing_logs(alloc, vec![in alloc; failing.log]?))
+    Ok(site.with_failing_logs(alloc, logs))
 }
 
 /// Words, with one blank between two of them.
@@ -126,6 +133,17 @@ fn logs_of(alloc: Global, site: &Terms, uid: u32, from: u64) -> anyhow::Result<V
     Ok(logs)
 }
 
+/// What `audit` wrote, and its status.
+fn verdict_line(alloc: Global, output: &SureSink, status: u8) -> anyhow::Result<String> {
+    let Some(written) = output.written() else {
+        bail!("the output has no room");
+    };
+    match str::from_utf8(written) {
+        Ok(line) => Ok(format!(in alloc; "{}, {status}", line.trim_end())?),
+        Err(_) => bail!("no text"),
+    }
+}
+
 /// What `audit` writes of logs.
 fn verdict(alloc: Global, logs: Vec<Vec<u8>>) -> anyhow::Result<String> {
     let words = words(alloc, "audit")?;
@@ -133,13 +151,7 @@ fn verdict(alloc: Global, logs: Vec<Vec<u8>>) -> anyhow::Result<String> {
     let mut output = SureSink::new(alloc, 4096)?;
     let mut err = SureSink::new(alloc, 4096)?;
     let ending = run_audit(alloc, words.as_slice(), &mut input, &mut output, &mut err);
-    let Some(written) = output.written() else {
-        bail!("the output has no room");
-    };
-    match str::from_utf8(written) {
-        Ok(line) => Ok(format!(in alloc; "{}, {}", line.trim_end(), ending.status())?),
-        Err(_) => bail!("no text"),
-    }
+    verdict_line(alloc, &output, ending.status())
 }
 
 /// A server's status, and of the accounts 7 and 8 how many logs there are from the term 3 on, and what `audit` says of them and
@@ -215,18 +227,23 @@ fn rows(alloc: Global, kept: &Kept) -> Result<String, AllocError> {
     Ok(text)
 }
 
+/// What an entry has, or why there is none.
+fn loaded(alloc: Global, kept: &Result<Kept, KeepFault>) -> anyhow::Result<String> {
+    match kept {
+        Ok(kept) => Ok(rows(alloc, kept)?),
+        Err(fault) => Ok(format!(in alloc; "no entry, {fault:?}")?),
+    }
+}
+
 /// What the entry of the account 7 in the folder `f` has; the keeper that loads it is given back.
 fn entry(alloc: Global, site: &mut Terms) -> anyhow::Result<String> {
     let mut keeper = match site.keeper(alloc, "f", 7) {
         Ok(keeper) => keeper,
         Err(fault) => return Ok(format!(in alloc; "no keeper, {fault:?}")?),
     };
-    let kept: Result<Kept, KeepFault> = keeper.load(alloc);
+    let kept = keeper.load(alloc);
     site.retire("f", 7, keeper);
-    match kept {
-        Ok(kept) => Ok(rows(alloc, &kept)?),
-        Err(fault) => Ok(format!(in alloc; "no entry, {fault:?}")?),
-    }
+    loaded(alloc, &kept)
 }
 
 /// A server's status, how many terms the site was told, and what the entry of the account 7 has then.

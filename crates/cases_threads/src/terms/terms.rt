@@ -84,7 +84,7 @@ pub fn serve<G: Gate + Sync, R: Threads + Wait + Sync>(
     let mut port = port(alloc, links, failing.port, rests)?;
     let clocks = clocks(alloc)?;
     let accounts = accounts(alloc, most, failing.keeper)?;
-    Ok(serve_term(
+    let ended = serve_term(
         rt,
         alloc,
         manner,
@@ -93,7 +93,9 @@ pub fn serve<G: Gate + Sync, R: Threads + Wait + Sync>(
         gate,
         accounts,
         connections,
-    ))
+    );
+    drop(port);
+    Ok(ended)
 }
 
 /// A line on each link, in the order of their texts, since workers report in any order.

@@ -9,12 +9,16 @@ use ss_device::{Device, EditFault};
 use ss_record::{Item, Kind};
 use ss_text::Word;
 use std::alloc::Global;
+use std::mem::replace;
 
 /// The device that is edited.
 #[derive(Drop)]
 pub struct Edits {
     device: Device,
 }
+
+/// What an edit is answered; nothing for other words.
+type Answer = Option<Result<(), EditFault>>;
 
 fn kind(word: &str) -> anyhow::Result<Kind> {
     match word {
@@ -39,48 +43,58 @@ impl Edits {
         })
     }
 
-    fn rename(
-        &mut self,
-        alloc: Global,
-        now: u64,
-        of: &str,
-        title: &str,
-    ) -> anyhow::Result<Result<(), EditFault>> {
+    /// Adds an item, as the words behind `add` say; so with the other edits.
+    fn add(&mut self, alloc: Global, words: &[&str]) -> anyhow::Result<Answer> {
+        let [now, parent, kind, of, content] = words else {
+            return Ok(None);
+        };
+        let item = item(alloc, kind, of, content)?;
+        let now = number(now)?;
+        let parent = id_of(alloc, parent)?;
+        Ok(Some(self.device.add(alloc, now, &parent, item)))
+    }
+
+    fn rename(&mut self, alloc: Global, words: &[&str]) -> anyhow::Result<Answer> {
+        let [now, of, title] = words else {
+            return Ok(None);
+        };
+        let now = number(now)?;
         let title = text(alloc, title)?;
-        Ok(
-            self.device
-                .rename(alloc, now, &id_of(alloc, of)?, title.as_str()),
-        )
+        let of = id_of(alloc, of)?;
+        Ok(Some(self.device.rename(alloc, now, &of, title.as_str())))
     }
 
-    fn move_to(
-        &mut self,
-        alloc: Global,
-        now: u64,
-        of: &str,
-        parent: &str,
-    ) -> anyhow::Result<Result<(), EditFault>> {
-        let (of, parent) = (id_of(alloc, of)?, id_of(alloc, parent)?);
-        Ok(self.device.move_to(alloc, now, &of, &parent))
+    fn move_to(&mut self, alloc: Global, words: &[&str]) -> anyhow::Result<Answer> {
+        let [now, of, parent] = words else {
+            return Ok(None);
+        };
+        let now = number(now)?;
+        let of = id_of(alloc, of)?;
+        let parent = id_of(alloc, parent)?;
+        Ok(Some(self.device.move_to(alloc, now, &of, &parent)))
     }
 
-    /// What an edit is answered; nothing for other words.
-    fn edit(
-        &mut self,
-        alloc: Global,
-        words: &[&str],
-    ) -> anyhow::Result<Option<Result<(), EditFault>>> {
-        Ok(Some(match words {
-            ["add", now, parent, kind, of, content] => {
-                let item = item(alloc, kind, of, content)?;
-                self.device
-                    .add(alloc, number(now)?, &id_of(alloc, parent)?, item)
-            }
-            ["rename", now, of, title] => self.rename(alloc, number(now)?, of, title)?,
-            ["move", now, of, parent] => self.move_to(alloc, number(now)?, of, parent)?,
-            ["delete", now, of] => self.device.delete(alloc, number(now)?, &id_of(alloc, of)?),
-            _ => return Ok(None),
-        }))
+    fn delete(&mut self, alloc: Global, words: &[&str]) -> anyhow::Result<Answer> {
+        let [now, of] = words else {
+            return Ok(None);
+        };
+        let now = number(now)?;
+        let of = id_of(alloc, of)?;
+        Ok(Some(self.device.delete(alloc, now, &of)))
+    }
+
+    /// What an edit is answered.
+    fn edit(&mut self, alloc: Global, words: &[&str]) -> anyhow::Result<Answer> {
+        let Some((word, rest)) = words.split_first() else {
+            return Ok(None);
+        };
+        match *word {
+            "add" => self.add(alloc, rest),
+            "rename" => self.rename(alloc, rest),
+            "move" => self.move_to(alloc, rest),
+            "delete" => self.delete(alloc, rest),
+            _ => Ok(None),
+        }
     }
 
     fn edited(&mut self, alloc: Global, words: &[&str]) -> anyhow::Result<Option<String>> {
@@ -91,17 +105,24 @@ impl Edits {
         })
     }
 
+    /// Begins a new device.
+    fn begin(&mut self, alloc: Global) -> anyhow::Result<Option<String>> {
+        let device = Device::new(alloc)?;
+        drop(replace(&mut self.device, device));
+        Ok(Some(String::from_str(alloc, "empty")?))
+    }
+
+    /// The device's file.
+    fn file(&self, alloc: Global) -> anyhow::Result<Option<String>> {
+        let file = written(alloc, &self.device)?;
+        Ok(Some(shown(alloc, file.as_str())?))
+    }
+
     /// What comes of a line, if it is about a device.
     pub fn outcome(&mut self, alloc: Global, words: &[&str]) -> anyhow::Result<Option<String>> {
         match words {
-            ["device"] => {
-                self.device = Device::new(alloc)?;
-                Ok(Some(String::from_str(alloc, "empty")?))
-            }
-            ["written"] => {
-                let file = written(alloc, &self.device)?;
-                Ok(Some(shown(alloc, file.as_str())?))
-            }
+            ["device"] => self.begin(alloc),
+            ["written"] => self.file(alloc),
             _ => self.edited(alloc, words),
         }
     }

@@ -28,7 +28,11 @@ fn refused(alloc: Global, fault: &DeviceFault) -> anyhow::Result<String> {
 /// What a file is read as: the file that is written again, or why it is refused.
 fn again(alloc: Global, text: &str) -> anyhow::Result<String> {
     match read_device(alloc, text.as_bytes()) {
-        Ok(device) => written(alloc, &device),
+        Ok(device) => {
+            let written = written(alloc, &device);
+            drop(device);
+            written
+        }
         Err(fault) => refused(alloc, &fault),
     }
 }
@@ -45,7 +49,10 @@ fn reading_line(alloc: Global, text: &str) -> anyhow::Result<String> {
 /// What the front of a file is read as.
 fn front(alloc: Global, bytes: &[u8]) -> anyhow::Result<String> {
     match read_device(alloc, bytes) {
-        Ok(_device) => Ok(String::from_str(alloc, "read")?),
+        Ok(device) => {
+            drop(device);
+            Ok(String::from_str(alloc, "read")?)
+        }
         Err(fault) => refused(alloc, &fault),
     }
 }
@@ -63,6 +70,18 @@ fn compared(alloc: Global, text: &str) -> anyhow::Result<String> {
         text.len(),
         again.len()
     )?)
+}
+
+/// How a made file of many bookmarks compares.
+fn many_line(alloc: Global, count: &str) -> anyhow::Result<String> {
+    let file = large::many(alloc, number(count)?)?;
+    compared(alloc, file.as_str())
+}
+
+/// How a made file of folders, each in the one before, compares.
+fn nested_line(alloc: Global, count: &str) -> anyhow::Result<String> {
+    let file = large::nested(alloc, number(count)?)?;
+    compared(alloc, file.as_str())
 }
 
 /// Fronts that are refused alike: those of so many bytes and more, up to the next.
@@ -134,21 +153,23 @@ impl Files {
         Ok(format!(in alloc; "{} fronts\n{}", bytes.len(), alike.told)?)
     }
 
+    /// Begins a file.
+    fn begin(&mut self, alloc: Global) -> anyhow::Result<String> {
+        self.text = String::new(alloc);
+        Ok(String::from_str(alloc, "its lines follow")?)
+    }
+
     /// What comes of a line, if it is about a file.
     pub fn outcome(&mut self, alloc: Global, line: &str) -> anyhow::Result<Option<String>> {
-        Ok(Some(match line.split_once(' ') {
-            Some(("with", texts)) => self.with(alloc, texts)?,
-            Some(("many", count)) => compared(alloc, large::many(alloc, number(count)?)?.as_str())?,
-            Some(("nested", count)) => {
-                compared(alloc, large::nested(alloc, number(count)?)?.as_str())?
-            }
-            None if line == "file" => {
-                self.text = String::new(alloc);
-                String::from_str(alloc, "its lines follow")?
-            }
-            None if line == "read" => reading_line(alloc, self.text.as_str())?,
-            None if line == "cut" => self.cut(alloc)?,
+        let told = match line.split_once(' ') {
+            Some(("with", texts)) => self.with(alloc, texts),
+            Some(("many", count)) => many_line(alloc, count),
+            Some(("nested", count)) => nested_line(alloc, count),
+            None if line == "file" => self.begin(alloc),
+            None if line == "read" => reading_line(alloc, self.text.as_str()),
+            None if line == "cut" => self.cut(alloc),
             _ => return Ok(None),
-        }))
+        };
+        Ok(Some(told?))
     }
 }

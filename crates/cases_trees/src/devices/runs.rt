@@ -67,18 +67,28 @@ fn changing(alloc: Global, times: [Stamp; 4]) -> anyhow::Result<String> {
 }
 
 fn stopped(alloc: Global, fault: &SyncFault) -> anyhow::Result<String> {
-    Ok(match fault {
-        SyncFault::Refused { status, id } => format!(in alloc; "refused {status}, {id:?}")?,
+    let told = match fault {
+        SyncFault::Refused { status, id } => format!(in alloc; "refused {status}, {id:?}"),
         SyncFault::Changing {
             first,
             second,
             third,
             fourth,
-        } => changing(alloc, [*first, *second, *third, *fourth])?,
-        SyncFault::BadReply { number } => format!(in alloc; "reply {number}")?,
-        SyncFault::Plan(fault) => format!(in alloc; "plan {fault:?}")?,
-        SyncFault::Memory => String::from_str(alloc, "memory")?,
-    })
+        } => return changing(alloc, [*first, *second, *third, *fourth]),
+        SyncFault::BadReply { number } => format!(in alloc; "reply {number}"),
+        SyncFault::Plan(fault) => format!(in alloc; "plan {fault:?}"),
+        SyncFault::Memory => String::from_str(alloc, "memory"),
+    };
+    Ok(told?)
+}
+
+/// What comes next: the number of the request, or how the run ends.
+fn told(alloc: Global, next: &Do) -> anyhow::Result<String> {
+    match next {
+        Do::Send(machine, _) => Ok(format!(in alloc; "request {}", machine.number())?),
+        Do::Done(_, summary) => done(alloc, summary),
+        Do::Stop(_, fault) => stopped(alloc, fault),
+    }
 }
 
 impl Runs {
@@ -86,23 +96,43 @@ impl Runs {
         Runs { machine: None }
     }
 
-    fn start(&mut self, alloc: Global, fetch: Fetch) -> anyhow::Result<()> {
-        let (machine, _request) = Machine::start(alloc, Device::new(alloc)?, fetch);
-        self.machine = Some(machine);
-        Ok(())
+    /// Makes this the machine of the run that is under way.
+    fn keep(&mut self, machine: Machine) {
+        drop(self.machine.replace(machine));
     }
 
-    /// Goes on with what comes next, and tells it: the number of the request, or how the run ends.
-    fn go_on(&mut self, alloc: Global, next: Do) -> anyhow::Result<String> {
+    /// Starts a run of a device.
+    fn start(&mut self, alloc: Global, device: Device, fetch: Fetch) {
+        let (machine, request) = Machine::start(alloc, device, fetch);
+        drop(request);
+        self.keep(machine);
+    }
+
+    /// Keeps the machine of a run that goes on.
+    fn go_on(&mut self, next: Do) {
         match next {
-            Do::Send(machine, _request) => {
-                let number = machine.number();
-                self.machine = Some(machine);
-                Ok(format!(in alloc; "request {number}")?)
+            Do::Send(machine, request) => {
+                drop(request);
+                self.keep(machine);
             }
-            Do::Done(_device, summary) => done(alloc, &summary),
-            Do::Stop(_device, fault) => stopped(alloc, &fault),
+            Do::Done(device, _) => drop(device),
+            Do::Stop(device, fault) => {
+                drop(device);
+                drop(fault);
+            }
         }
+    }
+
+    /// Starts a run of a new device, and tells it.
+    fn run(&mut self, alloc: Global, fetch: &str) -> anyhow::Result<Option<String>> {
+        let fetch = if fetch == "newer" {
+            Fetch::Newer
+        } else {
+            Fetch::Whole
+        };
+        let device = Device::new(alloc)?;
+        self.start(alloc, device, fetch);
+        Ok(Some(String::from_str(alloc, "request 1")?))
     }
 
     /// What comes of a reply.
@@ -111,24 +141,20 @@ impl Runs {
             bail!("no run that awaits a reply");
         };
         let next = machine.next(alloc, reply);
-        self.go_on(alloc, next)
+        let told = told(alloc, &next);
+        self.go_on(next);
+        told
     }
 
     /// What comes of a line, if it is about a sync.
     pub fn outcome(&mut self, alloc: Global, words: &[&str]) -> anyhow::Result<Option<String>> {
         match words {
-            ["run", fetch] => {
-                let fetch = if *fetch == "newer" {
-                    Fetch::Newer
-                } else {
-                    Fetch::Whole
-                };
-                self.start(alloc, fetch)?;
-                Ok(Some(String::from_str(alloc, "request 1")?))
-            }
+            ["run", fetch] => self.run(alloc, fetch),
             ["reply", status, modified, offset, body] => {
                 let reply = heard(alloc, status, modified, offset, body)?;
-                Ok(Some(self.hear(alloc, &reply)?))
+                let told = self.hear(alloc, &reply);
+                drop(reply);
+                Ok(Some(told?))
             }
             _ => Ok(None),
         }

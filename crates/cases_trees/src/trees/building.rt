@@ -25,15 +25,21 @@ fn built_text(alloc: Global, built: &Built) -> Result<String, AllocError> {
     format!(in alloc; "{tree} | {dead} | {skipped} | {repaired}")
 }
 
+/// Takes over what was built, and tells it; its tree is then the case's.
+fn take_built(alloc: Global, desk: &mut Desk, built: &Built) -> anyhow::Result<String> {
+    let text = built_text(alloc, built)?;
+    desk.tree = built.tree.copy(alloc)?;
+    Ok(text)
+}
+
 /// Builds the rows; the tree is then the case's.
 pub fn build_rows(alloc: Global, desk: &mut Desk) -> anyhow::Result<String> {
     let Some(built) = built(alloc, &desk.rows)? else {
         return Ok(String::from_str(alloc, "an id twice")?);
     };
-    let text = built_text(alloc, &built)?;
-    desk.tree = built.tree.copy(alloc)?;
-    desk.built = Some(built);
-    Ok(text)
+    let text = take_built(alloc, desk, &built);
+    drop(desk.built.replace(built));
+    text
 }
 
 /// Builds the rows as the remote tree.

@@ -8,17 +8,23 @@ use ss_text::{Stamp, Word};
 use ss_tree::Tree;
 use std::alloc::{AllocError, Global};
 
-/// A tree of so many folders, each in the one before, and the first one in `menu`.
-pub fn chain(alloc: Global, count: u64) -> anyhow::Result<Tree> {
-    let mut tree = Tree::new(alloc)?;
+/// Adds so many folders to a tree, each in the one before, and the first one in `menu`.
+fn add_chain(alloc: Global, tree: &mut Tree, count: u64) -> anyhow::Result<()> {
     let Some(mut above) = tree.find(&id_of(alloc, "menu")?) else {
         bail!("no menu");
     };
     for level in 0..count {
         let name = format!(in alloc; "F{level}")?;
         let (item, time) = item_of(alloc, name.as_str())?;
-        above = plant(alloc, &mut tree, above, item, time)?;
+        above = plant(alloc, tree, above, item, time)?;
     }
+    Ok(())
+}
+
+/// A tree of such folders.
+pub fn chain(alloc: Global, count: u64) -> anyhow::Result<Tree> {
+    let mut tree = Tree::new(alloc)?;
+    add_chain(alloc, &mut tree, count)?;
     Ok(tree)
 }
 

@@ -48,12 +48,13 @@ fn merged_text(alloc: Global, merged: &Merged) -> Result<String, AllocError> {
 /// Merges the sides.
 pub fn merge_sides(alloc: Global, sides: &Sides) -> anyhow::Result<String> {
     let merged = merge(alloc, sides)?;
-    Ok(merged_text(alloc, &merged)?)
+    let text = merged_text(alloc, &merged);
+    drop(merged);
+    Ok(text?)
 }
 
-/// Merges the sides, and tells how many items there are then, and how many of them stand in `unfiled`.
-pub fn count_merged(alloc: Global, sides: &Sides) -> anyhow::Result<String> {
-    let merged = merge(alloc, sides)?;
+/// How many items a merge has, and how many of them stand in `unfiled`.
+fn counted(alloc: Global, merged: &Merged) -> anyhow::Result<String> {
     let unfiled = find(alloc, &merged.tree, "unfiled")?;
     let below = merged.tree.children(alloc, unfiled)?;
     Ok(format!(in alloc;
@@ -63,4 +64,12 @@ pub fn count_merged(alloc: Global, sides: &Sides) -> anyhow::Result<String> {
         merged.gone.as_slice().len(),
         merged.renamed.len()
     )?)
+}
+
+/// Merges the sides, and tells how many items there are then.
+pub fn count_merged(alloc: Global, sides: &Sides) -> anyhow::Result<String> {
+    let merged = merge(alloc, sides)?;
+    let counted = counted(alloc, &merged);
+    drop(merged);
+    counted
 }

@@ -169,15 +169,20 @@ impl Reader {
             _ => Ok(self.word.push(c)?),
         }
     }
+
+    /// Reads a text.
+    fn read(&mut self, alloc: Global, text: &str) -> anyhow::Result<()> {
+        for c in text.chars() {
+            self.take(alloc, c)?;
+        }
+        self.end_word(alloc)
+    }
 }
 
 /// The tree of a text.
 pub fn read_tree(alloc: Global, text: &str) -> anyhow::Result<Tree> {
     let mut reader = Reader::new(alloc)?;
-    for c in text.chars() {
-        reader.take(alloc, c)?;
-    }
-    reader.end_word(alloc)?;
+    reader.read(alloc, text)?;
     let Reader { tree, .. } = reader;
     Ok(tree)
 }

@@ -147,25 +147,36 @@ fn is_repaired(alloc: Global, rows: &[Raw], row: &Raw) -> Result<bool, AllocErro
     Ok(row.is_item() && (moved || told))
 }
 
-/// Each item with its parent and its children, by id; then the ids that are told as deleted, not understood, repaired.
-pub fn shown_by_rules(alloc: Global, rows: &[Raw]) -> Result<String, AllocError> {
+/// An item with its parent and its children.
+fn push_item(alloc: Global, rows: &[Raw], id: u8, line: &mut String) -> Result<(), AllocError> {
+    line.push_str(name(id))?;
+    line.push('<')?;
+    line.push_str(name(parent(rows, id)))?;
+    for child in &children(alloc, rows, id)? {
+        line.push(' ')?;
+        line.push_str(name(*child))?;
+    }
+    line.push_str(", ")
+}
+
+/// Each item with its parent and its children, by id.
+fn items_text(alloc: Global, rows: &[Raw]) -> Result<String, AllocError> {
     let mut line = String::new(alloc);
     for id in 0..NAMES {
         if is_there(rows, id) {
-            line.push_str(name(id))?;
-            line.push('<')?;
-            line.push_str(name(parent(rows, id)))?;
-            for child in &children(alloc, rows, id)? {
-                line.push(' ')?;
-                line.push_str(name(*child))?;
-            }
-            line.push_str(", ")?;
+            push_item(alloc, rows, id, &mut line)?;
         }
     }
+    Ok(line)
+}
+
+/// Each item with its parent and its children, by id; then the ids that are told as deleted, not understood, repaired.
+pub fn shown_by_rules(alloc: Global, rows: &[Raw]) -> Result<String, AllocError> {
+    let items = items_text(alloc, rows)?;
     let dead = picked(alloc, rows, "dead")?;
     let skipped = picked(alloc, rows, "skipped")?;
     let repaired = picked(alloc, rows, "repaired")?;
-    format!(in alloc; "{line}{dead}, {skipped}, {repaired}")
+    format!(in alloc; "{items}{dead}, {skipped}, {repaired}")
 }
 
 /// Whether a row is told of in a list: of what is deleted, not understood, or repaired.

@@ -337,26 +337,47 @@ fn ordered(alloc: Global, raws: &Raws, folder: u8) -> Result<Vec<u8>, AllocError
     Ok(ids)
 }
 
+/// The name of an item's parent.
+fn parent_name(alloc: Global, raws: &Raws, id: u8) -> Result<&'static str, AllocError> {
+    if is_root(id) {
+        return Ok(name(PLACES));
+    }
+    Ok(name(parent(alloc, raws, id)?))
+}
+
+/// The taken title; 0 where there is none.
+fn title(alloc: Global, raws: &Raws, id: u8) -> Result<u8, AllocError> {
+    match content(alloc, raws, id)? {
+        Some(raw) => Ok(raw.title),
+        None => Ok(0),
+    }
+}
+
+/// The side of an item's content.
+fn side(alloc: Global, raws: &Raws, id: u8) -> Result<&'static str, AllocError> {
+    match taken(alloc, raws, Facet::Content, id)? {
+        0 => Ok("local"),
+        1 => Ok("remote"),
+        _ => Ok("same"),
+    }
+}
+
+/// The names of ids, each behind a blank.
+fn push_names(ids: &[u8], line: &mut String) -> Result<(), AllocError> {
+    for id in ids {
+        line.push(' ')?;
+        line.push_str(name(*id))?;
+    }
+    Ok(())
+}
+
 /// An item with its title, its parent, the side of its content, and its children.
 fn push_item(alloc: Global, raws: &Raws, id: u8, line: &mut String) -> Result<(), AllocError> {
-    let above = if is_root(id) {
-        PLACES
-    } else {
-        parent(alloc, raws, id)?
-    };
-    let title = match content(alloc, raws, id)? {
-        Some(raw) => raw.title,
-        None => 0,
-    };
-    let side = match taken(alloc, raws, Facet::Content, id)? {
-        0 => "local",
-        1 => "remote",
-        _ => "same",
-    };
-    line.push_str(format!(in alloc; "{}={title}<{} {side}:", name(id), name(above))?.as_str())?;
-    for child in &ordered(alloc, raws, id)? {
-        line.push_str(format!(in alloc; " {}", name(*child))?.as_str())?;
-    }
+    let above = parent_name(alloc, raws, id)?;
+    let title = title(alloc, raws, id)?;
+    let side = side(alloc, raws, id)?;
+    line.push_str(format!(in alloc; "{}={title}<{above} {side}:", name(id))?.as_str())?;
+    push_names(&ordered(alloc, raws, id)?, line)?;
     line.push_str(", ")
 }
 
@@ -369,22 +390,37 @@ fn renamed_text(alloc: Global, pairs: &[(u8, u8)]) -> Result<String, AllocError>
     listed(alloc, "renamed", &texts)
 }
 
-/// The merged tree item by item in the order of the names, what is gone, and what was renamed.
-pub fn shown_by_rules(alloc: Global, mut raws: Raws) -> Result<String, AllocError> {
-    let pairs = pairs_of(alloc, &raws)?;
-    raws.local = renamed(alloc, &raws.local, &pairs)?;
+/// The items that survive, in the order of the names.
+fn items_text(alloc: Global, raws: &Raws) -> Result<String, AllocError> {
     let mut line = String::new(alloc);
+    for id in 0..NAMES {
+        if survives(alloc, raws, id)? {
+            push_item(alloc, raws, id, &mut line)?;
+        }
+    }
+    Ok(line)
+}
+
+/// The remote items that don't survive, in the order of the names.
+fn gone_text(alloc: Global, raws: &Raws) -> Result<String, AllocError> {
     let mut gone = Vec::new(alloc);
     for id in 0..NAMES {
-        if survives(alloc, &raws, id)? {
-            push_item(alloc, &raws, id, &mut line)?;
-        } else if has(&raws.remote, id) {
+        if has(&raws.remote, id) && !survives(alloc, raws, id)? {
             gone.push(String::from_str(alloc, name(id))?)?;
         }
     }
-    let gone = listed(alloc, "gone", &gone)?;
+    listed(alloc, "gone", &gone)
+}
+
+/// The merged tree item by item in the order of the names, what is gone, and what was renamed. The local items take the
+/// names of their pairs.
+pub fn shown_by_rules(alloc: Global, raws: &mut Raws) -> Result<String, AllocError> {
+    let pairs = pairs_of(alloc, raws)?;
+    raws.local = renamed(alloc, &raws.local, &pairs)?;
+    let items = items_text(alloc, raws)?;
+    let gone = gone_text(alloc, raws)?;
     let renamed = renamed_text(alloc, &pairs)?;
-    format!(in alloc; "{line}{gone}, {renamed}")
+    format!(in alloc; "{items}{gone}, {renamed}")
 }
 
 /// A folder that is there, or a root.

@@ -8,7 +8,7 @@ use crate::trees::changes::walk;
 use crate::trees::notation::item;
 use crate::trees::plain_changes::{Row, inserted, listed, moved, removed};
 use crate::words::id_of;
-use ss_record::Kind;
+use ss_record::{Item, Kind};
 use ss_text::Stamp;
 use ss_tree::{Node, Tree};
 use std::alloc::{AllocError, Global};
@@ -47,6 +47,17 @@ fn place_of(dice: &mut Dice, rows: &[Row]) -> Place {
     }
 }
 
+/// The item of a row.
+fn item_of(alloc: Global, row: Row) -> anyhow::Result<Item> {
+    let kind = if row.folder {
+        Kind::Folder
+    } else {
+        Kind::Bookmark
+    };
+    let name = name_of(alloc, row.id)?;
+    item(alloc, id_of(alloc, name.as_str())?, kind, "{}")
+}
+
 /// The node of a number.
 fn find(alloc: Global, tree: &Tree, number: u32) -> anyhow::Result<Option<Node>>
     ensures { IfOk result (λ found. IfSome found (λ k. is_live k tree.now ≡ true)) }
@@ -62,6 +73,9 @@ fn find_before(alloc: Global, tree: &Tree, place: Place) -> anyhow::Result<Optio
         None => Ok(None),
     }
 }
+
+/// Whether the tree refused a change, and the changed list, unless the list refused it.
+type Changed = (bool, Option<Vec<Row>>);
 
 /// A tree and a list that are changed alike.
 #[derive(Drop)]
@@ -91,17 +105,11 @@ impl Run {
 
     /// Inserts an item into the tree, and tells whether it was refused.
     fn insert(&mut self, alloc: Global, row: Row, place: Place) -> anyhow::Result<bool> {
-        let kind = if row.folder {
-            Kind::Folder
-        } else {
-            Kind::Bookmark
-        };
-        let name = name_of(alloc, row.id)?;
-        let item = item(alloc, id_of(alloc, name.as_str())?, kind, "{}")?;
         let before = find_before(alloc, &self.tree, place)?;
         let Some(parent) = find(alloc, &self.tree, place.parent)? else {
             return Ok(true);
         };
+        let item = item_of(alloc, row)?;
         match self
             .tree
             .insert(alloc, parent, before, item, Stamp::clamp(7))
@@ -134,31 +142,41 @@ impl Run {
         }
     }
 
-    /// Makes one random change in the tree and in the list; whether the tree refused it, and the changed list.
-    fn change(&mut self, alloc: Global) -> anyhow::Result<(bool, Option<Vec<Row>>)> {
+    /// Moves an item of the tree and of the list.
+    fn shift_both(&mut self, alloc: Global, number: u32, place: Place) -> anyhow::Result<Changed> {
+        let refused = self.shift(alloc, number, place)?;
+        let rows = moved(alloc, &self.rows, number, place.parent, place.before)?;
+        Ok((refused, rows))
+    }
+
+    /// Removes an item from the tree and from the list.
+    fn remove_both(&mut self, alloc: Global, number: u32) -> anyhow::Result<Changed> {
+        let refused = self.remove(alloc, number)?;
+        let rows = removed(alloc, &self.rows, number)?;
+        Ok((refused, rows))
+    }
+
+    /// Inserts an item into the tree and into the list.
+    fn insert_both(&mut self, alloc: Global, number: u32, place: Place) -> anyhow::Result<Changed> {
+        let row = Row {
+            id: number,
+            parent: place.parent,
+            folder: number % 3 == 0,
+        };
+        let refused = self.insert(alloc, row, place)?;
+        let rows = inserted(alloc, &self.rows, row, place.before)?;
+        Ok((refused, rows))
+    }
+
+    /// Makes one random change in the tree and in the list.
+    fn change(&mut self, alloc: Global) -> anyhow::Result<Changed> {
         let number = self.dice.below_wide(300).saturating_add(4);
         let place = place_of(&mut self.dice, &self.rows);
-        Ok(match self.dice.below_wide(4) {
-            0 => (
-                self.shift(alloc, number, place)?,
-                moved(alloc, &self.rows, number, place.parent, place.before)?,
-            ),
-            1 => (
-                self.remove(alloc, number)?,
-                removed(alloc, &self.rows, number)?,
-            ),
-            _ => {
-                let row = Row {
-                    id: number,
-                    parent: place.parent,
-                    folder: number % 3 == 0,
-                };
-                (
-                    self.insert(alloc, row, place)?,
-                    inserted(alloc, &self.rows, row, place.before)?,
-                )
-            }
-        })
+        match self.dice.below_wide(4) {
+            0 => self.shift_both(alloc, number, place),
+            1 => self.remove_both(alloc, number),
+            _ => self.insert_both(alloc, number, place),
+        }
     }
 
     /// Takes over the changed list; what differs, where one refused the change and the other didn't.
@@ -218,9 +236,8 @@ impl Run {
     }
 }
 
-/// Makes so many random changes, and compares each answer and each hundredth tree with those of the list.
-pub fn compare(alloc: Global, rounds: u64) -> anyhow::Result<String> {
-    let mut run = Run::new(alloc)?;
+/// Makes so many random changes in a run, and compares each answer and each hundredth tree with those of the list.
+fn compare_in(alloc: Global, run: &mut Run, rounds: u64) -> anyhow::Result<String> {
     for round in 0..rounds {
         if let Some(difference) = run.step(alloc, round)? {
             return Ok(format!(in alloc; "differs after change {round}: {difference}")?);
@@ -234,4 +251,12 @@ pub fn compare(alloc: Global, rounds: u64) -> anyhow::Result<String> {
         run.most,
         run.greatest
     )?)
+}
+
+/// Makes so many random changes, and compares the tree with the list.
+pub fn compare(alloc: Global, rounds: u64) -> anyhow::Result<String> {
+    let mut run = Run::new(alloc)?;
+    let told = compare_in(alloc, &mut run, rounds);
+    drop(run);
+    told
 }

@@ -113,15 +113,31 @@ impl Tally {
         Ok(())
     }
 
-    /// Builds rows, and compares that with what the rules say.
-    fn take(&mut self, alloc: Global, round: u64, rows: &[Raw]) -> anyhow::Result<()> {
-        let Some(built) = built(alloc, &sheets_of(alloc, rows)?)? else {
-            bail!("an id twice");
-        };
-        self.count(alloc, &built)?;
-        let told = built_text(alloc, &built)?;
+    /// Compares what was built of rows with what the rules say.
+    fn check(
+        &mut self,
+        alloc: Global,
+        round: u64,
+        built: &Built,
+        rows: &[Raw],
+    ) -> anyhow::Result<()> {
+        self.count(alloc, built)?;
+        let told = built_text(alloc, built)?;
         let wanted = shown_by_rules(alloc, rows)?;
         self.compare(alloc, round, told.as_str(), wanted.as_str())
+    }
+
+    /// Builds rows, and compares that with what the rules say.
+    fn take(&mut self, alloc: Global, round: u64, rows: &[Raw]) -> anyhow::Result<()> {
+        let sheets = sheets_of(alloc, rows)?;
+        match built(alloc, &sheets)? {
+            Some(built) => {
+                let checked = self.check(alloc, round, &built, rows);
+                drop(built);
+                checked
+            }
+            None => bail!("an id twice"),
+        }
     }
 }
 

@@ -4,6 +4,7 @@ ghost use Rattle.std.specs.Prelude.{◌≡◌, true};
 ghost use Rattle.ss_tree.specs.Entries.{is_live};
 
 use crate::trees::chances::{Dice, name};
+use crate::trees::desk::Desk;
 use crate::trees::listing::{ids_text, pairs_text};
 use crate::trees::merging::side_name;
 use crate::trees::notation::{item, plant, tree_text};
@@ -54,23 +55,22 @@ fn ids_of(alloc: Global, numbers: &[u8]) -> anyhow::Result<Ids> {
     Ok(Ids::new(ids))
 }
 
+/// The merge of plain trees, which are laid out on a desk.
+fn merged_on(alloc: Global, desk: &mut Desk, raws: &Raws) -> anyhow::Result<Merged> {
+    desk.mirror = tree_of(alloc, &raws.mirror)?;
+    desk.local = tree_of(alloc, &raws.local)?;
+    desk.remote = tree_of(alloc, &raws.remote)?;
+    desk.local_dead = ids_of(alloc, &raws.local_dead)?;
+    desk.remote_dead = ids_of(alloc, &raws.remote_dead)?;
+    Ok(merge(alloc, &desk.sides())?)
+}
+
 /// The merge of plain trees.
 fn merged(alloc: Global, raws: &Raws) -> anyhow::Result<Merged> {
-    let mirror = tree_of(alloc, &raws.mirror)?;
-    let local = tree_of(alloc, &raws.local)?;
-    let remote = tree_of(alloc, &raws.remote)?;
-    let local_dead = ids_of(alloc, &raws.local_dead)?;
-    let remote_dead = ids_of(alloc, &raws.remote_dead)?;
-    Ok(merge(
-        alloc,
-        &Sides {
-            mirror: &mirror,
-            local: &local,
-            remote: &remote,
-            local_dead: &local_dead,
-            remote_dead: &remote_dead,
-        },
-    )?)
+    let mut desk = Desk::new(alloc)?;
+    let merged = merged_on(alloc, &mut desk, raws);
+    drop(desk);
+    merged
 }
 
 /// The side of an item's content; `none` where it isn't told, and `twice` where it is told more than once.
@@ -152,6 +152,13 @@ fn is_same(merged: &Merged) -> bool {
     is_same
 }
 
+/// Whether a merge of a tree with itself has left it as it is.
+fn is_left(alloc: Global, tree: &Tree, again: &Merged) -> anyhow::Result<bool> {
+    let before = tree_text(alloc, tree)?;
+    let after = tree_text(alloc, &again.tree)?;
+    Ok(is_same(again) && before == after)
+}
+
 /// Whether a merge of a tree with itself leaves it as it is.
 fn stays(alloc: Global, tree: &Tree) -> anyhow::Result<bool> {
     let none = Ids::new(Vec::new(alloc));
@@ -165,9 +172,9 @@ fn stays(alloc: Global, tree: &Tree) -> anyhow::Result<bool> {
             remote_dead: &none,
         },
     )?;
-    let before = tree_text(alloc, tree)?;
-    let after = tree_text(alloc, &again.tree)?;
-    Ok(is_same(&again) && before == after)
+    let is_left = is_left(alloc, tree, &again);
+    drop(again);
+    is_left
 }
 
 /// How many rounds differ, what differs, how many trees didn't stay, and how much was merged.
@@ -228,25 +235,44 @@ impl Tally {
         Ok(())
     }
 
-    /// Merges sides, and compares that with what the rules say.
-    fn take(&mut self, alloc: Global, round: u64, raws: Raws) -> anyhow::Result<()> {
-        let merged = merged(alloc, &raws)?;
-        self.count(&merged);
-        let told = merged_text(alloc, &merged)?;
+    /// Compares the merge of sides with what the rules say.
+    fn check(
+        &mut self,
+        alloc: Global,
+        round: u64,
+        merged: &Merged,
+        raws: &mut Raws,
+    ) -> anyhow::Result<()> {
+        self.count(merged);
+        let told = merged_text(alloc, merged)?;
         let wanted = shown_by_rules(alloc, raws)?;
         self.compare(alloc, round, told.as_str(), wanted.as_str())?;
         self.merge_again(alloc, round, &merged.tree)
+    }
+
+    /// Merges sides, and compares that with what the rules say.
+    fn take(&mut self, alloc: Global, round: u64, raws: &mut Raws) -> anyhow::Result<()> {
+        let merged = merged(alloc, raws)?;
+        let checked = self.check(alloc, round, &merged, raws);
+        drop(merged);
+        checked
+    }
+
+    /// Takes so many random sides.
+    fn take_all(&mut self, alloc: Global, rounds: u64) -> anyhow::Result<()> {
+        let mut dice = Dice::new(7);
+        for round in 0..rounds {
+            let mut raws = random_raws(alloc, &mut dice)?;
+            self.take(alloc, round, &mut raws)?;
+        }
+        Ok(())
     }
 }
 
 /// Merges so many random sides, and compares each merge with what the rules say, and with its merge with itself.
 pub fn compare(alloc: Global, rounds: u64) -> anyhow::Result<String> {
-    let mut dice = Dice::new(7);
     let mut tally = Tally::new(alloc);
-    for round in 0..rounds {
-        let raws = random_raws(alloc, &mut dice)?;
-        tally.take(alloc, round, raws)?;
-    }
+    tally.take_all(alloc, rounds)?;
     Ok(format!(in alloc;
         "{rounds} merged, {} items, {} gone, {} renamed, {} differ, {} changed by a merge with themselves{}",
         tally.items, tally.gone, tally.renamed, tally.differ, tally.unsteady, tally.differences

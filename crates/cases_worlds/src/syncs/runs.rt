@@ -81,6 +81,50 @@ fn keeps_others(files: &[(String, Vec<u8>)], name: &str, store: &MemStore) -> bo
     true
 }
 
+/// The bytes of a file in a store.
+fn stored(alloc: Global, store: &MemStore, name: &str) -> Result<Option<Vec<u8>>, AllocError> {
+    match store.file(name) {
+        Some(bytes) => Ok(Some(Vec::from_slice(alloc, bytes)?)),
+        None => Ok(None),
+    }
+}
+
+/// Runs the command with these words over a net and a store, in which these files are; the status, and what is printed.
+fn run_in<A: Answers + Drop>(
+    alloc: Global,
+    words: &[String],
+    net: &mut Net<A>,
+    store: &mut MemStore,
+    output: Option<u64>,
+) -> Result<(u8, String), AllocError> {
+    let mut output = MemSink::new(alloc, ROOM, numbers(alloc, output)?)?;
+    let status = run_sync(alloc, words, net, store, &mut output).status();
+    let printed = output.written().unwrap_or(b"untold");
+    Ok((status, String::from_utf8_lossy(alloc, printed)?))
+}
+
+/// Runs the command with these words over a net and a store, which has these files.
+fn run_over<A: Answers + Drop>(
+    alloc: Global,
+    words: &[String],
+    net: &mut Net<A>,
+    files: &[(String, Vec<u8>)],
+    store: &mut MemStore,
+    output: Option<u64>,
+) -> Result<Ran, AllocError> {
+    let (status, line) = run_in(alloc, words, net, store, output)?;
+    let name = match words.get(2) {
+        Some(name) => name.as_str(),
+        None => "",
+    };
+    Ok(Ran {
+        status,
+        line,
+        file: stored(alloc, store, name)?,
+        keeps_others: keeps_others(files, name, store),
+    })
+}
+
 /// Runs the command with these words over a net and a store of these files.
 pub fn run<A: Answers + Drop>(
     alloc: Global,
@@ -90,21 +134,7 @@ pub fn run<A: Answers + Drop>(
     failing: &Failing,
 ) -> Result<Ran, AllocError> {
     let mut store = MemStore::new(copy_of(alloc, files)?, numbers(alloc, failing.store)?);
-    let mut output = MemSink::new(alloc, ROOM, numbers(alloc, failing.output)?)?;
-    let ending = run_sync(alloc, words, net, &mut store, &mut output);
-    let name = match words.get(2) {
-        Some(name) => name.as_str(),
-        None => "",
-    };
-    let file = match store.file(name) {
-        Some(bytes) => Some(Vec::from_slice(alloc, bytes)?),
-        None => None,
-    };
-    let printed = output.written().unwrap_or(b"untold");
-    Ok(Ran {
-        status: ending.status(),
-        line: String::from_utf8_lossy(alloc, printed)?,
-        file,
-        keeps_others: keeps_others(files, name, &store),
-    })
+    let ran = run_over(alloc, words, net, files, &mut store, failing.output);
+    drop(store);
+    ran
 }

@@ -29,29 +29,49 @@ fn number(text: &str) -> anyhow::Result<u64> {
     Ok(text.parse::<u64>()?)
 }
 
-/// Says what is there: the server's clock (hundredths of a second) and how it serves, devices' files, and which call of
-/// the next sync fails. Answers whether the line was one of these.
-fn prepare(alloc: Global, play: &mut Play, words: &[&str]) -> anyhow::Result<bool> {
+/// What comes in the place of a response.
+fn twist(alloc: Global, at: u64, words: &[&str]) -> anyhow::Result<Twist> {
+    match words {
+        ["body", text] => Ok(Twist::body(alloc, at, text)?),
+        ["long", size] => Ok(Twist::long(at, number(size)?)),
+        ["cut"] => Ok(Twist::cut(at)),
+        _ => bail!("no such response"),
+    }
+}
+
+/// Says how the server serves: its clock (hundredths of a second), its account, its links, and its responses. Answers
+/// whether the line was one of these.
+fn prepare_server(alloc: Global, play: &mut Play, words: &[&str]) -> anyhow::Result<bool> {
     match words {
         ["clock", now] => play.set_clock(number(now)?),
         ["empty"] => play.empty()?,
         ["closes"] => play.close_links(),
         ["meddles", times] => play.meddle(number(times)?),
-        ["response", at, "body", text] => play.twist(Some(Twist::body(alloc, number(at)?, text)?)),
-        ["response", at, "long", size] => play.twist(Some(Twist::long(number(at)?, number(size)?))),
-        ["response", at, "cut"] => play.twist(Some(Twist::cut(number(at)?))),
+        ["response", at, of @ ..] => play.twist(Some(twist(alloc, number(at)?, of)?)),
         ["responses", "again"] => play.twist(None),
+        _ => return Ok(false),
+    }
+    Ok(true)
+}
+
+/// Makes the file of a device with one bookmark, whose title has so many letters.
+fn make_letters(alloc: Global, play: &mut Play, name: &str, count: u64) -> anyhow::Result<()> {
+    let title = "x".repeat(alloc, usize::try_from(count)?)?;
+    play.make(name, 1, title.as_str())
+}
+
+/// Says what is there: how the server serves, devices' files, and which call of the next sync fails. Answers whether the
+/// line was one of these.
+fn prepare(alloc: Global, play: &mut Play, words: &[&str]) -> anyhow::Result<bool> {
+    match words {
         ["device", name, count, title] => play.make(name, number(count)?, title)?,
-        ["letters", name, count] => {
-            let title = "x".repeat(alloc, usize::try_from(number(count)?)?)?;
-            play.make(name, 1, title.as_str())?;
-        }
+        ["letters", name, count] => make_letters(alloc, play, name, number(count)?)?,
         ["line", name, line] => play.add_line(name, line)?,
         ["rename", name, of, old, new, time] => {
             play.rename(name, number(of)?, (old, new), number(time)?)?;
         }
         ["fail", kind, at] => play.fail(kind, number(at)?)?,
-        _ => return Ok(false),
+        _ => return prepare_server(alloc, play, words),
     }
     Ok(true)
 }

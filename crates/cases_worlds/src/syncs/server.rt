@@ -109,7 +109,7 @@ impl Server {
     }
 
     /// The response to a message.
-    fn respond(&mut self, alloc: Global, message: &Message) -> anyhow::Result<Response> {
+    fn respond(&mut self, alloc: Global, message: &Message) -> Result<Response, AllocError> {
         self.served.respond(alloc, self.now, message, self.closes)
     }
 
@@ -136,20 +136,32 @@ impl Server {
         Ok(())
     }
 
-    /// The answer to the bytes of a request.
-    fn answer_to(&mut self, alloc: Global, request: Vec<u8>) -> anyhow::Result<Answer> {
-        let message = self.served.message(alloc, request)?;
-        self.put_another(alloc, &message)?;
-        let response = self.respond(alloc, &message)?;
-        self.asked.push(line(alloc, &message, &response)?)?;
+    /// Notes what a message asks, and gives the bytes of its response.
+    fn respond_noted(&mut self, alloc: Global, message: &Message) -> anyhow::Result<Vec<u8>> {
+        let response = self.respond(alloc, message)?;
+        self.asked.push(line(alloc, message, &response)?)?;
+        Ok(response.bytes)
+    }
+
+    /// The answer to a message.
+    fn answer_message(&mut self, alloc: Global, message: &Message) -> anyhow::Result<Answer> {
+        self.put_another(alloc, message)?;
         let answer = Answer {
-            bytes: response.bytes,
+            bytes: self.respond_noted(alloc, message)?,
             last: self.closes,
         };
         match &self.twist {
             Some(twist) => Ok(twist.turn(alloc, self.asked.len() as u64, answer)?),
             None => Ok(answer),
         }
+    }
+
+    /// The answer to the bytes of a request.
+    fn answer_to(&mut self, alloc: Global, request: Vec<u8>) -> anyhow::Result<Answer> {
+        let message = self.served.message(alloc, request)?;
+        let answer = self.answer_message(alloc, &message);
+        drop(message);
+        answer
     }
 }
 

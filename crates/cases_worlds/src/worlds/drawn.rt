@@ -5,7 +5,7 @@ use crate::worlds::checks::is_of_device;
 use crate::worlds::comparing::are_same;
 use crate::worlds::draws::Draw;
 use crate::worlds::items::{id, item, word};
-use crate::worlds::playing::{add, bookmarks, fresh, is_idle};
+use crate::worlds::playing::{add, bookmarks, is_idle, new_devices};
 use crate::worlds::plays::{Play, Way};
 use crate::worlds::watching::Watch;
 use crate::worlds::worked::{list, post, put, tell};
@@ -133,9 +133,9 @@ fn event(alloc: Global, draw: &mut Draw, clock: &mut u64) -> anyhow::Result<Even
 
 /// A device begins a sync, and what it had under way is given up.
 fn begin(alloc: Global, watch: &mut Watch, play: &mut Play, device: u32) -> anyhow::Result<()> {
-    watch.step(alloc, play, &Event::Anew { device })?;
+    watch.step(alloc, play, Event::Anew { device })?;
     let fetch = Fetch::Newer;
-    watch.step(alloc, play, &Event::Start { device, fetch })
+    watch.step(alloc, play, Event::Start { device, fetch })
 }
 
 /// A device's requests come to the account, at most so many, until it has none under way.
@@ -148,7 +148,7 @@ fn deliver_all(
 ) -> anyhow::Result<()> {
     for _ in 0..20 {
         if !is_idle(play, device) {
-            watch.step(alloc, play, &Event::Deliver { device, now })?;
+            watch.step(alloc, play, Event::Deliver { device, now })?;
         }
     }
     Ok(())
@@ -218,8 +218,7 @@ fn play_events(
     let mut draw = Draw::new(number);
     let mut clock: u64 = 1000;
     for _ in 0..EVENTS {
-        let event = event(alloc, &mut draw, &mut clock)?;
-        watch.step(alloc, play, &event)?;
+        watch.step(alloc, play, event(alloc, &mut draw, &mut clock)?)?;
     }
     Ok(clock)
 }
@@ -275,8 +274,10 @@ fn watched(alloc: Global, play: &mut Play, number: u64) -> anyhow::Result<Played
 }
 
 fn outcome_of(alloc: Global, way: Way, number: u64) -> anyhow::Result<Played> {
-    let mut play = fresh(alloc, way, DEVICES)?;
-    watched(alloc, &mut play, number)
+    let mut play = Play::fresh(alloc, way, new_devices(alloc, DEVICES)?)?;
+    let played = watched(alloc, &mut play, number);
+    drop(play);
+    played
 }
 
 /// What all lists come to.

@@ -1,7 +1,7 @@
 //! Steps of a play, and what is seen of it.
 
 use crate::worlds::items::{id, item};
-use crate::worlds::plays::{Play, Way};
+use crate::worlds::plays::Play;
 use anyhow::bail;
 use ss_bso::Row;
 use ss_client::Fetch;
@@ -12,17 +12,13 @@ use ss_world::{Edit, Event, Seat, WorldFault};
 use std::alloc::Global;
 use std::collections::BTreeMap;
 
-fn new_devices(alloc: Global, count: u32) -> anyhow::Result<Vec<Device>> {
+/// So many new devices.
+pub fn new_devices(alloc: Global, count: u32) -> anyhow::Result<Vec<Device>> {
     let mut devices = Vec::new(alloc);
     for _ in 0..count {
         devices.push(Device::new(alloc)?)?;
     }
     Ok(devices)
-}
-
-/// A fresh account and new devices.
-pub fn fresh(alloc: Global, way: Way, devices: u32) -> anyhow::Result<Play> {
-    Play::fresh(alloc, way, new_devices(alloc, devices)?)
 }
 
 /// Does an event that isn't refused.

@@ -2,7 +2,7 @@
 
 use crate::worlds::items::{id, item};
 use crate::worlds::playing::{bookmarks, deliver, happen, is_idle, posts, start};
-use crate::worlds::plays::{Play, Way};
+use crate::worlds::plays::Play;
 use crate::worlds::worked::tell;
 use anyhow::bail;
 use ss_device::Device;
@@ -82,8 +82,8 @@ fn rounds(alloc: Global, play: &mut Play) -> anyhow::Result<Counts> {
     Ok(upload)
 }
 
-/// The upload: how many requests it has, and how often the rows change.
-fn upload(alloc: Global, play: &mut Play) -> anyhow::Result<String> {
+/// The upload of the device's bookmarks: how many requests it has, and how often the rows change.
+pub fn upload(alloc: Global, play: &mut Play) -> anyhow::Result<String> {
     start(alloc, play, 0)?;
     let upload = rounds(alloc, play)?;
     let told = tell(alloc, play, 0)?;
@@ -93,13 +93,7 @@ fn upload(alloc: Global, play: &mut Play) -> anyhow::Result<String> {
     )?)
 }
 
-/// The play of one device with its bookmarks.
-fn begun(alloc: Global, way: Way) -> anyhow::Result<Play> {
-    let devices = vec![in alloc; device(alloc)?]?;
-    Play::fresh(alloc, way, devices)
-}
-
-pub fn uploads_line(alloc: Global, way: Way) -> anyhow::Result<String> {
-    let mut play = begun(alloc, way)?;
-    upload(alloc, &mut play)
+/// The one device, with its bookmarks.
+pub fn devices(alloc: Global) -> anyhow::Result<Vec<Device>> {
+    Ok(vec![in alloc; device(alloc)?]?)
 }

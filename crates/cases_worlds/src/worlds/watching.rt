@@ -160,13 +160,21 @@ impl Watch {
         })
     }
 
+    /// Whether rows may change by the request that a device has under way, which is noted.
+    fn note_of(&mut self, alloc: Global, play: &Play, n: u32) -> anyhow::Result<bool> {
+        let request = request(alloc, play, n)?;
+        let changes = match &request {
+            Some(request) => self.note(alloc, n, request),
+            None => Ok(false),
+        };
+        drop(request);
+        Ok(changes?)
+    }
+
     /// The device that may change rows by an event.
     fn writer(&mut self, alloc: Global, play: &Play, event: &Event) -> anyhow::Result<Option<u32>> {
-        let Some(n) = delivered(event) else {
-            return Ok(None);
-        };
-        match request(alloc, play, n)? {
-            Some(request) if self.note(alloc, n, &request)? => Ok(Some(n)),
+        match delivered(event) {
+            Some(n) if self.note_of(alloc, play, n)? => Ok(Some(n)),
             _ => Ok(None),
         }
     }
@@ -187,27 +195,71 @@ impl Watch {
         }
     }
 
-    /// Does an event, and checks what it leaves.
-    pub fn step(&mut self, alloc: Global, play: &mut Play, event: &Event) -> anyhow::Result<()> {
-        let writer = self.writer(alloc, play, event)?;
-        let answer = play.step(alloc, event)?;
-        let rows = bookmarks(alloc, play)?;
-        if !self.is_fine(alloc, &rows, writer)? {
+    /// Checks the rows that an event leaves, and counts where they changed.
+    fn check(
+        &mut self,
+        alloc: Global,
+        event: &Event,
+        writer: Option<u32>,
+        rows: &ById,
+    ) -> anyhow::Result<()> {
+        if !self.is_fine(alloc, rows, writer)? {
             self.violations = self.violations.saturating_add(1);
         }
-        if !are_same(&self.rows, &rows) {
+        if !are_same(&self.rows, rows) {
             self.commits = self.commits.saturating_add(1);
             if let Event::LoseReply { .. } = event {
                 self.unheard = self.unheard.saturating_add(1);
             }
         }
+        Ok(())
+    }
+
+    /// Counts an event that is refused, and tells what came of it.
+    fn hear(
+        &mut self,
+        alloc: Global,
+        play: &Play,
+        rows: &ById,
+        answer: &Option<WorldFault>,
+    ) -> anyhow::Result<()> {
         if answer.is_some() {
             self.refused = self.refused.saturating_add(1);
         }
         if self.tells {
-            self.lines.push(line(alloc, play, &rows, &answer)?)?;
+            self.lines.push(line(alloc, play, rows, answer)?)?;
         }
+        Ok(())
+    }
+
+    /// Looks at what an event left.
+    fn look(
+        &mut self,
+        alloc: Global,
+        play: &Play,
+        event: &Event,
+        writer: Option<u32>,
+        answer: &Option<WorldFault>,
+    ) -> anyhow::Result<()> {
+        let rows = bookmarks(alloc, play)?;
+        self.check(alloc, event, writer, &rows)?;
+        self.hear(alloc, play, &rows, answer)?;
         self.rows = rows;
         Ok(())
+    }
+
+    fn happen(&mut self, alloc: Global, play: &mut Play, event: &Event) -> anyhow::Result<()> {
+        let writer = self.writer(alloc, play, event)?;
+        let answer = play.step(alloc, event)?;
+        let looked = self.look(alloc, play, event, writer, &answer);
+        drop(answer);
+        looked
+    }
+
+    /// Does an event, and checks what it leaves.
+    pub fn step(&mut self, alloc: Global, play: &mut Play, event: Event) -> anyhow::Result<()> {
+        let happened = self.happen(alloc, play, &event);
+        drop(event);
+        happened
     }
 }

@@ -7,7 +7,7 @@ use core::mem::replace_with;
 use ss_bso::Plain;
 use ss_client::{Do, Fetch, Machine, SyncFault};
 use ss_device::{Device, EditFault};
-use ss_http::{Heard, read_response};
+use ss_http::{Heard, Message, read_response};
 use ss_outside::SureSource;
 use ss_query::Request;
 use ss_route::{Manner, write_request};
@@ -187,11 +187,22 @@ impl Wired {
         self.served.plain(alloc)
     }
 
+    /// The bytes that the server answers a message with.
+    fn respond_to(
+        &mut self,
+        alloc: Global,
+        now: u64,
+        message: &Message,
+    ) -> anyhow::Result<Vec<u8>> {
+        Ok(self.served.respond(alloc, now, message, false)?.bytes)
+    }
+
     /// The bytes that the server answers these bytes with.
     fn respond(&mut self, alloc: Global, now: u64, request: Vec<u8>) -> anyhow::Result<Vec<u8>> {
         let message = self.served.message(alloc, request)?;
-        let response = self.served.respond(alloc, now, &message, false)?;
-        Ok(response.bytes)
+        let response = self.respond_to(alloc, now, &message);
+        drop(message);
+        response
     }
 
     /// A device's request comes to the server, and the response to the device.

@@ -2,11 +2,13 @@
 
 use crate::worlds::checks::{is_of_device, is_one_tree};
 use crate::worlds::items::{id, item, name, word};
-use crate::worlds::playing::{add, bookmarks, deliver, fresh, happen, is_idle, posts, start};
+use crate::worlds::playing::{add, bookmarks, deliver, happen, is_idle, new_devices, posts, start};
 use crate::worlds::plays::{Play, Way};
+use crate::worlds::uploads;
 use anyhow::bail;
 use ss_bso::{Failures, Field, Fields, Parts, Records};
 use ss_client::Fetch;
+use ss_device::Device;
 use ss_query::{Mode, Query, Request, Sort};
 use ss_text::{Cond, Ids};
 use ss_world::{Edit, Event, WorldFault};
@@ -338,7 +340,7 @@ fn refusals(alloc: Global, play: &mut Play) -> anyhow::Result<Vec<String>> {
     Ok(lines)
 }
 
-/// A worked play, which begins anew.
+/// A worked play, which begins anew, or the long upload.
 #[derive(Clone, Copy)]
 enum Part {
     Three,
@@ -346,14 +348,16 @@ enum Part {
     Both,
     Others,
     Refusals,
+    Upload,
 }
 
 impl Part {
-    /// How many devices it has.
-    fn devices(self) -> u32 {
+    /// The devices that it begins with.
+    fn devices(self, alloc: Global) -> anyhow::Result<Vec<Device>> {
         match self {
-            Part::Both => 2,
-            _ => 1,
+            Part::Both => new_devices(alloc, 2),
+            Part::Upload => uploads::devices(alloc),
+            _ => new_devices(alloc, 1),
         }
     }
 }
@@ -374,12 +378,15 @@ fn told_by(alloc: Global, play: &mut Play, part: Part) -> anyhow::Result<Vec<Str
         Part::Both => both_twice(alloc, play),
         Part::Others => Ok(vec![in alloc; others(alloc, play)?]?),
         Part::Refusals => refusals(alloc, play),
+        Part::Upload => Ok(vec![in alloc; uploads::upload(alloc, play)?]?),
     }
 }
 
 fn told_of(alloc: Global, way: Way, part: Part) -> anyhow::Result<Vec<String>> {
-    let mut play = fresh(alloc, way, part.devices())?;
-    told_by(alloc, &mut play, part)
+    let mut play = Play::fresh(alloc, way, part.devices(alloc)?)?;
+    let told = told_by(alloc, &mut play, part);
+    drop(play);
+    told
 }
 
 /// Puts lines behind others, in their order.
@@ -390,7 +397,7 @@ fn append(lines: &mut Vec<String>, more: Vec<String>) -> anyhow::Result<()> {
     Ok(())
 }
 
-/// The lines of the worked plays.
+/// The lines of the worked plays and of the long upload.
 pub fn worked_lines(alloc: Global, way: Way) -> anyhow::Result<Vec<String>> {
     let mut lines = Vec::new(alloc);
     for part in [
@@ -399,6 +406,7 @@ pub fn worked_lines(alloc: Global, way: Way) -> anyhow::Result<Vec<String>> {
         Part::Both,
         Part::Others,
         Part::Refusals,
+        Part::Upload,
     ] {
         append(&mut lines, told_of(alloc, way, part)?)?;
     }

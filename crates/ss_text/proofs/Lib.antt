@@ -11,7 +11,9 @@ pub mod Searches
 pub mod Sorting
 pub mod StampTexts
 pub mod StringTokens
+pub mod Strings
 pub mod TokensStay
+pub mod Vectors
 pub mod Whole
 pub mod WholeTokens
 pub mod WholeTrees

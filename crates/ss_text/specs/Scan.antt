@@ -1,5 +1,5 @@
 -- What the scan of a text says, for private clauses.
-use Rattle.std.specs.Prelude.{ℕ, suc, List, [], ◌∷◌, ◌==◌, ⊤, if◌then◌else◌}
+use Rattle.std.specs.Prelude.{ℕ, suc, Bool, not, ◌&&◌, ◌||◌, nat_le, nat_lt, List, [], ◌∷◌, ◌==◌, ⊤, if◌then◌else◌}
 use Rattle.std.specs.List.{AllPass}
 use Rattle.ss_text.specs.Decimals as piece
 use Rattle.ss_text.specs.Decimals.{Place, outside, inside, escaped, next_place, is_number_byte}
@@ -26,3 +26,11 @@ HasRun (Run r) = AllPass is_number_byte r.now
 HasRun (Text s) = ⊤
 HasRun (Unended s) = ⊤
 HasRun (Byte b) = ⊤
+
+-- a byte that stands in a string as it is
+abbrev pub is_unescaped : ℕ → Bool
+is_unescaped x = nat_le 32 x && not (x == 34) && not (x == 92)
+
+-- a byte that has an escape there
+abbrev pub is_escaped : ℕ → Bool
+is_escaped x = (x == 34) || (x == 92) || nat_lt x 32
